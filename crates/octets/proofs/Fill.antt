@@ -1,0 +1,43 @@
+-- The laws of `filled`, over any elements. Assumes nothing.
+use mathlib.Core.Path.{_≡_, refl, sym, ap, _∙_}
+use mathlib.Core.List.{List, [], _∷_}
+use mathlib.Core.Logic.{_≢_, _⊎_, ⊎-elim}
+use Prim.Native.Nat.{ℕ, zero, suc, _+_, _*_, _≤_, _<_}
+use native.Mathlib.Nat.{eq-or-lt-of-le, le-of-suc-le-suc}
+use native.Mathlib.Numerals.{add-one}
+use native.Mathlib.Omega.{arith}
+use lib.ListN.{length, getD, set, length-set}
+use lib.Seq.{getD-set-same, getD-set-other}
+use Rattle.octets.specs.Fill.{filled}
+
+pub filled-none : (f : ℕ → ℕ) (s : List ℕ) (at : ℕ) → filled 0 f s at ≡ s
+unfolding filled
+filled-none f s at = refl
+
+pub filled-one : (n : ℕ) (f : ℕ → ℕ) (s : List ℕ) (at : ℕ) → filled (n + 1) f s at ≡ set (filled n f s at) (at + n) (f n)
+unfolding filled
+filled-one n f s at = rw (add-one n)
+
+pub length-filled : (n : ℕ) (f : ℕ → ℕ) (s : List ℕ) (at : ℕ) → length (filled n f s at) ≡ length s
+unfolding filled
+length-filled zero f s at = refl
+length-filled (suc n) f s at = rw length-set (length-filled n f s at)
+
+-- an element outside the run is as it was
+pub filled-else : (n : ℕ) (f : ℕ → ℕ) (s : List ℕ) (at j : ℕ) → ((k : ℕ) → k < n → j ≢ at + k) → getD (filled n f s at) j 0 ≡ getD s j 0
+unfolding filled
+filled-else zero f s at j out = refl
+filled-else (suc n) f s at j out =
+    let apart : j ≢ at + n = out n (omega arith) in
+    rw getD-set-other (filled-else n f s at j (λ k h. out k (omega arith)))
+
+-- an element of the run
+pub filled-at : (n : ℕ) (f : ℕ → ℕ) (s : List ℕ) (at i : ℕ) → at + n ≤ length s → i < n → getD (filled n f s at) (at + i) 0 ≡ f i
+filled-at zero f s at i room h = absurd (omega arith)
+filled-at (suc n) f s at i room h =
+    let inside : at + n < length (filled n f s at) = rw length-filled (omega arith) in
+    rw (← add-one n, filled-one)
+    (⊎-elim
+    (λ (e : i ≡ n). rw (e, getD-set-same))
+    (λ (l : i < n). let apart : at + i ≢ at + n = omega arith in rw getD-set-other (filled-at n f s at i (omega arith) l))
+    (eq-or-lt-of-le (le-of-suc-le-suc h)))

@@ -1,0 +1,4 @@
+pub mod Be
+pub mod Fill
+pub mod Part
+pub mod Fix

@@ -1,0 +1,50 @@
+-- Parts of lists: a part that is replaced, and the parts beside it. Assumes nothing.
+use mathlib.Core.Path.{_≡_, refl, sym, ap, _∙_}
+use mathlib.Core.List.{List, [], _∷_, _++_}
+use mathlib.Core.Logic.{_≢_}
+use Prim.Native.Nat.{ℕ, zero, suc, _+_, _-_, _*_, _≤_, _<_, min}
+use native.Mathlib.Omega.{arith}
+use lib.ListN.{length, getD, take, drop, length-take, length-drop}
+use lib.Seq.{getD-take, getD-drop, ext-getD, drop-drop, take-at, drop-at, length-take-le}
+use borrow.Rule.Slice.PartMut.{take-put, drop-put, same-len-mid, mid-len}
+use Rattle.octets.specs.Part.{part, withPart}
+
+pub length-part : (s : List ℕ) (a e : ℕ) → e ≤ length s → length (part s a e) ≡ e - a
+length-part s a e h = mid-len a e s h
+
+pub length-withPart : (s : List ℕ) (a e : ℕ) (p : List ℕ) → e ≤ length s → length p ≡ e - a → length (withPart s a e p) ≡ length s
+length-withPart s a e p h l = same-len-mid a (e - a) s p (l ∙ sym (mid-len a e s h))
+
+-- what was put is found
+pub part-same : (s : List ℕ) (a e : ℕ) (p : List ℕ) → a ≤ e → e ≤ length s → length p ≡ e - a → part (withPart s a e p) a e ≡ p
+part-same s a e p h g l =
+    ap (take (e - a)) (drop-at (take a s) (p ++ drop (e - a) (drop a s)) a (length-take-le a s (omega arith)))
+    ∙ take-at p (drop (e - a) (drop a s)) (e - a) l
+
+-- a part that ends before n is one of the first n elements
+part-take : (s : List ℕ) (n a e : ℕ) → a ≤ e → e ≤ n → n ≤ length s → part s a e ≡ part (take n s) a e
+part-take s n a e k h g =
+    ext-getD 0 (part s a e) (part (take n s) a e) (simp (length-take, length-drop) (omega arith)) (λ i hi.
+    let inside : i < e - a = omega (arith, simp (length-take, length-drop) at hi) in
+    let there : a + i < n = omega arith in
+    rw (getD-take (e - a) (drop a s) i 0, getD-take (e - a) (drop a (take n s)) i 0, getD-drop a s i 0, getD-drop a (take n s) i 0, getD-take n s (a + i) 0))
+
+-- a part that starts from n on is one of what follows
+part-drop : (s : List ℕ) (n a e : ℕ) → n ≤ a → part s a e ≡ part (drop n s) (a - n) (e - n)
+part-drop s n a e h =
+    let size : e - n - (a - n) ≡ e - a = omega arith in
+    let start : n + (a - n) ≡ a = omega arith in
+    rw (size, drop-drop (a - n) n s, start)
+
+pub part-before : (s : List ℕ) (a e : ℕ) (p : List ℕ) (b f : ℕ) → a ≤ e → e ≤ length s → length p ≡ e - a → b ≤ f → f ≤ a → part (withPart s a e p) b f ≡ part s b f
+part-before s a e p b f h g l k m =
+    let long : length (withPart s a e p) ≡ length s = length-withPart s a e p g l in
+    part-take (withPart s a e p) a b f k m (omega arith)
+    ∙ ap (λ (x : List ℕ). part x b f) (take-put a (e - a) s p (omega arith))
+    ∙ sym (part-take s a b f k m (omega arith))
+
+pub part-after : (s : List ℕ) (a e : ℕ) (p : List ℕ) (b f : ℕ) → a ≤ e → e ≤ length s → length p ≡ e - a → e ≤ b → part (withPart s a e p) b f ≡ part s b f
+part-after s a e p b f h g l k =
+    part-drop (withPart s a e p) e b f k
+    ∙ ap (λ (x : List ℕ). part x (b - e) (f - e)) (drop-put a e s p h g l)
+    ∙ sym (part-drop s e b f k)

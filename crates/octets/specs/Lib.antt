@@ -1,0 +1,5 @@
+pub mod Pick
+pub mod Be
+pub mod Fill
+pub mod Part
+pub mod Fix

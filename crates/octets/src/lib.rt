@@ -1,0 +1,94 @@
+// Big-endian fields of 8, 16 and 32 bits at a place of lent bytes, and runs of bytes copied or cleared.
+ghost use mathlib.Core.Path.{_≡_};
+ghost use Prim.Native.Nat.{_+_, _≤_, _<_};
+ghost use lib.ListN.{length};
+ghost use Rattle.octets.specs.Be.{beAt, putBe};
+ghost use Rattle.octets.specs.Fill.{copied, zeroed};
+
+fn wide16(x: u8) -> u16
+    ensures { λ r. ⌜ (r ≡ x) × (r < 256) ⌝ }
+{
+    x as u16
+}
+
+fn wide32(x: u8) -> u32
+    ensures { λ r. ⌜ (r ≡ x) × (r < 256) ⌝ }
+{
+    x as u32
+}
+
+// The byte at `at`.
+pub fn get_u8(s: &[u8], at: usize) -> u8
+    requires { ⌜ at + 1 ≤ length (now s) ⌝ }
+    ensures { λ r. ⌜ r ≡ beAt 1 (now (s .entry)) at ⌝ }
+{
+    s[at]
+}
+
+// The 16-bit number at `at`.
+pub fn get_u16(s: &[u8], at: usize) -> u16
+    requires { ⌜ at + 2 ≤ length (now s) ⌝ }
+    ensures { λ r. ⌜ r ≡ beAt 2 (now (s .entry)) at ⌝ }
+{
+    wide16(s[at]) * 256 + wide16(s[at + 1])
+}
+
+// The 32-bit number at `at`.
+pub fn get_u32(s: &[u8], at: usize) -> u32
+    requires { ⌜ at + 4 ≤ length (now s) ⌝ }
+    ensures { λ r. ⌜ r ≡ beAt 4 (now (s .entry)) at ⌝ }
+{
+    ((wide32(s[at]) * 256 + wide32(s[at + 1])) * 256 + wide32(s[at + 2])) * 256 + wide32(s[at + 3])
+}
+
+// Writes the byte at `at`.
+pub fn put_u8(s: &mut [u8], at: usize, v: u8)
+    requires { ⌜ at + 1 ≤ length (now s) ⌝ }
+    ensures { λ _. ⌜ now (s .exit) ≡ putBe 1 (now (s .entry)) at v ⌝ }
+{
+    s[at] = v;
+}
+
+// Writes the 16-bit number at `at`.
+pub fn put_u16(s: &mut [u8], at: usize, v: u16)
+    requires { ⌜ at + 2 ≤ length (now s) ⌝ }
+    ensures { λ _. ⌜ now (s .exit) ≡ putBe 2 (now (s .entry)) at v ⌝ }
+{
+    s[at] = (v / 256 % 256) as u8;
+    s[at + 1] = (v % 256) as u8;
+}
+
+// Writes the 32-bit number at `at`.
+pub fn put_u32(s: &mut [u8], at: usize, v: u32)
+    requires { ⌜ at + 4 ≤ length (now s) ⌝ }
+    ensures { λ _. ⌜ now (s .exit) ≡ putBe 4 (now (s .entry)) at v ⌝ }
+{
+    s[at] = (v / 256 / 256 / 256 % 256) as u8;
+    s[at + 1] = (v / 256 / 256 % 256) as u8;
+    s[at + 2] = (v / 256 % 256) as u8;
+    s[at + 3] = (v % 256) as u8;
+}
+
+// Copies `m` into `s` from `at` on.
+pub fn copy_to(s: &mut [u8], at: usize, m: &[u8])
+    requires { ⌜ at + length (now m) ≤ length (now s) ⌝ }
+    ensures { λ _. ⌜ now (s .exit) ≡ copied (now (s .entry)) at (now (m .entry)) ⌝ }
+{
+    let mut i: usize = 0;
+    while i < m.len() {
+        s[at + i] = m[i];
+        i += 1;
+    }
+}
+
+// Writes `n` zeros into `s` from `at` on.
+pub fn zero_to(s: &mut [u8], at: usize, n: usize)
+    requires { ⌜ at + n ≤ length (now s) ⌝ }
+    ensures { λ _. ⌜ now (s .exit) ≡ zeroed (now (s .entry)) at n ⌝ }
+{
+    let mut i: usize = 0;
+    while i < n {
+        s[at + i] = 0;
+        i += 1;
+    }
+}
