@@ -1,6 +1,9 @@
+pub mod Choice
 pub mod Standing
-pub mod Find
+pub mod Sought
 pub mod Marks
 pub mod Checked
 pub mod Map
 pub mod Small
+pub mod Place
+pub mod Planned

@@ -1,6 +1,11 @@
 pub mod Word
+pub mod Rules
+pub mod Protection
 pub mod Find
 pub mod Valid
-pub mod Rules
-pub mod Sweep
 pub mod Marks
+pub mod Sweep
+pub mod Change
+pub mod Accept
+pub mod Ack
+pub mod Receive

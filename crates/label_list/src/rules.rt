@@ -2,9 +2,10 @@
 //
 // Codes: 1 given, 2 withdrawing, 3 using, 4 asked back, 5 releasing, 6 using without protection.
 ghost use mathlib.Core.Path.{_≡_};
-ghost use Rattle.label_list.specs.Rules.{codeAccepted, codeAcked, codeReceived, codeSwept};
+ghost use Rattle.label_list.specs.Rules.{sentSide, receivedSide, codeAccepted, codeAcked, codeReceived, codeSwept};
 use crate::LabelMessage;
 use crate::Next;
+use crate::Side;
 use crate::SweepRule;
 
 // A message of ours is accepted for sending.
@@ -87,5 +88,27 @@ pub fn code_swept(rule: SweepRule, code: u32) -> u32
             6 => 0,
             _ => code,
         },
+    }
+}
+
+// The side of the label in a message that we send.
+pub fn sent_side(message: LabelMessage) -> Side
+    ensures { λ r. ⌜ r ≡ sentSide message ⌝ }
+{
+    match message {
+        LabelMessage::Mapping => Side::Given,
+        LabelMessage::Withdraw => Side::Given,
+        LabelMessage::Release => Side::Used,
+    }
+}
+
+// The side of the label in a message that we receive.
+pub fn received_side(message: LabelMessage) -> Side
+    ensures { λ r. ⌜ r ≡ receivedSide message ⌝ }
+{
+    match message {
+        LabelMessage::Mapping => Side::Used,
+        LabelMessage::Withdraw => Side::Used,
+        LabelMessage::Release => Side::Given,
     }
 }
