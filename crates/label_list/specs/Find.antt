@@ -1,7 +1,8 @@
 -- Searches of the words: the first that passes a test, whether any does, and how many are listed.
-use Prim.Native.Nat.{ℕ, suc}
+use Prim.Native.Nat.{ℕ, suc, _<_}
 use mathlib.Core.Bool.{Bool, true, false}
 use mathlib.Core.List.{List, [], _∷_}
+use lib.ListN.{length}
 use Rattle.octets.specs.Pick.{pick}
 use Rattle.label_list.specs.Word.{isFree, standsFor}
 use Rattle.label_list.specs.Protection.{protectedOn}
@@ -33,3 +34,8 @@ any test (w ∷ ws) = pick (test w) true (any test ws)
 unfoldable pub countOf : List ℕ → ℕ
 countOf [] = 0
 countOf (w ∷ ws) = pick (isFree w) (countOf ws) (suc (countOf ws))
+
+-- what was found is inside the list
+abbrev pub FoundIn : List ℕ → Found → Type 0
+FoundIn words (At i) = i < length words
+FoundIn words Nowhere = Unit {0}

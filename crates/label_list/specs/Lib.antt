@@ -5,7 +5,3 @@ pub mod Find
 pub mod Valid
 pub mod Marks
 pub mod Sweep
-pub mod Change
-pub mod Accept
-pub mod Ack
-pub mod Receive

@@ -1,24 +1,24 @@
-// The label list: the rules on lent label words. A word is label + 1,048,576 x code, and 0 is a free word.
-mod accepting;
-mod changing;
-mod protecting;
-mod receiving;
+// The label list: label words, what each event makes of a label's code, validity, and the rules that act on every word.
+//
+// A word is label + 1,048,576 x code, and 0 is a free word. Codes: 1 given, 2 withdrawing, 3 using, 4 asked back, 5 releasing, 6 using without protection.
 mod rules;
 mod search;
 mod sweeping;
 mod validity;
 mod word;
 
-pub use accepting::accept;
-pub use accepting::judge_accept;
-pub use accepting::release_by_ack;
-pub use protecting::judge_protection;
-pub use receiving::judge_received;
-pub use receiving::receive;
+pub use rules::code_accepted;
+pub use rules::code_acked;
+pub use rules::code_protection;
+pub use rules::code_received;
+pub use rules::received_side;
+pub use rules::sent_side;
 pub use search::count_listed;
 pub use search::find;
 pub use sweeping::sweep;
 pub use validity::valid;
+pub use word::LABEL_COUNT;
+pub use word::word_of;
 
 // The two sides on which a label can stand: given to the peer, codes 1 and 2; used by us, codes 3 to 6.
 pub enum Side {
@@ -57,39 +57,6 @@ pub enum Wanted {
     Label(Side, u32),
     Free,
     ProtectedOn(Side),
-}
-
-// What an event makes of the list: nothing, one word written at an index, or a word is needed and none is free.
-pub enum Change {
-    Keep,
-    Put(usize, u32),
-    NoRoom,
-}
-
-// Whether a message of ours may be sent, and the change that it makes.
-pub enum Plan {
-    Allowed(Change),
-    Refused,
-}
-
-// The answer to a message of ours: 0, 6, 13.
-pub enum Acceptance {
-    Taken,
-    NotAllowed,
-    NoRoom,
-}
-
-// The answer to a message of the peer's: 0, 21.
-pub enum Reception {
-    Taken,
-    NoRoom,
-}
-
-// The labels that a received message touches: the one it names, every one under the wildcard FEC, none under another FEC.
-pub enum Touched {
-    Label(u32),
-    Every,
-    Nothing,
 }
 
 // The verdict on a message's protection: 0, 33, 32.

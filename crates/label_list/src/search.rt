@@ -3,7 +3,7 @@ ghost use mathlib.Core.Path.{_≡_};
 ghost use Rattle.label_list.specs.Find.{passes, findOf, countOf};
 use crate::Found;
 use crate::Wanted;
-use crate::protecting::needs_protection;
+use crate::rules::needs_protection;
 use crate::word::LABEL_COUNT;
 use crate::word::stands_for;
 
