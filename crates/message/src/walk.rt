@@ -1,6 +1,5 @@
 // The walk over the TLVs of a message, left at the first fault.
 use crate::Found;
-
 ghost use mathlib.Core.Path.{_≡_};
 ghost use mathlib.Core.Bool.{true};
 ghost use Prim.Native.Nat.{_+_, _-_, _≤_};

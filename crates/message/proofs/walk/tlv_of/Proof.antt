@@ -17,4 +17,4 @@ tlv-of-spec =
     (λ c. unfold tlvOf in rw (c .match .keys5))
     (λ c. unfold tlvOf in rw (c .match .keys6))
     (λ c. unfold tlvOf in rw (c .match .keys7))
-    (λ c. unfold tlvOf in lookup-absent Tlv.Other listed (c .args .number) (search needs)))
+    (λ c. unfold tlvOf in lookup-absent Tlv.Other listed (c .before .args .number) (search needs)))

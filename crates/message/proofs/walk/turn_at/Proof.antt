@@ -8,6 +8,7 @@ pub turn-at-spec : {M : Type 1} → statement M
 turn-at-spec =
     tie.close
     (tie.spec
-    (λ c. search (needs, turns)) (λ c. search (needs, turns)) (λ c. search (needs, turns)) (λ c. search (needs, turns)) (λ c. search (needs, turns))
-    (λ c. search (needs, turns)) (λ c. search (needs, turns)) (λ c. search (needs, turns)) (λ c. search (needs, turns)) (λ c. search (needs, turns))
-    (λ c. search (needs, turns)) (λ c. search (needs, turns)) (λ c. search (needs, turns)) (λ c. search (needs, turns)) (λ c. search (needs, turns)))
+    (λ c. search (needs, turns)) (λ c. search (needs, turns)) (λ c. search (needs, turns)) (λ c. search (needs, turns))
+    (λ c. search (needs, turns)) (λ c. search (needs, turns)) (λ c. search (needs, turns)) (λ c. search (needs, turns))
+    (λ c. search (needs, turns)) (λ c. search (needs, turns)) (λ c. search (needs, turns)) (λ c. search (needs, turns))
+    (λ c. search (needs, turns)) (λ c. search (needs, turns)) (λ c. search (needs, turns)) (λ c. search (needs, turns)))
