@@ -7,17 +7,17 @@ use lib.Dec.{eqb}
 use Rattle.octets.specs.Be.{beAt}
 use Rattle.octets.specs.Pick.{pick, both}
 use Rattle.ft_number.specs.declared.MessageId.{MessageId}
-use Rattle.message.specs.Table.{lookup}
-use Rattle.message.specs.Walk.{tlvsOf}
-use Rattle.message.specs.Value.{partAt, fecAt, fieldAt, numberAt, parametersAt, sessionAt}
-use Rattle.message.specs.declared.Found.{Found}
+use Rattle.tlv.specs.Table.{lookup}
+use Rattle.tlv.specs.Walk.{tlvsOf}
+use Rattle.tlv.specs.Value.{partAt, fecAt, fieldAt, numberAt, parametersAt, sessionAt}
+use Rattle.tlv.specs.declared.Found.{Found}
 use Rattle.message.specs.declared.Message.{Message}
 use Rattle.message.specs.declared.MessageType
 use Rattle.message.specs.declared.MessageType.{MessageType}
 use Rattle.message.specs.declared.Reading
 use Rattle.message.specs.declared.Reading.{Reading}
-use Rattle.message.specs.declared.walk.Walk
-use Rattle.message.specs.declared.walk.Walk.{Walk}
+use Rattle.tlv.specs.declared.walk.Walk
+use Rattle.tlv.specs.declared.walk.Walk.{Walk}
 
 abbrev pub initializationNumber : ℕ
 initializationNumber = 0x0200
