@@ -1,6 +1,6 @@
 -- A change that writes one label's word keeps the list valid, gives that label its code and leaves every other. Assumes nothing.
-use mathlib.Core.Path.{_≡_, refl, sym, ap, _∙_}
-use mathlib.Core.Bool.{Bool, true, false, true≢false}
+use mathlib.Core.Path.{_≡_, refl, sym, _∙_}
+use mathlib.Core.Bool.{true, false, true≢false}
 use mathlib.Core.List.{List}
 use mathlib.Core.Logic.{_≢_, _⊎_, inl, inr, ⊎-elim}
 use Prim.Native.Nat.{ℕ, _+_, _*_, _≤_, _<_}
@@ -15,7 +15,7 @@ use Rattle.label_list.specs.declared.Side.{Side}
 use Rattle.label_list.specs.declared.Found.{Found}
 use Rattle.label_list.specs.declared.Found.the-variants.{At, Nowhere}
 use Rattle.label_list.proofs.Choice.{by-test}
-use Rattle.label_list.proofs.Standing.{stands-parts, parts-stands, free-stands}
+use Rattle.label_list.proofs.Standing.{parts-stands, free-stands}
 use Rattle.label_list.proofs.Reached.{found-in, found-place, found-passes}
 use Rattle.label_events.specs.Change.{takeFree, changeAt, changeOf, changed}
 use Rattle.label_events.specs.declared.Change.the-variants.{NoRoom}

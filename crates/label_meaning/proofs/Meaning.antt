@@ -5,11 +5,11 @@ use mathlib.Core.List.{List, [], _∷_}
 use mathlib.Core.Logic.{_≢_}
 use Prim.Native.Nat.{ℕ, zero, suc, _*_, _≤_, _<_}
 use native.Mathlib.Omega.{arith}
-use lib.ListN.{length, getD}
+use lib.ListN.{getD}
 use lib.Dec.{eqb, leb}
 use borrow.Author.Tests.{eqb-true, eqb-false, ne-eqb, leb-true, leb-false}
 use Rattle.octets.specs.Pick.{pick, both}
-use Rattle.label_list.specs.Word.{labelCount, labelOf, codeOf, within, isFree, onSide, standsFor}
+use Rattle.label_list.specs.Word.{labelCount, labelOf, codeOf, isFree, onSide, standsFor}
 use Rattle.label_list.specs.Find.{any}
 use Rattle.label_list.specs.Valid.{absent, standsOnce, validWord, validOf}
 use Rattle.label_list.specs.declared.Side.{Side}

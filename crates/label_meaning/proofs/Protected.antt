@@ -1,15 +1,15 @@
 -- The verdict on protection and the transitions agree: where protection is right, an unprotected message changes no label of codes 1 to 5. Assumes nothing.
-use mathlib.Core.Path.{_≡_, refl, sym, ap, _∙_}
+use mathlib.Core.Path.{_≡_, refl, sym, _∙_}
 use mathlib.Core.Bool.{Bool, true, false, true≢false, false≢true}
 use mathlib.Core.List.{List, [], _∷_}
-use mathlib.Core.Logic.{_≢_, _⊎_, inl, inr, ⊎-elim}
-use Prim.Native.Nat.{ℕ, zero, suc, _≤_, _<_}
+use mathlib.Core.Logic.{_≢_, _⊎_, ⊎-elim}
+use Prim.Native.Nat.{ℕ, suc, _≤_}
 use native.Mathlib.Omega.{arith}
 use lib.ListN.{getD}
-use lib.Dec.{eqb}
+use lib.Dec.{eqb, leb}
 use borrow.Author.Tests.{eqb-false}
 use Rattle.octets.specs.Pick.{pick}
-use Rattle.label_list.specs.Word.{labelOf, codeOf, within, onSide, standsFor}
+use Rattle.label_list.specs.Word.{labelOf, codeOf, onSide, standsFor}
 use Rattle.label_list.specs.Rules.{receivedSide}
 use Rattle.label_list.specs.Protection.{needsProtection, barsProtection, codeProtection, protectedOn}
 use Rattle.label_list.specs.Find.{any}
@@ -19,15 +19,15 @@ use Rattle.label_list.specs.declared.LabelMessage.{LabelMessage}
 use Rattle.label_list.specs.declared.LabelMessage.the-variants.{Mapping, Withdraw, Release}
 use Rattle.label_list.specs.declared.Protection.{Protection}
 use Rattle.label_list.specs.declared.Protection.the-variants.{Right, Missing, Wrong}
-use Rattle.label_list.proofs.Choice.{by-test}
-use Rattle.label_list.proofs.Standing.{within-in, within-range, parts-stands}
+use Rattle.label_list.proofs.Choice.{by-test, both-true}
+use Rattle.label_list.proofs.Standing.{parts-stands}
 use Rattle.label_events.specs.Change.{codeAt}
 use Rattle.label_events.specs.Protect.{protectionOf}
 use Rattle.label_events.specs.declared.Touched.{Touched}
 use Rattle.label_events.specs.declared.Touched.the-variants.{Label, Every, Nothing}
 use Rattle.label_meaning.specs.Valid.{IsValid}
 use Rattle.label_meaning.specs.View.{CodeIs, listed, absent}
-use Rattle.label_meaning.specs.Event.{Event, Received, step, Touches, named, every, Moves, taken-bare, asked-back, bare-withdrawn, given-back, withdrawn-back}
+use Rattle.label_meaning.specs.Event.{Received, step, Touches, named, every, Moves, taken-bare, asked-back, bare-withdrawn, given-back, withdrawn-back}
 use Rattle.label_meaning.specs.Protected.{TouchesProtected}
 use Rattle.label_meaning.proofs.Meaning.{any-none}
 use Rattle.label_meaning.proofs.View.{code-is, is-code}
@@ -35,7 +35,7 @@ use Rattle.label_meaning.proofs.Moved.{every-move}
 
 -- A listed label whose code needs protection makes some word one that may not be touched.
 needs-none : (s : Side) → needsProtection s 0 ≡ false
-unfolding needsProtection
+unfolding needsProtection onSide
 needs-none Given = refl
 needs-none Used = refl
 
@@ -55,7 +55,7 @@ right-missing p q = let z : _≡_ {A = ℕ} 0 1 = cc in omega arith
 
 -- No move of a code from 1 to 5 by an unprotected message agrees with a verdict that its protection is right.
 no-move : (words : List ℕ) {m : LabelMessage} {t : Touched} {s : Side} {k c d : ℕ} → codeAt words s k ≡ c → 1 ≤ c → c ≤ 5 → protectionOf words m false t ≡ Right → Moves (Received m false t) s k c d → ⊥
-unfolding receivedSide needsProtection
+unfolding receivedSide needsProtection onSide
 no-move words e l h right taken-bare = omega arith
 no-move words e l h right (asked-back {k = k} touches) = right-missing right (touched-missing words Withdraw _ k touches (rw e))
 no-move words e l h right (bare-withdrawn touches) = omega arith
@@ -77,9 +77,8 @@ any-some test (w ∷ ws) e =
     (λ p. let rest : Passed test ws = any-some test ws (rw p at e) in record { at = suc (rest .at); passes = rest .passes })
 
 needs-side : (s : Side) (c : ℕ) → needsProtection s c ≡ true → onSide s c ≡ true
-unfolding needsProtection onSide
-needs-side Given c e = e
-needs-side Used c e = let range : (3 ≤ c) × (c ≤ 5) = within-range 3 5 c e in sym (within-in 3 6 c (range .0) (omega arith))
+unfolding needsProtection
+needs-side s c e = both-true (leb c 5) (onSide s c) e .1
 
 missing-if : (b : Bool) → pick b Missing Right ≡ Missing → b ≡ true
 missing-if true e = refl

@@ -1,6 +1,6 @@
 -- Each event changes one label's code by its rule, or takes every label through a rule; a valid list stays valid. Assumes nothing.
-use mathlib.Core.Path.{_≡_, refl, sym, ap, _∙_}
-use mathlib.Core.Bool.{Bool, true, false, true≢false}
+use mathlib.Core.Path.{_≡_, refl, sym, _∙_}
+use mathlib.Core.Bool.{Bool, true, true≢false}
 use mathlib.Core.List.{List}
 use mathlib.Core.Logic.{_≢_, _⊎_, inl, inr, ⊎-elim}
 use Prim.Native.Nat.{ℕ, _≤_, _<_}
@@ -10,7 +10,6 @@ use Rattle.label_list.specs.Word.{labelCount, labelOf, codeOf, wordOf, isFree, 
 use Rattle.label_list.specs.Rules.{sentSide, receivedSide, codeAccepted, codeAcked, codeReceived}
 use Rattle.label_list.specs.Find.{findOf}
 use Rattle.label_list.specs.Valid.{validOf}
-use Rattle.label_list.specs.Sweep.{sweptOf}
 use Rattle.label_list.specs.declared.Side.{Side}
 use Rattle.label_list.specs.declared.Found.{Found}
 use Rattle.label_list.specs.declared.Found.the-variants.{At, Nowhere}

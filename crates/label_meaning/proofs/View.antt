@@ -1,11 +1,11 @@
 -- In a valid list a label has one code on one side, that of `codeAt`. Assumes nothing.
 use mathlib.Core.Path.{_≡_, refl, sym, ap, _∙_}
-use mathlib.Core.Bool.{Bool, true, false, true≢false}
+use mathlib.Core.Bool.{true, false, true≢false}
 use mathlib.Core.List.{List}
 use Prim.Native.Nat.{ℕ}
 use lib.ListN.{getD}
 use Rattle.label_list.specs.Word.{codeOf, standsFor}
-use Rattle.label_list.specs.Find.{any, findOf}
+use Rattle.label_list.specs.Find.{findOf}
 use Rattle.label_list.specs.declared.Side.{Side}
 use Rattle.label_list.specs.declared.Found.{Found}
 use Rattle.label_list.specs.declared.Found.the-variants.{At, Nowhere}
