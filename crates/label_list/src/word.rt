@@ -17,15 +17,16 @@ pub const FIRST_LABEL: u32 = 16;
 pub fn on_side(side: Side, code: u32) -> bool
     ensures { λ r. ⌜ r ≡ onSide side code ⌝ }
 {
-    match side {
-        Side::Given => match code {
-            1..=2 => true,
-            _ => false,
+    match code {
+        1..=2 => match side {
+            Side::Given => true,
+            Side::Used => false,
         },
-        Side::Used => match code {
-            3..=6 => true,
-            _ => false,
+        3..=6 => match side {
+            Side::Given => false,
+            Side::Used => true,
         },
+        _ => false,
     }
 }
 
