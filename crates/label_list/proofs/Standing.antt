@@ -36,7 +36,7 @@ unfolding onSide
 off-high Given c h = within-above 1 2 c (omega arith) (omega arith)
 off-high Used c h = within-above 3 6 c (omega arith) h
 
--- A code stands on one side at most, and code 0 on none.
+-- A code stands on one side at most.
 pub one-side : (s t : Side) (c : ℕ) → onSide s c ≡ true → onSide t c ≡ true → s ≡ t
 unfolding onSide
 one-side Given Given c p q = refl
