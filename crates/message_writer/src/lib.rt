@@ -12,7 +12,7 @@ ghost use Rattle.message_writer.specs.Forms.{tlvBytes, headBytes, parame
 ghost use Rattle.message_writer.specs.Written.{laid, writtenOf};
 
 // What our Init proposes: KeepAlive time, maximum PDU length, and the receiver's LDP identifier (LSR ID and label space).
-pub struct Parameters {
+pub struct OwnParameters {
     pub keepalive: u16,
     pub pdulength: u16,
     pub lsr: u32,
@@ -46,7 +46,7 @@ fn put_tlv(out: &mut [u8], at: usize, number: u16, value: u32)
 }
 
 // Writes the Common Session Parameters behind an Init's head.
-fn put_parameters(out: &mut [u8], p: Parameters)
+fn put_parameters(out: &mut [u8], p: OwnParameters)
     requires { ⌜ 26 ≤ length (now out) ⌝ }
     ensures { λ _. ⌜ now (out .exit) ≡ laid (now (out .entry)) 8 (parametersTlv p) ⌝ }
 {
@@ -60,7 +60,7 @@ fn put_parameters(out: &mut [u8], p: Parameters)
 }
 
 // Writes an Init up to its FT Session TLV.
-fn put_init(out: &mut [u8], size: u16, id: MessageId, p: Parameters, session: u32)
+fn put_init(out: &mut [u8], size: u16, id: MessageId, p: OwnParameters, session: u32)
     requires { ⌜ 34 ≤ length (now out) ⌝ }
     ensures { λ _. ⌜ now (out .exit) ≡ laid (now (out .entry)) 0 (initHead size id p session) ⌝ }
 {
@@ -73,7 +73,7 @@ fn put_init(out: &mut [u8], size: u16, id: MessageId, p: Parameters, session: u3
 pub fn write_init(
     out: &mut [u8],
     id: MessageId,
-    p: Parameters,
+    p: OwnParameters,
     seconds: u16,
     ack: FtField,
 ) -> Written
