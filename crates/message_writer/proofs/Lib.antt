@@ -4,3 +4,4 @@ pub mod Append
 pub mod Spelled
 pub mod Raised
 pub mod Protected
+pub mod Kept

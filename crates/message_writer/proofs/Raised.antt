@@ -5,9 +5,9 @@ use mathlib.Core.List.{List, [], _∷_, _++_}
 use native.Mathlib.Nat.{add-zero}
 use native.Mathlib.Omega.{arith}
 use borrow.Author.Tests.{eq-eqb, le-ltb}
-use borrow.Rule.Slice.PartMut.{drop-put}
+use borrow.Rule.Slice.PartMut.{take-put, drop-put}
 use lib.ListN.{length, take, drop, length-drop, length-append}
-use lib.Seq.{length-take-le, drop-append-le, drop-drop}
+use lib.Seq.{length-take-le, take-append-le, drop-append-le, drop-drop}
 use lib.Dec.{eqb, ltb}
 use Rattle.octets.specs.Be.{beAt, bytes}
 use Rattle.octets.specs.Part.{part, withPart}
@@ -71,6 +71,23 @@ module _ (m t : List ℕ) (head : 8 ≤ length m) where
       drop-append-le 8 (raisedTo m size) t (omega (arith, length-raisedTo m head size))
       ∙ ap (λ (l : List ℕ). l ++ t)
         (sym (drop-drop 4 4 (raisedTo m size)) ∙ ap (drop 4) (drop-put 2 4 m (bytes 2 size) (omega arith) (omega arith) refl) ∙ drop-drop 4 4 m)
+
+  -- the type and the message ID stand as they stood
+  pub raised-front : take 2 (raised m t) ≡ take 2 m
+  unfolding raised
+  raised-front =
+      let size : ℕ = length m + length t - 4 in
+      take-append-le 2 (raisedTo m size) t (omega (arith, length-raisedTo m head size))
+      ∙ take-put 2 2 m (bytes 2 size) (omega arith)
+
+  pub raised-behind : take 4 (drop 4 (raised m t)) ≡ take 4 (drop 4 m)
+  unfolding raised
+  raised-behind =
+      let size : ℕ = length m + length t - 4 in
+      ap (take 4)
+      (drop-append-le 4 (raisedTo m size) t (omega (arith, length-raisedTo m head size))
+      ∙ ap (λ (l : List ℕ). l ++ t) (drop-put 2 4 m (bytes 2 size) (omega arith) (omega arith) refl))
+      ∙ take-append-le 4 (drop 4 m) t (omega (arith, length-drop 4 m))
 
 -- TLVs behind a message are read at the message's old end, after what it said
 pub raised-walk : (m t : List ℕ) (f : Found) → length m + length t - 4 < 256 ^ 2 → tlvsOf m ≡ Walk.Whole f → tlvsOf (raised m t) ≡ walkOf (length m) t f
