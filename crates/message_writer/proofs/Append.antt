@@ -55,6 +55,7 @@ noted-append f tlv n at ts us h = go (lengthFits tlv n) refl
   where
     rest : List ℕ → Walk
     rest x = pick (eqb (placeOf f tlv) 0) (pick (ltb largestLabel (labelIn tlv x)) Walk.Malformed (Walk.Whole (placedOf f tlv at))) Walk.Malformed
+
     go : (b : Bool) → lengthFits tlv n ≡ b
         → pick b (pick (eqb (placeOf f tlv) 0) (pick (ltb largestLabel (labelIn tlv (ts ++ us))) Walk.Malformed (Walk.Whole (placedOf f tlv at))) Walk.Malformed) Walk.Malformed
         ≡ pick b (pick (eqb (placeOf f tlv) 0) (pick (ltb largestLabel (labelIn tlv ts)) Walk.Malformed (Walk.Whole (placedOf f tlv at))) Walk.Malformed) Walk.Malformed

@@ -5,3 +5,5 @@ pub mod Spelled
 pub mod Raised
 pub mod Protected
 pub mod Kept
+pub mod Own
+pub mod RoundTrip

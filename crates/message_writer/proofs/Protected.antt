@@ -190,8 +190,10 @@ protected-reads m g n ack e none small fits short =
   where
     w : Whole m g
     w = whole m g e
+
     protectedMessage′ : Message → Message
     protectedMessage′ x = withFt x (protectedPlaces (g .found) (length m) ack) (FtField.Number n) ack
+
     by-ack : (a : FtField) → AckFits a → tlvsOf (protectedBytes m n a) ≡ Walk.Whole (protectedPlaces (g .found) (length m) a)
         → readingOf (protectedBytes m n a) ≡ Reading.Whole (withFt (messageOf m (g .found)) (protectedPlaces (g .found) (length m) a) (FtField.Number n) a)
     by-ack FtField.Absent k tlvs = reading-same m (ftTlvs n FtField.Absent) (g .found) (w .tlvs) n small refl 0 FtField.Absent (ft-none (protectedBytes m n FtField.Absent)) tlvs (w .bears)

@@ -70,7 +70,7 @@ module _ (m t : List ℕ) (head : 8 ≤ length m) where
       let size : ℕ = length m + length t - 4 in
       drop-append-le 8 (raisedTo m size) t (omega (arith, length-raisedTo m head size))
       ∙ ap (λ (l : List ℕ). l ++ t)
-        (sym (drop-drop 4 4 (raisedTo m size)) ∙ ap (drop 4) (drop-put 2 4 m (bytes 2 size) (omega arith) (omega arith) refl) ∙ drop-drop 4 4 m)
+      (sym (drop-drop 4 4 (raisedTo m size)) ∙ ap (drop 4) (drop-put 2 4 m (bytes 2 size) (omega arith) (omega arith) refl) ∙ drop-drop 4 4 m)
 
   -- the type and the message ID stand as they stood
   pub raised-front : take 2 (raised m t) ≡ take 2 m

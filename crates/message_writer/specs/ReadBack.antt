@@ -29,6 +29,14 @@ abbrev pub AckFits : FtField → Type 0
 AckFits FtField.Absent = Unit {0}
 AckFits (FtField.Number a) = a .0 < 256 ^ 4
 
+-- each value of an Init has its width
+pub record InitFits (m : MessageId) (p : OwnParameters) (s : ℕ) (a : FtField) : Type 0 where
+  pub id : m .0 < 256 ^ 4
+  pub keepalive : p .keepalive < 256 ^ 2
+  pub pdulength : p .pdulength < 256 ^ 2
+  pub seconds : s < 256 ^ 2
+  pub ack : AckFits a
+
 -- the places with those of FT Protection and FT ACK
 abbrev pub ftPlaces : Found → ℕ → ℕ → Found
 ftPlaces f protection ack = placedOf (placedOf f Tlv.Protection protection) Tlv.Ack ack
@@ -53,7 +61,7 @@ withFt g found protection ack = record {
   parametersvalue = g .parametersvalue;
   session = g .session;
   protection = protection;
-  ack = ack
+  ack = ack;
 }
 
 -- the message g, of `size` bytes, with the number n and an ACK
@@ -75,7 +83,7 @@ ownMessage type number id found parameters value session ack = record {
   parametersvalue = value;
   session = session;
   protection = FtField.Absent;
-  ack = ack
+  ack = ack;
 }
 
 -- the places with that of FT ACK, where one is given
