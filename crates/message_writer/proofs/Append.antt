@@ -5,7 +5,7 @@ use mathlib.Core.Bool.{Bool, true, false}
 use mathlib.Core.List.{List, [], _∷_, _++_}
 use native.Mathlib.Nat.{add-zero}
 use native.Mathlib.Omega.{arith}
-use borrow.Author.Tests.{ne-eqb, le-ltb, eqb-true, eqb-false, ltb-false}
+use borrow.Author.Tests.{ne-eqb, le-ltb, eqb-true}
 use lib.ListN.{length, drop, length-drop, length-append}
 use lib.Seq.{drop-append-le}
 use lib.Dec.{eqb, ltb}
@@ -53,9 +53,6 @@ noted-append : (f : Found) (tlv : Tlv) (n at : ℕ) (ts us : List ℕ) → 4 + n
 unfolding notedOf
 noted-append f tlv n at ts us h = go (lengthFits tlv n) refl
   where
-    rest : List ℕ → Walk
-    rest x = pick (eqb (placeOf f tlv) 0) (pick (ltb largestLabel (labelIn tlv x)) Walk.Malformed (Walk.Whole (placedOf f tlv at))) Walk.Malformed
-
     go : (b : Bool) → lengthFits tlv n ≡ b
         → pick b (pick (eqb (placeOf f tlv) 0) (pick (ltb largestLabel (labelIn tlv (ts ++ us))) Walk.Malformed (Walk.Whole (placedOf f tlv at))) Walk.Malformed) Walk.Malformed
         ≡ pick b (pick (eqb (placeOf f tlv) 0) (pick (ltb largestLabel (labelIn tlv ts)) Walk.Malformed (Walk.Whole (placedOf f tlv at))) Walk.Malformed) Walk.Malformed

@@ -1,10 +1,8 @@
 -- Our Init and KeepAlive are read back as they were written. Assumes nothing.
-use Prim.Native.Nat.{ℕ, _+_, _*_, _/_, _%_, _^_, _≤_, _<_}
-use mathlib.Core.Path.{_≡_, refl, sym, ap, _∙_}
-use mathlib.Core.Bool.{true, false}
+use Prim.Native.Nat.{ℕ, _+_, _^_, _<_}
+use mathlib.Core.Path.{_≡_}
 use native.Mathlib.Omega.{arith}
 use borrow.Author.Tests.{le-leb, lt-leb}
-use lib.Dec.{leb}
 use Rattle.octets.specs.Be.{beAt, bytes}
 use Rattle.octets.specs.Fix.{fix, steps}
 use Rattle.ft_number.specs.declared.MessageId.{MessageId}

@@ -1,7 +1,7 @@
 -- What the stores of a head, of TLVs and of whole messages leave: the premises are what the calls ensure. Assumes nothing.
 use Prim.Native.Nat.{ℕ, _+_, _-_, _≤_, _<_}
 use mathlib.Core.Path.{_≡_, refl, sym, ap, _∙_}
-use mathlib.Core.List.{List, [], _∷_, _++_, append-assoc}
+use mathlib.Core.List.{List, _++_, append-assoc}
 use native.Mathlib.Nat.{add-zero, zero-add}
 use native.Mathlib.Omega.{arith}
 use lib.ListN.{length, take, drop, length-append}
@@ -11,7 +11,7 @@ use Rattle.octets.specs.Fill.{copied}
 use Rattle.octets.proofs.Part.{length-withPart}
 use Rattle.ft_number.specs.declared.FtNumber.{FtNumber}
 use Rattle.ft_number.specs.declared.MessageId.{MessageId}
-use Rattle.tlv.specs.Tlv.{sessionNumber, protectionNumber, ackNumber}
+use Rattle.tlv.specs.Tlv.{protectionNumber}
 use Rattle.tlv.specs.declared.FtField
 use Rattle.tlv.specs.declared.FtField.{FtField}
 use Rattle.message.specs.Reading.{initializationNumber}

@@ -1,16 +1,14 @@
 -- A message with TLVs behind it and its length raised: its fields, and the walk over it. Assumes nothing.
-use Prim.Native.Nat.{ℕ, _+_, _-_, _*_, _^_, _≤_, _<_}
+use Prim.Native.Nat.{ℕ, _+_, _-_, _^_, _≤_, _<_}
 use mathlib.Core.Path.{_≡_, refl, sym, ap, _∙_}
-use mathlib.Core.List.{List, [], _∷_, _++_}
+use mathlib.Core.List.{List, _++_}
 use native.Mathlib.Nat.{add-zero}
 use native.Mathlib.Omega.{arith}
 use borrow.Author.Tests.{eq-eqb, le-ltb}
 use borrow.Rule.Slice.PartMut.{take-put, drop-put}
-use lib.ListN.{length, take, drop, length-drop, length-append}
+use lib.ListN.{length, take, drop, length-drop}
 use lib.Seq.{length-take-le, take-append-le, drop-append-le, drop-drop}
-use lib.Dec.{eqb, ltb}
 use Rattle.octets.specs.Be.{beAt, bytes}
-use Rattle.octets.specs.Part.{part, withPart}
 use Rattle.octets.proofs.Be.{beAt-part}
 use Rattle.octets.proofs.Part.{part-after}
 use Rattle.tlv.specs.Walk.{noneFound, walkOf, headSize, tlvsOf}

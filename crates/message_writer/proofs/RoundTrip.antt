@@ -2,7 +2,7 @@
 -- The bounds: the number and the ACK have 32 bits; the raised length has 16 (a stored message has 480 bytes at most); and the low byte of
 -- the submitted message's length is a byte.
 use Prim.Native.Nat.{ℕ, _+_, _^_, _<_}
-use mathlib.Core.Path.{_≡_, refl, _∙_, ap}
+use mathlib.Core.Path.{_≡_, _∙_, ap}
 use mathlib.Core.List.{List}
 use lib.ListN.{length, getD}
 use Rattle.ft_number.specs.declared.FtNumber.{FtNumber}

@@ -3,7 +3,7 @@ use ft_number::FtNumber;
 use ft_number::MessageId;
 use tlv::FtField;
 ghost use mathlib.Core.Path.{_≡_};
-ghost use Prim.Native.Nat.{_+_, _≤_};
+ghost use Prim.Native.Nat.{_+_, _-_, _≤_};
 ghost use mathlib.Core.List.{_++_};
 ghost use lib.ListN.{length};
 ghost use Rattle.octets.specs.Be.{bytes};
@@ -121,13 +121,13 @@ pub fn write_keepalive(out: &mut [u8], id: MessageId, ack: FtField) -> Written
     }
 }
 
-// Writes a message with its length raised to a size, and FT Protection behind it.
-fn put_protected(out: &mut [u8], m: &[u8], size: u16, number: u32)
-    requires { ⌜ (8 ≤ length (now m)) × (length (now m) + 8 ≤ length (now out)) ⌝ }
-    ensures { λ _. ⌜ now (out .exit) ≡ laid (now (out .entry)) 0 (raisedTo (now (m .entry)) size ++ tlvBytes protectionNumber (bytes 4 number)) ⌝ }
+// Writes a message with its length raised by the bytes added behind it, and FT Protection there.
+fn put_protected(out: &mut [u8], m: &[u8], added: usize, number: u32)
+    requires { ⌜ (8 ≤ length (now m)) × ((length (now m) ≤ 480) × ((added ≤ 16) × (length (now m) + 8 ≤ length (now out)))) ⌝ }
+    ensures { λ _. ⌜ now (out .exit) ≡ laid (now (out .entry)) 0 (raisedTo (now (m .entry)) (length (now (m .entry)) + added - 4) ++ tlvBytes protectionNumber (bytes 4 number)) ⌝ }
 {
     octets::copy_to(out, 0, m);
-    octets::put_u16(out, 2, size);
+    octets::put_u16(out, 2, (m.len() + added - 4) as u16);
     put_tlv(out, m.len(), 0x0203, number);
 }
 
@@ -142,7 +142,7 @@ pub fn write_protected(out: &mut [u8], m: &[u8], number: FtNumber, ack: FtField)
             if out.len() < end {
                 return Written::TooShort;
             }
-            put_protected(out, m, (end - 4) as u16, number.0);
+            put_protected(out, m, 8, number.0);
             Written::Bytes(end)
         }
         FtField::Number(a) => {
@@ -150,7 +150,7 @@ pub fn write_protected(out: &mut [u8], m: &[u8], number: FtNumber, ack: FtField)
             if out.len() < end {
                 return Written::TooShort;
             }
-            put_protected(out, m, (end - 4) as u16, number.0);
+            put_protected(out, m, 16, number.0);
             put_tlv(out, m.len() + 8, 0x0504, a.0);
             Written::Bytes(end)
         }
