@@ -21,7 +21,7 @@ use Rattle.tlv.specs.declared.walk.Turn
 use Rattle.tlv.specs.declared.walk.Turn.{Turn}
 use Rattle.tlv.specs.declared.walk.Walk
 use Rattle.tlv.specs.declared.walk.Walk.{Walk}
-use Rattle.tlv.proofs.Fields.{beAt-append}
+use Rattle.octets.proofs.Bytes.{beAt-append}
 use Rattle.tlv.proofs.Turns.{Goes, goes, walkRest, walk-step}
 
 nil : (ts : List ℕ) → length ts ≡ 0 → ts ≡ []

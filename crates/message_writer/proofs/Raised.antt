@@ -2,7 +2,7 @@
 use Prim.Native.Nat.{ℕ, _+_, _-_, _^_, _≤_, _<_}
 use mathlib.Core.Path.{_≡_, refl, sym, ap, _∙_}
 use mathlib.Core.List.{List, _++_}
-use native.Mathlib.Nat.{add-zero}
+use native.Mathlib.Nat.{add-zero, mod-eq-of-lt}
 use native.Mathlib.Omega.{arith}
 use borrow.Author.Tests.{eq-eqb, le-ltb}
 use borrow.Rule.Slice.PartMut.{take-put, drop-put}
@@ -15,12 +15,15 @@ use Rattle.tlv.specs.Walk.{noneFound, walkOf, headSize, tlvsOf}
 use Rattle.tlv.specs.declared.Found.{Found}
 use Rattle.tlv.specs.declared.walk.Walk
 use Rattle.tlv.specs.declared.walk.Walk.{Walk}
-use Rattle.tlv.proofs.Fields.{beAt-append, beAt-behind}
+use Rattle.octets.proofs.Bytes.{beAt-append, beAt-behind, beAt-bytes}
 use Rattle.tlv.proofs.Places.{WholeTlvs, whole-tlvs}
 use Rattle.message_writer.specs.Forms.{raisedTo, raised}
 use Rattle.message_writer.proofs.Append.{walk-append}
 use Rattle.message_writer.proofs.Puts.{length-raisedTo, length-raised}
-use Rattle.message_writer.proofs.Spelled.{beAt-bytes-fits}
+
+-- a number that has the width is read back from its bytes
+pub spelled : (w v : ℕ) → v < 256 ^ w → beAt w (bytes w v) 0 ≡ v
+spelled w v small = beAt-bytes w v ∙ mod-eq-of-lt small
 
 -- a field behind the length is as it was
 field-behind : (m : List ℕ) (size w at : ℕ) → 4 ≤ length m → 4 ≤ at → beAt w (raisedTo m size) at ≡ beAt w m at
@@ -56,10 +59,9 @@ module _ (m t : List ℕ) (head : 8 ≤ length m) where
       let front : length (take 2 m) ≡ 2 = length-take-le 2 m (omega arith) in
       let there : 2 ≡ length (take 2 m) + 0 = omega arith in
       beAt-append 2 (raisedTo m size) t 2 (omega (arith, length-raisedTo m head size))
-      ∙ ap (beAt 2 (raisedTo m size)) there
-      ∙ beAt-behind 2 (take 2 m) (bytes 2 size ++ drop 2 (drop 2 m)) 0
+      ∙ beAt-behind 2 (take 2 m) (bytes 2 size ++ drop 2 (drop 2 m)) 2 0 there
       ∙ beAt-append 2 (bytes 2 size) (drop 2 (drop 2 m)) 0 (omega arith)
-      ∙ beAt-bytes-fits 2 size small
+      ∙ spelled 2 size small
 
   -- the TLVs are those of the message, and then those behind it
   pub raised-tlvs : drop headSize (raised m t) ≡ drop headSize m ++ t
