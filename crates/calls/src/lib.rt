@@ -1,0 +1,109 @@
+// What every public call shares: phases, answers and what they do, the outcome, and the acts that end a connection or a session.
+ghost use mathlib.Core.Path.{_≡_};
+ghost use Rattle.calls.specs.Answers.{answerNumber, effectOf};
+
+// 01's phases. InitWait bears our proposed timeout, UpFT the count sent on this connection.
+pub enum Phase {
+    Idle,
+    InitWait(u16),
+    UpFT(u32),
+    UpPlain,
+    Failed,
+}
+
+// A case for each number of 01's answer table; `answerNumber` gives the number.
+pub enum Answer {
+    Done,
+    WrongPhase,
+    ZeroDistance,
+    LengthOutOfRange,
+    Malformed,
+    KindNotSent,
+    LabelNotAllowed,
+    StoreFull,
+    NothingUnsent,
+    OutputTooShort,
+    BadBlock(usize),
+    BadField(usize),
+    WrongSize,
+    NoLabelWord,
+    OutOfTurn,
+    NoWordForMapping,
+    MalformedReceived,
+    BadInit,
+    ZeroNumber,
+    FtTlvInPlain,
+    ProtectionWrong,
+    ProtectionMissing,
+    AckSequenceError,
+    ParametersChanged,
+    StatusFatal,
+}
+
+// What an answer leaves: nothing changed, the connection failed, the state released, or the call done.
+pub enum Effect {
+    Nothing,
+    Fail,
+    Release,
+    Act,
+}
+
+// What a call answers. `slot` is the block of the slot that was written, to be stored before block 0, and 0 where none was;
+// `block0` says whether block 0's bytes changed, to be stored before output leaves.
+pub struct Outcome {
+    pub answer: Answer,
+    pub phase: Phase,
+    pub written: usize,
+    pub slot: usize,
+    pub block0: bool,
+}
+
+// The number of an answer in 01's table.
+pub fn answer_number(a: Answer) -> u32
+    ensures { λ r. ⌜ r ≡ answerNumber a ⌝ }
+{
+    match a {
+        Answer::Done => 0,
+        Answer::WrongPhase => 1,
+        Answer::ZeroDistance => 2,
+        Answer::LengthOutOfRange => 3,
+        Answer::Malformed => 4,
+        Answer::KindNotSent => 5,
+        Answer::LabelNotAllowed => 6,
+        Answer::StoreFull => 7,
+        Answer::NothingUnsent => 8,
+        Answer::OutputTooShort => 9,
+        Answer::BadBlock(_) => 10,
+        Answer::BadField(_) => 11,
+        Answer::WrongSize => 12,
+        Answer::NoLabelWord => 13,
+        Answer::OutOfTurn => 20,
+        Answer::NoWordForMapping => 21,
+        Answer::MalformedReceived => 22,
+        Answer::BadInit => 23,
+        Answer::ZeroNumber => 30,
+        Answer::FtTlvInPlain => 31,
+        Answer::ProtectionWrong => 32,
+        Answer::ProtectionMissing => 33,
+        Answer::AckSequenceError => 34,
+        Answer::ParametersChanged => 35,
+        Answer::StatusFatal => 36,
+    }
+}
+
+// What an answer leaves.
+pub fn effect_of(a: Answer) -> Effect
+    ensures { λ r. ⌜ r ≡ effectOf a ⌝ }
+{
+    let n = answer_number(a);
+    if n == 0 {
+        return Effect::Act;
+    }
+    if n < 20 {
+        return Effect::Nothing;
+    }
+    if n < 30 {
+        return Effect::Fail;
+    }
+    Effect::Release
+}
