@@ -4,6 +4,9 @@ ghost use Prim.Native.Nat.{_+_, _*_, _≤_, _<_};
 ghost use lib.ListN.{length};
 ghost use Rattle.block.specs.Check.{checkOf, sound, sealed, blockCheckOf};
 
+pub mod words;
+pub mod zeros;
+
 // Where a block's check stands.
 const CHECK_AT: usize = 508;
 
