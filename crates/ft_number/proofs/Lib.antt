@@ -1,0 +1,4 @@
+pub mod Laws
+pub mod Circle
+pub mod Signed
+pub mod Timeout

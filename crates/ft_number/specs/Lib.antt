@@ -1,0 +1,4 @@
+pub mod Circle
+pub mod Ack
+pub mod Distance
+pub mod Timeout

@@ -1,0 +1,170 @@
+// Runs the number and timeout rules over values at the ends of their ranges, and prints a line for each.
+// The expected lines are made by tests/numbers/make.py.
+use ft_number::Ack;
+use ft_number::Distance;
+use ft_number::FtNumber;
+use ft_number::Proposal;
+use ft_number::Steps;
+
+const STDOUT: i32 = 1;
+
+// Around 0, the window of 64, half of the circle, and its end.
+const EDGES: [u32; 11] = [
+    0,
+    1,
+    2,
+    64,
+    65,
+    2147483646,
+    2147483647,
+    2147483648,
+    2147483649,
+    4294967294,
+    4294967295,
+];
+
+// R and I of the acknowledgements: nothing issued, from "none", over the end of the circle, a full window, nothing outstanding.
+const RELEASED: [u32; 6] = [0, 0, 4294967294, 1, 4294967295, 5];
+
+const ISSUED: [u32; 6] = [0, 5, 1, 65, 64, 5];
+
+const TIMEOUTS: [u32; 6] = [0, 1, 4, 5, 30, 65535];
+
+fn text(s: &[u8]) {
+    io::write_all(STDOUT, s);
+}
+
+fn number(n: u32) {
+    text(b" ");
+    io::print_decimal(STDOUT, n as u64);
+}
+
+fn count(n: Steps) {
+    match n {
+        Steps::Count(k) => number(k),
+        Steps::Unreachable => text(b" unreachable"),
+    }
+}
+
+fn decision(a: Ack) {
+    match a {
+        Ack::Releases(k) => {
+            text(b" releases");
+            number(k);
+        }
+        Ack::SequenceError => text(b" sequence error"),
+    }
+}
+
+// A signed number.
+fn signed(z: i32) {
+    if z < 0 {
+        text(b" -");
+        io::print_decimal(STDOUT, -(z as i64) as u64);
+    } else {
+        number(z as u32);
+    }
+}
+
+fn distance(d: Distance) {
+    match d {
+        Distance::Steps(z) => signed(z),
+        Distance::Refused => text(b" refused"),
+    }
+}
+
+// What the rules say of one pair of numbers.
+fn pair(a: u32, b: u32) {
+    text(b"steps");
+    number(a);
+    number(b);
+    count(ft_number::steps_between(FtNumber(a), FtNumber(b)));
+    text(b"\ndistance");
+    number(a);
+    number(b);
+    distance(ft_number::signed_distance(FtNumber(a), FtNumber(b)));
+    text(b"\nadvance");
+    number(a);
+    number(b);
+    number(ft_number::advance(FtNumber(a), b).0);
+    text(b"\n");
+}
+
+// One number: its successor, and with each edge the rules of a pair.
+fn edge(a: u32) {
+    text(b"successor");
+    number(a);
+    number(ft_number::successor(FtNumber(a)).0);
+    text(b"\n");
+    let mut j: usize = 0;
+    while j < 11 {
+        pair(a, EDGES[j]);
+        j += 1;
+    }
+}
+
+fn acknowledgement(r: u32, i: u32, a: u32) {
+    text(b"acknowledge");
+    number(r);
+    number(i);
+    number(a);
+    decision(ft_number::acknowledge(FtNumber(r), FtNumber(i), FtNumber(a)));
+    text(b"\n");
+}
+
+// Each edge as an acknowledgement of one window.
+fn window(r: u32, i: u32) {
+    let mut j: usize = 0;
+    while j < 11 {
+        acknowledgement(r, i, EDGES[j]);
+        j += 1;
+    }
+}
+
+fn timeout(a: u32, b: u32) {
+    text(b"lesser timeout");
+    number(a);
+    number(b);
+    number(ft_number::lesser_timeout(a, b));
+    text(b"\n");
+}
+
+fn timeouts(a: u32) {
+    let mut j: usize = 0;
+    while j < 6 {
+        timeout(a, TIMEOUTS[j]);
+        j += 1;
+    }
+}
+
+fn proposal(p: Proposal) {
+    text(b"proposed");
+    number(ft_number::proposed_timeout(p) as u32);
+    text(b"\n");
+}
+
+fn edges() {
+    let mut i: usize = 0;
+    while i < 11 {
+        edge(EDGES[i]);
+        i += 1;
+    }
+}
+
+// The tables of six: each window, and each timeout with each.
+fn tables() {
+    let mut i: usize = 0;
+    while i < 6 {
+        window(RELEASED[i], ISSUED[i]);
+        timeouts(TIMEOUTS[i]);
+        i += 1;
+    }
+}
+
+fn main() {
+    edges();
+    tables();
+    proposal(Proposal::NotGiven);
+    proposal(Proposal::Seconds(0));
+    proposal(Proposal::Seconds(30));
+}
