@@ -8,13 +8,8 @@ use native.Mathlib.Omega.{arith}
 use lib.ListN.{length, getD, drop, replicate}
 use lib.Seq.{drop-cons}
 use Rattle.octets.specs.Be.{beAt, putBe}
-use Rattle.block.specs.Run.{getRun, putRun, runSize, wordsAt, withWords}
+use Rattle.block.specs.Run.{getRun, putRun, runSize, wordsAt, withWords, Words}
 use Rattle.block.proofs.Run.{Fit, none, one, length-putRun, getD-putRun, getRun-putRun, getRun-same, zeros-getRun, getRun-zeros}
-
--- each word has 32 bits
-pub record Words (n : ℕ) (ws : List ℕ) : Type 0 where
-  pub count : length ws ≡ n
-  pub each : (i : ℕ) → getD ws i 0 < 4294967296
 
 size : (n : ℕ) → runSize (replicate n 4) ≡ n * 4
 size zero = refl

@@ -1,7 +1,8 @@
 -- A layout as the list of its fields' widths in bytes: numbers that stand one after the other.
-use Prim.Native.Nat.{ℕ, _+_}
+use Prim.Native.Nat.{ℕ, _+_, _<_}
+use mathlib.Core.Path.{_≡_}
 use mathlib.Core.List.{List, [], _∷_}
-use lib.ListN.{replicate}
+use lib.ListN.{length, getD, replicate}
 use Rattle.octets.specs.Be.{beAt, putBe}
 
 -- the numbers of the given widths from `at` on
@@ -27,3 +28,8 @@ wordsAt n s at = getRun (replicate n 4) s at
 -- s with n words of 32 bits written from `at` on
 unfoldable pub withWords : ℕ → List ℕ → List ℕ → ℕ → List ℕ
 withWords n ws s at = putRun (replicate n 4) ws s at
+
+-- n numbers of 32 bits
+pub record Words (n : ℕ) (ws : List ℕ) : Type 0 where
+  pub count : length ws ≡ n
+  pub each : (i : ℕ) → getD ws i 0 < 4294967296

@@ -50,3 +50,20 @@ labelsOf b = wordsAt wordCount b labelsAt
 -- the block with its fields and label words written, and sealed
 unfoldable pub block0 : List ℕ → Header → List ℕ → List ℕ
 block0 b h ls = sealed (withWords wordCount ls (putRun widths (values h) b 0) labelsAt)
+
+-- "Released means block 0 with kept 0": every number is zero, and every label word
+abbrev pub releasedHeader : Header
+releasedHeader = record {
+  released = record { 0 = 0 };
+  issued = record { 0 = 0 };
+  secured = record { 0 = 0 };
+  first = 0;
+  held = 0;
+  timeout = 0;
+  kept = 0;
+  keepalive = 0;
+  maxpdu = 0;
+}
+
+abbrev pub noLabels : List ℕ
+noLabels = replicate wordCount 0

@@ -4,7 +4,8 @@ ghost use Prim.Native.Nat.{_+_, _*_, _≤_};
 ghost use lib.ListN.{length, take, drop};
 ghost use Rattle.block.specs.Run.{putRun};
 ghost use Rattle.block0.specs.Layout.{widths, values, headerOf, labelsOf, block0};
-ghost use Rattle.block0.specs.Fields.{headerOk, fieldsOk};
+ghost use Rattle.ft_number.specs.Circle.{stepsOf};
+ghost use Rattle.block0.specs.Fields.{atMost, headerOk, fieldsOk};
 use ft_number::FtNumber;
 use ft_number::Steps;
 
@@ -85,4 +86,29 @@ pub fn write_block0(block: &mut [u8], h: Header, labels: &[u32])
     put_rest(block, h);
     block::words::store_words(block, LABELS_AT, labels);
     block::seal(block);
+}
+
+// R to I no longer than held, and I not zero unless R is.
+fn issued_are_held(h: Header) -> bool
+    ensures { λ r. ⌜ r ≡ atMost (h .held) (stepsOf (h .released .0) (h .issued .0)) ⌝ }
+{
+    match ft_number::steps_between(h.released, h.issued) {
+        Steps::Count(n) => n <= h.held as u32,
+        Steps::Unreachable => false,
+    }
+}
+
+fn header_is_valid(h: Header) -> bool
+    ensures { λ r. ⌜ r ≡ headerOk h ⌝ }
+{
+    if h.first >= 64 {
+        return false;
+    }
+    if h.held > 64 {
+        return false;
+    }
+    if h.kept > 1 {
+        return false;
+    }
+    issued_are_held(h)
 }
