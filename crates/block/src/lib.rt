@@ -7,8 +7,10 @@ ghost use Rattle.block.specs.Check.{checkOf, sound, sealed, blockCheckOf
 pub mod words;
 pub mod zeros;
 
-// Where a block's check stands.
-const CHECK_AT: usize = 508;
+// A block has 512 bytes, and its check stands in the last four.
+pub const BLOCK_SIZE: usize = 512;
+
+pub const CHECK_AT: usize = 508;
 
 // The check of lent bytes, or that they are too few.
 pub enum BlockCheck {
