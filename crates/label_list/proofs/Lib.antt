@@ -1,0 +1,4 @@
+pub mod Standing
+pub mod Find
+pub mod Marks
+pub mod Checked
