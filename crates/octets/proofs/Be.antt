@@ -36,7 +36,7 @@ beAt-same zero s t at to same = refl
 beAt-same (suc w) s t at to same =
     rw (beAt-suc w s at, beAt-suc w t to) (cc (beAt-same w s t at to (λ k h. same k (omega arith)), same w (omega arith)))
 
-pos : (w : ℕ) → 0 < 256 ^ w
+pub pos : (w : ℕ) → 0 < 256 ^ w
 pos zero = omega arith
 pos (suc w) = omega (arith, pos w)
 

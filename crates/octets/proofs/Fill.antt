@@ -41,3 +41,19 @@ filled-at (suc n) f s at i room h =
     (λ (e : i ≡ n). rw (e, getD-set-same))
     (λ (l : i < n). let apart : at + i ≢ at + n = omega arith in rw getD-set-other (filled-at n f s at i (omega arith) l))
     (eq-or-lt-of-le (le-of-suc-le-suc h)))
+
+-- A loop that writes f 0, f 1, .. from `at` on: i elements are written, and nothing else.
+pub record Filling (n : ℕ) (f : ℕ → ℕ) (s₀ : List ℕ) (at : ℕ) (s : List ℕ) (i : ℕ) : Type 0 where
+  pub inside : i ≤ n
+  pub same : length s ≡ length s₀
+  pub done : s ≡ filled i f s₀ at
+
+module _ (n : ℕ) (f : ℕ → ℕ) (s₀ : List ℕ) (at : ℕ) where
+  pub filling-none : Filling n f s₀ at s₀ 0
+  filling-none = record { inside = omega arith; same = refl; done = sym (filled-none f s₀ at) }
+
+  pub filling-one : {s : List ℕ} {i : ℕ} → Filling n f s₀ at s i → i < n → Filling n f s₀ at (set s (at + i) (f i)) (i + 1)
+  filling-one {s} {i} w h = record { inside = omega arith; same = length-set s (at + i) (f i) ∙ w .same; done = rw filled-one (cc (w .done)) }
+
+  pub filling-all : {s : List ℕ} {i : ℕ} → Filling n f s₀ at s i → n ≤ i → s ≡ filled n f s₀ at
+  filling-all {s} {i} w h = let e : i ≡ n = omega (arith, w .inside) in rw e at (w .done)

@@ -1,4 +1,5 @@
 pub mod Be
+pub mod Bytes
 pub mod Fill
 pub mod Part
 pub mod Fix

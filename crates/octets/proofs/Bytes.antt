@@ -1,0 +1,50 @@
+-- Fields of joined lists, and the bytes that spell a number, each once over the width. Assumes nothing.
+use mathlib.Core.Path.{_≡_, refl, sym, ap, _∙_}
+use mathlib.Core.List.{List, [], _∷_, _++_, append-assoc}
+use Prim.Native.Nat.{ℕ, zero, suc, _+_, _*_, _/_, _%_, _^_, _≤_, _<_}
+use native.Mathlib.Nat.{add-zero, add-assoc, pow-suc, mod-eq-of-lt, mod-one}
+use native.Mathlib.Omega.{arith}
+use lib.Arith.{mod-mul}
+use lib.ListN.{length, getD, drop, length-append, List·getD-append}
+use lib.Seq.{getD-drop, getD-append-add}
+use Rattle.octets.specs.Be.{beAt, putBe, bytes}
+use Rattle.octets.proofs.Be.{beAt-suc, beAt-same, pos}
+
+-- a field of what follows the first n elements
+pub beAt-drop : (w n : ℕ) (s : List ℕ) (at : ℕ) → beAt w (drop n s) at ≡ beAt w s (n + at)
+beAt-drop w n s at = beAt-same w (drop n s) s at (n + at) (λ k h. rw (getD-drop, add-assoc))
+
+-- a field of the first of two joined lists
+pub beAt-append : (w : ℕ) (s t : List ℕ) (at : ℕ) → at + w ≤ length s → beAt w (s ++ t) at ≡ beAt w s at
+beAt-append w s t at fits = beAt-same w (s ++ t) s at at (λ k h. List·getD-append s t 0 (at + k) (omega arith))
+
+-- a field of the second
+pub beAt-behind : (w : ℕ) (s t : List ℕ) (at i : ℕ) → at ≡ length s + i → beAt w (s ++ t) at ≡ beAt w t i
+beAt-behind w s t at i e =
+    beAt-same w (s ++ t) t at i (λ k h.
+    let there : at + k ≡ length s + (i + k) = omega arith in
+    rw (there, getD-append-add))
+
+pub length-bytes : (w v : ℕ) → length (bytes w v) ≡ w
+length-bytes zero v = refl
+length-bytes (suc w) v = rw (length-append, length-bytes w (v / 256)) (omega arith)
+
+-- the bytes that spell a number are read as that number
+pub beAt-bytes : (w v : ℕ) → beAt w (bytes w v) 0 ≡ v % 256 ^ w
+beAt-bytes zero v = sym (mod-one v)
+beAt-bytes (suc w) v =
+    let long : length (bytes w (v / 256)) ≡ w = length-bytes w (v / 256) in
+    let high : beAt w (bytes w (v / 256) ++ (v % 256 ∷ [])) 0 ≡ v / 256 % 256 ^ w =
+    beAt-append w (bytes w (v / 256)) (v % 256 ∷ []) 0 (omega arith) ∙ beAt-bytes w (v / 256) in
+    let low : getD (bytes w (v / 256) ++ (v % 256 ∷ [])) (0 + w) 0 ≡ v % 256 =
+    ap (λ (i : ℕ). getD (bytes w (v / 256) ++ (v % 256 ∷ [])) i 0) (let e : 0 + w ≡ length (bytes w (v / 256)) + 0 = omega arith in e)
+    ∙ getD-append-add (bytes w (v / 256)) (v % 256 ∷ []) 0 0 in
+    rw (beAt-suc w (bytes (suc w) v) 0, high, low, pow-suc) (sym (mod-mul v (pos w) (omega arith)))
+
+-- also where they stand between others
+pub beAt-spelled : (w v : ℕ) (s t : List ℕ) (at : ℕ) → at ≡ length s → v < 256 ^ w → beAt w (s ++ (bytes w v ++ t)) at ≡ v
+beAt-spelled w v s t at e small =
+    beAt-behind w s (bytes w v ++ t) at 0 (omega arith)
+    ∙ beAt-append w (bytes w v) t 0 (omega (arith, length-bytes w v))
+    ∙ beAt-bytes w v
+    ∙ mod-eq-of-lt small
