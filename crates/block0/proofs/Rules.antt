@@ -13,7 +13,8 @@ use lib.Seq.{getD-take, getD-drop}
 use Rattle.octets.specs.Be.{beAt}
 use Rattle.octets.specs.Pick.{pick, both}
 use Rattle.ft_number.specs.Circle.{stepsOf}
-use Rattle.block.specs.Check.{checkAt}
+use Rattle.label_list.specs.Word.{wordCount, isFree}
+use Rattle.label_list.specs.Valid.{validOf, validWord}
 use Rattle.block.specs.Run.{getRun, wordsAt, Words}
 use Rattle.block.specs.Zeros.{allZero}
 use Rattle.block.proofs.Tests.{both-true, below-or-not}
@@ -21,7 +22,7 @@ use Rattle.block.proofs.Run.{zeros-getRun, getRun-zeros}
 use Rattle.block.proofs.WordRun.{zeros-words, words-zeros}
 use Rattle.block.proofs.ZeroBytes.{zero-bytes, bytes-zero}
 use Rattle.block0.specs.declared.Header.{Header}
-use Rattle.block0.specs.Layout.{wordCount, widths, labelsAt, values, fromValues, headerOf, labelsOf, block0, releasedHeader, noLabels}
+use Rattle.block0.specs.Layout.{widths, labelsAt, values, fromValues, headerOf, labelsOf, block0, releasedHeader, noLabels}
 use Rattle.block0.specs.Fields.{atMost, headerOk, bodyOf, fieldsOk, Fits, Valid}
 use Rattle.block0.proofs.Written.{length-block0, run-block0, header-block0, labels-block0}
 
@@ -29,6 +30,10 @@ use Rattle.block0.proofs.Written.{length-block0, run-block0, header-blo
 -- a byte of the body is one of the block
 body-at : (b : List ℕ) (i : ℕ) → i < 504 → getD (bodyOf b) i 0 ≡ getD b (4 + i) 0
 body-at b i l = rw (getD-take 504 (drop 4 b) i 0, getD-drop 4 b i 0)
+
+none-valid : validOf noLabels ≡ true
+unfolding validOf validWord isFree
+none-valid = refl
 
 module _ (b : List ℕ) (zero : allZero (bodyOf b) ≡ true) where
   byte : (i : ℕ) → i < 504 → getD b (4 + i) 0 ≡ 0
@@ -42,6 +47,10 @@ module _ (b : List ℕ) (zero : allZero (bodyOf b) ≡ true) where
   unfolding labelsOf
   zero-labels =
       zeros-words wordCount b labelsAt (λ k l. let e : labelsAt + k ≡ 4 + (24 + k) = omega arith in rw e (byte (24 + k) (omega arith)))
+
+  -- no label stands in zeros
+  pub zero-valid : validOf (labelsOf b) ≡ true
+  zero-valid = ap validOf zero-labels ∙ none-valid
 
 -- and the other way round
 zero-body : (b : List ℕ) → length b ≡ 512 → getRun (drop 1 widths) b 4 ≡ replicate 10 0 → labelsOf b ≡ noLabels → allZero (bodyOf b) ≡ true
@@ -72,14 +81,16 @@ fields-valid b e =
     let p = both-true (eqb (beAt 4 b 0) 1) _ e in
     let q = both-true (eqb (beAt 1 b 23) 0) _ (p .1) in
     let r = both-true (headerOk (headerOf b)) _ (q .1) in
+    let s = both-true (pick (eqb (headerOf b .kept) 0) (allZero (bodyOf b)) true) _ (r .1) in
     let h = header-parts (headerOf b) (r .0) in
     record {
       first = h .0;
       held = h .1;
       kept = h .2;
       window = h .3;
+      labels = s .1;
       idle = λ k.
-          let z : allZero (bodyOf b) ≡ true = rw (eq-eqb _ _ k) at (r .1) in
+          let z : allZero (bodyOf b) ≡ true = rw (eq-eqb _ _ k) at (s .0) in
           (zero-header b z, zero-labels b z);
     }
 
@@ -104,4 +115,4 @@ valid-fields b h ls long fh fl v =
     simp (eq-eqb _ _ z, zero-body t (length-block0 b h ls long fh fl) numbers (el ∙ v .idle z .1)))
     (λ (p : 0 < h .kept). let apart : h .kept ≡ 0 → ⊥ = λ e. omega arith in simp (ne-eqb (h .kept) 0 apart))
     (eq-zero-or-pos (h .kept)) in
-    simp (eq-eqb _ _ version, eq-eqb _ _ spare, eh, parts-header h ls v, idle)
+    simp (eq-eqb _ _ version, eq-eqb _ _ spare, eh, parts-header h ls v, idle, el, v .labels)

@@ -5,13 +5,14 @@ use mathlib.Core.List.{List}
 use Prim.Native.Nat.{ℕ, _+_, _*_, _^_, _≤_, _<_}
 use native.Mathlib.Omega.{arith}
 use lib.ListN.{length, getD}
+use Rattle.label_list.specs.Word.{wordCount}
 use Rattle.block.specs.Check.{sealed, sound}
 use Rattle.block.specs.Run.{getRun, putRun, wordsAt, withWords, Words}
 use Rattle.block.proofs.Sealed.{sealed-else, length-sealed, sealed-sound}
 use Rattle.block.proofs.Run.{Fit, none, one, length-putRun, getRun-putRun, getRun-same}
 use Rattle.block.proofs.WordRun.{length-withWords, getD-withWords, words-put, words-same}
 use Rattle.block0.specs.declared.Header.{Header}
-use Rattle.block0.specs.Layout.{wordCount, widths, labelsAt, values, fromValues, headerOf, labelsOf, block0}
+use Rattle.block0.specs.Layout.{widths, labelsAt, values, fromValues, headerOf, labelsOf, block0}
 use Rattle.block0.specs.Fields.{Fits}
 
 fits : (h : Header) → Fits h → Fit widths (values h)

@@ -11,10 +11,11 @@ use Rattle.octets.specs.Pick.{pick, both}
 use Rattle.ft_number.specs.Circle.{stepsOf}
 use Rattle.ft_number.specs.declared.Steps.{Steps}
 use Rattle.ft_number.specs.declared.Steps.the-variants.{Count, Unreachable}
+use Rattle.label_list.specs.Valid.{validOf}
 use Rattle.block.specs.Check.{checkAt}
 use Rattle.block.specs.Zeros.{allZero}
 use Rattle.block0.specs.declared.Header.{Header}
-use Rattle.block0.specs.Layout.{slotCount, version, headerOf, releasedHeader, noLabels}
+use Rattle.block0.specs.Layout.{slotCount, version, headerOf, labelsOf, releasedHeader, noLabels}
 
 -- no more than n steps; where nothing leads from R to I, I is zero and R is not
 abbrev pub atMost : ℕ → Steps → Bool
@@ -33,7 +34,8 @@ bodyOf b = part b 4 checkAt
 unfoldable pub fieldsOk : List ℕ → Bool
 fieldsOk b =
     both (eqb (beAt 4 b 0) version)
-    (both (eqb (beAt 1 b 23) 0) (both (headerOk (headerOf b)) (pick (eqb (headerOf b .kept) 0) (allZero (bodyOf b)) true)))
+    (both (eqb (beAt 1 b 23) 0)
+    (both (headerOk (headerOf b)) (both (pick (eqb (headerOf b .kept) 0) (allZero (bodyOf b)) true) (validOf (labelsOf b)))))
 
 -- each number has its width
 pub record Fits (h : Header) : Type 0 where
@@ -53,4 +55,5 @@ pub record Valid (h : Header) (ls : List ℕ) : Type 0 where
   pub held : h .held ≤ slotCount
   pub kept : h .kept ≤ 1
   pub window : atMost (h .held) (stepsOf (h .released .0) (h .issued .0)) ≡ true
+  pub labels : validOf ls ≡ true
   pub idle : h .kept ≡ 0 → (h ≡ releasedHeader) × (ls ≡ noLabels)

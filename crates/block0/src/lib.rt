@@ -112,3 +112,27 @@ fn header_is_valid(h: Header) -> bool
     }
     issued_are_held(h)
 }
+
+// Whether block 0's fields are right. Its check is not looked at.
+pub fn block0_is_valid(block: &[u8]) -> bool
+    requires { ⌜ length (now block) ≡ 512 ⌝ }
+    ensures { λ r. ⌜ r ≡ fieldsOk (now (block .entry)) ⌝ }
+{
+    if octets::get_u32(block, 0) != VERSION {
+        return false;
+    }
+    if octets::get_u8(block, 23) != 0 {
+        return false;
+    }
+    let h = read_header(block);
+    if !header_is_valid(h) {
+        return false;
+    }
+    // No label stands in zeros, so the words need no look of their own.
+    if h.kept == 0 {
+        return block::zeros::all_zero(&block[4..block::CHECK_AT]);
+    }
+    let mut words = [0u32; 120];
+    read_labels(block, &mut words);
+    label_list::valid(&words)
+}
