@@ -1,0 +1,6 @@
+pub mod Tests
+pub mod Sums
+pub mod Sealed
+pub mod ZeroBytes
+pub mod Run
+pub mod WordRun
