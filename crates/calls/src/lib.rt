@@ -1,6 +1,9 @@
 // What every public call shares: phases, answers and what they do, the outcome, and the acts that end a connection or a session.
 ghost use mathlib.Core.Path.{_≡_};
 ghost use Rattle.calls.specs.Answers.{answerNumber, effectOf};
+ghost use Rattle.calls.specs.Phases.{issuedCount, phaseFits, restingPhase};
+use block0::Header;
+use ft_number::Steps;
 
 // 01's phases. InitWait bears our proposed timeout, UpFT the count sent on this connection.
 pub enum Phase {
@@ -106,4 +109,42 @@ pub fn effect_of(a: Answer) -> Effect
         return Effect::Fail;
     }
     Effect::Release
+}
+
+// How many of the held messages have a number.
+pub fn issued_count(h: Header) -> u32
+    ensures { λ r. ⌜ r ≡ issuedCount h ⌝ }
+{
+    match ft_number::steps_between(h.released, h.issued) {
+        Steps::Count(k) => k,
+        Steps::Unreachable => 0,
+    }
+}
+
+// Whether the image allows the phase.
+pub fn phase_fits(phase: Phase, h: Header) -> bool
+    ensures { λ r. ⌜ r ≡ phaseFits phase h ⌝ }
+{
+    match phase {
+        Phase::Idle => h.kept == 0,
+        Phase::InitWait(_) => true,
+        Phase::UpFT(sent) => {
+            if h.kept != 1 {
+                return false;
+            }
+            sent <= issued_count(h)
+        }
+        Phase::UpPlain => h.kept == 0,
+        Phase::Failed => h.kept == 1,
+    }
+}
+
+// The phase of a session with no connection.
+pub fn resting_phase(h: Header) -> Phase
+    ensures { λ r. ⌜ r ≡ restingPhase h ⌝ }
+{
+    if h.kept == 1 {
+        return Phase::Failed;
+    }
+    Phase::Idle
 }
