@@ -1,2 +1,4 @@
 pub mod Answers
 pub mod Phases
+pub mod Outcomes
+pub mod Acked

@@ -2,8 +2,16 @@
 ghost use mathlib.Core.Path.{_≡_};
 ghost use Rattle.calls.specs.Answers.{answerNumber, effectOf};
 ghost use Rattle.calls.specs.Phases.{issuedCount, phaseFits, restingPhase};
+ghost use Rattle.calls.specs.Outcomes.{isDone, checked, admitted, after, refusal, unchanged, failedWith, releasedWith, settleOf};
+ghost use Rattle.calls.specs.declared.Answer;
+ghost use mathlib.Core.List.{[]};
+ghost use lib.ListN.{length};
+ghost use Rattle.octets.specs.Differ.{differ};
+ghost use Rattle.image.specs.Sizes.{imageSize, block};
+ghost use Rattle.image.specs.Verdict.{verdict};
 use block0::Header;
 use ft_number::Steps;
+use image::Verdict;
 
 // 01's phases. InitWait bears our proposed timeout, UpFT the count sent on this connection.
 pub enum Phase {
@@ -111,6 +119,13 @@ pub fn effect_of(a: Answer) -> Effect
     Effect::Release
 }
 
+// Whether an answer is Done.
+pub fn is_done(a: Answer) -> bool
+    ensures { λ r. ⌜ r ≡ isDone a ⌝ }
+{
+    answer_number(a) == 0
+}
+
 // How many of the held messages have a number.
 pub fn issued_count(h: Header) -> u32
     ensures { λ r. ⌜ r ≡ issuedCount h ⌝ }
@@ -147,4 +162,89 @@ pub fn resting_phase(h: Header) -> Phase
         return Phase::Failed;
     }
     Phase::Idle
+}
+
+// Restore's checks, as an answer.
+pub fn check(image: &[u8]) -> Answer
+    ensures { λ r. ⌜ r ≡ checked (verdict (now (image .entry))) Answer.Done ⌝ }
+{
+    match image::check_image(image) {
+        Verdict::Sound => Answer::Done,
+        Verdict::WrongSize => Answer::WrongSize,
+        Verdict::BadBlock(b) => Answer::BadBlock(b),
+        Verdict::BadField(b) => Answer::BadField(b),
+    }
+}
+
+// Restore's checks, and whether the image allows the phase: the first two tests of every call.
+pub fn admit(image: &[u8], phase: Phase) -> Answer
+    ensures { λ r. ⌜ r ≡ admitted (now (image .entry)) phase Answer.Done ⌝ }
+{
+    let a = check(image);
+    if !is_done(a) {
+        return a;
+    }
+    if !phase_fits(phase, image::header_of(image)) {
+        return Answer::WrongPhase;
+    }
+    Answer::Done
+}
+
+// A refusal: nothing changed.
+pub fn refuse(answer: Answer, phase: Phase) -> Outcome
+    ensures { λ r. ⌜ r ≡ refusal answer phase ⌝ }
+{
+    Outcome { answer: answer, phase: phase, written: 0, slot: 0, block0: false }
+}
+
+// A copy of block 0, to see later whether it changed.
+pub fn copy_block0(image: &[u8]) -> [u8; 512]
+    requires { ⌜ length (now image) ≡ imageSize ⌝ }
+    ensures { λ r. ⌜ r ≡ block (now (image .entry)) 0 ⌝ }
+{
+    let mut before = [0u8; 512];
+    octets::copy_to(&mut before, 0, image::block_at(image, 0));
+    before
+}
+
+// Whether block 0 is no longer what it was.
+pub fn block0_changed(before: &[u8], image: &[u8]) -> bool
+    requires { ⌜ length (now image) ≡ imageSize ⌝ }
+    ensures { λ r. ⌜ r ≡ differ (now (before .entry)) (block (now (image .entry)) 0) ⌝ }
+{
+    octets::bytes_differ(before, image::block_at(image, 0))
+}
+
+// As connection failed: the labels used without protection are freed, and the session rests.
+pub fn fail(image: &mut [u8], answer: Answer) -> Outcome
+    requires { ⌜ length (now image) ≡ imageSize ⌝ }
+    ensures { λ r. ⌜ after r (now (image .exit)) [] ≡ failedWith answer (now (image .entry)) [] ⌝ }
+{
+    let before = copy_block0(image);
+    let phase = resting_phase(image::header_of(image));
+    image::free_unprotected(image);
+    Outcome { answer: answer, phase: phase, written: 0, slot: 0, block0: block0_changed(&before, image) }
+}
+
+// The state is released, and the session is idle.
+pub fn release(image: &mut [u8], answer: Answer) -> Outcome
+    requires { ⌜ length (now image) ≡ imageSize ⌝ }
+    ensures { λ r. ⌜ after r (now (image .exit)) [] ≡ releasedWith answer (now (image .entry)) [] ⌝ }
+{
+    let before = copy_block0(image);
+    image::release(image);
+    Outcome { answer: answer, phase: Phase::Idle, written: 0, slot: 0, block0: block0_changed(&before, image) }
+}
+
+// What an answer leaves that is not Done; Done, which each call does itself, changes nothing here.
+pub fn settle(image: &mut [u8], answer: Answer, phase: Phase) -> Outcome
+    requires { ⌜ length (now image) ≡ imageSize ⌝ }
+    ensures { λ r. ⌜ after r (now (image .exit)) [] ≡ settleOf answer phase (now (image .entry)) [] (unchanged answer phase (now (image .entry)) []) ⌝ }
+{
+    match effect_of(answer) {
+        Effect::Nothing => refuse(answer, phase),
+        Effect::Fail => fail(image, answer),
+        Effect::Release => release(image, answer),
+        Effect::Act => refuse(answer, phase),
+    }
 }
