@@ -9,6 +9,7 @@ use Rattle.message.specs.declared.Submission
 use Rattle.message.specs.declared.Submission.{Submission}
 use Rattle.label_list.specs.declared.LabelMessage
 use Rattle.label_list.specs.declared.LabelMessage.{LabelMessage}
+use Rattle.label_events.specs.Ack.{ackedOf}
 use Rattle.block0.specs.declared.Header.{Header}
 use Rattle.message.specs.declared.FtField
 use Rattle.message.specs.declared.FtField.{FtField}

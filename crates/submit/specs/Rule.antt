@@ -12,9 +12,9 @@ use Rattle.message.specs.declared.Kind
 use Rattle.message.specs.declared.Kind.{Kind}
 use Rattle.message.specs.declared.Submission
 use Rattle.message.specs.declared.Submission.{Submission}
-use Rattle.label_list.specs.Accept.{acceptedOf}
-use Rattle.label_list.specs.declared.Acceptance
-use Rattle.label_list.specs.declared.Acceptance.{Acceptance}
+use Rattle.label_events.specs.Accept.{acceptedOf}
+use Rattle.label_events.specs.declared.Acceptance
+use Rattle.label_events.specs.declared.Acceptance.{Acceptance}
 use Rattle.label_list.specs.declared.LabelMessage
 use Rattle.label_list.specs.declared.LabelMessage.{LabelMessage}
 use Rattle.block0.specs.declared.Header.{Header}
