@@ -15,7 +15,7 @@ ghost use lib.ListN.{length};
 ghost use Rattle.tlv.specs.Walk.{headSize};
 ghost use Rattle.tlv.specs.Value.{Places};
 ghost use Rattle.message.specs.Reading.{typeOf, numberIn, idIn, bearsOf, messageOf, readingOf};
-ghost use Rattle.message.specs.Kinds.{fatalOf, codeOf, kindBy, kindOf};
+ghost use Rattle.message.specs.Kinds.{fatalOf, codeOf, kindBy, kindOf, kindNumber};
 ghost use Rattle.message.specs.Submission.{bearsFt, labelledAs, submissionBy, submissionOf};
 
 // The message types; Other is every number that has no name here.
@@ -213,6 +213,21 @@ pub fn kind_of(g: Message) -> Kind
         MessageType::Release => Kind::Release,
         MessageType::Abort => Kind::NoKind,
         MessageType::Other => Kind::NoKind,
+    }
+}
+
+// The kind's number in the stored image; 0 for no kind.
+pub fn kind_number(kind: Kind) -> u8
+    ensures { λ r. ⌜ r ≡ kindNumber kind ⌝ }
+{
+    match kind {
+        Kind::Mapping => 1,
+        Kind::Withdraw => 2,
+        Kind::Release => 3,
+        Kind::Address => 4,
+        Kind::AddressWithdraw => 5,
+        Kind::ResourcesAvailable => 6,
+        Kind::NoKind => 0,
     }
 }
 
