@@ -2,6 +2,7 @@
 use mathlib.Core.Path.{_≡_, refl, sym, ap, _∙_}
 use mathlib.Core.Bool.{Bool, true, false}
 use mathlib.Core.List.{List}
+use mathlib.Core.Logic.{⊎-elim}
 use Prim.Native.Nat.{ℕ, _+_, _-_, _≤_, _<_}
 use native.Mathlib.Omega.{arith}
 use borrow.Author.Tests.{leb-true, eqb-true, le-leb, eq-eqb}
@@ -11,16 +12,19 @@ use Rattle.octets.specs.Be.{beAt}
 use Rattle.octets.specs.Pick.{both}
 use Rattle.octets.proofs.Part.{length-part}
 use Rattle.message.specs.Kinds.{kindNumber}
-use Rattle.message.specs.Submission.{submissionOf}
 use Rattle.message.specs.declared.Kind.{Kind}
 use Rattle.message.specs.declared.Submission.{Submission}
 use Rattle.message.specs.declared.Submission.the-variants.{Malformed, Refused, Accepted}
-use Rattle.block.specs.Check.{blockSize}
+use Rattle.message.specs.Submission.{noLabel, submissionOf}
+use Rattle.message.proofs.Laws.{accepted, whole-label}
+use Rattle.tlv.specs.Tlv.{largestLabel}
+use Rattle.block.specs.Check.{blockSize, sound}
 use Rattle.block.specs.Zeros.{allZero}
-use Rattle.block.proofs.Tests.{no, both-true}
+use Rattle.block.proofs.Tests.{no, both-true, below-or-not}
 use Rattle.slot.specs.Layout.{shortest, longest, lengthOf, kindOf, labelOf, messageOf, paddingOf, slotBlock}
 use Rattle.slot.specs.Fields.{bears, slotOk}
-use Rattle.slot.proofs.Written.{slot-length, slot-kind, slot-spare, slot-label, message-slot, padding-slot}
+use Rattle.slot.specs.Held.{Storable, slotFor}
+use Rattle.slot.proofs.Written.{length-slot, slot-sound, slot-length, slot-kind, slot-spare, slot-label, message-slot, padding-slot}
 
 -- the length lies within its range
 pub low-length : (b : List ℕ) → slotOk b ≡ true → shortest ≤ lengthOf b
@@ -63,25 +67,68 @@ slot-holds b ok =
     let p₆ = both-true (allZero (paddingOf b)) _ (p₅ .1) in
     borne b (submissionOf (messageOf b)) refl (p₆ .1)
 
--- a slot that was written with a message that Submit takes, its kind and its label has right fields
-pub slot-ok : (b m : List ℕ) (k : Kind) (l : ℕ) → length b ≡ blockSize → shortest ≤ length m → length m ≤ longest → submissionOf m ≡ Accepted k l
-    → 1 ≤ kindNumber k → kindNumber k ≤ 6 → l < 4294967296 → slotOk (slotBlock b m (kindNumber k) l) ≡ true
-unfolding slotOk
-slot-ok b m k l long low short acc some kinds fl =
-    let n : ℕ = kindNumber k in
-    let fk : kindNumber k < 256 = omega arith in
-    simp (
-      slot-length b m n l long short fk fl,
-      le-leb _ _ low,
-      le-leb _ _ short,
-      slot-kind b m n l long short fk fl,
-      le-leb _ _ some,
-      le-leb _ _ kinds,
-      eq-eqb _ _ (slot-spare b m n l long short fk fl),
-      padding-slot b m n l long short fk fl,
-      message-slot b m n l long short fk fl,
-      acc,
-      slot-label b m n l long short fk fl,
-      eq-eqb n n refl,
-      eq-eqb l l refl,
-    )
+-- ---- the slot for a message
+-- a label that Submit takes has 32 bits, and its kind is one of the six
+label-small : (m : List ℕ) (k : Kind) (l : ℕ) → submissionOf m ≡ Accepted k l → l < 4294967296
+label-small m k l e =
+    let a = accepted m k l e in
+    ⊎-elim
+    (λ (h : kindNumber k < 4).
+    let low : l ≤ largestLabel = whole-label m (a .message) (a .reading) l (a .labelled .label (omega arith)) in
+    omega arith)
+    (λ (h : 4 ≤ kindNumber k).
+    let none : l ≡ noLabel = a .labelled .none (omega arith) in
+    omega arith)
+    (below-or-not (kindNumber k) 4)
+
+module _ (b m : List ℕ) (long : length b ≡ blockSize) (s : Storable m) where
+  n : ℕ
+  n = kindNumber (s .kind)
+
+  some : 1 ≤ n
+  unfolding n
+  some = accepted m (s .kind) (s .label) (s .accepted) .labelled .some
+
+  kinds : n ≤ 6
+  unfolding n
+  kinds = accepted m (s .kind) (s .label) (s .accepted) .labelled .kinds
+
+  fk : n < 256
+  fk = omega (arith, kinds)
+
+  fl : s .label < 4294967296
+  fl = label-small m (s .kind) (s .label) (s .accepted)
+
+  is-slot : slotFor b m ≡ slotBlock b m n (s .label)
+  unfolding slotFor n
+  is-slot = rw (s .accepted)
+
+  pub length-slotFor : length (slotFor b m) ≡ blockSize
+  length-slotFor = rw is-slot (length-slot b m n (s .label) long (s .short) fk fl)
+
+  pub slotFor-sound : sound (slotFor b m) ≡ true
+  slotFor-sound = rw is-slot (slot-sound b m n (s .label) long (s .short) fk fl)
+
+  -- what was stored is held
+  pub slotFor-message : messageOf (slotFor b m) ≡ m
+  slotFor-message = rw is-slot (message-slot b m n (s .label) long (s .short) fk fl)
+
+  pub slotFor-ok : slotOk (slotFor b m) ≡ true
+  unfolding slotOk n
+  slotFor-ok =
+      rw is-slot
+      (simp (
+        slot-length b m n (s .label) long (s .short) fk fl,
+        le-leb _ _ (s .low),
+        le-leb _ _ (s .short),
+        slot-kind b m n (s .label) long (s .short) fk fl,
+        le-leb _ _ some,
+        le-leb _ _ kinds,
+        eq-eqb _ _ (slot-spare b m n (s .label) long (s .short) fk fl),
+        padding-slot b m n (s .label) long (s .short) fk fl,
+        message-slot b m n (s .label) long (s .short) fk fl,
+        s .accepted,
+        slot-label b m n (s .label) long (s .short) fk fl,
+        eq-eqb n n refl,
+        eq-eqb (s .label) (s .label) refl,
+      ))
