@@ -13,6 +13,7 @@ write-slot-spec =
     (λ c. omega arith)
     (λ c κs. search needs)
     (λ c κs. search needs)
+    (λ c κs. search needs)
     (λ c. omega arith)
     (λ c. omega arith)
     (λ c κs. search needs)

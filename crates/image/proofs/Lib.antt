@@ -1,0 +1,5 @@
+pub mod Blocks
+pub mod Rings
+pub mod Scans
+pub mod Stored
+pub mod Sound
