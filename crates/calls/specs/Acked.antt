@@ -11,8 +11,8 @@ use Rattle.label_list.specs.declared.LabelMessage
 use Rattle.label_list.specs.declared.LabelMessage.{LabelMessage}
 use Rattle.label_events.specs.Ack.{ackedOf}
 use Rattle.block0.specs.declared.Header.{Header}
-use Rattle.message.specs.declared.FtField
-use Rattle.message.specs.declared.FtField.{FtField}
+use Rattle.tlv.specs.declared.FtField
+use Rattle.tlv.specs.declared.FtField.{FtField}
 use Rattle.image.specs.State.{State}
 use Rattle.image.specs.Sizes.{slotAt}
 

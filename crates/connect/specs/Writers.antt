@@ -9,8 +9,8 @@ use Rattle.octets.specs.Pick.{pick}
 use Rattle.ft_number.specs.Timeout.{proposedOf}
 use Rattle.ft_number.specs.declared.MessageId.{MessageId}
 use Rattle.ft_number.specs.declared.Proposal.{Proposal}
-use Rattle.message.specs.declared.FtField
-use Rattle.message.specs.declared.FtField.{FtField}
+use Rattle.tlv.specs.declared.FtField
+use Rattle.tlv.specs.declared.FtField.{FtField}
 use Rattle.message_writer.specs.Forms.{initBytes, keepaliveBytes}
 use Rattle.message_writer.specs.declared.Parameters.{Parameters}
 use Rattle.block0.specs.declared.Header.{Header}

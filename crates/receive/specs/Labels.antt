@@ -4,12 +4,12 @@ use mathlib.Core.List.{List}
 use Prim.Native.Nat.{ℕ}
 use Rattle.octets.specs.Pick.{pick, both}
 use Rattle.message.specs.Kinds.{kindOf}
-use Rattle.message.specs.declared.Fec
-use Rattle.message.specs.declared.Fec.{Fec}
-use Rattle.message.specs.declared.Field
-use Rattle.message.specs.declared.Field.{Field}
-use Rattle.message.specs.declared.FtField
-use Rattle.message.specs.declared.FtField.{FtField}
+use Rattle.tlv.specs.declared.Fec
+use Rattle.tlv.specs.declared.Fec.{Fec}
+use Rattle.tlv.specs.declared.Field
+use Rattle.tlv.specs.declared.Field.{Field}
+use Rattle.tlv.specs.declared.FtField
+use Rattle.tlv.specs.declared.FtField.{FtField}
 use Rattle.message.specs.declared.Kind
 use Rattle.message.specs.declared.Kind.{Kind}
 use Rattle.message.specs.declared.Message.{Message}

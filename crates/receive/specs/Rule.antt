@@ -13,10 +13,10 @@ use Rattle.ft_number.specs.declared.FtNumber.{FtNumber}
 use Rattle.message.specs.Kinds.{fatalOf}
 use Rattle.message.specs.Reading.{readingOf}
 use Rattle.message.specs.Submission.{bearsFt}
-use Rattle.message.specs.declared.Field
-use Rattle.message.specs.declared.Field.{Field}
-use Rattle.message.specs.declared.FtField
-use Rattle.message.specs.declared.FtField.{FtField}
+use Rattle.tlv.specs.declared.Field
+use Rattle.tlv.specs.declared.Field.{Field}
+use Rattle.tlv.specs.declared.FtField
+use Rattle.tlv.specs.declared.FtField.{FtField}
 use Rattle.message.specs.declared.Message.{Message}
 use Rattle.message.specs.declared.Reading
 use Rattle.message.specs.declared.Reading.{Reading}

@@ -8,8 +8,8 @@ use lib.ListN.{length, getD}
 use Rattle.octets.specs.Pick.{pick}
 use Rattle.ft_number.specs.Circle.{after}
 use Rattle.ft_number.specs.declared.FtNumber.{FtNumber}
-use Rattle.message.specs.declared.FtField
-use Rattle.message.specs.declared.FtField.{FtField}
+use Rattle.tlv.specs.declared.FtField
+use Rattle.tlv.specs.declared.FtField.{FtField}
 use Rattle.message_writer.specs.Forms.{protectedBytes}
 use Rattle.block0.specs.declared.Header.{Header}
 use Rattle.image.specs.State.{State, decode, store}
