@@ -3,3 +3,5 @@ pub mod Rings
 pub mod Scans
 pub mod Stored
 pub mod Sound
+pub mod Queue
+pub mod Formatted

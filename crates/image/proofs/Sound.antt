@@ -1,13 +1,13 @@
 -- A sound image, clause by clause, and what storing leaves of it. Assumes nothing.
 use mathlib.Core.Path.{_≡_, refl, sym, ap, _∙_}
 use mathlib.Core.Bool.{true}
-use mathlib.Core.List.{List, []}
+use mathlib.Core.List.{List}
 use mathlib.Core.Logic.{_≢_}
 use Prim.Native.Nat.{ℕ, zero, suc, _+_, _-_, _*_, _%_, _≤_, _<_}
 use native.Mathlib.Omega.{arith}
 use borrow.Author.Tests.{eqb-true, eq-eqb}
 use lib.Dec.{eqb}
-use lib.ListN.{length, getD}
+use lib.ListN.{length}
 use Rattle.octets.specs.Pick.{pick}
 use Rattle.label_list.specs.Word.{wordCount}
 use Rattle.block.specs.Check.{blockSize, sound}
@@ -24,10 +24,9 @@ use Rattle.slot.proofs.Holding.{slotFor-sound, slotFor-ok}
 use Rattle.image.specs.declared.Verdict.{Verdict}
 use Rattle.image.specs.declared.Verdict.the-variants.{Sound, WrongSize, BadBlock, BadField}
 use Rattle.image.specs.Sizes.{block, blockOf, slotAt, imageSize}
-use Rattle.image.specs.State.{State, decode, slotsOf, storeSlot, store0}
+use Rattle.image.specs.State.{decode, storeSlot, store0}
 use Rattle.image.specs.Verdict.{scan, verdict, slotVerdict, IsSound, SlotGood}
 use Rattle.image.proofs.Blocks.{length-block}
-use Rattle.image.proofs.Rings.{ring-at, ring-length}
 use Rattle.image.proofs.Scans.{scan-one, scan-none}
 use Rattle.image.proofs.Stored.{Idle, length-storeSlot, slot-put, slot-other, length-store0, zeroth-put, zeroth-other}
 
@@ -82,15 +81,6 @@ Live image h = (i : ℕ) → i < h .held → SlotGood (block image (blockOf (slo
 pub sound-live : (image : List ℕ) → IsSound image → Live image (decode image .header)
 unfolding decode
 sound-live image s = s .slots
-
--- the message at place i of the queue stands in slot i past the first
-pub queue-at : (image : List ℕ) (i : ℕ) → i < decode image .header .held → getD (decode image .queue) i [] ≡ slotsOf image (slotAt (decode image .header .first) i)
-unfolding decode
-queue-at image i l = ring-at (slotsOf image) [] (headerOf (block image 0) .first) (headerOf (block image 0) .held) i l
-
-pub queue-length : (image : List ℕ) → length (decode image .queue) ≡ decode image .header .held
-unfolding decode
-queue-length image = ring-length (slotsOf image) (headerOf (block image 0) .first) (headerOf (block image 0) .held)
 
 -- ---- stored, it is sound again
 -- a slot that is not live
