@@ -5,3 +5,4 @@ pub mod Stored
 pub mod Sound
 pub mod Queue
 pub mod Formatted
+pub mod Changes
