@@ -1,14 +1,12 @@
 -- What becomes of the state of a released image, of a new one, and of one as after a break. Assumes nothing.
-use mathlib.Core.Path.{_≡_, refl, sym, ap, _∙_}
-use mathlib.Core.List.{List, [], _∷_, map}
+use mathlib.Core.Path.{_≡_, refl, _∙_}
+use mathlib.Core.List.{List}
 use mathlib.Core.Logic.{_≢_}
-use Prim.Native.Nat.{ℕ, zero, suc, _+_, _*_, _≤_, _<_}
+use Prim.Native.Nat.{ℕ, _+_, _*_, _≤_, _<_}
 use native.Mathlib.Omega.{arith}
-use lib.ListN.{length, getD, replicate}
+use lib.ListN.{length, replicate}
 use Rattle.ft_number.specs.Circle.{stepsOf}
 use Rattle.label_list.specs.Word.{wordCount}
-use Rattle.label_list.specs.Sweep.{wordSwept, sweptOf}
-use Rattle.label_list.specs.declared.SweepRule.the-variants.{AfterBreak}
 use Rattle.block.specs.Check.{blockSize}
 use Rattle.block.specs.Run.{Words}
 use Rattle.block0.specs.Layout.{slotCount, releasedHeader, noLabels}
@@ -16,11 +14,11 @@ use Rattle.block0.specs.Fields.{Fits, Valid}
 use Rattle.block0.proofs.Rules.{none-valid}
 use Rattle.image.specs.Sizes.{imageSize, block, blockOf}
 use Rattle.image.specs.Ring.{ring}
-use Rattle.image.specs.State.{State, InRange, decode, slotsOf, store0}
+use Rattle.image.specs.State.{InRange, decode}
 use Rattle.image.specs.Verdict.{IsSound}
-use Rattle.image.specs.Events.{released, releaseOf, newImage, broken, breakOf}
-use Rattle.image.proofs.Stored.{state-eq, decode-store0, decode-keep, zeroth-other}
-use Rattle.image.proofs.Sound.{sound-store0, sound-valid, sound-live}
+use Rattle.image.specs.Events.{released, releaseOf, newImage}
+use Rattle.image.proofs.Stored.{decode-store0, zeroth-other}
+use Rattle.image.proofs.Sound.{sound-store0}
 use Rattle.image.proofs.Formatted.{length-zeros, zeros-at, block-zeros}
 
 -- ---- released

@@ -6,3 +6,4 @@ pub mod Sound
 pub mod Queue
 pub mod Formatted
 pub mod Changes
+pub mod Ranges
