@@ -1,4 +1,5 @@
 pub mod Tests
+pub mod Parts
 pub mod Sums
 pub mod Sealed
 pub mod ZeroBytes

@@ -8,16 +8,17 @@ use native.Mathlib.Nat.{eq-zero-or-pos}
 use native.Mathlib.Omega.{arith}
 use borrow.Author.Tests.{eqb-true, eq-eqb, ne-eqb, ltb-true, leb-true, lt-ltb, le-leb}
 use lib.Dec.{eqb, leb, ltb}
-use lib.ListN.{length, getD, drop, take, replicate, length-take, length-drop}
-use lib.Seq.{getD-take, getD-drop}
+use lib.ListN.{length, getD, drop, replicate}
 use Rattle.octets.specs.Be.{beAt}
 use Rattle.octets.specs.Pick.{pick, both}
 use Rattle.ft_number.specs.Circle.{stepsOf}
 use Rattle.label_list.specs.Word.{wordCount, isFree}
 use Rattle.label_list.specs.Valid.{validOf, validWord}
+use Rattle.block.specs.Check.{checkAt}
 use Rattle.block.specs.Run.{getRun, wordsAt, Words}
 use Rattle.block.specs.Zeros.{allZero}
 use Rattle.block.proofs.Tests.{both-true, below-or-not}
+use Rattle.block.proofs.Parts.{part-at, part-inside}
 use Rattle.block.proofs.Run.{zeros-getRun, getRun-zeros}
 use Rattle.block.proofs.WordRun.{zeros-words, words-zeros}
 use Rattle.block.proofs.ZeroBytes.{zero-bytes, bytes-zero}
@@ -27,17 +28,13 @@ use Rattle.block0.specs.Fields.{atMost, headerOk, bodyOf, fieldsOk, Fits
 use Rattle.block0.proofs.Written.{length-block0, run-block0, header-block0, labels-block0}
 
 -- ---- with kept 0
--- a byte of the body is one of the block
-body-at : (b : List ℕ) (i : ℕ) → i < 504 → getD (bodyOf b) i 0 ≡ getD b (4 + i) 0
-body-at b i l = rw (getD-take 504 (drop 4 b) i 0, getD-drop 4 b i 0)
-
-none-valid : validOf noLabels ≡ true
+pub none-valid : validOf noLabels ≡ true
 unfolding validOf validWord isFree
 none-valid = refl
 
 module _ (b : List ℕ) (zero : allZero (bodyOf b) ≡ true) where
   byte : (i : ℕ) → i < 504 → getD b (4 + i) 0 ≡ 0
-  byte i l = sym (body-at b i l) ∙ zero-bytes (bodyOf b) zero i
+  byte i l = sym (part-at b 4 checkAt i l) ∙ zero-bytes (bodyOf b) zero i
 
   pub zero-header : headerOf b ≡ releasedHeader
   unfolding headerOf
@@ -57,8 +54,8 @@ zero-body : (b : List ℕ) → length b ≡ 512 → getRun (drop 1 widths) b 4 �
 unfolding labelsOf
 zero-body b long numbers labels =
     bytes-zero (bodyOf b) (λ i hi.
-    let l : i < 504 = omega (arith, simp (length-take, length-drop) at hi) in
-    body-at b i l
+    let l : i < 504 = part-inside b 4 checkAt i hi in
+    part-at b 4 checkAt i l
     ∙ ⊎-elim
     (λ (low : i < 24). getRun-zeros (drop 1 widths) b 4 numbers i low)
     (λ (high : 24 ≤ i).

@@ -3,3 +3,7 @@ pub mod Rings
 pub mod Scans
 pub mod Stored
 pub mod Sound
+pub mod Queue
+pub mod Formatted
+pub mod Changes
+pub mod Ranges

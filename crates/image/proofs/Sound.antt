@@ -1,13 +1,14 @@
 -- A sound image, clause by clause, and what storing leaves of it. Assumes nothing.
 use mathlib.Core.Path.{_≡_, refl, sym, ap, _∙_}
 use mathlib.Core.Bool.{true}
-use mathlib.Core.List.{List, []}
-use mathlib.Core.Logic.{_≢_}
+use mathlib.Core.List.{List}
+use mathlib.Core.Logic.{_≢_, ⊎-elim}
 use Prim.Native.Nat.{ℕ, zero, suc, _+_, _-_, _*_, _%_, _≤_, _<_}
+use native.Mathlib.Nat.{eq-or-lt-of-le}
 use native.Mathlib.Omega.{arith}
 use borrow.Author.Tests.{eqb-true, eq-eqb}
 use lib.Dec.{eqb}
-use lib.ListN.{length, getD}
+use lib.ListN.{length}
 use Rattle.octets.specs.Pick.{pick}
 use Rattle.label_list.specs.Word.{wordCount}
 use Rattle.block.specs.Check.{blockSize, sound}
@@ -24,10 +25,9 @@ use Rattle.slot.proofs.Holding.{slotFor-sound, slotFor-ok}
 use Rattle.image.specs.declared.Verdict.{Verdict}
 use Rattle.image.specs.declared.Verdict.the-variants.{Sound, WrongSize, BadBlock, BadField}
 use Rattle.image.specs.Sizes.{block, blockOf, slotAt, imageSize}
-use Rattle.image.specs.State.{State, decode, slotsOf, storeSlot, store0}
+use Rattle.image.specs.State.{decode, storeSlot, store0}
 use Rattle.image.specs.Verdict.{scan, verdict, slotVerdict, IsSound, SlotGood}
 use Rattle.image.proofs.Blocks.{length-block}
-use Rattle.image.proofs.Rings.{ring-at, ring-length}
 use Rattle.image.proofs.Scans.{scan-one, scan-none}
 use Rattle.image.proofs.Stored.{Idle, length-storeSlot, slot-put, slot-other, length-store0, zeroth-put, zeroth-other}
 
@@ -83,15 +83,6 @@ pub sound-live : (image : List ℕ) → IsSound image → Live image (decode ima
 unfolding decode
 sound-live image s = s .slots
 
--- the message at place i of the queue stands in slot i past the first
-pub queue-at : (image : List ℕ) (i : ℕ) → i < decode image .header .held → getD (decode image .queue) i [] ≡ slotsOf image (slotAt (decode image .header .first) i)
-unfolding decode
-queue-at image i l = ring-at (slotsOf image) [] (headerOf (block image 0) .first) (headerOf (block image 0) .held) i l
-
-pub queue-length : (image : List ℕ) → length (decode image .queue) ≡ decode image .header .held
-unfolding decode
-queue-length image = ring-length (slotsOf image) (headerOf (block image 0) .first) (headerOf (block image 0) .held)
-
 -- ---- stored, it is sound again
 -- a slot that is not live
 pub sound-slot : (image : List ℕ) (k : ℕ) (m : List ℕ) → IsSound image → k < slotCount → Storable m → Idle image k → IsSound (storeSlot image k m)
@@ -125,3 +116,38 @@ sound-store0 image h ls size fh fl v live =
       fields = rw e (valid-fields (block image 0) h ls long fh fl v);
       slots = rw (e, d) (λ i l. rw (zeroth-other image size h ls fh fl (blockOf (slotAt (h .first) i)) (omega arith)) (live i l));
     }
+
+-- ---- the three ways in which a call stores leave a sound image
+-- the slot after the last is not live
+pub idle-last : (image : List ℕ) → decode image .header .held < slotCount → Idle image (slotAt (decode image .header .first) (decode image .header .held))
+idle-last image room i l = omega arith
+
+pub sound-accept : (image : List ℕ) (h : Header) (ls m : List ℕ) → IsSound image → Fits h → Words wordCount ls → Valid h ls → Storable m
+    → h .first ≡ decode image .header .first → h .held ≡ decode image .header .held + 1 → decode image .header .held < slotCount
+    → IsSound (store0 (storeSlot image (slotAt (decode image .header .first) (decode image .header .held)) m) h ls)
+sound-accept image h ls m s fh fl v fits ef eh room =
+    let f : ℕ = decode image .header .first in
+    let n : ℕ = decode image .header .held in
+    let k : ℕ = slotAt f n in
+    let low : k < slotCount = omega arith in
+    let t : List ℕ = storeSlot image k m in
+    sound-store0 t h ls (length-storeSlot image (s .size) k low m fits) fh fl v (λ i l.
+    rw ef
+    (⊎-elim
+    (λ (last : i ≡ n). rw last (slot-good image k m (s .size) low fits))
+    (λ (before : i < n).
+    rw (slot-other image (s .size) k low m fits (blockOf (slotAt f i)) (omega arith)) (sound-live image s i before))
+    (eq-or-lt-of-le (omega arith))))
+
+pub sound-release : (image : List ℕ) (h : Header) (ls : List ℕ) (n : ℕ) → IsSound image → Fits h → Words wordCount ls → Valid h ls
+    → n ≤ decode image .header .held → h .first ≡ slotAt (decode image .header .first) n → h .held ≡ decode image .header .held - n
+    → IsSound (store0 image h ls)
+sound-release image h ls n s fh fl v low ef eh =
+    sound-store0 image h ls (s .size) fh fl v (λ i l.
+    let there : slotAt (h .first) i ≡ slotAt (decode image .header .first) (n + i) = omega arith in
+    rw there (sound-live image s (n + i) (omega arith)))
+
+pub sound-keep : (image : List ℕ) (h : Header) (ls : List ℕ) → IsSound image → Fits h → Words wordCount ls → Valid h ls
+    → h .first ≡ decode image .header .first → h .held ≡ decode image .header .held → IsSound (store0 image h ls)
+sound-keep image h ls s fh fl v ef eh =
+    sound-store0 image h ls (s .size) fh fl v (λ i l. rw ef (sound-live image s i (omega arith)))

@@ -7,6 +7,8 @@ use Rattle.octets.specs.Pick.{pick}
 use Rattle.label_list.specs.Sweep.{sweptOf}
 use Rattle.label_list.specs.declared.SweepRule.the-variants.{AfterBreak}
 use Rattle.block0.specs.Layout.{releasedHeader, noLabels}
+use Rattle.image.specs.declared.Verdict.{Verdict}
+use Rattle.image.specs.declared.Verdict.the-variants.{Sound, WrongSize}
 use Rattle.image.specs.Sizes.{imageSize}
 use Rattle.image.specs.State.{State, decode, store}
 
@@ -20,6 +22,10 @@ releaseOf image = store image released
 -- a new image: block 0 with kept 0, and 64 slots of 512 zeros; an image of another size is left as it is
 unfoldable pub newImage : List ℕ
 newImage = store (replicate imageSize 0) released
+
+-- "12: image not 33,280 bytes"
+unfoldable pub sizeVerdict : List ℕ → Verdict
+sizeVerdict image = pick (eqb (length image) imageSize) Sound WrongSize
 
 unfoldable pub formatOf : List ℕ → List ℕ
 formatOf image = pick (eqb (length image) imageSize) newImage image

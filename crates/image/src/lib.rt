@@ -16,6 +16,16 @@ ghost use Rattle.image.specs.Verdict.{scan, verdict, verdictNumber, verd
 use block0::Header;
 use message::Kind;
 
+mod events;
+mod held;
+
+pub use events::format;
+pub use events::free_unprotected;
+pub use events::release;
+pub use held::held_kind;
+pub use held::held_label;
+pub use held::held_message;
+
 // What restore's checks answer; a block or a field that is wrong, with its block's number.
 pub enum Verdict {
     Sound,

@@ -23,7 +23,7 @@ use Rattle.block.specs.Zeros.{allZero}
 use Rattle.block.proofs.Tests.{no, both-true, below-or-not}
 use Rattle.slot.specs.Layout.{shortest, longest, lengthOf, kindOf, labelOf, messageOf, paddingOf, slotBlock}
 use Rattle.slot.specs.Fields.{bears, slotOk}
-use Rattle.slot.specs.Held.{Storable, slotFor}
+use Rattle.slot.specs.Held.{Storable, slotFor, kindIn, labelIn}
 use Rattle.slot.proofs.Written.{length-slot, slot-sound, slot-length, slot-kind, slot-spare, slot-label, message-slot, padding-slot}
 
 -- the length lies within its range
@@ -66,6 +66,26 @@ slot-holds b ok =
     let p₅ = both-true (eqb (beAt 1 b 3) 0) _ (p₄ .1) in
     let p₆ = both-true (allZero (paddingOf b)) _ (p₅ .1) in
     borne b (submissionOf (messageOf b)) refl (p₆ .1)
+
+-- so the slot's kind and label are those of its message
+pub holds-kind : (b : List ℕ) → slotOk b ≡ true → kindOf b ≡ kindIn (submissionOf (messageOf b))
+holds-kind b ok = let h = slot-holds b ok in rw (h .accepted) (sym (h .kinded))
+
+pub holds-label : (b : List ℕ) → slotOk b ≡ true → labelOf b ≡ labelIn (submissionOf (messageOf b))
+holds-label b ok = let h = slot-holds b ok in rw (h .accepted) (sym (h .labelled))
+
+-- the message of a slot with right fields may be held again
+pub holds-storable : (b : List ℕ) → length b ≡ blockSize → slotOk b ≡ true → Storable (messageOf b)
+holds-storable b long ok =
+    let h = slot-holds b ok in
+    let n : length (messageOf b) ≡ lengthOf b = length-message b long ok in
+    record {
+      low = rw n (low-length b ok);
+      short = rw n (high-length b ok);
+      kind = h .kind;
+      label = h .label;
+      accepted = h .accepted;
+    }
 
 -- ---- the slot for a message
 -- a label that Submit takes has 32 bits, and its kind is one of the six

@@ -4,8 +4,8 @@ use mathlib.Core.Bool.{true}
 use mathlib.Core.List.{List, [], _∷_}
 use Prim.Native.Nat.{ℕ, _+_, _-_, _*_, _^_, _≤_, _<_}
 use native.Mathlib.Omega.{arith}
-use lib.ListN.{length, getD, take, drop, length-take, length-drop}
-use lib.Seq.{getD-take, getD-drop, ext-getD}
+use lib.ListN.{length, getD}
+use lib.Seq.{ext-getD}
 use Rattle.octets.specs.Fill.{copied, zeroed}
 use Rattle.octets.specs.Part.{part}
 use Rattle.octets.proofs.Fill.{length-filled, filled-at, filled-else}
@@ -13,16 +13,11 @@ use Rattle.octets.proofs.Part.{length-part}
 use Rattle.block.specs.Check.{sealed, sound}
 use Rattle.block.specs.Run.{getRun, putRun}
 use Rattle.block.specs.Zeros.{allZero}
+use Rattle.block.proofs.Parts.{part-at}
 use Rattle.block.proofs.Sealed.{sealed-else, length-sealed, sealed-sound}
 use Rattle.block.proofs.Run.{Fit, none, one, length-putRun, getRun-putRun, getRun-same}
 use Rattle.block.proofs.ZeroBytes.{bytes-zero}
 use Rattle.slot.specs.Layout.{headWidths, lengthOf, kindOf, labelOf, messageOf, paddingOf, slotBlock}
-
--- a byte of a part
-part-at : (s : List ℕ) (a e i : ℕ) → i < length (part s a e) → getD (part s a e) i 0 ≡ getD s (a + i) 0
-part-at s a e i l =
-    let inside : i < e - a = omega (arith, simp (length-take, length-drop) at l) in
-    rw (getD-take (e - a) (drop a s) i 0, getD-drop a s i 0)
 
 module _ (b m : List ℕ) (kind label : ℕ) (long : length b ≡ 512) (short : length m ≤ 480) (fk : kind < 256) (fl : label < 4294967296) where
   values : List ℕ
@@ -92,7 +87,7 @@ module _ (b m : List ℕ) (kind label : ℕ) (long : length b ≡ 512) (short : 
       let size : length (part t 8 (8 + length m)) ≡ length m = length-part t 8 (8 + length m) (omega (arith, length-slot)) ∙ omega arith in
       ap (λ (n : ℕ). part t 8 (8 + n)) slot-length
       ∙ ext-getD 0 (part t 8 (8 + length m)) m size (λ i l.
-      part-at t 8 (8 + length m) i l
+      part-at t 8 (8 + length m) i (omega arith)
       ∙ byte (8 + i) (omega arith)
       ∙ filled-else (500 - length m) (λ j. 0) (copied headed 8 m) (8 + length m) (8 + i) (λ j hj. omega arith)
       ∙ filled-at (length m) (λ j. getD m j 0) headed 8 i room (omega arith))
@@ -106,6 +101,6 @@ module _ (b m : List ℕ) (kind label : ℕ) (long : length b ≡ 512) (short : 
       let size : length (part t a 508) ≡ 508 - a = length-part t a 508 (omega (arith, length-slot)) in
       ap (λ (n : ℕ). allZero (part t (8 + n) 508)) slot-length
       ∙ bytes-zero (part t a 508) (λ i l.
-      part-at t a 508 i l
+      part-at t a 508 i (omega arith)
       ∙ byte (a + i) (omega arith)
       ∙ filled-at (500 - length m) (λ j. 0) (copied headed 8 m) a i room (omega arith))

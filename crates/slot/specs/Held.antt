@@ -4,7 +4,7 @@ use mathlib.Core.Path.{_≡_}
 use mathlib.Core.List.{List}
 use lib.ListN.{length}
 use Rattle.message.specs.Kinds.{kindNumber}
-use Rattle.message.specs.Submission.{submissionOf}
+use Rattle.message.specs.Submission.{noLabel, submissionOf}
 use Rattle.message.specs.declared.Kind.{Kind}
 use Rattle.message.specs.declared.Submission.{Submission}
 use Rattle.message.specs.declared.Submission.the-variants.{Malformed, Refused, Accepted}
@@ -26,3 +26,14 @@ holding b m (Accepted kind label) = slotBlock b m (kindNumber kind) label
 
 unfoldable pub slotFor : List ℕ → List ℕ → List ℕ
 slotFor b m = holding b m (submissionOf m)
+
+-- the kind's number and the label of a judged message; 0 and 0xFFFFFFFF where it is not accepted
+abbrev pub kindIn : Submission → ℕ
+kindIn Malformed = 0
+kindIn Refused = 0
+kindIn (Accepted kind label) = kindNumber kind
+
+abbrev pub labelIn : Submission → ℕ
+labelIn Malformed = noLabel
+labelIn Refused = noLabel
+labelIn (Accepted kind label) = label
