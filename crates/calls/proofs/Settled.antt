@@ -8,8 +8,6 @@ use lib.ListN.{length}
 use Rattle.octets.specs.Pick.{pick}
 use Rattle.octets.specs.Fill.{copied}
 use Rattle.octets.proofs.Fill.{copied-all}
-use Rattle.block.specs.Check.{blockSize}
-use Rattle.image.specs.Sizes.{block}
 use Rattle.block0.specs.declared.Header.{Header}
 use Rattle.image.specs.State.{decode}
 use Rattle.image.specs.Verdict.{verdict, IsSound}
@@ -95,6 +93,6 @@ admitted-is {im} {ph} d a = sym (admit-rest im ph a (d .passes) (d .fits))
 pub admitted-sound : {im : List ℕ} {ph : Phase} → Admitted im ph → IsSound im
 admitted-sound {im} d = sound-parts im (d .passes)
 
--- a copy of block 0 over a list of its size
-pub copied-over : (s b im : List ℕ) {r : List ℕ} → r ≡ copied s 0 b → (b ≡ block im 0) × (length b ≡ blockSize) → length s ≡ blockSize → r ≡ block im 0
-copied-over s b im e p z = e ∙ copied-all s b (z ∙ sym (p .1)) ∙ p .0
+-- a copy over a list of the same size
+pub copied-over : (s b x : List ℕ) {r : List ℕ} → r ≡ copied s 0 b → (b ≡ x) × (length b ≡ length s) → r ≡ x
+copied-over s b x e p = e ∙ copied-all s b (sym (p .1)) ∙ p .0

@@ -1,37 +1,34 @@
 -- What an acknowledgement makes of the state: "it releases every message through it".
 use Prim.Native.Nat.{ℕ, _+_, _-_, _%_}
 use mathlib.Core.List.{List, [], _∷_}
+use lib.Dec.{eqb}
 use lib.ListN.{take, drop}
+use Rattle.octets.specs.Pick.{pick}
+use Rattle.message.specs.Kinds.{kindNumber}
 use Rattle.message.specs.Submission.{submissionOf}
 use Rattle.message.specs.declared.Kind
 use Rattle.message.specs.declared.Kind.{Kind}
-use Rattle.message.specs.declared.Submission
-use Rattle.message.specs.declared.Submission.{Submission}
 use Rattle.label_list.specs.declared.LabelMessage
 use Rattle.label_list.specs.declared.LabelMessage.{LabelMessage}
 use Rattle.label_events.specs.Ack.{ackedOf}
+use Rattle.slot.specs.Held.{kindIn, labelIn}
 use Rattle.block0.specs.declared.Header.{Header}
 use Rattle.tlv.specs.declared.FtField
 use Rattle.tlv.specs.declared.FtField.{FtField}
 use Rattle.image.specs.State.{State}
 use Rattle.image.specs.Sizes.{slotAt}
 
--- the label words after a held message of that kind and label was released: "Withdraw 2 becomes free; Release 5 becomes free; other codes stay"
-abbrev pub releasedBy : Submission → List ℕ → List ℕ
-releasedBy (Submission.Accepted Kind.Mapping l) ls = ackedOf ls LabelMessage.Mapping l
-releasedBy (Submission.Accepted Kind.Withdraw l) ls = ackedOf ls LabelMessage.Withdraw l
-releasedBy (Submission.Accepted Kind.Release l) ls = ackedOf ls LabelMessage.Release l
-releasedBy (Submission.Accepted Kind.Address l) ls = ls
-releasedBy (Submission.Accepted Kind.AddressWithdraw l) ls = ls
-releasedBy (Submission.Accepted Kind.ResourcesAvailable l) ls = ls
-releasedBy (Submission.Accepted Kind.NoKind l) ls = ls
-releasedBy Submission.Malformed ls = ls
-releasedBy Submission.Refused ls = ls
+-- the label words after a held message of that kind and label was released:
+-- "Released by ACK: Withdraw 2 becomes free; Release 5 becomes free; other codes stay."
+unfoldable pub releasedKind : ℕ → ℕ → List ℕ → List ℕ
+releasedKind kind label ls =
+    pick (eqb kind (kindNumber Kind.Withdraw)) (ackedOf ls LabelMessage.Withdraw label)
+    (pick (eqb kind (kindNumber Kind.Release)) (ackedOf ls LabelMessage.Release label) ls)
 
 -- after all of them, the oldest first
 unfoldable pub releasedLabels : List (List ℕ) → List ℕ → List ℕ
 releasedLabels [] ls = ls
-releasedLabels (m ∷ ms) ls = releasedLabels ms (releasedBy (submissionOf m) ls)
+releasedLabels (m ∷ ms) ls = releasedLabels ms (releasedKind (kindIn (submissionOf m)) (labelIn (submissionOf m)) ls)
 
 -- R is the number acknowledged, and the oldest k slots are free
 abbrev pub withReleased : Header → ℕ → ℕ → Header

@@ -20,7 +20,7 @@ unfoldable pub issuedCount : Header → ℕ
 issuedCount h = countOf (stepsOf (h .released .0) (h .issued .0))
 
 -- whether the image allows the phase
-abbrev pub phaseFits : Phase → Header → Bool
+unfoldable pub phaseFits : Phase → Header → Bool
 phaseFits Phase.Idle h = eqb (h .kept) 0
 phaseFits (Phase.InitWait t) h = true
 phaseFits (Phase.UpFT sent) h = both (eqb (h .kept) 1) (leb sent (issuedCount h))

@@ -1,8 +1,8 @@
 use borrow.Author.Needs.{needs}
 use native.Mathlib.Omega.{arith}
 use Rattle.calls.proofs.Effects.{effect-act, effect-nothing, effect-fail, effect-release}
-use Rattle.calls.proofs.effect_of.Statement.{statement}
-use Rattle.calls.proofs.effect_of.Tie as tie
+use Rattle.calls.proofs.answers.effect_of.Statement.{statement}
+use Rattle.calls.proofs.answers.effect_of.Tie as tie
 
 pub effect-of-spec : {M : Type 1} → statement M
 effect-of-spec =

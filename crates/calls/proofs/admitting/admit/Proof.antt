@@ -3,8 +3,8 @@ use mathlib.Core.Path.{sym, ap, _∙_}
 use borrow.Author.Tests.{not-true, not-false}
 use Rattle.image.proofs.Sound.{sound-parts}
 use Rattle.calls.proofs.Settled.{admit-checks, checks-sound, fits-read, admit-phase, admit-rest}
-use Rattle.calls.proofs.admit.Statement.{statement}
-use Rattle.calls.proofs.admit.Tie as tie
+use Rattle.calls.proofs.admitting.admit.Statement.{statement}
+use Rattle.calls.proofs.admitting.admit.Tie as tie
 
 pub admit-spec : {M : Type 1} → statement M
 admit-spec =

@@ -1,6 +1,6 @@
 use borrow.Author.Needs.{needs}
-use Rattle.calls.proofs.check.Statement.{statement}
-use Rattle.calls.proofs.check.Tie as tie
+use Rattle.calls.proofs.admitting.check.Statement.{statement}
+use Rattle.calls.proofs.admitting.check.Tie as tie
 
 pub check-spec : {M : Type 1} → statement M
 check-spec =

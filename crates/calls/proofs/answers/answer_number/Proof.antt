@@ -1,6 +1,6 @@
 use borrow.Author.Needs.{needs}
-use Rattle.calls.proofs.answer_number.Statement.{statement}
-use Rattle.calls.proofs.answer_number.Tie as tie
+use Rattle.calls.proofs.answers.answer_number.Statement.{statement}
+use Rattle.calls.proofs.answers.answer_number.Tie as tie
 
 pub answer-number-spec : {M : Type 1} → statement M
 answer-number-spec =

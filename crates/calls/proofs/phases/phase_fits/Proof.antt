@@ -1,9 +1,11 @@
 use borrow.Author.Needs.{needs}
 use borrow.Author.Tests.{eq-eqb, ne-eqb}
-use Rattle.calls.proofs.phase_fits.Statement.{statement}
-use Rattle.calls.proofs.phase_fits.Tie as tie
+use Rattle.calls.specs.Phases.{phaseFits}
+use Rattle.calls.proofs.phases.phase_fits.Statement.{statement}
+use Rattle.calls.proofs.phases.phase_fits.Tie as tie
 
 pub phase-fits-spec : {M : Type 1} → statement M
+unfolding phaseFits
 phase-fits-spec =
     tie.close
     (tie.spec

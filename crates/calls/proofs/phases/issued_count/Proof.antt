@@ -1,7 +1,7 @@
 use borrow.Author.Needs.{needs}
 use Rattle.calls.proofs.Phasing.{issued-is}
-use Rattle.calls.proofs.issued_count.Statement.{statement}
-use Rattle.calls.proofs.issued_count.Tie as tie
+use Rattle.calls.proofs.phases.issued_count.Statement.{statement}
+use Rattle.calls.proofs.phases.issued_count.Tie as tie
 
 pub issued-count-spec : {M : Type 1} → statement M
 issued-count-spec =
