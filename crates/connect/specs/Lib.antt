@@ -1,3 +1,0 @@
-pub mod Start
-pub mod Writers
-pub mod Init
