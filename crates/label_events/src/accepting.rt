@@ -8,6 +8,7 @@ use crate::Plan;
 use crate::changing::code_at;
 use crate::changing::make_change;
 use crate::changing::plan_change;
+use label_list::FIRST_LABEL;
 use label_list::Found;
 use label_list::LABEL_COUNT;
 use label_list::LabelMessage;
@@ -22,7 +23,7 @@ use label_list::word_of;
 fn plan_accept(words: &[u32], message: LabelMessage, label: u32) -> Plan
     ensures { λ r. ⌜ r ≡ planOf (now (words .entry)) message label ⌝ }
 {
-    if label < 16 {
+    if label < FIRST_LABEL {
         return Plan::Refused;
     }
     if label >= LABEL_COUNT {

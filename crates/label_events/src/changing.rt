@@ -1,7 +1,7 @@
 // The change of one label's word: planned on the lent words, then written.
 ghost use mathlib.Core.Path.{_≡_};
 ghost use Prim.Native.Nat.{_<_};
-ghost use Rattle.label_list.specs.Word.{isFree};
+ghost use Rattle.label_list.specs.Word.{labelCount, isFree};
 ghost use Rattle.label_list.specs.Find.{findOf, FoundIn};
 ghost use Rattle.label_events.specs.Change.{ChangeIn, codeIn, changeAt, changed};
 use crate::Change;
@@ -24,7 +24,7 @@ pub fn code_at(words: &[u32], place: Found) -> u32
 
 // The change that gives the label, found at that place, that code.
 pub fn plan_change(words: &[u32], place: Found, label: u32, code: u32) -> Change
-    requires { ⌜ (label < 1048576) × (code < 4096) ⌝ }
+    requires { ⌜ (label < labelCount) × (code < 4096) ⌝ }
     ensures { λ r. ⌜ r ≡ changeAt place (findOf isFree (now (words .entry))) label code ⌝ }
 {
     let word = word_of(label, code);
@@ -42,6 +42,7 @@ pub fn plan_change(words: &[u32], place: Found, label: u32, code: u32) -> Change
     }
 }
 
+// Writes a planned change.
 pub fn make_change(words: &mut [u32], change: Change)
     requires { ⌜ ChangeIn (now words) change ⌝ }
     ensures { λ _. ⌜ now (words .exit) ≡ changed (now (words .entry)) change ⌝ }

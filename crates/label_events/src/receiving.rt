@@ -7,6 +7,7 @@ use crate::Touched;
 use crate::changing::code_at;
 use crate::changing::make_change;
 use crate::changing::plan_change;
+use label_list::FIRST_LABEL;
 use label_list::LABEL_COUNT;
 use label_list::LabelMessage;
 use label_list::SweepRule;
@@ -19,7 +20,7 @@ use label_list::sweep;
 fn plan_received(words: &[u32], message: LabelMessage, protected: bool, label: u32) -> Change
     ensures { λ r. ⌜ r ≡ receivedChange (now (words .entry)) message protected label ⌝ }
 {
-    if label < 16 {
+    if label < FIRST_LABEL {
         return Change::Keep;
     }
     if label >= LABEL_COUNT {

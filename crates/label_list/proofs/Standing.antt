@@ -25,6 +25,17 @@ module _ (low high n : ℕ) where
       let parts : (leb low n ≡ true) × (leb n high ≡ true) = both-true (leb low n) (leb n high) e in
       (leb-true low n (parts .0), leb-true n high (parts .1))
 
+-- A code outside 1 to 6 stands on no side.
+pub off-low : (s : Side) (c : ℕ) → c < 1 → false ≡ onSide s c
+unfolding onSide
+off-low Given c h = within-below 1 2 c h
+off-low Used c h = within-below 3 6 c (omega arith)
+
+pub off-high : (s : Side) (c : ℕ) → 6 < c → false ≡ onSide s c
+unfolding onSide
+off-high Given c h = within-above 1 2 c (omega arith) (omega arith)
+off-high Used c h = within-above 3 6 c (omega arith) h
+
 -- A code stands on one side at most, and code 0 on none.
 pub one-side : (s t : Side) (c : ℕ) → onSide s c ≡ true → onSide t c ≡ true → s ≡ t
 unfolding onSide

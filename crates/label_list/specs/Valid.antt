@@ -4,7 +4,7 @@ use mathlib.Core.Bool.{Bool, true, not}
 use mathlib.Core.List.{List, [], _∷_}
 use lib.Dec.{leb}
 use Rattle.octets.specs.Pick.{pick, both}
-use Rattle.label_list.specs.Word.{labelOf, codeOf, isFree, onSide, standsFor}
+use Rattle.label_list.specs.Word.{firstLabel, labelOf, codeOf, isFree, onSide, standsFor}
 use Rattle.label_list.specs.Find.{any}
 use Rattle.label_list.specs.declared.Side.{Side}
 use Rattle.label_list.specs.declared.Side.the-variants.{Given, Used}
@@ -19,7 +19,7 @@ standsOnce label code later = pick (onSide Given code) (absent Given label later
 
 -- "0 is free"; "Labels 0 to 15 are never listed"
 unfoldable pub validWord : ℕ → List ℕ → Bool
-validWord w later = pick (isFree w) true (both (leb 16 (labelOf w)) (standsOnce (labelOf w) (codeOf w) later))
+validWord w later = pick (isFree w) true (both (leb firstLabel (labelOf w)) (standsOnce (labelOf w) (codeOf w) later))
 
 unfoldable pub validOf : List ℕ → Bool
 validOf [] = true

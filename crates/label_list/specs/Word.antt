@@ -1,5 +1,5 @@
 -- A label word, and the side on which its code stands. 01: "120 numbers of 32 bits: label + 1,048,576 x code; 0 is free, and no other word has code 0".
-use Prim.Native.Nat.{ℕ, _+_, _*_, _/_, _%_}
+use Prim.Native.Nat.{ℕ, _+_, _-_, _*_, _/_, _%_}
 use mathlib.Core.Bool.{Bool}
 use lib.Dec.{eqb, leb}
 use Rattle.octets.specs.Pick.{pick, both}
@@ -13,6 +13,10 @@ wordCount = 120
 -- the number of labels, and the value of one step of the code: labels have 20 bits
 abbrev pub labelCount : ℕ
 labelCount = 1048576
+
+-- "Labels 0 to 15 are never listed"
+abbrev pub firstLabel : ℕ
+firstLabel = 16
 
 abbrev pub labelOf : ℕ → ℕ
 labelOf w = w % labelCount
@@ -40,6 +44,6 @@ onSide Used code = within 3 6 code
 unfoldable pub standsFor : Side → ℕ → ℕ → Bool
 standsFor side label w = both (onSide side (codeOf w)) (eqb (labelOf w) label)
 
--- "Labels 0 to 15 are never listed"; a label has 20 bits
+-- a label that may be listed
 abbrev pub listable : ℕ → Bool
-listable label = within 16 1048575 label
+listable label = within firstLabel (labelCount - 1) label

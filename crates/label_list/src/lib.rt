@@ -17,7 +17,9 @@ pub use search::count_listed;
 pub use search::find;
 pub use sweeping::sweep;
 pub use validity::valid;
+pub use word::FIRST_LABEL;
 pub use word::LABEL_COUNT;
+pub use word::WORD_COUNT;
 pub use word::word_of;
 
 // The two sides on which a label can stand: given to the peer, codes 1 and 2; used by us, codes 3 to 6.

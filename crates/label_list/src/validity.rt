@@ -12,6 +12,7 @@ use crate::Found;
 use crate::Side;
 use crate::Wanted;
 use crate::search::find;
+use crate::word::FIRST_LABEL;
 use crate::word::LABEL_COUNT;
 use crate::word::on_side;
 
@@ -57,7 +58,7 @@ fn mark_word(word: u32, later: &[u32], marks: &mut [u8]) -> bool
         return true;
     }
     let label = word % LABEL_COUNT;
-    if label < 16 {
+    if label < FIRST_LABEL {
         return false;
     }
     let code = word / LABEL_COUNT;

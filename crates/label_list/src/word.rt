@@ -1,25 +1,32 @@
 // One label word: its label, its code, and the side on which it stands.
 ghost use mathlib.Core.Path.{_≡_};
 ghost use Prim.Native.Nat.{_<_};
-ghost use Rattle.label_list.specs.Word.{wordOf, onSide, standsFor};
+ghost use Rattle.label_list.specs.Word.{labelCount, wordOf, onSide, standsFor};
 use crate::Side;
+
+// The number of label words in the stored image.
+pub const WORD_COUNT: usize = 120;
 
 // The number of labels, and the value of one step of the code.
 pub const LABEL_COUNT: u32 = 1048576;
+
+// 01: "Labels 0 to 15 are never listed."
+pub const FIRST_LABEL: u32 = 16;
 
 // 01: "A label stands once among codes 1-2 and once among 3-6."
 pub fn on_side(side: Side, code: u32) -> bool
     ensures { λ r. ⌜ r ≡ onSide side code ⌝ }
 {
-    match side {
-        Side::Given => match code {
-            1..=2 => true,
-            _ => false,
+    match code {
+        1..=2 => match side {
+            Side::Given => true,
+            Side::Used => false,
         },
-        Side::Used => match code {
-            3..=6 => true,
-            _ => false,
+        3..=6 => match side {
+            Side::Given => false,
+            Side::Used => true,
         },
+        _ => false,
     }
 }
 
@@ -35,7 +42,7 @@ pub fn stands_for(side: Side, label: u32, word: u32) -> bool
 
 // The word of a label under a code; under code 0 a free word.
 pub fn word_of(label: u32, code: u32) -> u32
-    requires { ⌜ (label < 1048576) × (code < 4096) ⌝ }
+    requires { ⌜ (label < labelCount) × (code < 4096) ⌝ }
     ensures { λ r. ⌜ r ≡ wordOf label code ⌝ }
 {
     if code == 0 {

@@ -3,6 +3,7 @@
 ghost use mathlib.Core.Path.{_≡_};
 ghost use Prim.Native.Nat.{_<_};
 ghost use lib.ListN.{length};
+ghost use Rattle.label_list.specs.Word.{wordCount};
 ghost use Rattle.label_events.specs.Accept.{acceptanceNumber};
 ghost use Rattle.label_events.specs.Protect.{protectionNumber};
 ghost use Rattle.label_events.specs.Receive.{receptionNumber};
@@ -13,6 +14,7 @@ use label_list::LABEL_COUNT;
 use label_list::LabelMessage;
 use label_list::Protection;
 use label_list::SweepRule;
+use label_list::WORD_COUNT;
 
 const STDOUT: i32 = 1;
 
@@ -97,7 +99,7 @@ fn happen(words: &mut [u32], event: Event) -> u32 {
 
 // Where the list is to be full, other labels stand in every word.
 fn fill(words: &mut [u32], full: bool)
-    requires { ⌜ length (now words) ≡ 120 ⌝ }
+    requires { ⌜ length (now words) ≡ wordCount ⌝ }
 {
     if !full {
         return;
@@ -111,7 +113,7 @@ fn fill(words: &mut [u32], full: bool)
 
 // Lists label 16 in the first word; code 0 leaves it absent.
 fn list(words: &mut [u32], code: u32)
-    requires { ⌜ (length (now words) ≡ 120) × (code < 7) ⌝ }
+    requires { ⌜ (length (now words) ≡ wordCount) × (code < 7) ⌝ }
 {
     if code == 0 {
         return;
@@ -122,7 +124,7 @@ fn list(words: &mut [u32], code: u32)
 fn cell(event: Event, code: u32, full: bool)
     requires { ⌜ code < 7 ⌝ }
 {
-    let mut words = [0u32; 120];
+    let mut words = [0u32; WORD_COUNT];
     fill(&mut words, full);
     list(&mut words, code);
     let answer = happen(&mut words, event);
