@@ -1,0 +1,8 @@
+pub mod Fields
+pub mod Rows
+pub mod Turns
+pub mod Noted
+pub mod Places
+pub mod Values
+pub mod Readings
+pub mod Submissions
