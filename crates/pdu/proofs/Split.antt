@@ -112,11 +112,17 @@ module _ (pdu : List ℕ) (n : ℕ) where
   unfolding openedOf
   opened-passed e = passed-cases (ltb (length pdu) 10) (eqb (beAt 2 pdu 0) 1) (eqb (beAt 2 pdu 2 + 4) (length pdu)) refl refl refl e
 
+  pub opened-reach : openedOf pdu ≡ Opened.Whole n → (10 ≤ length pdu) × Reach pdu 10 n
+  opened-reach e =
+      let p : Passed pdu n = opened-passed e in
+      (p .head, rw sub-zero at (counted-reach pdu n 10 0 (p .counted) (p .head) .1))
+
   -- a PDU that is taken with n messages: n are handed out, and after the head they are the PDU byte for byte
   pub opened-is-pdu : openedOf pdu ≡ Opened.Whole n → IsPdu pdu (handedOut pdu n 10) × (length (handedOut pdu n 10) ≡ n)
   opened-is-pdu e =
       let p : Passed pdu n = opened-passed e in
-      let r : Reach pdu 10 n = rw sub-zero at (counted-reach pdu n 10 0 (p .counted) (p .head) .1) in (
+      let r : Reach pdu 10 n = opened-reach e .1 in
+      (
         record { head = p .head; version = p .version; adds = p .adds; whole = r .whole; joined = rw (r .joined) (take-append-drop 10 pdu) },
         r .count,
       )
