@@ -121,8 +121,7 @@ module _ (pdu : List ℕ) (n : ℕ) where
   pub opened-is-pdu : openedOf pdu ≡ Opened.Whole n → IsPdu pdu (handedOut pdu n 10) × (length (handedOut pdu n 10) ≡ n)
   opened-is-pdu e =
       let p : Passed pdu n = opened-passed e in
-      let r : Reach pdu 10 n = opened-reach e .1 in
-      (
+      let r : Reach pdu 10 n = opened-reach e .1 in (
         record { head = p .head; version = p .version; adds = p .adds; whole = r .whole; joined = rw (r .joined) (take-append-drop 10 pdu) },
         r .count,
       )
