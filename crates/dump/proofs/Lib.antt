@@ -1,3 +1,3 @@
-pub mod Fields
+pub mod Pieces
 pub mod Parts
 pub mod Lines

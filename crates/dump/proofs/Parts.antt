@@ -22,7 +22,7 @@ use Rattle.message.specs.declared.walk.Tlv.{Tlv}
 use Rattle.message.specs.declared.walk.Walk
 use Rattle.message.specs.declared.walk.Walk.{Walk}
 use Rattle.message.proofs.Places.{Each, Lies, found-lies}
-use Rattle.dump.specs.Field.{PartsWithin}
+use Rattle.dump.specs.Fields.{PartsWithin}
 
 -- a part of a TLV that lies within the message, with a value of at most `most` bytes
 record Lying (m : List ℕ) (p : Part) (most : ℕ) : Type 0 where

@@ -12,7 +12,8 @@ use Rattle.message.specs.Reading.{numberIn, idIn, readingOf}
 use Rattle.message.specs.declared.Reading
 use Rattle.message.specs.declared.Reading.{Reading}
 use Rattle.text.specs.Text.{ascii, decimal}
-use Rattle.dump.specs.Field.{typeText, fieldsText}
+use Rattle.dump_fields.specs.Field.{typeText}
+use Rattle.dump.specs.Fields.{fieldsText}
 
 unfoldable pub headText : ℕ → ℕ → List ℕ → List ℕ
 headText number k m = decimal number ++ (ascii " " ++ decimal k) ++ typeText (numberIn m) ++ (ascii " " ++ decimal (idIn m .0))

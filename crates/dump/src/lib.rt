@@ -1,5 +1,4 @@
 // The text of LDP PDUs for people who look at captures: a line for each message (docs/LDP_DUMP.md).
-pub mod field; // field.rt: one TLV as a field of the line
 pub mod line; // line.rt: the line of one message
 pub mod stream; // stream.rt: a stream of PDUs
 

@@ -1,5 +1,4 @@
 // The line of one message.
-use crate::field;
 use message::Message;
 use message::Part;
 use message::Reading;
@@ -9,7 +8,7 @@ ghost use Prim.Native.Nat.{_+_, _-_, _*_, _≤_};
 ghost use lib.ListN.{length};
 ghost use Rattle.message.specs.Reading.{readingOf};
 ghost use Rattle.text.specs.Text.{Put};
-ghost use Rattle.dump.specs.Field.{valueOf, bindingText, stateText, ftTexts, fieldsText, PartsWithin};
+ghost use Rattle.dump.specs.Fields.{valueOf, bindingText, stateText, ftTexts, fieldsText, PartsWithin};
 ghost use Rattle.dump.specs.Line.{headText, readingText, lineOf, lineRoom};
 
 // The number of the PDU, that of the message in it, the type and the message ID.
@@ -21,9 +20,9 @@ fn put_head(out: &mut [u8], at: usize, number: u64, k: u64, m: &[u8]) -> usize
     let kind = message::number_in(m);
     let id = message::id_in(m);
     let end = text::put_decimal(out, at, number);
-    let end = field::put_number(out, end, b" ", k);
-    let end = field::put_type(out, end, kind);
-    field::put_number(out, end, b" ", id.0 as u64)
+    let end = dump_fields::put_number(out, end, b" ", k);
+    let end = dump_fields::put_type(out, end, kind);
+    dump_fields::put_number(out, end, b" ", id.0 as u64)
 }
 
 // The bytes of a part of the message.
@@ -45,8 +44,8 @@ fn put_binding(out: &mut [u8], at: usize, m: &[u8], g: Message) -> usize
     let fec = g.fec;
     let label = g.label;
     let value = value_of(m, g.fecvalue);
-    let end = field::put_fec(out, at, fec, value);
-    field::put_label(out, end, label)
+    let end = dump_fields::put_fec(out, at, fec, value);
+    dump_fields::put_label(out, end, label)
 }
 
 // Status and session parameters.
@@ -58,8 +57,8 @@ fn put_state(out: &mut [u8], at: usize, m: &[u8], g: Message) -> usize
     let status = g.status;
     let parameters = g.parameters;
     let value = value_of(m, g.parametersvalue);
-    let end = field::put_status(out, at, status);
-    field::put_parameters(out, end, parameters, value)
+    let end = dump_fields::put_status(out, at, status);
+    dump_fields::put_parameters(out, end, parameters, value)
 }
 
 // The FT TLVs.
@@ -71,9 +70,9 @@ fn put_ft(out: &mut [u8], at: usize, g: Message) -> usize
     let session = g.session;
     let protection = g.protection;
     let ack = g.ack;
-    let end = field::put_session(out, at, session);
-    let end = field::put_ft_number(out, end, b" ft-protection ", protection);
-    field::put_ft_number(out, end, b" ft-ack ", ack)
+    let end = dump_fields::put_session(out, at, session);
+    let end = dump_fields::put_ft_number(out, end, b" ft-protection ", protection);
+    dump_fields::put_ft_number(out, end, b" ft-ack ", ack)
 }
 
 // Each listed TLV that stands in the message.

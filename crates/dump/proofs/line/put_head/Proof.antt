@@ -1,6 +1,6 @@
 -- `dump::line::put_head` meets its contract. Assumes nothing.
 use borrow.Author.Needs.{needs}
-use Rattle.dump.proofs.Fields.{put-head}
+use Rattle.dump.proofs.Pieces.{put-head}
 use Rattle.dump.proofs.line.put_head.Statement.{statement}
 use Rattle.dump.proofs.line.put_head.Tie as tie
 

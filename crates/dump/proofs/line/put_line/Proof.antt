@@ -1,7 +1,7 @@
 -- `dump::line::put_line` meets its contract. Assumes nothing.
 use borrow.Author.Needs.{needs}
 use native.Mathlib.Omega.{arith}
-use Rattle.dump.proofs.Fields.{put-line}
+use Rattle.dump.proofs.Pieces.{put-line}
 use Rattle.dump.proofs.line.put_line.Statement.{statement}
 use Rattle.dump.proofs.line.put_line.Tie as tie
 

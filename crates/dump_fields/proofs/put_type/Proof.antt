@@ -1,7 +1,7 @@
--- `dump::field::put_type` meets its contract. Assumes nothing.
+-- `dump_fields::put_type` meets its contract. Assumes nothing.
 use borrow.Author.Needs.{needs}
-use Rattle.dump.proofs.field.put_type.Statement.{statement}
-use Rattle.dump.proofs.field.put_type.Tie as tie
+use Rattle.dump_fields.proofs.put_type.Statement.{statement}
+use Rattle.dump_fields.proofs.put_type.Tie as tie
 
 pub put-type-spec : {M : Type 1} → statement M
 put-type-spec =

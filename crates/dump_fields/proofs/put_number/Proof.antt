@@ -1,8 +1,8 @@
--- `dump::field::put_number` meets its contract. Assumes nothing.
+-- `dump_fields::put_number` meets its contract. Assumes nothing.
 use borrow.Author.Needs.{needs}
 use Rattle.text.proofs.Pieces.{pieces}
-use Rattle.dump.proofs.field.put_number.Statement.{statement}
-use Rattle.dump.proofs.field.put_number.Tie as tie
+use Rattle.dump_fields.proofs.put_number.Statement.{statement}
+use Rattle.dump_fields.proofs.put_number.Tie as tie
 
 pub put-number-spec : {M : Type 1} → statement M
 put-number-spec =

@@ -1,9 +1,9 @@
--- `dump::field::put_status` meets its contract. Assumes nothing.
+-- `dump_fields::put_status` meets its contract. Assumes nothing.
 use borrow.Author.Needs.{needs}
 use native.Mathlib.Omega.{arith}
 use Rattle.text.proofs.Pieces.{put-none}
-use Rattle.dump.proofs.field.put_status.Statement.{statement}
-use Rattle.dump.proofs.field.put_status.Tie as tie
+use Rattle.dump_fields.proofs.put_status.Statement.{statement}
+use Rattle.dump_fields.proofs.put_status.Tie as tie
 
 pub put-status-spec : {M : Type 1} → statement M
 put-status-spec =

@@ -1,9 +1,9 @@
--- `dump::field::put_fec` meets its contract. Assumes nothing.
+-- `dump_fields::put_fec` meets its contract. Assumes nothing.
 use borrow.Author.Needs.{needs}
 use native.Mathlib.Omega.{arith}
 use Rattle.text.proofs.Pieces.{put-none}
-use Rattle.dump.proofs.field.put_fec.Statement.{statement}
-use Rattle.dump.proofs.field.put_fec.Tie as tie
+use Rattle.dump_fields.proofs.put_fec.Statement.{statement}
+use Rattle.dump_fields.proofs.put_fec.Tie as tie
 
 pub put-fec-spec : {M : Type 1} → statement M
 put-fec-spec =

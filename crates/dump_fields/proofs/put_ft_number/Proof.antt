@@ -1,9 +1,9 @@
--- `dump::field::put_ft_number` meets its contract. Assumes nothing.
+-- `dump_fields::put_ft_number` meets its contract. Assumes nothing.
 use borrow.Author.Needs.{needs}
 use native.Mathlib.Omega.{arith}
 use Rattle.text.proofs.Pieces.{put-none}
-use Rattle.dump.proofs.field.put_ft_number.Statement.{statement}
-use Rattle.dump.proofs.field.put_ft_number.Tie as tie
+use Rattle.dump_fields.proofs.put_ft_number.Statement.{statement}
+use Rattle.dump_fields.proofs.put_ft_number.Tie as tie
 
 pub put-ft-number-spec : {M : Type 1} → statement M
 put-ft-number-spec =

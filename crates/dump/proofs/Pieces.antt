@@ -1,28 +1,14 @@
--- The fields of a line as they are put, one law for each case of the code. Assumes nothing.
-use Prim.Native.Nat.{ℕ, suc, _+_, _≤_}
-use mathlib.Core.Path.{_≡_, refl, sym, ap}
-use mathlib.Core.List.{List, [], _∷_, _++_}
-use native.Mathlib.Omega.{arith}
-use lib.ListN.{length}
-use Rattle.text.specs.Text.{ascii, decimal, hex, Put}
-use Rattle.text.proofs.Pieces.{put-none, put-then}
+-- The head of a line and the line, from the pieces that were put. Assumes nothing.
+use Prim.Native.Nat.{ℕ}
+use mathlib.Core.Path.{_≡_, sym, ap}
+use mathlib.Core.List.{List, _++_}
 use Rattle.ft_number.specs.declared.MessageId.{MessageId}
 use Rattle.message.specs.Reading.{numberIn, idIn, readingOf}
-use Rattle.dump.specs.Field.{bytesText, typeText}
+use Rattle.text.specs.Text.{ascii, decimal, Put}
+use Rattle.text.proofs.Pieces.{put-then}
+use Rattle.dump_fields.specs.Field.{typeText}
 use Rattle.dump.specs.Line.{headText, readingText, lineOf}
 
-module _ {b c : List ℕ} {mid end : ℕ} where
-  pub put-dash : (v : List ℕ) → length v ≡ 0 → Put b mid (ascii "-") c end → Put b mid (bytesText v) c end
-  put-dash [] h p = p
-  put-dash (x ∷ v) h p = absurd (omega arith)
-
-  pub put-digits : (v : List ℕ) → (length v ≡ 0 → ⊥) → Put b mid (hex v) c end → Put b mid (bytesText v) c end
-  put-digits [] h p = absurd (h refl)
-  put-digits (x ∷ v) h p = p
-
-pub ruleset values = (put-dash, put-digits)
-
--- the head of a line and its fields, from the pieces that were put
 module _ {a b c d : List ℕ} {at end second third : ℕ} (m : List ℕ) where
   pub put-head : {e : List ℕ} {first : ℕ} (number k t : ℕ) (id : MessageId) → t ≡ numberIn m → id ≡ idIn m
       → Put a at (decimal number) b first → Put b first (ascii " " ++ decimal k) c second → Put c second (typeText t) d third

@@ -1,9 +1,9 @@
--- `dump::field::put_label` meets its contract. Assumes nothing.
+-- `dump_fields::put_label` meets its contract. Assumes nothing.
 use borrow.Author.Needs.{needs}
 use native.Mathlib.Omega.{arith}
 use Rattle.text.proofs.Pieces.{put-none}
-use Rattle.dump.proofs.field.put_label.Statement.{statement}
-use Rattle.dump.proofs.field.put_label.Tie as tie
+use Rattle.dump_fields.proofs.put_label.Statement.{statement}
+use Rattle.dump_fields.proofs.put_label.Tie as tie
 
 pub put-label-spec : {M : Type 1} → statement M
 put-label-spec =

@@ -1,9 +1,9 @@
--- `dump::field::put_parameters` meets its contract. Assumes nothing.
+-- `dump_fields::put_parameters` meets its contract. Assumes nothing.
 use borrow.Author.Needs.{needs}
 use native.Mathlib.Omega.{arith}
 use Rattle.text.proofs.Pieces.{put-none}
-use Rattle.dump.proofs.field.put_parameters.Statement.{statement}
-use Rattle.dump.proofs.field.put_parameters.Tie as tie
+use Rattle.dump_fields.proofs.put_parameters.Statement.{statement}
+use Rattle.dump_fields.proofs.put_parameters.Tie as tie
 
 pub put-parameters-spec : {M : Type 1} → statement M
 put-parameters-spec =

@@ -1,4 +1,5 @@
-// One TLV as a field of the line: each function puts it from `at` on and answers where it ends.
+// One TLV as a field of a line of ldp_dump's text: each function puts it from `at` on and answers where it ends.
+// Each asks for the room that its field may need; only `dump` calls them.
 use message::Fec;
 use message::Field;
 use message::FtField;
@@ -9,7 +10,7 @@ ghost use mathlib.Core.List.{_++_};
 ghost use Prim.Native.Nat.{_+_, _*_, _≤_};
 ghost use lib.ListN.{length};
 ghost use Rattle.text.specs.Text.{decimal, Put};
-ghost use Rattle.dump.specs.Field.{bytesText, typeText, fecText, labelText, statusText, parametersText, bit, sessionText, ftText};
+ghost use Rattle.dump_fields.specs.Field.{bytesText, typeText, fecText, labelText, statusText, parametersText, bit, sessionText, ftText};
 
 // A name and then bytes in hexadecimal; `-` where there is none.
 pub fn put_bytes(out: &mut [u8], at: usize, name: &[u8], value: &[u8]) -> usize

@@ -1,9 +1,9 @@
--- `dump::field::put_bytes` meets its contract. Assumes nothing.
+-- `dump_fields::put_bytes` meets its contract. Assumes nothing.
 use borrow.Author.Needs.{needs}
 use Rattle.text.proofs.Pieces.{pieces}
-use Rattle.dump.proofs.Fields.{values}
-use Rattle.dump.proofs.field.put_bytes.Statement.{statement}
-use Rattle.dump.proofs.field.put_bytes.Tie as tie
+use Rattle.dump_fields.proofs.Values.{values}
+use Rattle.dump_fields.proofs.put_bytes.Statement.{statement}
+use Rattle.dump_fields.proofs.put_bytes.Tie as tie
 
 pub put-bytes-spec : {M : Type 1} → statement M
 put-bytes-spec =

@@ -1,12 +1,9 @@
 -- A listed TLV as fields of a line: a space, its name, a space, its value; nothing where it does not stand.
 -- Issue 3: "`fec HEX` (`fec -` where empty), `label N`, `status 0x0000000f`, `params HEX`, `ft-session R SECONDS`, `ft-protection N`, `ft-ack N`".
-use Prim.Native.Nat.{ℕ, _+_, _≤_}
-use Prim.Native.String.{String}
+use Prim.Native.Nat.{ℕ}
 use mathlib.Core.Bool.{Bool}
 use mathlib.Core.List.{List, [], _∷_, _++_}
-use lib.ListN.{length}
 use Rattle.octets.specs.Be.{bytes}
-use Rattle.octets.specs.Part.{part}
 use Rattle.octets.specs.Pick.{pick}
 use Rattle.message.specs.declared.Fec
 use Rattle.message.specs.declared.Fec.{Fec}
@@ -14,10 +11,8 @@ use Rattle.message.specs.declared.Field
 use Rattle.message.specs.declared.Field.{Field}
 use Rattle.message.specs.declared.FtField
 use Rattle.message.specs.declared.FtField.{FtField}
-use Rattle.message.specs.declared.Message.{Message}
 use Rattle.message.specs.declared.Parameters
 use Rattle.message.specs.declared.Parameters.{Parameters}
-use Rattle.message.specs.declared.Part.{Part}
 use Rattle.message.specs.declared.Session
 use Rattle.message.specs.declared.Session.{Session}
 use Rattle.text.specs.Text.{ascii, decimal, hex}
@@ -26,10 +21,6 @@ use Rattle.text.specs.Text.{ascii, decimal, hex}
 abbrev pub bytesText : List ℕ → List ℕ
 bytesText [] = ascii "-"
 bytesText (b ∷ bs) = hex (b ∷ bs)
-
--- the bytes of a part of the message
-abbrev pub valueOf : List ℕ → Part → List ℕ
-valueOf m p = part m (p .start) (p .end)
 
 -- a message's type number, in four digits
 abbrev pub typeText : ℕ → List ℕ
@@ -64,27 +55,3 @@ sessionText (Session.Given reconnect seconds) = ascii " ft-session " ++ decimal 
 abbrev pub ftText : List ℕ → FtField → List ℕ
 ftText name FtField.Absent = []
 ftText name (FtField.Number n) = name ++ decimal (n .0)
-
--- the parts of a message that was read lie within it, and that of the session parameters has at most 14 bytes
-pub record PartsWithin (m : List ℕ) (g : Message) : Type 0 where
-  pub fec-starts : g .fecvalue .start ≤ g .fecvalue .end
-  pub fec-ends : g .fecvalue .end ≤ length m
-  pub parameters-starts : g .parametersvalue .start ≤ g .parametersvalue .end
-  pub parameters-ends : g .parametersvalue .end ≤ length m
-  pub parameters-size : g .parametersvalue .end ≤ g .parametersvalue .start + 14
-
--- the binding: FEC and label
-abbrev pub bindingText : List ℕ → Message → List ℕ
-bindingText m g = fecText (g .fec) (valueOf m (g .fecvalue)) ++ labelText (g .label)
-
--- the session's state: status and parameters
-abbrev pub stateText : List ℕ → Message → List ℕ
-stateText m g = statusText (g .status) ++ parametersText (g .parameters) (valueOf m (g .parametersvalue))
-
--- the FT TLVs
-abbrev pub ftTexts : Message → List ℕ
-ftTexts g = sessionText (g .session) ++ ftText (ascii " ft-protection ") (g .protection) ++ ftText (ascii " ft-ack ") (g .ack)
-
--- "each listed TLV that stands in it, in this order"
-abbrev pub fieldsText : List ℕ → Message → List ℕ
-fieldsText m g = bindingText m g ++ stateText m g ++ ftTexts g

@@ -1,9 +1,9 @@
--- `dump::field::put_session` meets its contract. Assumes nothing.
+-- `dump_fields::put_session` meets its contract. Assumes nothing.
 use borrow.Author.Needs.{needs}
 use native.Mathlib.Omega.{arith}
 use Rattle.text.proofs.Pieces.{put-none, put-then}
-use Rattle.dump.proofs.field.put_session.Statement.{statement}
-use Rattle.dump.proofs.field.put_session.Tie as tie
+use Rattle.dump_fields.proofs.put_session.Statement.{statement}
+use Rattle.dump_fields.proofs.put_session.Tie as tie
 
 pub put-session-spec : {M : Type 1} → statement M
 put-session-spec =
