@@ -14,8 +14,8 @@ use Rattle.label_list.specs.Word.{labelOf, codeOf, isFree, onSide}
 use Rattle.label_list.specs.Valid.{absent, validWord, validOf}
 use Rattle.label_list.specs.Marks.{Marked}
 use Rattle.label_list.specs.declared.Side.the-variants.{Given, Used}
-use Rattle.label_list.proofs.Standing.{both-true}
-use Rattle.label_list.proofs.Marks.{marked-none, by-test}
+use Rattle.label_list.proofs.Choice.{both-true, by-test}
+use Rattle.label_list.proofs.Marks.{marked-none}
 
 -- The words from index i on are valid and marked.
 pub record Checked (words marks : List ℕ) (i : ℕ) : Type 0 where

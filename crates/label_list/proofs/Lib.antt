@@ -1,5 +1,7 @@
+pub mod Choice
 pub mod Standing
-pub mod Find
+pub mod Sought
+pub mod Reached
 pub mod Marks
 pub mod Checked
 pub mod Map

@@ -12,8 +12,9 @@ use Rattle.label_list.specs.Find.{any}
 use Rattle.label_list.specs.Valid.{absent}
 use Rattle.label_list.specs.Marks.{placeOf, Marked}
 use Rattle.label_list.specs.declared.Side.{Side}
+use Rattle.label_list.proofs.Choice.{by-test}
 use Rattle.label_list.proofs.Standing.{one-side, stands-parts, free-stands}
-use Rattle.label_list.proofs.Find.{any-cons}
+use Rattle.label_list.proofs.Sought.{any-cons}
 
 -- Before the first word no place is marked.
 pub marked-none : {marks : List ℕ} → length marks ≡ 512 → Marked [] marks
@@ -33,10 +34,6 @@ one-place s t k l w p q =
     rw (one-side s t (codeOf w) (first .0) (second .0), ← first .1, ← second .1)
 
 -- A word whose place is marked is passed.
-pub by-test : {P : Type 0} (b : Bool) → (b ≡ true → P) → (b ≡ false → P) → P
-by-test true p q = p refl
-by-test false p q = q refl
-
 module _ {words marks : List ℕ} (m : Marked words marks) (side : Side) (label : ℕ) {place : ℕ} (is : place ≡ placeOf side label) where
   marked-word : {after : List ℕ} → length after ≡ 512
       → ((t : Side) (l : ℕ) → getD after (placeOf t l) 0 ≡ 0 → (getD marks (placeOf t l) 0 ≡ 0) × (placeOf t l ≢ place))

@@ -2,7 +2,6 @@
 use mathlib.Core.Bool.{Bool, true, false}
 use Prim.Native.Nat.{ℕ, _<_}
 use lib.Dec.{lit<, leb, eqb}
-use Rattle.octets.specs.Pick.{pick}
 use Rattle.label_list.specs.Word.{within}
 use Rattle.label_list.specs.Rules.{codeAccepted, codeAcked, codeReceived, codeSwept}
 use Rattle.label_list.specs.declared.LabelMessage.{LabelMessage}
@@ -11,6 +10,7 @@ use Rattle.label_list.specs.declared.Next.{Next}
 use Rattle.label_list.specs.declared.Next.the-variants.{Code, NotAllowed}
 use Rattle.label_list.specs.declared.SweepRule.{SweepRule}
 use Rattle.label_list.specs.declared.SweepRule.the-variants.{WithdrawAll, ReleaseAll, AfterBreak}
+use Rattle.label_list.proofs.Choice.{pick-all}
 
 abbrev pub Small : ℕ → Type 0
 Small code = code < 4096
@@ -18,11 +18,6 @@ Small code = code < 4096
 abbrev pub SmallNext : Next → Type 0
 SmallNext (Code code) = Small code
 SmallNext NotAllowed = Unit {0}
-
--- what holds of both values holds of the one picked
-pick-all : {X : Type 0} (P : X → Type 0) (b : Bool) {x y : X} → P x → P y → P (pick b x y)
-pick-all P true px py = px
-pick-all P false px py = py
 
 pub accepted-small : (m : LabelMessage) (c : ℕ) → SmallNext (codeAccepted m c)
 unfolding codeAccepted

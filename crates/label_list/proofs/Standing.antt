@@ -9,11 +9,7 @@ use Rattle.octets.specs.Pick.{pick, both}
 use Rattle.label_list.specs.Word.{labelOf, codeOf, wordOf, within, onSide, standsFor}
 use Rattle.label_list.specs.declared.Side.{Side}
 use Rattle.label_list.specs.declared.Side.the-variants.{Given, Used}
-
--- Tests that hold together, and each of them.
-pub both-true : (a b : Bool) → both a b ≡ true → (a ≡ true) × (b ≡ true)
-both-true true b e = (refl, e)
-both-true false b e = let z : _≡_ {A = ℕ} 0 1 = cc in absurd (omega arith)
+use Rattle.label_list.proofs.Choice.{both-true}
 
 module _ (low high n : ℕ) where
   pub within-in : low ≤ n → n ≤ high → true ≡ within low high n

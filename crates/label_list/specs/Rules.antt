@@ -6,10 +6,23 @@ use Rattle.octets.specs.Pick.{pick}
 use Rattle.label_list.specs.Word.{within}
 use Rattle.label_list.specs.declared.LabelMessage.{LabelMessage}
 use Rattle.label_list.specs.declared.LabelMessage.the-variants.{Mapping, Withdraw, Release}
+use Rattle.label_list.specs.declared.Side.{Side}
+use Rattle.label_list.specs.declared.Side.the-variants.{Given, Used}
 use Rattle.label_list.specs.declared.Next.{Next}
 use Rattle.label_list.specs.declared.Next.the-variants.{Code, NotAllowed}
 use Rattle.label_list.specs.declared.SweepRule.{SweepRule}
 use Rattle.label_list.specs.declared.SweepRule.the-variants.{WithdrawAll, ReleaseAll, AfterBreak}
+
+-- the side of the label in a message that we send, and in one that we receive
+unfoldable pub sentSide : LabelMessage → Side
+sentSide Mapping = Given
+sentSide Withdraw = Given
+sentSide Release = Used
+
+unfoldable pub receivedSide : LabelMessage → Side
+receivedSide Mapping = Used
+receivedSide Withdraw = Used
+receivedSide Release = Given
 
 -- 01: "Accepted for sending: Mapping, absent or 1, becomes 1; Withdraw, 1 becomes 2; Release, 3 becomes 5, 4 becomes free." Any other code does not allow the message.
 unfoldable pub codeAccepted : LabelMessage → ℕ → Next

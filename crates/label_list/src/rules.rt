@@ -1,10 +1,11 @@
 // What each event makes of a label's code; code 0 stands for a label that is absent.
-//
-// Codes: 1 given, 2 withdrawing, 3 using, 4 asked back, 5 releasing, 6 using without protection.
 ghost use mathlib.Core.Path.{_≡_};
-ghost use Rattle.label_list.specs.Rules.{codeAccepted, codeAcked, codeReceived, codeSwept};
+ghost use Rattle.label_list.specs.Rules.{sentSide, receivedSide, codeAccepted, codeAcked, codeReceived, codeSwept};
+ghost use Rattle.label_list.specs.Protection.{needsProtection, barsProtection, codeProtection};
 use crate::LabelMessage;
 use crate::Next;
+use crate::Protection;
+use crate::Side;
 use crate::SweepRule;
 
 // A message of ours is accepted for sending.
@@ -88,4 +89,69 @@ pub fn code_swept(rule: SweepRule, code: u32) -> u32
             _ => code,
         },
     }
+}
+
+// The side of the label in a message that we send.
+pub fn sent_side(message: LabelMessage) -> Side
+    ensures { λ r. ⌜ r ≡ sentSide message ⌝ }
+{
+    match message {
+        LabelMessage::Mapping => Side::Given,
+        LabelMessage::Withdraw => Side::Given,
+        LabelMessage::Release => Side::Used,
+    }
+}
+
+// The side of the label in a message that we receive.
+pub fn received_side(message: LabelMessage) -> Side
+    ensures { λ r. ⌜ r ≡ receivedSide message ⌝ }
+{
+    match message {
+        LabelMessage::Mapping => Side::Used,
+        LabelMessage::Withdraw => Side::Used,
+        LabelMessage::Release => Side::Given,
+    }
+}
+
+// 01: "touching codes 1 to 5 on its own side (Mapping and Withdraw 3-5, Release 1-2)"
+pub fn needs_protection(side: Side, code: u32) -> bool
+    ensures { λ r. ⌜ r ≡ needsProtection side code ⌝ }
+{
+    match side {
+        Side::Given => match code {
+            1..=2 => true,
+            _ => false,
+        },
+        Side::Used => match code {
+            3..=5 => true,
+            _ => false,
+        },
+    }
+}
+
+// 01: "wrong (32) on a Mapping or Withdraw that names a label of code 6"
+fn bars_protection(message: LabelMessage, code: u32) -> bool
+    ensures { λ r. ⌜ r ≡ barsProtection message code ⌝ }
+{
+    match message {
+        LabelMessage::Mapping => code == 6,
+        LabelMessage::Withdraw => code == 6,
+        LabelMessage::Release => false,
+    }
+}
+
+// The verdict on a received message that names a label of that code.
+pub fn code_protection(message: LabelMessage, protected: bool, code: u32) -> Protection
+    ensures { λ r. ⌜ r ≡ codeProtection message protected code ⌝ }
+{
+    if protected {
+        if bars_protection(message, code) {
+            return Protection::Wrong;
+        }
+        return Protection::Right;
+    }
+    if needs_protection(received_side(message), code) {
+        return Protection::Missing;
+    }
+    Protection::Right
 }

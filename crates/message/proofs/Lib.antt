@@ -1,8 +1,3 @@
-pub mod Fields
-pub mod Rows
-pub mod Turns
-pub mod Noted
-pub mod Places
-pub mod Values
 pub mod Readings
 pub mod Submissions
+pub mod Laws

@@ -5,17 +5,17 @@ use mathlib.Core.Bool.{Bool, true, false, not}
 use mathlib.Core.List.{List}
 use borrow.Author.Tests.{not-true, not-false}
 use lib.ListN.{length}
-use Rattle.message.specs.Value.{Places}
-use Rattle.message.specs.Walk.{headSize, tlvsOf}
+use Rattle.tlv.specs.Value.{Places}
+use Rattle.tlv.specs.Walk.{headSize, tlvsOf}
 use Rattle.message.specs.Reading.{typeOf, numberIn, bearsOf, messageOf, readingOf}
-use Rattle.message.specs.declared.Found.{Found}
+use Rattle.tlv.specs.declared.Found.{Found}
 use Rattle.message.specs.declared.Message.{Message}
 use Rattle.message.specs.declared.MessageType.{MessageType}
 use Rattle.message.specs.declared.Reading
 use Rattle.message.specs.declared.Reading.{Reading}
-use Rattle.message.specs.declared.walk.Walk
-use Rattle.message.specs.declared.walk.Walk.{Walk}
-use Rattle.message.proofs.Places.{places}
+use Rattle.tlv.specs.declared.walk.Walk
+use Rattle.tlv.specs.declared.walk.Walk.{Walk}
+use Rattle.tlv.proofs.Places.{places}
 
 module _ (m : List ℕ) (w : Walk) (wq : w ≡ tlvsOf m) where
   pub reading-malformed : w ≡ Walk.Malformed → Reading.Malformed ≡ readingOf m

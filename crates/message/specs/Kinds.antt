@@ -5,9 +5,9 @@ use Prim.Native.Nat.{ℕ, _%_}
 use mathlib.Core.Bool.{Bool, true, false}
 use lib.Dec.{eqb}
 use Rattle.octets.specs.Pick.{pick}
-use Rattle.message.specs.Value.{topBit}
-use Rattle.message.specs.declared.Field
-use Rattle.message.specs.declared.Field.{Field}
+use Rattle.tlv.specs.Value.{topBit}
+use Rattle.tlv.specs.declared.Field
+use Rattle.tlv.specs.declared.Field.{Field}
 use Rattle.message.specs.declared.Kind
 use Rattle.message.specs.declared.Kind.{Kind}
 use Rattle.message.specs.declared.Message.{Message}

@@ -7,17 +7,17 @@ use lib.Dec.{eqb}
 use Rattle.octets.specs.Be.{beAt}
 use Rattle.octets.specs.Pick.{pick, both}
 use Rattle.ft_number.specs.declared.MessageId.{MessageId}
-use Rattle.message.specs.Table.{lookup}
-use Rattle.message.specs.Walk.{tlvsOf}
-use Rattle.message.specs.Value.{partAt, fecAt, fieldAt, numberAt, parametersAt, sessionAt}
-use Rattle.message.specs.declared.Found.{Found}
+use Rattle.tlv.specs.Table.{lookup}
+use Rattle.tlv.specs.Walk.{tlvsOf}
+use Rattle.tlv.specs.Value.{partAt, fecAt, fieldAt, numberAt, parametersAt, sessionAt}
+use Rattle.tlv.specs.declared.Found.{Found}
 use Rattle.message.specs.declared.Message.{Message}
 use Rattle.message.specs.declared.MessageType
 use Rattle.message.specs.declared.MessageType.{MessageType}
 use Rattle.message.specs.declared.Reading
 use Rattle.message.specs.declared.Reading.{Reading}
-use Rattle.message.specs.declared.walk.Walk
-use Rattle.message.specs.declared.walk.Walk.{Walk}
+use Rattle.tlv.specs.declared.walk.Walk
+use Rattle.tlv.specs.declared.walk.Walk.{Walk}
 
 abbrev pub initializationNumber : ℕ
 initializationNumber = 0x0200
@@ -51,19 +51,22 @@ numberIn m = beAt 2 m 0 % 32768
 abbrev pub idIn : List ℕ → MessageId
 idIn m = record { 0 = beAt 4 m 4 }
 
--- 01: "Malformed: .. Mapping without FEC or label; Withdraw or Release without FEC"
+-- 01: "Malformed: .. Mapping without FEC or label; Withdraw or Release without FEC": what a type must bear, by whether FEC and label stand
+abbrev pub bearsBy : MessageType → Bool → Bool → Bool
+bearsBy MessageType.Notification fec label = true
+bearsBy MessageType.Initialization fec label = true
+bearsBy MessageType.KeepAlive fec label = true
+bearsBy MessageType.Address fec label = true
+bearsBy MessageType.AddressWithdraw fec label = true
+bearsBy MessageType.Mapping fec label = both fec label
+bearsBy MessageType.Request fec label = true
+bearsBy MessageType.Withdraw fec label = fec
+bearsBy MessageType.Release fec label = fec
+bearsBy MessageType.Abort fec label = true
+bearsBy MessageType.Other fec label = true
+
 abbrev pub bearsOf : MessageType → Found → Bool
-bearsOf MessageType.Notification f = true
-bearsOf MessageType.Initialization f = true
-bearsOf MessageType.KeepAlive f = true
-bearsOf MessageType.Address f = true
-bearsOf MessageType.AddressWithdraw f = true
-bearsOf MessageType.Mapping f = both (not (eqb (f .fec) 0)) (not (eqb (f .label) 0))
-bearsOf MessageType.Request f = true
-bearsOf MessageType.Withdraw f = not (eqb (f .fec) 0)
-bearsOf MessageType.Release f = not (eqb (f .fec) 0)
-bearsOf MessageType.Abort f = true
-bearsOf MessageType.Other f = true
+bearsOf t f = bearsBy t (not (eqb (f .fec) 0)) (not (eqb (f .label) 0))
 
 -- the message m, whose TLVs were found at the places f
 unfoldable pub messageOf : List ℕ → Found → Message

@@ -7,9 +7,9 @@ use lib.Dec.{eqb}
 use Rattle.octets.specs.Pick.{pick, both}
 use Rattle.message.specs.Kinds.{kindOf}
 use Rattle.message.specs.Reading.{readingOf}
-use Rattle.message.specs.declared.Field
-use Rattle.message.specs.declared.Field.{Field}
-use Rattle.message.specs.declared.Found.{Found}
+use Rattle.tlv.specs.declared.Field
+use Rattle.tlv.specs.declared.Field.{Field}
+use Rattle.tlv.specs.declared.Found.{Found}
 use Rattle.message.specs.declared.Kind
 use Rattle.message.specs.declared.Kind.{Kind}
 use Rattle.message.specs.declared.Message.{Message}

@@ -1,17 +1,21 @@
 // One LDP message: its type, its message ID and what its TLVs say, or that it is malformed; and whether it may be submitted.
-use ft_number::FtNumber;
 use ft_number::MessageId;
-
-pub mod walk; // walk.rt: the walk over a message's TLVs
-pub mod value; // value.rt: what the TLVs that were found say
-
+pub use tlv::Fec;
+pub use tlv::Field;
+pub use tlv::Found;
+pub use tlv::FtField;
+pub use tlv::Parameters;
+pub use tlv::Part;
+pub use tlv::Session;
+use tlv::value;
+use tlv::walk;
 ghost use mathlib.Core.Path.{_≡_};
 ghost use Prim.Native.Nat.{_≤_};
 ghost use lib.ListN.{length};
-ghost use Rattle.message.specs.Walk.{headSize};
-ghost use Rattle.message.specs.Value.{Places};
+ghost use Rattle.tlv.specs.Walk.{headSize};
+ghost use Rattle.tlv.specs.Value.{Places};
 ghost use Rattle.message.specs.Reading.{typeOf, numberIn, idIn, bearsOf, messageOf, readingOf};
-ghost use Rattle.message.specs.Kinds.{fatalOf, codeOf, kindBy, kindOf};
+ghost use Rattle.message.specs.Kinds.{fatalOf, codeOf, kindBy, kindOf, kindNumber};
 ghost use Rattle.message.specs.Submission.{bearsFt, labelledAs, submissionBy, submissionOf};
 
 // The message types; Other is every number that has no name here.
@@ -27,54 +31,6 @@ pub enum MessageType {
     Release,
     Abort,
     Other,
-}
-
-// The place of each listed TLV in a message; 0 where it does not stand.
-pub struct Found {
-    pub fec: usize,
-    pub label: usize,
-    pub status: usize,
-    pub parameters: usize,
-    pub session: usize,
-    pub protection: usize,
-    pub ack: usize,
-}
-
-// A part of the message's bytes, from start up to end; 0 and 0 where there is none.
-pub struct Part {
-    pub start: usize,
-    pub end: usize,
-}
-
-// The FEC: the wildcard alone, or any other.
-pub enum Fec {
-    Absent,
-    Wildcard,
-    Other,
-}
-
-// A 32-bit value that a message may bear: the label, the status.
-pub enum Field {
-    Absent,
-    Value(u32),
-}
-
-// An FT number that a message may bear: of FT Protection, of FT ACK.
-pub enum FtField {
-    Absent,
-    Number(FtNumber),
-}
-
-// The Common Session Parameters: the two that are read.
-pub enum Parameters {
-    Absent,
-    Given { keepalive: u16, pdulength: u16 },
-}
-
-// The FT Session TLV: the R bit and the reconnection timeout in seconds.
-pub enum Session {
-    Absent,
-    Given { reconnect: bool, seconds: u16 },
 }
 
 // A well-formed message.
@@ -257,6 +213,21 @@ pub fn kind_of(g: Message) -> Kind
         MessageType::Release => Kind::Release,
         MessageType::Abort => Kind::NoKind,
         MessageType::Other => Kind::NoKind,
+    }
+}
+
+// The kind's number in the stored image; 0 for no kind.
+pub fn kind_number(kind: Kind) -> u8
+    ensures { λ r. ⌜ r ≡ kindNumber kind ⌝ }
+{
+    match kind {
+        Kind::Mapping => 1,
+        Kind::Withdraw => 2,
+        Kind::Release => 3,
+        Kind::Address => 4,
+        Kind::AddressWithdraw => 5,
+        Kind::ResourcesAvailable => 6,
+        Kind::NoKind => 0,
     }
 }
 

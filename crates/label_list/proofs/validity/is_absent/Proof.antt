@@ -1,7 +1,6 @@
 use mathlib.Core.Path.{sym}
 use borrow.Author.Needs.{needs}
-use Rattle.label_list.specs.Word.{standsFor}
-use Rattle.label_list.proofs.Find.{find-any}
+use Rattle.label_list.proofs.Sought.{found-any}
 use Rattle.label_list.proofs.validity.is_absent.Statement.{statement}
 use Rattle.label_list.proofs.validity.is_absent.Tie as tie
 
@@ -12,5 +11,5 @@ is-absent-spec =
     (λ c κs. tt)
     (λ c. search needs)
     (λ c. search needs)
-    (λ c. rw (sym (find-any _ _ (c .before .before .find-label .ensures)), c .enum-told .given .1))
-    (λ c. rw (sym (find-any _ _ (c .before .before .find-label .ensures)), c .enum-told2 .given .1)))
+    (λ c. rw (sym (found-any _ _ (c .before .before .find .ensures)), c .enum-told .given .1))
+    (λ c. rw (sym (found-any _ _ (c .before .before .find .ensures)), c .enum-told2 .given .1)))
