@@ -4,7 +4,7 @@ use mathlib.Core.List.{List, _++_}
 use lib.ListN.{length}
 use Rattle.octets.specs.Part.{part}
 use Rattle.message.specs.declared.Message.{Message}
-use Rattle.message.specs.declared.Part.{Part}
+use Rattle.tlv.specs.declared.Part.{Part}
 use Rattle.text.specs.Text.{ascii}
 use Rattle.dump_fields.specs.Field.{fecText, labelText, statusText, parametersText, sessionText, ftText}
 

@@ -1,7 +1,7 @@
 // The line of one message.
 use message::Message;
-use message::Part;
 use message::Reading;
+use tlv::Part;
 ghost use mathlib.Core.Path.{_≡_};
 ghost use mathlib.Core.List.{_++_};
 ghost use Prim.Native.Nat.{_+_, _-_, _*_, _≤_};

@@ -1,10 +1,10 @@
 // One TLV as a field of a line of ldp_dump's text: each function puts it from `at` on and answers where it ends.
 // Each asks for the room that its field may need; only `dump` calls them.
-use message::Fec;
-use message::Field;
-use message::FtField;
-use message::Parameters;
-use message::Session;
+use tlv::Fec;
+use tlv::Field;
+use tlv::FtField;
+use tlv::Parameters;
+use tlv::Session;
 ghost use mathlib.Core.Path.{_≡_};
 ghost use mathlib.Core.List.{_++_};
 ghost use Prim.Native.Nat.{_+_, _*_, _≤_};
