@@ -1,5 +1,5 @@
 -- The line of a message, and the text of a PDU.
--- Issue 3: "one line for each message, fields parted by single spaces: PDU number from 0, message number in it from 0, type (`0x0400`, U masked off),
+-- docs/LDP_DUMP.md: "one line for each message, fields parted by single spaces: PDU number from 0, message number in it from 0, type (`0x0400`, U masked off),
 -- message ID (decimal), then each listed TLV".
 use Prim.Native.Nat.{ℕ, _+_, _*_}
 use mathlib.Core.Bool.{Bool, true, false}

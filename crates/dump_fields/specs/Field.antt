@@ -1,5 +1,5 @@
 -- A listed TLV as fields of a line: a space, its name, a space, its value; nothing where it does not stand.
--- Issue 3: "`fec HEX` (`fec -` where empty), `label N`, `status 0x0000000f`, `params HEX`, `ft-session R SECONDS`, `ft-protection N`, `ft-ack N`".
+-- docs/LDP_DUMP.md: "`fec HEX` (`fec -` where empty), `label N`, `status 0x0000000f`, `params HEX`, `ft-session R SECONDS`, `ft-protection N`, `ft-ack N`".
 use Prim.Native.Nat.{ℕ}
 use mathlib.Core.Bool.{Bool}
 use mathlib.Core.List.{List, [], _∷_, _++_}

@@ -15,8 +15,21 @@ abbrev μ-loop : tie.MeasureT-loop
 μ-loop out₀ number pdu count at₀ end₀ k₀ out at end k = count - k
 
 -- the message that is handed out
-message : (c : tie.After-message-part Inv-loop μ-loop) → (8 ≤ length (now (c .message-part .result))) × (c .before .before .loop .at + length (now (c .message-part .result)) ≤ length (now (c .before .before .before .before .before .args .pdu)))
+message : (c : tie.After-message-part Inv-loop μ-loop) → (8 ≤ length (now (c .message-part .result)))
+    × (c .before .before .loop .at + length (now (c .message-part .result)) ≤ length (now (c .before .before .before .before .before .args .pdu)))
 message c = line-message _ _ _ _ _ _ _ _ (c .before .before .loop .inv) (c .before .loop-test .taken) _ (c .message-part .ensures .0)
+
+loop-again : tie.Need-loop-again Inv-loop μ-loop
+loop-again c =
+    line-next _ _ _ _ _ _ _ _
+    (c .before .before .before .before .before .before .loop .inv)
+    (c .before .before .before .before .before .loop-test .taken)
+    _
+    (c .before .before .before .before .message-part .ensures .0)
+    _
+    _
+    (c .before .before .put-line .ensures .0)
+    (c .before .before .put-line .ensures .1)
 
 pub put-lines-spec : {M : Type 1} → statement M
 put-lines-spec =
@@ -29,6 +42,6 @@ put-lines-spec =
     (λ c. let m = message (c .before .before .before .before) in omega arith)
     (λ c. search needs)
     (λ c. search needs)
-    (λ c. line-next _ _ _ _ _ _ _ _ (c .before .before .before .before .before .before .loop .inv) (c .before .before .before .before .before .loop-test .taken) _ (c .before .before .before .before .message-part .ensures .0) _ _ (c .before .before .put-line .ensures .0) (c .before .before .put-line .ensures .1))
+    loop-again
     (λ c. c .before .loop .inv .same)
     (λ c. (lines-end _ _ _ _ _ _ _ _ (c .before .loop .inv) (c .loop-test .left), omega arith)))

@@ -1,6 +1,6 @@
 -- `dump::line::put_fields` meets its contract. Assumes nothing.
 use borrow.Author.Needs.{needs}
-use Rattle.text.proofs.Pieces.{put-then}
+use Rattle.text.proofs.Pieces.{pieces}
 use Rattle.dump.proofs.line.put_fields.Statement.{statement}
 use Rattle.dump.proofs.line.put_fields.Tie as tie
 
@@ -12,4 +12,4 @@ put-fields-spec =
     (λ c. search needs)
     (λ c. search needs)
     (λ c. search needs)
-    (λ c. (put-then (put-then (c .before .before .before .before .before .before .before .before .before .before .put-binding .ensures .0) (c .before .before .before .before .before .before .put-state .ensures .0)) (c .before .before .put-ft .ensures .0), search needs)))
+    (λ c. search (needs, pieces)))

@@ -1,6 +1,6 @@
 -- `dump::line::put_ft` meets its contract. Assumes nothing.
 use borrow.Author.Needs.{needs}
-use Rattle.text.proofs.Pieces.{put-then}
+use Rattle.text.proofs.Pieces.{pieces}
 use Rattle.dump.proofs.line.put_ft.Statement.{statement}
 use Rattle.dump.proofs.line.put_ft.Tie as tie
 
@@ -14,4 +14,4 @@ put-ft-spec =
     (λ c. search needs)
     (λ c. search needs)
     (λ c. search needs)
-    (λ c. (put-then (put-then (c .before .before .before .before .before .before .before .before .before .before .before .before .put-session .ensures .0) (c .before .before .before .before .before .before .before .put-ft-number .ensures .0)) (c .before .before .put-ft-number2 .ensures .0), search needs)))
+    (λ c. search (needs, pieces)))
