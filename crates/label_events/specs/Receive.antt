@@ -1,6 +1,6 @@
 -- A message of the peer's is received: the answer and the list afterwards.
 use Prim.Native.Nat.{ℕ}
-use mathlib.Core.Bool.{Bool, true, false}
+use mathlib.Core.Bool.{Bool}
 use mathlib.Core.List.{List}
 use Rattle.octets.specs.Pick.{pick}
 use Rattle.label_list.specs.Word.{listable}

@@ -1,7 +1,7 @@
 -- The table of marks by which validity is judged in one pass: a side and a label whose place bears no mark stand in no word passed so far.
 use Prim.Native.Nat.{ℕ, _+_, _%_}
 use mathlib.Core.Path.{_≡_}
-use mathlib.Core.Bool.{Bool, false}
+use mathlib.Core.Bool.{false}
 use mathlib.Core.List.{List}
 use lib.ListN.{length, getD}
 use Rattle.label_list.specs.Word.{standsFor}

@@ -1,13 +1,11 @@
 -- Whether a received message bears protection as the labels that it touches demand.
 use Prim.Native.Nat.{ℕ}
 use mathlib.Core.Bool.{Bool, true, false}
-use mathlib.Core.List.{List}
-use lib.Dec.{eqb}
-use Rattle.octets.specs.Pick.{pick}
-use Rattle.label_list.specs.Word.{codeOf, within}
+use lib.Dec.{eqb, leb}
+use Rattle.octets.specs.Pick.{pick, both}
+use Rattle.label_list.specs.Word.{codeOf, onSide}
 use Rattle.label_list.specs.Rules.{receivedSide}
 use Rattle.label_list.specs.declared.Side.{Side}
-use Rattle.label_list.specs.declared.Side.the-variants.{Given, Used}
 use Rattle.label_list.specs.declared.LabelMessage.{LabelMessage}
 use Rattle.label_list.specs.declared.LabelMessage.the-variants.{Mapping, Withdraw, Release}
 use Rattle.label_list.specs.declared.Protection.{Protection}
@@ -15,8 +13,7 @@ use Rattle.label_list.specs.declared.Protection.the-variants.{Right, Mis
 
 -- 01: "Protection is missing (33) .. on a message touching codes 1 to 5 on its own side (Mapping and Withdraw 3-5, Release 1-2)"
 unfoldable pub needsProtection : Side → ℕ → Bool
-needsProtection Given code = within 1 2 code
-needsProtection Used code = within 3 5 code
+needsProtection side code = both (leb code 5) (onSide side code)
 
 -- "It is wrong (32) on a Mapping or Withdraw that names a label of code 6."
 unfoldable pub barsProtection : LabelMessage → ℕ → Bool

@@ -7,6 +7,7 @@ use crate::Next;
 use crate::Protection;
 use crate::Side;
 use crate::SweepRule;
+use crate::word::on_side;
 
 // A message of ours is accepted for sending.
 pub fn code_accepted(message: LabelMessage, code: u32) -> Next
@@ -117,16 +118,10 @@ pub fn received_side(message: LabelMessage) -> Side
 pub fn needs_protection(side: Side, code: u32) -> bool
     ensures { λ r. ⌜ r ≡ needsProtection side code ⌝ }
 {
-    match side {
-        Side::Given => match code {
-            1..=2 => true,
-            _ => false,
-        },
-        Side::Used => match code {
-            3..=5 => true,
-            _ => false,
-        },
+    if code <= 5 {
+        return on_side(side, code);
     }
+    false
 }
 
 // 01: "wrong (32) on a Mapping or Withdraw that names a label of code 6"

@@ -21,7 +21,7 @@ fn is_wanted(wanted: Wanted, word: u32) -> bool
 pub fn find(words: &[u32], wanted: Wanted) -> Found
     ensures { λ r. ⌜ r ≡ findOf (passes wanted) (now (words .entry)) ⌝ }
 {
-    let mut i = 0;
+    let mut i: usize = 0;
     while i < words.len() {
         if is_wanted(wanted, words[i]) {
             return Found::At(i);

@@ -1,10 +1,10 @@
 -- Big-endian fields of a list's end, of a list with more behind it, and of what stands behind. Assumes nothing.
-use Prim.Native.Nat.{ℕ, _+_, _≤_, _<_}
-use mathlib.Core.Path.{_≡_, ap, _∙_}
+use Prim.Native.Nat.{ℕ, _+_, _≤_}
+use mathlib.Core.Path.{_≡_}
 use mathlib.Core.List.{List, _++_}
 use native.Mathlib.Nat.{add-assoc}
 use native.Mathlib.Omega.{arith}
-use lib.ListN.{length, getD, drop, List·getD-append}
+use lib.ListN.{length, drop, List·getD-append}
 use lib.Seq.{getD-drop, getD-append-add}
 use Rattle.octets.specs.Be.{beAt}
 use Rattle.octets.proofs.Be.{beAt-same}

@@ -6,7 +6,6 @@ use mathlib.Core.List.{List}
 use native.Mathlib.Omega.{arith}
 use borrow.Author.Tests.{eq-eqb, ne-eqb, lt-ltb, le-ltb, eqb-true, not-true, not-false}
 use lib.ListN.{length, drop}
-use lib.Dec.{eqb, ltb}
 use Rattle.octets.specs.Be.{beAt}
 use Rattle.tlv.specs.Tlv.{lengthFits, labelIn, largestLabel}
 use Rattle.tlv.specs.Walk.{placeOf, placedOf, notedOf, walkOf, noneFound, headSize, tlvsOf}

@@ -12,7 +12,7 @@ use lib.Dec.{eqb, ltb}
 use Rattle.octets.specs.Be.{beAt}
 use Rattle.octets.specs.Pick.{pick}
 use Rattle.octets.proofs.Fix.{size-ind}
-use Rattle.tlv.specs.Tlv.{tlvOf, lengthFits, headOf, sizeOf, labelIn, largestLabel}
+use Rattle.tlv.specs.Tlv.{tlvOf, lengthFits, headOf, labelIn, largestLabel}
 use Rattle.tlv.specs.Walk.{noneFound, placeOf, placedOf, notedOf, turnOf, Rest, leftOf, onTurn, walkOf, headSize, tlvsOf}
 use Rattle.tlv.specs.Value.{Within, Places}
 use Rattle.tlv.specs.declared.Found.{Found}

@@ -1,5 +1,4 @@
 use mathlib.Core.Path.{_∙_}
-use borrow.Author.Needs.{needs}
 use native.Mathlib.Omega.{arith}
 use Rattle.label_list.proofs.Small.{received-small}
 use Rattle.label_list.proofs.Reached.{found-in}

@@ -1,4 +1,3 @@
-use mathlib.Core.Path.{sym}
 use Rattle.label_list.specs.Protection.{codeProtection}
 use Rattle.label_list.proofs.rules.code_protection.Statement.{statement}
 use Rattle.label_list.proofs.rules.code_protection.Tie as tie

@@ -1,7 +1,6 @@
 use native.Mathlib.Omega.{arith}
 use Rattle.label_list.specs.Sweep.{wordSwept}
 use Rattle.label_list.proofs.Small.{swept-small}
-use mathlib.Core.Path.{_∙_, ap}
 use Rattle.label_list.proofs.sweeping.word_swept.Statement.{statement}
 use Rattle.label_list.proofs.sweeping.word_swept.Tie as tie
 
