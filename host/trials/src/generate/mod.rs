@@ -1,0 +1,6 @@
+//! Generated inputs: stored states, messages, damaged images, and calls that fit them or do not.
+
+pub mod calls;
+pub mod damage;
+pub mod messages;
+pub mod states;

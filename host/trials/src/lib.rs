@@ -1,0 +1,11 @@
+//! Trials of the session library from outside: differential tests, crash tests, benchmarks and a working pair.
+
+pub mod calls;
+pub mod coverage;
+pub mod differential;
+pub mod generate;
+pub mod guarded;
+pub mod random;
+pub mod stored;
+pub mod under_test;
+pub mod wire;
