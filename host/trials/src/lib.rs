@@ -2,6 +2,7 @@
 
 pub mod calls;
 pub mod coverage;
+pub mod crafted;
 pub mod differential;
 pub mod generate;
 pub mod guarded;
