@@ -60,7 +60,8 @@ impl Call {
         }
     }
 
-    fn input(&self) -> &[u8] {
+    /// The bytes that the call reads.
+    pub fn input(&self) -> &[u8] {
         match self {
             Call::InitReceived { msg, .. }
             | Call::Submit { msg, .. }
@@ -114,11 +115,12 @@ pub fn make(cabinet: &dyn Cabinet, image: &[u8], call: &Call, alignment: usize) 
     let mut image = Guarded::new(image, alignment);
     let mut output = Guarded::new(&vec![UNWRITTEN; call.room()], alignment / 2);
     let input = Guarded::new(call.input(), alignment + 3);
-    let returned = returned(cabinet, call, image.lend(), input.content(), output.lend());
+    let returned = invoke(cabinet, call, image.lend(), input.content(), output.lend());
     Observed { returned, image, output, input }
 }
 
-fn returned(cabinet: &dyn Cabinet, call: &Call, image: &mut [u8], input: &[u8], out: &mut [u8]) -> Returned {
+/// Makes a call on the bytes lent.
+pub fn invoke(cabinet: &dyn Cabinet, call: &Call, image: &mut [u8], input: &[u8], out: &mut [u8]) -> Returned {
     match *call {
         Call::Format => Returned::Outcome(cabinet.format(image)),
         Call::Restore => Returned::Outcome(cabinet.restore(image)),

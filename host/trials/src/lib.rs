@@ -3,10 +3,13 @@
 pub mod calls;
 pub mod coverage;
 pub mod crafted;
+pub mod crash;
 pub mod differential;
 pub mod generate;
 pub mod guarded;
+pub mod options;
 pub mod random;
+pub mod store;
 pub mod stored;
 pub mod under_test;
 pub mod wire;
