@@ -59,53 +59,68 @@ pub fn read(msg: &[u8]) -> Option<Message> {
 }
 
 /// Takes in the TLV that starts at a place and gives its end; none at a fault.
+#[inline]
 fn take_tlv(message: &mut Message, msg: &[u8], at: usize) -> Option<usize> {
     let head = msg.get(at..at + 4)?;
-    let length = usize::from(be16(head, 2));
     let start = at + 4;
-    let end = start + length;
+    let end = start + usize::from(be16(head, 2));
     let value = msg.get(start..end)?;
-    let (bit, right_length) = match be16(head, 0) & 0x3FFF {
-        tlvs::FEC => (has::FEC, length),
-        tlvs::LABEL => (has::LABEL, 4),
-        tlvs::STATUS => (has::STATUS, 10),
-        tlvs::PARAMETERS => (has::PARAMETERS, 14),
-        tlvs::FT_SESSION => (has::FT_SESSION, 4),
-        tlvs::FT_PROTECTION => (has::FT_PROTECTION, 4),
-        tlvs::FT_ACK => (has::FT_ACK, 4),
-        _ => return Some(end),
-    };
-    if message.has & bit != 0 || length != right_length {
-        return None;
+    match be16(head, 0) & 0x3FFF {
+        tlvs::FEC => {
+            first(message, has::FEC)?;
+            message.fec_start = start as u32;
+            message.fec_end = end as u32;
+        }
+        tlvs::LABEL => {
+            first(message, has::LABEL)?;
+            message.label = number(value).filter(|label| *label <= LARGEST_LABEL)?;
+        }
+        tlvs::STATUS => {
+            first(message, has::STATUS)?;
+            message.status = be32(of_length(value, 10)?, 0);
+        }
+        tlvs::PARAMETERS => {
+            first(message, has::PARAMETERS)?;
+            let parameters = of_length(value, 14)?;
+            message.keepalive_time = u32::from(be16(parameters, 2));
+            message.max_pdu_length = u32::from(be16(parameters, 6));
+        }
+        tlvs::FT_SESSION => {
+            first(message, has::FT_SESSION)?;
+            let session = number(value)?;
+            message.reconnect = session >> 31;
+            message.timeout = session & 0xFFFF;
+        }
+        tlvs::FT_PROTECTION => {
+            first(message, has::FT_PROTECTION)?;
+            message.number = number(value)?;
+        }
+        tlvs::FT_ACK => {
+            first(message, has::FT_ACK)?;
+            message.ack = number(value)?;
+        }
+        _ => {}
     }
-    message.has |= bit;
-    take_value(message, bit, start, value).then_some(end)
+    Some(end)
 }
 
-/// Takes in the value of a listed TLV of the right length; false for a label that is too large.
-fn take_value(message: &mut Message, bit: u32, start: usize, value: &[u8]) -> bool {
-    match bit {
-        has::FEC => {
-            message.fec_start = start as u32;
-            message.fec_end = (start + value.len()) as u32;
-        }
-        has::LABEL => {
-            message.label = be32(value, 0);
-            return message.label <= LARGEST_LABEL;
-        }
-        has::STATUS => message.status = be32(value, 0),
-        has::PARAMETERS => {
-            message.keepalive_time = u32::from(be16(value, 2));
-            message.max_pdu_length = u32::from(be16(value, 6));
-        }
-        has::FT_SESSION => {
-            message.reconnect = u32::from(value[0] >> 7);
-            message.timeout = u32::from(be16(value, 2));
-        }
-        has::FT_PROTECTION => message.number = be32(value, 0),
-        _ => message.ack = be32(value, 0),
-    }
-    true
+/// Notes a listed TLV; none where the message has it already.
+#[inline]
+fn first(message: &mut Message, bit: u32) -> Option<()> {
+    let again = message.has & bit != 0;
+    message.has |= bit;
+    (!again).then_some(())
+}
+
+#[inline]
+fn of_length(value: &[u8], length: usize) -> Option<&[u8]> {
+    (value.len() == length).then_some(value)
+}
+
+/// The number that a value of four bytes is.
+#[inline]
+fn number(value: &[u8]) -> Option<u32> {
+    value.try_into().ok().map(u32::from_be_bytes)
 }
 
 fn kind(message: &Message) -> u32 {
