@@ -58,9 +58,7 @@ impl Cabinet for Library {
 
     fn init_received(&self, image: &mut [u8], session: Session, msg: &[u8]) -> Outcome {
         // SAFETY: as for `open`; the message is only read.
-        from_c(unsafe {
-            ldp_ft_init_received(image.as_mut_ptr(), image.len(), to_c(session), msg.as_ptr(), msg.len())
-        })
+        from_c(unsafe { ldp_ft_init_received(image.as_mut_ptr(), image.len(), to_c(session), msg.as_ptr(), msg.len()) })
     }
 
     fn connection_failed(&self, image: &mut [u8], session: Session) -> Outcome {

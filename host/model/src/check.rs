@@ -3,62 +3,58 @@
 //! B is the sum of A after each word, so word i (from 0) counts 254 - i times in it, and the starting 1 counts 254
 //! times. In that form a zero word adds nothing to either sum, and one remainder at the end is enough.
 //!
-//! The bytes are read in rows of eight words, and each column is summed by itself, two columns side by side in the
-//! halves of a 64-bit number. A column of 31 words stays below 2^31 in either of its sums. Words are read with their
-//! bytes swapped: that multiplies each by 256, modulo 65,535, and so does multiplying the sum of swapped words undo
-//! it, for 256 * 256 leaves 1.
+//! The bytes are read in rows of four words, as one number; two words are summed side by side in its halves, where the
+//! sums of 63 rows find room. The word at place p of row j of n counts 254 - 4j - p = 4(n - j) + (254 - 4n) - p times:
+//! the first part comes from summing the sums after each row, the others from the sums in all and by place.
+//!
+//! Words are read with their bytes swapped. Modulo 65,535 that multiplies each by 256, and multiplying the sums by 256
+//! once more undoes it, for 256 * 256 leaves 1.
 
 use crate::octets::{be32, put32};
 use cabinet::BLOCK_SIZE;
 
 /// The bytes of a block that its check covers.
 pub const COVERED: usize = BLOCK_SIZE - 4;
-const WORDS: i64 = COVERED as i64 / 2;
-const MODULUS: i64 = 65_535;
-const SWAP: i64 = 256;
+const WORDS: u64 = COVERED as u64 / 2;
+const MODULUS: u64 = 65_535;
+const SWAP: u64 = 256;
 
-/// A row of bytes: two 64-bit numbers of four words each.
-const ROW: usize = 16;
-const WORDS_IN_ROW: i64 = ROW as i64 / 2;
-/// The even words of a number, each in a half by itself.
-const HALVES: u64 = 0x0000_FFFF_0000_FFFF;
+/// The size of a row.
+const ROW: usize = 8;
+const WORDS_IN_ROW: u64 = 4;
+/// The even words of a row, each in a half by itself.
+const EVEN: u64 = 0x0000_FFFF_0000_FFFF;
 
-/// Sums by column: the even words of each of the two numbers in a row, then the odd ones.
-type Columns = [[u64; 2]; 2];
+/// The end of the row in which bytes end: zeros may be summed with them, and rows are faster than words.
+pub fn whole_rows(end: usize) -> usize {
+    end.next_multiple_of(ROW).min(COVERED)
+}
 
-/// The sum of each column, and the sum of those sums as they stood after each row: there a word counts once for its
-/// own row and once for each row after it.
-fn column_sums(rows: core::slice::ChunksExact<u8>) -> (Columns, Columns) {
-    let (mut sums, mut running) = (Columns::default(), Columns::default());
-    for row in rows {
-        for number in 0..2 {
-            let mut words = [0; 8];
-            words.copy_from_slice(&row[8 * number..8 * number + 8]);
-            let words = u64::from_le_bytes(words);
-            sums[0][number] += words & HALVES;
-            sums[1][number] += words >> 16 & HALVES;
-            running[0][number] += sums[0][number];
-            running[1][number] += sums[1][number];
-        }
-    }
-    (sums, running)
+/// The sum of a number's halves.
+fn halves(number: u64) -> u64 {
+    (number >> 32) + (number & 0xFFFF_FFFF)
 }
 
 /// The check, A above B, of a block whose covered bytes are those given and then zeros; an even number, at most 508.
 pub fn sums(bytes: &[u8]) -> u32 {
     let rows = bytes.chunks_exact(ROW);
     let rest = rows.remainder().chunks_exact(2);
-    let weight_after_rows = WORDS - WORDS_IN_ROW * rows.len() as i64;
-    let (sums, running) = column_sums(rows);
-    let (mut a, mut b) = (0, 0);
-    for column in 0..WORDS_IN_ROW {
-        let (number, half, odd) = (column as usize / 4, column as u32 % 4 / 2, column as usize % 2);
-        let part = |columns: &Columns| i64::from((columns[odd][number] >> (32 * half)) as u32);
-        a += part(&sums);
-        b += WORDS_IN_ROW * part(&running) + (weight_after_rows - column) * part(&sums);
+    let weight_after_rows = WORDS - WORDS_IN_ROW * rows.len() as u64;
+    let (mut all, mut odd, mut running) = (0, 0, 0);
+    for row in rows {
+        let mut words = [0; ROW];
+        words.copy_from_slice(row);
+        let words = u64::from_le_bytes(words);
+        let odd_words = words >> 16 & EVEN;
+        all += (words & EVEN) + odd_words;
+        odd += odd_words;
+        running += all;
     }
+    let places = 2 * (all >> 32) + halves(odd);
+    let mut a = halves(all);
+    let mut b = WORDS_IN_ROW * halves(running) + weight_after_rows * a - places;
     for (word, place) in rest.zip(0..) {
-        let number = i64::from(u16::from_le_bytes([word[0], word[1]]));
+        let number = u64::from(u16::from_le_bytes([word[0], word[1]]));
         a += number;
         b += (weight_after_rows - place) * number;
     }

@@ -121,7 +121,7 @@ fn judge_slot(slot: &[u8]) -> Result<(), u32> {
     let length = usize::from(be16(slot, slot_at::LENGTH));
     let end = slot_at::MESSAGE + length;
     let padded = (SHORTEST..=LONGEST).contains(&length) && all_zero(&slot[end..COVERED]);
-    let summed = if padded { end.next_multiple_of(2) } else { COVERED };
+    let summed = if padded { check::whole_rows(end) } else { COVERED };
     if check::stored(slot) != check::sums(&slot[..summed]) {
         return Err(10);
     }
@@ -135,9 +135,7 @@ fn judge_slot(slot: &[u8]) -> Result<(), u32> {
 /// True where a slot's message may be queued and has the kind and label that the slot shows.
 fn message_fits(slot: &[u8], msg: &[u8]) -> bool {
     message::read(msg).is_some_and(|read| {
-        message::may_be_queued(&read)
-            && read.kind == slot_kind(slot)
-            && message::slot_label(&read) == slot_label(slot)
+        message::may_be_queued(&read) && read.kind == slot_kind(slot) && message::slot_label(&read) == slot_label(slot)
     })
 }
 
@@ -170,7 +168,7 @@ pub fn write_slot(image: &mut [u8], block: usize, msg: &[u8], kind: u32, label: 
     put32(slot, slot_at::LABEL, label);
     slot[slot_at::MESSAGE..end].copy_from_slice(msg);
     slot[end..COVERED].fill(0);
-    let sums = check::sums(&slot[..end.next_multiple_of(2)]);
+    let sums = check::sums(&slot[..check::whole_rows(end)]);
     check::store(slot, sums);
 }
 

@@ -3,7 +3,8 @@
 //! Codes: 1 given, 2 withdrawing (our side); 3 using, 4 asked back, 5 releasing, 6 using without protection (theirs).
 
 use crate::message::kinds;
-use crate::octets::{be32, put32};
+use crate::octets::{all_zero, be32, put32};
+use core::ops::RangeInclusive;
 
 pub const PLACES: usize = 120;
 
@@ -53,6 +54,9 @@ fn words(list: &[u8]) -> impl Iterator<Item = u32> + '_ {
 
 /// True where each word is free or has a code 1 to 6 with a listed label, and no label stands twice on a side.
 pub fn is_sound(list: &[u8]) -> bool {
+    if all_zero(list) {
+        return true;
+    }
     let mut seen = Seen([0; Seen::PLACES]);
     for word in words(list) {
         if word == 0 {
@@ -87,39 +91,77 @@ impl Seen {
     }
 }
 
-/// The place and code of a label on a side.
-fn find(list: &[u8], label: u32, side: Side) -> Option<(usize, u32)> {
-    words(list)
-        .position(|word| word != 0 && word & LABEL_MASK == label && side_of(word >> CODE_SHIFT) == side)
-        .map(|place| (place, word(list, place) >> CODE_SHIFT))
+/// What the list says of a label on a side.
+#[derive(Clone, Copy)]
+pub struct Entry {
+    pub label: u32,
+    /// Its code, 0 where it is absent.
+    pub code: u32,
+    /// Its word's place, or else the first free one; none where it is absent and no word is free.
+    place: Option<usize>,
 }
 
-/// The code of a label on a side; none where it is absent.
-pub fn code(list: &[u8], label: u32, side: Side) -> Option<u32> {
-    find(list, label, side).map(|(_, code)| code)
+impl Entry {
+    /// Looks a label up on a side, in one pass.
+    pub fn find(list: &[u8], label: u32, side: Side) -> Self {
+        let mut free = None;
+        for (place, word) in words(list).enumerate() {
+            let code = word >> CODE_SHIFT;
+            if word == 0 {
+                free = free.or(Some(place));
+            } else if word & LABEL_MASK == label && side_of(code) == side {
+                return Entry { label, code, place: Some(place) };
+            }
+        }
+        Entry { label, code: 0, place: free }
+    }
+
+    /// True where the label is absent and no word is free for it.
+    pub fn is_without_word(&self) -> bool {
+        self.place.is_none()
+    }
+
+    /// Gives the label a code; false where there is no word for it.
+    pub fn set(&self, list: &mut [u8], code: u32) -> bool {
+        if let Some(place) = self.place {
+            put32(list, place * 4, compose(self.label, code));
+        }
+        self.place.is_some()
+    }
+
+    /// Frees the label's word, if it has one.
+    pub fn free(&self, list: &mut [u8]) {
+        if let Some(place) = self.place {
+            put32(list, place * 4, 0);
+        }
+    }
 }
 
-pub fn has_free(list: &[u8]) -> bool {
-    words(list).any(|word| word == 0)
+/// The side that a message of ours acts on: we give and withdraw our labels and release theirs.
+pub fn side_sending(kind: u32) -> Side {
+    if kind == kinds::RELEASE {
+        Side::Theirs
+    } else {
+        Side::Ours
+    }
+}
+
+/// The side that a message of the peer acts on.
+pub fn side_receiving(kind: u32) -> Side {
+    if kind == kinds::RELEASE {
+        Side::Ours
+    } else {
+        Side::Theirs
+    }
 }
 
 /// True where any word has a code among those given.
-pub fn any_code(list: &[u8], codes: core::ops::RangeInclusive<u32>) -> bool {
-    words(list).any(|word| codes.contains(&(word >> CODE_SHIFT)))
-}
-
-/// Gives a label its code on that code's side: its own word, or else the first free one; false where none is free.
-pub fn set(list: &mut [u8], label: u32, code: u32) -> bool {
-    let own = find(list, label, side_of(code)).map(|(place, _)| place);
-    let place = own.or_else(|| words(list).position(|word| word == 0));
-    if let Some(place) = place {
-        put32(list, place * 4, compose(label, code));
-    }
-    place.is_some()
+pub fn any_code(list: &[u8], codes: RangeInclusive<u32>) -> bool {
+    words(list).fold(false, |any, word| any | codes.contains(&(word >> CODE_SHIFT)))
 }
 
 /// Frees the word of a label that has this very code, if there is one.
-pub fn free(list: &mut [u8], label: u32, code: u32) {
+fn free(list: &mut [u8], label: u32, code: u32) {
     let wanted = compose(label, code);
     let place = words(list).position(|word| word == wanted);
     if let Some(place) = place {
@@ -145,30 +187,40 @@ pub fn acknowledged(list: &mut [u8], kind: u32, label: u32) {
     }
 }
 
-/// A message of ours was accepted for sending; its label's code allows it.
-pub fn accepted(list: &mut [u8], kind: u32, label: u32) {
-    match kind {
-        kinds::MAPPING => _ = set(list, label, GIVEN),
-        kinds::WITHDRAW => _ = set(list, label, WITHDRAWING),
-        kinds::RELEASE if code(list, label, Side::Theirs) == Some(ASKED_BACK) => free(list, label, ASKED_BACK),
-        kinds::RELEASE => _ = set(list, label, RELEASING),
-        _ => {}
+/// True where a message of ours may be sent about a label with this entry.
+pub fn may_send(kind: u32, entry: &Entry) -> bool {
+    is_listed(entry.label)
+        && match kind {
+            kinds::MAPPING => matches!(entry.code, 0 | GIVEN),
+            kinds::WITHDRAW => entry.code == GIVEN,
+            _ => matches!(entry.code, USING | ASKED_BACK),
+        }
+}
+
+/// A message of ours was accepted for sending.
+pub fn accepted(list: &mut [u8], kind: u32, entry: &Entry) {
+    match (kind, entry.code) {
+        (kinds::MAPPING, _) => _ = entry.set(list, GIVEN),
+        (kinds::WITHDRAW, _) => _ = entry.set(list, WITHDRAWING),
+        (_, ASKED_BACK) => entry.free(list),
+        _ => _ = entry.set(list, RELEASING),
     }
 }
 
 /// A Mapping came in: false where it needs a word and none is free.
-pub fn mapping_received(list: &mut [u8], label: u32, protected: bool) -> bool {
-    match code(list, label, Side::Theirs) {
-        Some(ASKED_BACK | UNPROTECTED) => true,
-        _ => set(list, label, if protected { USING } else { UNPROTECTED }),
+pub fn mapping_received(list: &mut [u8], entry: &Entry, protected: bool) -> bool {
+    match entry.code {
+        _ if !is_listed(entry.label) => true,
+        ASKED_BACK | UNPROTECTED => true,
+        _ => entry.set(list, if protected { USING } else { UNPROTECTED }),
     }
 }
 
 /// A Withdraw of a label came in.
-pub fn withdraw_received(list: &mut [u8], label: u32) {
-    match code(list, label, Side::Theirs) {
-        Some(USING) => _ = set(list, label, ASKED_BACK),
-        Some(UNPROTECTED) => free(list, label, UNPROTECTED),
+pub fn withdraw_received(list: &mut [u8], entry: &Entry) {
+    match entry.code {
+        USING => _ = entry.set(list, ASKED_BACK),
+        UNPROTECTED => entry.free(list),
         _ => {}
     }
 }
@@ -186,9 +238,10 @@ pub fn withdraw_all_received(list: &mut [u8]) {
 }
 
 /// A Release of a label came in.
-pub fn release_received(list: &mut [u8], label: u32) {
-    free(list, label, GIVEN);
-    free(list, label, WITHDRAWING);
+pub fn release_received(list: &mut [u8], entry: &Entry) {
+    if entry.code != 0 {
+        entry.free(list);
+    }
 }
 
 /// A Release of every label came in.

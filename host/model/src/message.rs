@@ -136,9 +136,7 @@ fn kind(message: &Message) -> u32 {
 }
 
 fn is_resources_available(message: &Message) -> bool {
-    message.has & has::STATUS != 0
-        && !is_fatal(message)
-        && message.status & STATUS_CODE == LABEL_RESOURCES_AVAILABLE
+    message.has & has::STATUS != 0 && !is_fatal(message) && message.status & STATUS_CODE == LABEL_RESOURCES_AVAILABLE
 }
 
 /// True where the message has a Status TLV with its E bit set.

@@ -1,7 +1,7 @@
 //! Receive: the ACK acts first, then the message, judged by the labels as the ACK leaves them.
 
 use crate::image::{Draft, Head, Refusal};
-use crate::labels::{self, Side};
+use crate::labels::{self, Entry};
 use crate::message::{self, kinds, types};
 use crate::number;
 use crate::session::{apply_ack, break_off, enter, release_state, session_in};
@@ -19,8 +19,7 @@ pub fn receive(image: &mut [u8], session: Session, msg: &[u8]) -> Result<Outcome
         return Ok(receive_plain(image, &read));
     }
     let mut draft = Draft::of(image);
-    let incoming = Incoming { read: &read, target: Target::of(&read, msg) };
-    Ok(match accept(&mut draft, image, &head, &incoming) {
+    Ok(match accept(&mut draft, image, &head, &read, msg) {
         Ok(released) => {
             let sent = session.value.saturating_sub(released);
             let block0 = draft.store(image);
@@ -42,17 +41,18 @@ fn receive_plain(image: &mut [u8], read: &Message) -> Outcome {
 
 /// The labels that a received message is about.
 enum Target {
-    Named(u32),
+    Named(Entry),
     All,
     None,
 }
 
 impl Target {
-    fn of(read: &Message, msg: &[u8]) -> Self {
+    /// A named label is looked up on the side that the message acts on.
+    fn of(read: &Message, msg: &[u8], list: &[u8]) -> Self {
         let names = message::kind_names_label(read.kind);
         let fec = &msg[read.fec_start as usize..read.fec_end as usize];
         if names && read.has & has::LABEL != 0 {
-            Target::Named(read.label)
+            Target::Named(Entry::find(list, read.label, labels::side_receiving(read.kind)))
         } else if names && fec == [1] {
             Target::All
         } else {
@@ -61,15 +61,8 @@ impl Target {
     }
 }
 
-/// A message and the labels it is about.
-struct Incoming<'a> {
-    read: &'a Message,
-    target: Target,
-}
-
 /// Applies ACK and message to the draft and gives the number of messages released; or the answer that refuses it.
-fn accept(draft: &mut Draft, image: &[u8], head: &Head, incoming: &Incoming) -> Result<u32, u32> {
-    let read = incoming.read;
+fn accept(draft: &mut Draft, image: &[u8], head: &Head, read: &Message, msg: &[u8]) -> Result<u32, u32> {
     let protected = read.has & has::FT_PROTECTION != 0;
     if protected && read.number == 0 {
         return Err(30);
@@ -78,58 +71,55 @@ fn accept(draft: &mut Draft, image: &[u8], head: &Head, incoming: &Incoming) -> 
     if read.has & has::FT_ACK != 0 {
         released = apply_ack(draft, image, head, read.ack).ok_or(34u32)?;
     }
-    judge_protection(draft.list(), incoming, protected)?;
+    let target = Target::of(read, msg, draft.list());
+    if !protected && needs_protection(draft.list(), read.kind, &target) {
+        return Err(33);
+    }
+    if protected && forbids_protection(read.kind, &target) {
+        return Err(32);
+    }
+    if protected && read.number != number::successor(head.secured) {
+        return Err(20);
+    }
     if protected {
-        if read.number != number::successor(head.secured) {
-            return Err(20);
-        }
         draft.set_secured(read.number);
     }
-    if take_labels(draft.list_mut(), incoming, protected) {
+    if take_labels(draft.list_mut(), read.kind, &target, protected) {
         Ok(released)
     } else {
         Err(21)
     }
 }
 
-/// Answers 33 and 32: protection missing, protection wrong.
-fn judge_protection(list: &[u8], incoming: &Incoming, protected: bool) -> Result<(), u32> {
-    if !protected {
-        return if needs_protection(list, incoming) { Err(33) } else { Ok(()) };
-    }
-    match (incoming.read.kind, &incoming.target) {
-        (kinds::MAPPING | kinds::WITHDRAW, Target::Named(label))
-            if labels::code(list, *label, Side::Theirs) == Some(labels::UNPROTECTED) =>
-        {
-            Err(32)
-        }
-        _ => Ok(()),
-    }
-}
-
-fn needs_protection(list: &[u8], incoming: &Incoming) -> bool {
-    let (side, codes) = match incoming.read.kind {
+/// Answer 33: the message touches something that is protected.
+fn needs_protection(list: &[u8], kind: u32, target: &Target) -> bool {
+    let codes = match kind {
         kinds::ADDRESS | kinds::ADDRESS_WITHDRAW | kinds::RESOURCES_AVAILABLE => return true,
-        kinds::MAPPING | kinds::WITHDRAW => (Side::Theirs, labels::USING..=labels::RELEASING),
-        kinds::RELEASE => (Side::Ours, labels::GIVEN..=labels::WITHDRAWING),
-        _ => return false,
+        kinds::RELEASE => labels::GIVEN..=labels::WITHDRAWING,
+        _ => labels::USING..=labels::RELEASING,
     };
-    match incoming.target {
-        Target::Named(label) => labels::code(list, label, side).is_some_and(|code| codes.contains(&code)),
+    match target {
+        Target::Named(entry) => codes.contains(&entry.code),
         Target::All => labels::any_code(list, codes),
         Target::None => false,
     }
 }
 
+/// Answer 32: a Mapping or Withdraw names a label that is used without protection.
+fn forbids_protection(kind: u32, target: &Target) -> bool {
+    match target {
+        Target::Named(entry) => kind != kinds::RELEASE && entry.code == labels::UNPROTECTED,
+        _ => false,
+    }
+}
+
 /// The label list after the message; false where a Mapping needs a word and none is free.
-fn take_labels(list: &mut [u8], incoming: &Incoming, protected: bool) -> bool {
-    match (incoming.read.kind, &incoming.target) {
-        (kinds::MAPPING, Target::Named(label)) if labels::is_listed(*label) => {
-            return labels::mapping_received(list, *label, protected);
-        }
-        (kinds::WITHDRAW, Target::Named(label)) => labels::withdraw_received(list, *label),
+fn take_labels(list: &mut [u8], kind: u32, target: &Target, protected: bool) -> bool {
+    match (kind, target) {
+        (kinds::MAPPING, Target::Named(entry)) => return labels::mapping_received(list, entry, protected),
+        (kinds::WITHDRAW, Target::Named(entry)) => labels::withdraw_received(list, entry),
         (kinds::WITHDRAW, Target::All) => labels::withdraw_all_received(list),
-        (kinds::RELEASE, Target::Named(label)) => labels::release_received(list, *label),
+        (kinds::RELEASE, Target::Named(entry)) => labels::release_received(list, entry),
         (kinds::RELEASE, Target::All) => labels::release_all_received(list),
         _ => {}
     }

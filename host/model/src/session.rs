@@ -1,7 +1,7 @@
 //! The session's calls but receive: each examines the image, judges the phase, and stores block 0 last.
 
 use crate::image::{self, Draft, Head, Refusal};
-use crate::labels::{self, Side};
+use crate::labels::{self, Entry};
 use crate::message::{self, kinds, types};
 use crate::{number, write};
 use cabinet::{has, phase, Message, Opening, Outcome, Session, IMAGE_SIZE};
@@ -47,10 +47,14 @@ fn is_possible(session: Session, head: &Head) -> bool {
 
 /// As connection failed: unprotected labels are freed; Failed where state is kept, else Idle.
 pub fn break_off(image: &mut [u8], kept: bool, answer: u32) -> Outcome {
-    let mut draft = Draft::of(image);
-    labels::free_all(draft.list_mut(), labels::UNPROTECTED);
     let phase = if kept { phase::FAILED } else { phase::IDLE };
-    Outcome { answer, session: session_in(phase, 0), block0: draft.store(image), ..Outcome::default() }
+    let mut outcome = Outcome { answer, session: session_in(phase, 0), ..Outcome::default() };
+    if labels::any_code(image::list(image::slot(image, 0)), labels::UNPROTECTED..=labels::UNPROTECTED) {
+        let mut draft = Draft::of(image);
+        labels::free_all(draft.list_mut(), labels::UNPROTECTED);
+        outcome.block0 = draft.store(image);
+    }
+    outcome
 }
 
 /// State released, in the phase given.
@@ -123,8 +127,8 @@ pub fn init_received(image: &mut [u8], session: Session, msg: &[u8]) -> Result<O
 
 /// The session resumed: the peer's parameters are the stored ones, and its ACK is applied.
 fn resumed(image: &[u8], head: &Head, init: &Message) -> Result<Draft, u32> {
-    let same = init.keepalive_time == u32::from(head.keepalive_time)
-        && init.max_pdu_length == u32::from(head.max_pdu_length);
+    let same =
+        init.keepalive_time == u32::from(head.keepalive_time) && init.max_pdu_length == u32::from(head.max_pdu_length);
     if !same {
         return Err(35);
     }
@@ -159,9 +163,11 @@ pub fn submit(image: &mut [u8], session: Session, msg: &[u8]) -> Result<Outcome,
     if !message::may_be_queued(&read) {
         return Err(Refusal::of(5));
     }
-    judge_submission(image, &head, &read)?;
+    let entry = judge_submission(image, &head, &read)?;
     let mut draft = Draft::of(image);
-    labels::accepted(draft.list_mut(), read.kind, read.label);
+    if let Some(entry) = entry {
+        labels::accepted(draft.list_mut(), read.kind, &entry);
+    }
     draft.set_held(head.held + 1);
     let block = head.block_of(head.held);
     image::write_slot(image, block, msg, read.kind, message::slot_label(&read));
@@ -169,34 +175,24 @@ pub fn submit(image: &mut [u8], session: Session, msg: &[u8]) -> Result<Outcome,
     Ok(Outcome { slot: block as u32, block0, ..done(session) })
 }
 
-/// Answers 6, 13 and 7 of a message that may be queued.
-fn judge_submission(image: &[u8], head: &Head, read: &Message) -> Result<(), Refusal> {
-    if message::kind_names_label(read.kind) {
+/// Answers 6, 13 and 7 of a message that may be queued; the entry of the label that it names.
+fn judge_submission(image: &[u8], head: &Head, read: &Message) -> Result<Option<Entry>, Refusal> {
+    let entry = message::kind_names_label(read.kind).then(|| {
         let list = image::list(image::slot(image, 0));
-        if !label_allows(list, read) || is_held(image, head, read) {
+        Entry::find(list, read.label, labels::side_sending(read.kind))
+    });
+    if let Some(entry) = &entry {
+        if !labels::may_send(read.kind, entry) || is_held(image, head, read) {
             return Err(Refusal::of(6));
         }
-        let needs_word = read.kind == kinds::MAPPING && labels::code(list, read.label, Side::Ours).is_none();
-        if needs_word && !labels::has_free(list) {
+        if entry.is_without_word() {
             return Err(Refusal::of(13));
         }
     }
     if head.held == image::SLOTS {
         return Err(Refusal::of(7));
     }
-    Ok(())
-}
-
-fn label_allows(list: &[u8], read: &Message) -> bool {
-    labels::is_listed(read.label)
-        && match read.kind {
-            kinds::MAPPING => matches!(labels::code(list, read.label, Side::Ours), None | Some(labels::GIVEN)),
-            kinds::WITHDRAW => labels::code(list, read.label, Side::Ours) == Some(labels::GIVEN),
-            _ => {
-                let code = labels::code(list, read.label, Side::Theirs);
-                matches!(code, Some(labels::USING | labels::ASKED_BACK))
-            }
-        }
+    Ok(entry)
 }
 
 /// True where a Withdraw or Release of the same kind and label is still held.

@@ -50,9 +50,8 @@ impl Coverage {
 
     /// The answers that no call of that name has.
     pub fn unexpected(&self) -> Vec<(&'static str, u32)> {
-        let has = |call: &str, answer: u32| {
-            ANSWERS.iter().any(|(name, answers)| *name == call && answers.contains(&answer))
-        };
+        let has =
+            |call: &str, answer: u32| ANSWERS.iter().any(|(name, answers)| *name == call && answers.contains(&answer));
         self.0.keys().copied().filter(|(call, answer)| !has(call, *answer)).collect()
     }
 }

@@ -29,10 +29,7 @@ pub fn two_held() -> Stored {
         kept: true,
         keepalive_time: 30,
         max_pdu_length: 4096,
-        queue: vec![
-            Queued { kind: 1, label: 16, bytes: mapping },
-            Queued { kind: 4, label: NO_LABEL, bytes: address },
-        ],
+        queue: vec![Queued { kind: 1, label: 16, bytes: mapping }, Queued { kind: 4, label: NO_LABEL, bytes: address }],
         ..Stored::idle()
     };
     stored.labels[0] = word(16, 1);

@@ -9,7 +9,7 @@ impl Random {
         Random(seed)
     }
 
-    pub fn next(&mut self) -> u64 {
+    pub fn u64(&mut self) -> u64 {
         self.0 = self.0.wrapping_add(0x9E37_79B9_7F4A_7C15);
         let mut z = self.0;
         z = (z ^ (z >> 30)).wrapping_mul(0xBF58_476D_1CE4_E5B9);
@@ -18,20 +18,20 @@ impl Random {
     }
 
     pub fn u32(&mut self) -> u32 {
-        (self.next() >> 32) as u32
+        (self.u64() >> 32) as u32
     }
 
     pub fn u16(&mut self) -> u16 {
-        (self.next() >> 48) as u16
+        (self.u64() >> 48) as u16
     }
 
     pub fn u8(&mut self) -> u8 {
-        (self.next() >> 56) as u8
+        (self.u64() >> 56) as u8
     }
 
     /// A number below the bound, which is not zero.
     pub fn below(&mut self, bound: usize) -> usize {
-        (self.next() % bound as u64) as usize
+        (self.u64() % bound as u64) as usize
     }
 
     /// A number from the first to the last, both included.

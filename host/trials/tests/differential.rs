@@ -8,7 +8,7 @@ use trials::differential::Run;
 use trials::stored::{check, Stored};
 use trials::under_test::UnderTest;
 
-const SEED: u64 = 0x1D9_F7;
+const SEED: u64 = 0x1_D9F7;
 const CALLS: u64 = 250_000;
 
 #[test]

@@ -8,7 +8,7 @@ use trials::crafted;
 use trials::crash::{self, Tally};
 use trials::differential::Run;
 
-const SEED: u64 = 0x1D9_F7;
+const SEED: u64 = 0x1_D9F7;
 const CALLS: u64 = 250_000;
 const CUTS: u64 = 20_000;
 

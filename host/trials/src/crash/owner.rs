@@ -40,7 +40,8 @@ fn listed(random: &mut Random, stored: &Stored, codes: &[u32]) -> Option<u32> {
 /// The next message that an owner submits.
 pub fn submission(random: &mut Random, habits: &Habits, stored: &Stored, serial: u32) -> Vec<u8> {
     let any = random.between(16, habits.last_label as usize) as u32;
-    let about = |message_type: u16, label: u32| Message::new(message_type, serial).fec(&prefix(label as u16)).label(label);
+    let about =
+        |message_type: u16, label: u32| Message::new(message_type, serial).fec(&prefix(label as u16)).label(label);
     let message = match random.below(20) {
         0..=6 => about(types::MAPPING, any),
         7..=10 => about(types::WITHDRAW, listed(random, stored, &[1]).unwrap_or(any)),

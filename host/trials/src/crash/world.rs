@@ -27,7 +27,7 @@ pub fn run(cabinets: [&dyn Cabinet; 2], seed: u64, cuts: u64, tally: &mut Tally)
     let mut ends = [end(first, "first")?, end(second, "second")?];
     while tally.all_cuts() < cuts {
         let world = tally.worlds;
-        let mut world_run = World::new(ends, Random::new(random.next()), tally);
+        let mut world_run = World::new(ends, Random::new(random.u64()), tally);
         world_run.live().map_err(|what| format!("seed {seed}, world {world}: {what}"))?;
         ends = world_run.ends;
     }

@@ -72,13 +72,12 @@ pub fn on_image(random: &mut Random, stored: &Stored) -> Call {
             opening: opening(random),
             room: random.pick(&[0, 33, 34, 35, 41, 42, 43, 64, 64]),
         },
-        14..=27 => Call::InitReceived {
-            session: session(random, &[phase::INIT_WAIT]),
-            msg: messages::init(random, stored),
-        },
-        28..=32 => Call::ConnectionFailed {
-            session: session(random, &[phase::INIT_WAIT, phase::UP_FT, phase::UP_PLAIN]),
-        },
+        14..=27 => {
+            Call::InitReceived { session: session(random, &[phase::INIT_WAIT]), msg: messages::init(random, stored) }
+        }
+        28..=32 => {
+            Call::ConnectionFailed { session: session(random, &[phase::INIT_WAIT, phase::UP_FT, phase::UP_PLAIN]) }
+        }
         33..=37 => {
             let timeout = u32::from(stored.timeout);
             let elapsed = random.pick(&[0, timeout.saturating_sub(1), timeout, timeout + 1, 65_536, u32::MAX]);

@@ -17,14 +17,8 @@ const TYPES: [u16; 10] = [
     types::RELEASE,
     types::ABORT,
 ];
-const QUEUED: [u16; 6] = [
-    types::MAPPING,
-    types::WITHDRAW,
-    types::RELEASE,
-    types::ADDRESS,
-    types::ADDRESS_WITHDRAW,
-    types::NOTIFICATION,
-];
+const QUEUED: [u16; 6] =
+    [types::MAPPING, types::WITHDRAW, types::RELEASE, types::ADDRESS, types::ADDRESS_WITHDRAW, types::NOTIFICATION];
 const STATUSES: [u32; 9] = [
     RESOURCES_AVAILABLE,
     RESOURCES_AVAILABLE,

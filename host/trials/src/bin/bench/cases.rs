@@ -100,8 +100,21 @@ pub fn all() -> Vec<Case> {
 /// The rows of one call stand together.
 fn order(call: &Call) -> usize {
     let names = [
-        "format", "restore", "open", "init_received", "connection_failed", "time_passed", "submit", "send_next",
-        "keepalive", "receive", "label", "pdu_open", "pdu_message", "message_read", "block_check",
+        "format",
+        "restore",
+        "open",
+        "init_received",
+        "connection_failed",
+        "time_passed",
+        "submit",
+        "send_next",
+        "keepalive",
+        "receive",
+        "label",
+        "pdu_open",
+        "pdu_message",
+        "message_read",
+        "block_check",
     ];
     names.iter().position(|name| *name == call.name()).unwrap_or(names.len())
 }

@@ -129,7 +129,7 @@ impl<'a> Bench<'a> {
 fn read_once(bytes: &[u8]) -> u64 {
     let eights = bytes.chunks_exact(8);
     let rest = eights.remainder().iter().fold(0, |all, byte| all ^ u64::from(*byte));
-    eights.fold(rest, |all, eight| all ^ u64::from_le_bytes([
-        eight[0], eight[1], eight[2], eight[3], eight[4], eight[5], eight[6], eight[7],
-    ]))
+    eights.fold(rest, |all, eight| {
+        all ^ u64::from_le_bytes([eight[0], eight[1], eight[2], eight[3], eight[4], eight[5], eight[6], eight[7]])
+    })
 }

@@ -32,16 +32,18 @@ impl Row<'_> {
     }
 }
 
-const HEADS: [&str; 10] = [
-    "call", "held", "messages", "labels", "library", "model, no vectors", "ratio", "model", "ratio", "floor",
-];
+const HEADS: [&str; 10] =
+    ["call", "held", "messages", "labels", "library", "model, no vectors", "ratio", "model", "ratio", "floor"];
 
 /// How many rows are above a goal, and the worst of them.
 fn summary(rows: &[Row]) -> String {
     let line = |goal: f64, name: &str, ratio: fn(&Timing) -> f64| {
         let above = rows.iter().filter(|row| ratio(&row.timing) > goal).count();
         let worst = rows.iter().map(|row| ratio(&row.timing)).fold(0.0, f64::max);
-        format!("Library to {name}: at most {goal:.1} wanted; {above} of {} rows above, worst {worst:.2}.\n", rows.len())
+        format!(
+            "Library to {name}: at most {goal:.1} wanted; {above} of {} rows above, worst {worst:.2}.\n",
+            rows.len()
+        )
     };
     let scalar = line(SCALAR_GOAL, "the model without vector instructions", |timing| timing.to_scalar);
     let vector = line(VECTOR_GOAL, "the model as the compiler likes", |timing| timing.to_vector);

@@ -67,8 +67,14 @@ fn clauses(sender: &Left, receiver: &Left) -> Vec<(String, bool)> {
     let rest = accepted.get(let_go..).unwrap_or_default();
     let (n, s, h) = (accepted.len(), secured.len(), held.len());
     vec![
-        (format!("secured ({s}) is an opening part of accepted ({n}), in order, nothing twice"), accepted.starts_with(secured)),
-        (format!("the secured number counts them ({})", receiver.stored.secured), receiver.stored.secured as usize == s),
+        (
+            format!("secured ({s}) is an opening part of accepted ({n}), in order, nothing twice"),
+            accepted.starts_with(secured),
+        ),
+        (
+            format!("the secured number counts them ({})", receiver.stored.secured),
+            receiver.stored.secured as usize == s,
+        ),
         (format!("let go ({let_go}) is an opening part of secured ({s})"), let_go <= s),
         (format!("the store holds exactly the rest ({h})"), rest.iter().eq(held.iter().map(|queued| &queued.bytes))),
         (format!("accepted ({n}) is let go ({let_go}) plus held ({h})"), n == let_go + h),

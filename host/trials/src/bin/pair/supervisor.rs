@@ -127,7 +127,7 @@ impl Supervisor {
 
     /// After every so many messages that arrived the connection is cut, or a process killed and started again.
     fn disturb(&mut self) -> Result<(), String> {
-        let falls_on = |every: u64| every != 0 && self.delivered % every == 0;
+        let falls_on = |every: u64| every != 0 && self.delivered.is_multiple_of(every);
         let (cut, kill) = (falls_on(self.setting.cut_every), falls_on(self.setting.kill_every));
         if cut {
             let end = (self.cuts % 2) as usize;
