@@ -1,6 +1,6 @@
 //! The calls of a cabinet's session and their results, as the library and the model both offer them.
 //!
-//! Tests, benchmarks and the pair are written once against [`Cabinet`]; numbers mean what the C boundary says they mean.
+//! Tests, benchmarks and the pair are written once against [`Cabinet`]; numbers mean what the C boundary says.
 
 #![no_std]
 #![forbid(unsafe_code)]

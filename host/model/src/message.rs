@@ -67,60 +67,41 @@ fn take_tlv(message: &mut Message, msg: &[u8], at: usize) -> Option<usize> {
     let value = msg.get(start..end)?;
     match be16(head, 0) & 0x3FFF {
         tlvs::FEC => {
-            first(message, has::FEC)?;
-            message.fec_start = start as u32;
-            message.fec_end = end as u32;
+            listed(message, has::FEC, value, value.len())?;
+            (message.fec_start, message.fec_end) = (start as u32, end as u32);
         }
         tlvs::LABEL => {
-            first(message, has::LABEL)?;
-            message.label = number(value).filter(|label| *label <= LARGEST_LABEL)?;
+            message.label = number(message, has::LABEL, value).filter(|label| *label <= LARGEST_LABEL)?;
         }
-        tlvs::STATUS => {
-            first(message, has::STATUS)?;
-            message.status = be32(of_length(value, 10)?, 0);
-        }
+        tlvs::STATUS => message.status = be32(listed(message, has::STATUS, value, 10)?, 0),
         tlvs::PARAMETERS => {
-            first(message, has::PARAMETERS)?;
-            let parameters = of_length(value, 14)?;
+            let parameters = listed(message, has::PARAMETERS, value, 14)?;
             message.keepalive_time = u32::from(be16(parameters, 2));
             message.max_pdu_length = u32::from(be16(parameters, 6));
         }
         tlvs::FT_SESSION => {
-            first(message, has::FT_SESSION)?;
-            let session = number(value)?;
-            message.reconnect = session >> 31;
-            message.timeout = session & 0xFFFF;
+            let session = number(message, has::FT_SESSION, value)?;
+            (message.reconnect, message.timeout) = (session >> 31, session & 0xFFFF);
         }
-        tlvs::FT_PROTECTION => {
-            first(message, has::FT_PROTECTION)?;
-            message.number = number(value)?;
-        }
-        tlvs::FT_ACK => {
-            first(message, has::FT_ACK)?;
-            message.ack = number(value)?;
-        }
+        tlvs::FT_PROTECTION => message.number = number(message, has::FT_PROTECTION, value)?,
+        tlvs::FT_ACK => message.ack = number(message, has::FT_ACK, value)?,
         _ => {}
     }
     Some(end)
 }
 
-/// Notes a listed TLV; none where the message has it already.
+/// The value of a listed TLV; none where its length is wrong or the message has it already.
 #[inline]
-fn first(message: &mut Message, bit: u32) -> Option<()> {
+fn listed<'a>(message: &mut Message, bit: u32, value: &'a [u8], length: usize) -> Option<&'a [u8]> {
     let again = message.has & bit != 0;
     message.has |= bit;
-    (!again).then_some(())
+    (!again && value.len() == length).then_some(value)
 }
 
+/// The number that a listed TLV of four bytes bears.
 #[inline]
-fn of_length(value: &[u8], length: usize) -> Option<&[u8]> {
-    (value.len() == length).then_some(value)
-}
-
-/// The number that a value of four bytes is.
-#[inline]
-fn number(value: &[u8]) -> Option<u32> {
-    value.try_into().ok().map(u32::from_be_bytes)
+fn number(message: &mut Message, bit: u32, value: &[u8]) -> Option<u32> {
+    listed(message, bit, value, 4).map(|value| be32(value, 0))
 }
 
 fn kind(message: &Message) -> u32 {

@@ -3,6 +3,7 @@
 
 mod demand;
 mod end;
+mod events;
 mod owner;
 mod tally;
 mod world;

@@ -1,15 +1,14 @@
-//! A world of two ends and one connection at a time; each step is one event, and each call in it may be cut.
+//! A world of two ends and one connection at a time: its start, its steps, its end, and how a call in it may be cut.
 
 use super::demand::{check_drained, Stores};
 use super::end::{Done, End};
-use super::owner::{self, Habits};
+use super::owner::Habits;
 use super::tally::{Cut, Tally};
 use crate::calls::Call;
 use crate::random::Random;
 use crate::store::Directory;
-use crate::stored::{u16_at, Stored, SLOTS};
-use crate::wire::{protection_number, without_ft};
-use cabinet::{phase, Cabinet, Opening, Outcome};
+use crate::stored::{u16_at, Stored};
+use cabinet::{Cabinet, Outcome};
 use std::collections::VecDeque;
 use std::io;
 
@@ -38,28 +37,15 @@ fn text(error: io::Error) -> String {
     error.to_string()
 }
 
-struct World<'a, 't> {
-    ends: [End<'a>; 2],
+pub struct World<'a, 't> {
+    pub ends: [End<'a>; 2],
     /// Messages on their way to each end.
-    lines: [VecDeque<Vec<u8>>; 2],
-    connected: bool,
-    random: Random,
-    habits: Habits,
-    serial: u32,
-    tally: &'t mut Tally,
-}
-
-/// What may befall an end in a step.
-#[derive(Clone, Copy, Debug)]
-enum Event {
-    Submit,
-    Send,
-    Keepalive,
-    Deliver,
-    Break,
-    Restart,
-    Reconnect,
-    TimePassed,
+    pub lines: [VecDeque<Vec<u8>>; 2],
+    pub connected: bool,
+    pub random: Random,
+    pub habits: Habits,
+    pub serial: u32,
+    pub tally: &'t mut Tally,
 }
 
 impl<'a, 't> World<'a, 't> {
@@ -134,50 +120,14 @@ impl<'a, 't> World<'a, 't> {
         Ok(())
     }
 
-    fn event(&mut self, end: usize) -> Event {
-        if self.random.percent(self.habits.submits) {
-            return Event::Submit;
-        }
-        if !self.ends[end].is_up() && self.random.percent(75) {
-            let waits = self.ends[end].session.phase == phase::INIT_WAIT && self.connected;
-            return if waits { Event::Deliver } else { Event::Reconnect };
-        }
-        if self.random.below(1_000) < self.habits.breaks {
-            return Event::Break;
-        }
-        match self.random.below(100) {
-            0..=34 => Event::Send,
-            35..=49 => Event::Keepalive,
-            50..=95 => Event::Deliver,
-            96 => Event::Restart,
-            _ => Event::TimePassed,
-        }
-    }
-
-    fn happen(&mut self, end: usize, event: Event) -> Result<(), String> {
-        match event {
-            Event::Submit => self.submit(end),
-            Event::Send => self.send(end),
-            Event::Keepalive => self.keepalive(end),
-            Event::Deliver => self.deliver(end),
-            Event::Break => {
-                self.break_connection();
-                Ok(())
-            }
-            Event::Restart => self.restart(end),
-            Event::Reconnect => self.reconnect(end),
-            Event::TimePassed => self.time_passed(end),
-        }
-    }
-
-    fn break_connection(&mut self) {
+    pub fn break_connection(&mut self) {
         self.tally.breaks += u64::from(self.connected);
         self.connected = false;
         self.lines = [VecDeque::new(), VecDeque::new()];
     }
 
     /// Makes a call and stores what it names, or is cut before the end of that; none where it counts as not made.
-    fn perform(&mut self, end: usize, call: &Call) -> Result<Option<Outcome>, String> {
+    pub fn perform(&mut self, end: usize, call: &Call) -> Result<Option<Outcome>, String> {
         let Done { outcome, output } = self.ends[end].call(call);
         let cut = self.choose_cut(&outcome);
         let stores = &self.ends[end];
@@ -214,7 +164,7 @@ impl<'a, 't> World<'a, 't> {
     }
 
     /// The power comes back: the session is restored, and this may be cut too.
-    fn restart(&mut self, end: usize) -> Result<(), String> {
+    pub fn restart(&mut self, end: usize) -> Result<(), String> {
         self.tally.restarts += 1;
         self.break_connection();
         loop {
@@ -228,101 +178,6 @@ impl<'a, 't> World<'a, 't> {
             }
             return self.ends[end].store_all(&outcome).map_err(text);
         }
-    }
-
-    fn submit(&mut self, end: usize) -> Result<(), String> {
-        self.serial += 1;
-        let stored = Stored::read(&self.ends[end].image);
-        let msg = owner::submission(&mut self.random, &self.habits, &stored, self.serial);
-        let session = self.ends[end].session;
-        let made = self.perform(end, &Call::Submit { session, msg: msg.clone() })?;
-        match made.map(|outcome| outcome.answer) {
-            Some(0) => {
-                self.ends[end].accepted.push(msg);
-                self.tally.accepted += 1;
-            }
-            Some(7) if stored.queue.len() == SLOTS => self.tally.full += 1,
-            Some(7) => return Err(format!("refused for room with {} held", stored.queue.len())),
-            _ => {}
-        }
-        Ok(())
-    }
-
-    fn send(&mut self, end: usize) -> Result<(), String> {
-        let session = self.ends[end].session;
-        let ack = self.random.percent(50);
-        let made = self.perform(end, &Call::SendNext { session, ack, room: 0 })?;
-        self.tally.sent += u64::from(made.is_some_and(|outcome| outcome.answer == 0));
-        Ok(())
-    }
-
-    fn keepalive(&mut self, end: usize) -> Result<(), String> {
-        let session = self.ends[end].session;
-        self.serial += 1;
-        self.perform(end, &Call::Keepalive { session, message_id: self.serial, room: 0 })?;
-        Ok(())
-    }
-
-    /// Hands the oldest message on its way to an end that awaits it.
-    fn deliver(&mut self, end: usize) -> Result<(), String> {
-        let session = self.ends[end].session;
-        let waits = session.phase == phase::INIT_WAIT;
-        if !waits && !self.ends[end].is_up() {
-            return Ok(());
-        }
-        let Some(msg) = self.lines[end].pop_front() else { return Ok(()) };
-        let call = if waits {
-            Call::InitReceived { session, msg: msg.clone() }
-        } else {
-            Call::Receive { session, msg: msg.clone() }
-        };
-        let Some(outcome) = self.perform(end, &call)? else { return Ok(()) };
-        if outcome.answer != 0 {
-            return Err(format!("{} answered {}", call.name(), outcome.answer));
-        }
-        if waits {
-            self.tally.resumed += 1;
-        } else if protection_number(&msg).is_some() {
-            self.ends[end].secured.push(without_ft(&msg));
-            self.tally.secured += 1;
-        }
-        Ok(())
-    }
-
-    /// A broken connection is noticed, a new one is made once both ends are down, and each end opens it.
-    fn reconnect(&mut self, end: usize) -> Result<(), String> {
-        if !self.connected && !self.ends[end].is_down() {
-            let session = self.ends[end].session;
-            self.perform(end, &Call::ConnectionFailed { session })?;
-        } else if !self.connected && self.ends.iter().all(End::is_down) {
-            self.connected = true;
-        } else if self.connected && self.ends[end].is_down() {
-            self.open(end)?;
-        }
-        Ok(())
-    }
-
-    fn open(&mut self, end: usize) -> Result<(), String> {
-        let session = self.ends[end].session;
-        let opening = Opening {
-            message_id: self.serial,
-            keepalive_time: 30,
-            max_pdu_length: 4096,
-            receiver_lsr: 0xC000_0201,
-            receiver_space: 0,
-            proposal: self.random.pick(&[None, Some(0), Some(60)]),
-        };
-        self.perform(end, &Call::Open { session, opening, room: 0 })?;
-        Ok(())
-    }
-
-    /// Time that is too short to end the session.
-    fn time_passed(&mut self, end: usize) -> Result<(), String> {
-        let session = self.ends[end].session;
-        let timeout = u32::from(u16_at(&self.ends[end].image, 20));
-        let elapsed = timeout.checked_sub(1).unwrap_or(u32::MAX);
-        self.perform(end, &Call::TimePassed { session, elapsed })?;
-        Ok(())
     }
 
     /// No more cuts, breaks or submissions: all that was accepted arrives.

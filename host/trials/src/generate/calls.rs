@@ -1,6 +1,6 @@
 //! Calls that fit a state, and calls that do not: wrong phases, phases that do not exist, counts past issued.
 
-use super::{messages, states};
+use super::{malformed, messages, states};
 use crate::calls::Call;
 use crate::random::Random;
 use crate::stored::Stored;
@@ -61,6 +61,12 @@ fn opening(random: &mut Random) -> Opening {
     }
 }
 
+/// Seconds around the agreed timeout.
+fn elapsed(random: &mut Random, stored: &Stored) -> u32 {
+    let timeout = u32::from(stored.timeout);
+    random.pick(&[0, timeout.saturating_sub(1), timeout, timeout + 1, 65_536, u32::MAX])
+}
+
 /// A call on an image of the state.
 pub fn on_image(random: &mut Random, stored: &Stored) -> Call {
     let session = |random: &mut Random, phases: &[u32]| session(random, stored, &fitting(stored, phases));
@@ -78,11 +84,7 @@ pub fn on_image(random: &mut Random, stored: &Stored) -> Call {
         28..=32 => {
             Call::ConnectionFailed { session: session(random, &[phase::INIT_WAIT, phase::UP_FT, phase::UP_PLAIN]) }
         }
-        33..=37 => {
-            let timeout = u32::from(stored.timeout);
-            let elapsed = random.pick(&[0, timeout.saturating_sub(1), timeout, timeout + 1, 65_536, u32::MAX]);
-            Call::TimePassed { session: session(random, &[phase::FAILED]), elapsed }
-        }
+        33..=37 => Call::TimePassed { session: session(random, &[phase::FAILED]), elapsed: elapsed(random, stored) },
         38..=55 => Call::Submit {
             session: session(random, &[phase::INIT_WAIT, phase::UP_FT, phase::FAILED]),
             msg: messages::submission(random, stored),
@@ -116,9 +118,9 @@ fn edge(random: &mut Random) -> u32 {
 /// A call that reads no image.
 pub fn pure(random: &mut Random, stored: &Stored) -> Call {
     match random.below(10) {
-        0..=1 => Call::PduOpen { pdu: messages::pdu(random, stored) },
+        0..=1 => Call::PduOpen { pdu: malformed::pdu(random, stored) },
         2..=3 => {
-            let pdu = messages::pdu(random, stored);
+            let pdu = malformed::pdu(random, stored);
             let at = random.pick(&[0, 10, 10, 10, pdu.len().saturating_sub(8), pdu.len(), usize::MAX, usize::MAX - 3]);
             Call::PduMessage { at: if random.percent(20) { random.between(0, pdu.len()) } else { at }, pdu }
         }

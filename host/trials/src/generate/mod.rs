@@ -2,5 +2,6 @@
 
 pub mod calls;
 pub mod damage;
+pub mod malformed;
 pub mod messages;
 pub mod states;

@@ -2,6 +2,7 @@
 
 use cabinet::{phase, Opening, Session};
 use trials::calls::Call;
+use trials::coverage::ANSWERS;
 use trials::stored::{word, Queued, Stored};
 use trials::wire::{self, prefix, types, Message};
 
@@ -99,24 +100,7 @@ pub fn all() -> Vec<Case> {
 
 /// The rows of one call stand together.
 fn order(call: &Call) -> usize {
-    let names = [
-        "format",
-        "restore",
-        "open",
-        "init_received",
-        "connection_failed",
-        "time_passed",
-        "submit",
-        "send_next",
-        "keepalive",
-        "receive",
-        "label",
-        "pdu_open",
-        "pdu_message",
-        "message_read",
-        "block_check",
-    ];
-    names.iter().position(|name| *name == call.name()).unwrap_or(names.len())
+    ANSWERS.iter().take_while(|(name, _)| *name != call.name()).count()
 }
 
 fn case(fill: Fill, about: &'static str, call: Call) -> Case {
@@ -188,6 +172,9 @@ fn pure() -> Vec<Case> {
         pure_case("one message", Call::PduMessage { pdu, at: 10 }, 4),
         pure_case("Mapping, short", Call::MessageRead { msg: short.bytes() }, short.length()),
         pure_case("Mapping, 480 bytes", Call::MessageRead { msg: long.bytes() }, long.length()),
+        pure_case("", Call::Distance { from: 0xFFFF_FFF0, to: 16 }, 0),
+        pure_case("", Call::Successor { number: 27 }, 0),
+        pure_case("", Call::LesserTimeout { a: 0, b: 5 }, 0),
         pure_case("", Call::BlockCheck { block: long.bytes().into_iter().cycle().take(512).collect() }, 508),
     ]
 }

@@ -10,20 +10,17 @@ use std::path::PathBuf;
 use std::sync::mpsc::{channel, Receiver, TryRecvError};
 use std::time::{Duration, Instant};
 use trials::store::Store;
-use trials::stored::{u16_at, u32_at, Stored};
+use trials::stored::{u16_at, Stored};
 use trials::under_test::UnderTest;
-use trials::wire::{protection_number, without_ft};
 
 const LIFETIME: Duration = Duration::from_secs(50);
 /// The owner submits at this pace, so that there is something to see.
 const PACE: Duration = Duration::from_millis(30);
 const RETRY: Duration = Duration::from_millis(30);
-/// A KeepAlive goes out at least this often; without it the last message would stay unacknowledged.
-const KEEPALIVE: Duration = Duration::from_millis(60);
 /// Seconds for which state is kept over a break.
 const TIMEOUT: u16 = 60;
-const MESSAGES_IN_PDU: usize = 4;
-const ROOM: usize = 500;
+/// Room for a message with its FT TLVs.
+pub const ROOM: usize = 500;
 
 /// Runs a cabinet until it is told to stop, or its time is over.
 pub fn run(name: &str, setting: &Setting) -> Result<(), String> {
@@ -51,24 +48,25 @@ fn orders() -> Receiver<String> {
     receiver
 }
 
-struct Process {
-    name: String,
-    lsr: u32,
-    port_file: PathBuf,
-    way: Way,
-    link: Option<Link>,
-    store: Store,
-    image: Vec<u8>,
-    session: Session,
-    accepted: Journal,
-    secured: Journal,
-    plan: Plan,
-    broken_at: Instant,
-    next_try: Instant,
-    next_submission: Instant,
-    next_keepalive: Instant,
-    acknowledges: bool,
-    reported: String,
+/// A cabinet's process and all it works with.
+pub struct Process {
+    pub name: String,
+    pub lsr: u32,
+    pub port_file: PathBuf,
+    pub way: Way,
+    pub link: Option<Link>,
+    pub store: Store,
+    pub image: Vec<u8>,
+    pub session: Session,
+    pub accepted: Journal,
+    pub secured: Journal,
+    pub plan: Plan,
+    pub broken_at: Instant,
+    pub next_try: Instant,
+    pub next_submission: Instant,
+    pub next_keepalive: Instant,
+    pub acknowledges: bool,
+    pub reported: String,
 }
 
 impl Process {
@@ -112,28 +110,28 @@ impl Process {
         Ok(process)
     }
 
-    fn say(&self, what: &str) {
+    pub fn say(&self, what: &str) {
         println!("{:<6} {what}", self.name);
         // Nobody reads what is said once the supervisor is gone; the process ends then anyway.
         let _ = io::stdout().flush();
     }
 
-    fn held(&self) -> usize {
+    pub fn held(&self) -> usize {
         usize::from(u16_at(&self.image, 18))
     }
 
     /// Submit is open while state is kept.
-    fn keeps_state(&self) -> bool {
+    pub fn keeps_state(&self) -> bool {
         self.image[22] == 1
     }
 
-    fn listed(&self, code: u32) -> Vec<u32> {
+    pub fn listed(&self, code: u32) -> Vec<u32> {
         let words = (0..120).map(|place| UnderTest.label(&self.image, place));
         words.filter(|word| word >> 20 == code).map(|word| word & 0xF_FFFF).collect()
     }
 
     /// Stores what a call names: the slot, the owner's own record, then block 0. Output may leave after that.
-    fn keep(&mut self, outcome: &Outcome, record: Option<(&[u8], Record)>) -> io::Result<()> {
+    pub fn keep(&mut self, outcome: &Outcome, record: Option<(&[u8], Record)>) -> io::Result<()> {
         self.store.write_slot(&self.image, outcome)?;
         match record {
             Some((msg, Record::Accepted)) => self.accepted.add(msg)?,
@@ -236,107 +234,6 @@ impl Process {
         Ok(())
     }
 
-    /// Takes in what has arrived and sends what waits.
-    fn exchange(&mut self, now: Instant) -> io::Result<()> {
-        if let Some(pdu) = self.link()?.receive()? {
-            self.take_pdu(&pdu)?;
-        }
-        if self.session.phase == phase::UP_FT {
-            self.send_held()?;
-            self.send_keepalive(now)?;
-        }
-        Ok(())
-    }
-
-    fn link(&mut self) -> io::Result<&mut Link> {
-        self.link.as_mut().ok_or(io::ErrorKind::NotConnected.into())
-    }
-
-    fn take_pdu(&mut self, pdu: &[u8]) -> io::Result<()> {
-        let opened = UnderTest.pdu_open(pdu);
-        if opened.answer != 0 {
-            self.say("drops a malformed PDU");
-            return Err(io::ErrorKind::InvalidData.into());
-        }
-        let mut at = 10;
-        for _ in 0..opened.count {
-            let part = UnderTest.pdu_message(pdu, at);
-            at = part.end as usize;
-            self.take_message(&pdu[part.start as usize..at])?;
-        }
-        Ok(())
-    }
-
-    fn take_message(&mut self, msg: &[u8]) -> io::Result<()> {
-        if self.session.phase == phase::INIT_WAIT {
-            return self.take_init(msg);
-        }
-        let released = u32_at(&self.image, 4);
-        let outcome = UnderTest.receive(&mut self.image, self.session, msg);
-        let number = protection_number(msg).filter(|_| outcome.answer == 0);
-        let plain = without_ft(msg);
-        self.keep(&outcome, number.map(|_| (plain.as_slice(), Record::Secured)))?;
-        if outcome.answer != 0 {
-            self.say(&format!("receive answered {}", outcome.answer));
-            return Err(io::ErrorKind::InvalidData.into());
-        }
-        if let Some(number) = number {
-            self.acknowledges = true;
-            let used = self.listed(3).len();
-            self.say(&format!("secures {} as number {number} ({used} labels in use)", plan::in_words(&plain)));
-        }
-        if u32_at(&self.image, 4) != released {
-            self.say(&format!("is acknowledged through {} ({} held)", u32_at(&self.image, 4), self.held()));
-        }
-        Ok(())
-    }
-
-    fn take_init(&mut self, msg: &[u8]) -> io::Result<()> {
-        let kept = self.keeps_state();
-        let outcome = UnderTest.init_received(&mut self.image, self.session, msg);
-        self.keep(&outcome, None)?;
-        if outcome.answer != 0 {
-            self.say(&format!("Init answered {}", outcome.answer));
-            return Err(io::ErrorKind::InvalidData.into());
-        }
-        let how = if kept { "resumes its session" } else { "begins a fresh session" };
-        self.say(&format!("{how}: {} held, {} secured", self.held(), u32_at(&self.image, 12)));
-        Ok(())
-    }
-
-    /// Sends some of the messages that wait, in one PDU; each is stored before the PDU leaves.
-    fn send_held(&mut self) -> io::Result<()> {
-        let mut messages = Vec::new();
-        while messages.len() < MESSAGES_IN_PDU {
-            let mut out = [0; ROOM];
-            let outcome = UnderTest.send_next(&mut self.image, self.session, self.acknowledges, &mut out);
-            if outcome.answer != 0 {
-                break;
-            }
-            self.keep(&outcome, None)?;
-            self.acknowledges = false;
-            messages.push(out[..outcome.length as usize].to_vec());
-        }
-        if messages.is_empty() {
-            return Ok(());
-        }
-        let lsr = self.lsr;
-        self.link()?.send(lsr, &messages)
-    }
-
-    fn send_keepalive(&mut self, now: Instant) -> io::Result<()> {
-        if !self.acknowledges && now < self.next_keepalive {
-            return Ok(());
-        }
-        self.next_keepalive = now + KEEPALIVE;
-        let mut out = [0; ROOM];
-        let outcome = UnderTest.keepalive(&mut self.image, self.session, 0, &mut out);
-        self.keep(&outcome, None)?;
-        self.acknowledges = false;
-        let (lsr, keepalive) = (self.lsr, out[..outcome.length as usize].to_vec());
-        self.link()?.send(lsr, &[keepalive])
-    }
-
     /// Tells the supervisor where things stand, whenever that changes.
     fn report(&mut self) {
         let place = self.accepted.messages.iter().filter(|msg| plan::is_planned(msg)).count() as u32;
@@ -351,7 +248,7 @@ impl Process {
 }
 
 /// Which of the owner's records a message goes to.
-enum Record {
+pub enum Record {
     Accepted,
     Secured,
 }

@@ -7,6 +7,7 @@
 
 mod accounts;
 mod cabinet_process;
+mod exchange;
 mod journal;
 mod link;
 mod plan;
