@@ -1,6 +1,7 @@
 //! The proved session library as safe Rust: slices for pointers and lengths, plain structs for results.
 
 pub mod abi;
+mod convert;
 
 use abi::*;
 use cabinet::{Cabinet, Distance, Message, Opening, Outcome, Part, Pdu, Session};
@@ -30,39 +31,24 @@ fn start_mut(slice: &mut [u8]) -> *mut u8 {
     }
 }
 
-fn to_c(s: Session) -> ldp_ft_session {
-    ldp_ft_session { phase: s.phase, value: s.value }
-}
-
-fn from_c(o: ldp_ft_outcome) -> Outcome {
-    Outcome {
-        answer: o.answer,
-        block: o.block,
-        session: Session { phase: o.session.phase, value: o.session.value },
-        length: o.length,
-        slot: o.slot,
-        block0: o.block0,
-    }
-}
-
 impl Cabinet for Library {
     fn format(&self, image: &mut [u8]) -> Outcome {
         // SAFETY: the image is a whole slice, lent for the call.
-        from_c(unsafe { ldp_ft_format(start_mut(image), image.len()) })
+        unsafe { ldp_ft_format(start_mut(image), image.len()) }.into()
     }
 
     fn restore(&self, image: &mut [u8]) -> Outcome {
         // SAFETY: as for `format`.
-        from_c(unsafe { ldp_ft_restore(start_mut(image), image.len()) })
+        unsafe { ldp_ft_restore(start_mut(image), image.len()) }.into()
     }
 
     fn open(&self, image: &mut [u8], session: Session, opening: &Opening, out: &mut [u8]) -> Outcome {
         // SAFETY: two whole slices that do not overlap, lent for the call.
-        from_c(unsafe {
+        unsafe {
             ldp_ft_open(
                 start_mut(image),
                 image.len(),
-                to_c(session),
+                session.into(),
                 opening.message_id,
                 opening.keepalive_time,
                 opening.max_pdu_length,
@@ -73,86 +59,67 @@ impl Cabinet for Library {
                 start_mut(out),
                 out.len(),
             )
-        })
+        }
+        .into()
     }
 
     fn init_received(&self, image: &mut [u8], session: Session, msg: &[u8]) -> Outcome {
         // SAFETY: as for `open`; the message is only read.
-        from_c(unsafe { ldp_ft_init_received(start_mut(image), image.len(), to_c(session), start(msg), msg.len()) })
+        unsafe { ldp_ft_init_received(start_mut(image), image.len(), session.into(), start(msg), msg.len()) }.into()
     }
 
     fn connection_failed(&self, image: &mut [u8], session: Session) -> Outcome {
         // SAFETY: as for `format`.
-        from_c(unsafe { ldp_ft_connection_failed(start_mut(image), image.len(), to_c(session)) })
+        unsafe { ldp_ft_connection_failed(start_mut(image), image.len(), session.into()) }.into()
     }
 
     fn time_passed(&self, image: &mut [u8], session: Session, elapsed: u32) -> Outcome {
         // SAFETY: as for `format`.
-        from_c(unsafe { ldp_ft_time_passed(start_mut(image), image.len(), to_c(session), elapsed) })
+        unsafe { ldp_ft_time_passed(start_mut(image), image.len(), session.into(), elapsed) }.into()
     }
 
     fn submit(&self, image: &mut [u8], session: Session, msg: &[u8]) -> Outcome {
         // SAFETY: as for `open`; the message is only read.
-        from_c(unsafe { ldp_ft_submit(start_mut(image), image.len(), to_c(session), start(msg), msg.len()) })
+        unsafe { ldp_ft_submit(start_mut(image), image.len(), session.into(), start(msg), msg.len()) }.into()
     }
 
     fn send_next(&self, image: &mut [u8], session: Session, ack: bool, out: &mut [u8]) -> Outcome {
         // SAFETY: as for `open`.
-        from_c(unsafe {
-            ldp_ft_send_next(start_mut(image), image.len(), to_c(session), ack, start_mut(out), out.len())
-        })
+        unsafe { ldp_ft_send_next(start_mut(image), image.len(), session.into(), ack, start_mut(out), out.len()) }
+            .into()
     }
 
     fn keepalive(&self, image: &mut [u8], session: Session, message_id: u32, out: &mut [u8]) -> Outcome {
         // SAFETY: as for `open`.
-        from_c(unsafe {
-            ldp_ft_keepalive(start_mut(image), image.len(), to_c(session), message_id, start_mut(out), out.len())
-        })
+        unsafe {
+            ldp_ft_keepalive(start_mut(image), image.len(), session.into(), message_id, start_mut(out), out.len())
+        }
+        .into()
     }
 
     fn receive(&self, image: &mut [u8], session: Session, msg: &[u8]) -> Outcome {
         // SAFETY: as for `open`; the message is only read.
-        from_c(unsafe { ldp_ft_receive(start_mut(image), image.len(), to_c(session), start(msg), msg.len()) })
+        unsafe { ldp_ft_receive(start_mut(image), image.len(), session.into(), start(msg), msg.len()) }.into()
     }
 
     fn pdu_open(&self, pdu: &[u8]) -> Pdu {
         // SAFETY: a whole slice, only read.
-        let p = unsafe { ldp_ft_pdu_open(start(pdu), pdu.len()) };
-        Pdu { answer: p.answer, count: p.count }
+        unsafe { ldp_ft_pdu_open(start(pdu), pdu.len()) }.into()
     }
 
     fn pdu_message(&self, pdu: &[u8], at: usize) -> Part {
         // SAFETY: as for `pdu_open`; `at` may be any number.
-        let p = unsafe { ldp_ft_pdu_message(start(pdu), pdu.len(), at) };
-        Part { answer: p.answer, start: p.start, end: p.end }
+        unsafe { ldp_ft_pdu_message(start(pdu), pdu.len(), at) }.into()
     }
 
     fn message_read(&self, msg: &[u8]) -> Message {
         // SAFETY: as for `pdu_open`.
-        let m = unsafe { ldp_ft_message_read(start(msg), msg.len()) };
-        Message {
-            answer: m.answer,
-            message_type: m.r#type,
-            message_id: m.message_id,
-            kind: m.kind,
-            has: m.has,
-            fec_start: m.fec_start,
-            fec_end: m.fec_end,
-            label: m.label,
-            status: m.status,
-            number: m.number,
-            ack: m.ack,
-            reconnect: m.reconnect,
-            timeout: m.timeout,
-            keepalive_time: m.keepalive_time,
-            max_pdu_length: m.max_pdu_length,
-        }
+        unsafe { ldp_ft_message_read(start(msg), msg.len()) }.into()
     }
 
     fn distance(&self, from: u32, to: u32) -> Distance {
         // SAFETY: numbers only.
-        let d = unsafe { ldp_ft_distance(from, to) };
-        Distance { answer: d.answer, steps: d.steps }
+        unsafe { ldp_ft_distance(from, to) }.into()
     }
 
     fn successor(&self, number: u32) -> u32 {

@@ -78,7 +78,7 @@ impl<'a> Run<'a> {
         Ok(())
     }
 
-    /// A state, and some calls one after another on its image.
+    /// A state, and some calls one after another on its image; mostly no further than its state is released.
     fn walk(&mut self) -> Result<(), Box<Difference>> {
         let mut stored = states::state(&mut self.random);
         let mut image = damage::image(&mut self.random, &stored);
@@ -93,6 +93,9 @@ impl<'a> Run<'a> {
             }
             image = seen.image.content().to_vec();
             stored = Stored::read(&image);
+            if !stored.kept && self.random.percent(70) {
+                return Ok(());
+            }
         }
         Ok(())
     }

@@ -34,17 +34,31 @@ pub fn message(random: &mut Random, mut message: Message) -> Vec<u8> {
 
 /// Bytes whose lengths do not add up.
 fn wrong_lengths(random: &mut Random, mut bytes: Vec<u8>) -> Vec<u8> {
-    match random.below(5) {
+    match random.below(6) {
         0 => bytes.truncate(random.between(0, bytes.len() - 1)),
         1 => bytes.extend(random.bytes(3)),
         2 => bytes[3] = bytes[3].wrapping_add(random.pick(&[1, 4, 0xFC, 0xFF])),
         3 if bytes.len() >= 12 => bytes[11] = bytes[11].wrapping_add(random.pick(&[1, 2, 4, 0xFF])),
+        4 => return random_tlvs(random, &bytes),
         _ => {
             let at = random.below(bytes.len());
             bytes[at] ^= 1 << random.below(8);
         }
     }
     bytes
+}
+
+/// The message's type and ID before bytes by chance, with the right length of the whole.
+fn random_tlvs(random: &mut Random, bytes: &[u8]) -> Vec<u8> {
+    let mut soup = bytes[..8].to_vec();
+    let length = random.between(0, 60);
+    soup.extend(random.bytes(length));
+    for at in (8..soup.len()).step_by(8) {
+        soup[at] &= 0xC7;
+    }
+    let length = (soup.len() - 4) as u16;
+    soup[2..4].copy_from_slice(&length.to_be_bytes());
+    soup
 }
 
 /// A PDU of some messages, at times with a fault in its head or its lengths.

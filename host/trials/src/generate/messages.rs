@@ -234,10 +234,14 @@ pub fn init(random: &mut Random, stored: &Stored) -> Vec<u8> {
 
 /// A message that may be anything at all, for the reader.
 pub fn any(random: &mut Random, stored: &Stored) -> Vec<u8> {
-    match random.below(4) {
+    match random.below(5) {
         0 => init(random, stored),
         1 => submission(random, stored),
         2 => received(random, stored),
+        3 => {
+            let message = body(random, stored, types::MAPPING, true);
+            malformed::message(random, message)
+        }
         _ => {
             let (message_type, sending) = (any_type(random), random.percent(50));
             let message = body(random, stored, message_type, sending);

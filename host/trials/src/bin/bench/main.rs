@@ -1,10 +1,12 @@
 //! Measures the library beside the model, call by call: `cargo run --release --bin bench [-- --markdown]`.
 
 mod cases;
+mod exported;
 mod measure;
 mod report;
 
 use cabinet::Cabinet;
+use exported::Exported;
 use std::process::ExitCode;
 use trials::options::Options;
 use trials::under_test::UnderTest;
@@ -18,7 +20,8 @@ fn main() -> ExitCode {
         eprintln!("model_scalar was compiled with vector instructions: run the benchmark in host/, where .cargo is");
         return ExitCode::FAILURE;
     }
-    let subjects: [&dyn Cabinet; 3] = [&UnderTest, &model_scalar::Model, &model::Model];
+    let (scalar, vector) = (Exported::<model_scalar::Model>::default(), Exported::<model::Model>::default());
+    let subjects: [&dyn Cabinet; 3] = [&UnderTest, &scalar, &vector];
     let rounds = options.number("rounds", ROUNDS).max(1) as usize;
     let mut cases = cases::all();
     if let Some(name) = options.word("only") {
