@@ -66,50 +66,66 @@ fn signed(z: i32) {
     }
 }
 
-fn distance(d: Distance) {
+fn way(d: Distance) {
     match d {
         Distance::Steps(z) => signed(z),
         Distance::Refused => text(b" refused"),
     }
 }
 
-// What the rules say of one pair of numbers.
-fn pair(a: u32, b: u32) {
-    text(b"steps");
+// The start of a line: a rule's name and two numbers.
+fn start(name: &[u8], a: u32, b: u32) {
+    text(name);
     number(a);
     number(b);
-    count(ft_number::steps_between(FtNumber(a), FtNumber(b)));
-    text(b"\ndistance");
-    number(a);
-    number(b);
-    distance(ft_number::signed_distance(FtNumber(a), FtNumber(b)));
-    text(b"\nadvance");
-    number(a);
-    number(b);
-    number(ft_number::advance(FtNumber(a), b).0);
+}
+
+fn end() {
     text(b"\n");
+}
+
+fn steps(a: u32, b: u32) {
+    start(b"steps", a, b);
+    count(ft_number::steps_between(FtNumber(a), FtNumber(b)));
+    end();
+}
+
+fn distance(a: u32, b: u32) {
+    start(b"distance", a, b);
+    way(ft_number::signed_distance(FtNumber(a), FtNumber(b)));
+    end();
+}
+
+fn advance(a: u32, b: u32) {
+    start(b"advance", a, b);
+    number(ft_number::advance(FtNumber(a), b).0);
+    end();
+}
+
+fn successor(a: u32) {
+    text(b"successor");
+    number(a);
+    number(ft_number::successor(FtNumber(a)).0);
+    end();
 }
 
 // One number: its successor, and with each edge the rules of a pair.
 fn edge(a: u32) {
-    text(b"successor");
-    number(a);
-    number(ft_number::successor(FtNumber(a)).0);
-    text(b"\n");
+    successor(a);
     let mut j: usize = 0;
     while j < 11 {
-        pair(a, EDGES[j]);
+        steps(a, EDGES[j]);
+        distance(a, EDGES[j]);
+        advance(a, EDGES[j]);
         j += 1;
     }
 }
 
 fn acknowledgement(r: u32, i: u32, a: u32) {
-    text(b"acknowledge");
-    number(r);
-    number(i);
+    start(b"acknowledge", r, i);
     number(a);
     decision(ft_number::acknowledge(FtNumber(r), FtNumber(i), FtNumber(a)));
-    text(b"\n");
+    end();
 }
 
 // Each edge as an acknowledgement of one window.
@@ -122,11 +138,9 @@ fn window(r: u32, i: u32) {
 }
 
 fn timeout(a: u32, b: u32) {
-    text(b"lesser timeout");
-    number(a);
-    number(b);
+    start(b"lesser timeout", a, b);
     number(ft_number::lesser_timeout(a, b));
-    text(b"\n");
+    end();
 }
 
 fn timeouts(a: u32) {
@@ -140,7 +154,7 @@ fn timeouts(a: u32) {
 fn proposal(p: Proposal) {
     text(b"proposed");
     number(ft_number::proposed_timeout(p) as u32);
-    text(b"\n");
+    end();
 }
 
 fn edges() {

@@ -3,3 +3,4 @@ pub mod Be
 pub mod Fill
 pub mod Part
 pub mod Fix
+pub mod Differ

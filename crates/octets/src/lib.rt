@@ -4,6 +4,7 @@ ghost use Prim.Native.Nat.{_+_, _≤_, _<_};
 ghost use lib.ListN.{length};
 ghost use Rattle.octets.specs.Be.{beAt, putBe};
 ghost use Rattle.octets.specs.Fill.{copied, zeroed};
+ghost use Rattle.octets.specs.Differ.{differ};
 
 fn wide16(x: u8) -> u16
     ensures { λ r. ⌜ (r ≡ x) × (r < 256) ⌝ }
@@ -91,4 +92,21 @@ pub fn zero_to(s: &mut [u8], at: usize, n: usize)
         s[at + i] = 0;
         i += 1;
     }
+}
+
+// Whether two runs of bytes are not the same.
+pub fn bytes_differ(a: &[u8], b: &[u8]) -> bool
+    ensures { λ r. ⌜ r ≡ differ (now (a .entry)) (now (b .entry)) ⌝ }
+{
+    if a.len() != b.len() {
+        return true;
+    }
+    let mut i: usize = 0;
+    while i < a.len() {
+        if a[i] != b[i] {
+            return true;
+        }
+        i += 1;
+    }
+    false
 }

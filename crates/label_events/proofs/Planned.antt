@@ -1,0 +1,162 @@
+-- The ways through the definitions of a change, of a message accepted, acknowledged and received. Assumes nothing.
+use mathlib.Core.Path.{_≡_, sym}
+use mathlib.Core.Bool.{Bool, true, false}
+use mathlib.Core.List.{List}
+use mathlib.Core.Logic.{_≢_}
+use Prim.Native.Nat.{ℕ, _≤_, _<_}
+use native.Mathlib.Omega.{arith}
+use lib.ListN.{getD, set}
+use borrow.Author.Tests.{eq-eqb, ne-eqb}
+use Rattle.label_list.specs.Word.{labelCount, codeOf, wordOf, isFree, listable, standsFor}
+use Rattle.label_list.specs.Rules.{sentSide, receivedSide, codeAccepted, codeAcked, codeReceived}
+use Rattle.label_list.specs.Find.{findOf}
+use Rattle.label_events.specs.Change.{ChangeIn, codeIn, codeAt, changeAt, changed}
+use Rattle.label_events.specs.Accept.{planBy, planOf, acceptanceOf, acceptedOf}
+use Rattle.label_events.specs.Ack.{ackedAt, ackedOf}
+use Rattle.label_events.specs.Receive.{receivedChange, receptionOf, everyReceived, receivedOf}
+use Rattle.label_list.specs.declared.Side.{Side}
+use Rattle.label_list.specs.declared.Found.{Found}
+use Rattle.label_list.specs.declared.Found.the-variants.{At, Nowhere}
+use Rattle.label_list.specs.declared.LabelMessage.{LabelMessage}
+use Rattle.label_list.specs.declared.Next.{Next}
+use Rattle.label_list.specs.declared.Next.the-variants.{Code, NotAllowed as Never}
+use Rattle.label_events.specs.declared.Change.{Change}
+use Rattle.label_events.specs.declared.Change.the-variants.{Keep, Put, NoRoom}
+use Rattle.label_events.specs.declared.Plan.{Plan}
+use Rattle.label_events.specs.declared.Plan.the-variants.{Allowed, Refused}
+use Rattle.label_events.specs.declared.Acceptance.{Acceptance}
+use Rattle.label_events.specs.declared.Acceptance.the-variants.{NotAllowed}
+use Rattle.label_events.specs.declared.Touched.{Touched}
+use Rattle.label_events.specs.declared.Touched.the-variants.{Label, Every, Nothing}
+use Rattle.label_events.specs.declared.Reception.{Reception}
+use Rattle.label_events.specs.declared.Reception.the-variants.{Taken}
+use Rattle.label_list.proofs.Choice.{pick-all}
+use Rattle.label_list.proofs.Standing.{within-in, within-below, within-above, stands-parts}
+use Rattle.label_list.proofs.Reached.{found-passes}
+use Rattle.label_events.proofs.Written.{change-of-in}
+
+-- A change, by what the two searches found.
+module _ (label code : ℕ) (f g : Found) where
+  pub change-found : {w : ℕ} (i : ℕ) → w ≡ wordOf label code → f ≡ At i → Put i w ≡ changeAt f g label code
+  unfolding changeAt
+  change-found i e p = rw (p, e)
+
+  module _ (p : f ≡ Nowhere) where
+    pub change-none : code ≡ 0 → Keep ≡ changeAt f g label code
+    unfolding changeAt
+    change-none z = rw (p, eq-eqb code 0 z)
+
+    module _ (z : code ≢ 0) where
+      pub change-free : {w : ℕ} {h : Found} (i : ℕ) → w ≡ wordOf label code → h ≡ g → h ≡ At i → Put i w ≡ changeAt f g label code
+      unfolding changeAt
+      change-free i e q r = rw (p, ne-eqb code 0 z, ← q, r, e)
+
+      pub change-full : {h : Found} → h ≡ g → h ≡ Nowhere → NoRoom ≡ changeAt f g label code
+      unfolding changeAt
+      change-full q r = rw (p, ne-eqb code 0 z, ← q, r)
+
+listable-yes : (label : ℕ) → 16 ≤ label → label < labelCount → listable label ≡ true
+listable-yes label l h = sym (within-in 16 1048575 label l (omega arith))
+
+listable-low : (label : ℕ) → label < 16 → listable label ≡ false
+listable-low label h = sym (within-below 16 1048575 label h)
+
+listable-high : (label : ℕ) → labelCount ≤ label → listable label ≡ false
+listable-high label h = sym (within-above 16 1048575 label (omega arith) (omega arith))
+
+abbrev PlanIn : List ℕ → Plan → Type 0
+PlanIn words (Allowed change) = ChangeIn words change
+PlanIn words Refused = Unit {0}
+
+-- A message of ours: its plan, and what becomes of it.
+module _ (words : List ℕ) (message : LabelMessage) (label : ℕ) where
+  pub plan-low : label < 16 → Refused ≡ planOf words message label
+  unfolding planOf
+  plan-low h = rw (listable-low label h)
+
+  pub plan-high : labelCount ≤ label → Refused ≡ planOf words message label
+  unfolding planOf
+  plan-high h = rw (listable-high label h)
+
+  module _ (low : 16 ≤ label) (high : label < labelCount) {s : Side} {f : Found} {c : ℕ} {n : Next}
+      (es : s ≡ sentSide message) (ef : f ≡ findOf (standsFor s label) words) (ec : c ≡ codeIn words f) (en : n ≡ codeAccepted message c) where
+    plan-is : planBy n words s label ≡ planOf words message label
+    unfolding planOf
+    plan-is = rw (listable-yes label low high, en, ec, ef, es)
+
+    pub plan-allowed : {code : ℕ} {change : Change} → n ≡ Code code → change ≡ changeAt f (findOf isFree words) label code → Allowed change ≡ planOf words message label
+    plan-allowed e ex = rw (ex, ef) (rw e at plan-is)
+
+    pub plan-refused : n ≡ Never → Refused ≡ planOf words message label
+    plan-refused e = rw e at plan-is
+
+  by-in : (n : Next) (s : Side) → PlanIn words (planBy n words s label)
+  by-in (Code code) s = change-of-in words s label code
+  by-in Never s = tt
+
+  pub plan-in : {p : Plan} {change : Change} → p ≡ planOf words message label → p ≡ Allowed change → ChangeIn words change
+  unfolding planOf
+  plan-in {p} {change} e g =
+      let inside : PlanIn words p =
+      rw e (pick-all (PlanIn words) (listable label) (by-in (codeAccepted message (codeAt words (sentSide message) label)) (sentSide message)) tt) in
+      rw g at inside
+
+  pub accepted-is : {p : Plan} {change : Change} {a : Acceptance} {after : List ℕ}
+      → p ≡ planOf words message label → p ≡ Allowed change → a ≡ acceptanceOf change → after ≡ changed words change
+      → (a ≡ acceptedOf words message label .0) × (after ≡ acceptedOf words message label .1)
+  unfolding acceptedOf
+  accepted-is e g ea el = (rw (← e, g) ea, rw (← e, g) el)
+
+  pub refused-is : {p : Plan} → p ≡ planOf words message label → p ≡ Refused
+      → (NotAllowed ≡ acceptedOf words message label .0) × (words ≡ acceptedOf words message label .1)
+  unfolding acceptedOf
+  refused-is e g = (rw (← e, g), rw (← e, g))
+
+  -- an ACK of it
+  module _ {s : Side} {f : Found} (es : s ≡ sentSide message) (ef : f ≡ findOf (standsFor s label) words) where
+    pub acked-small-label : (i : ℕ) → f ≡ At i → label < labelCount
+    acked-small-label i g = omega (arith, stands-parts s label (getD words i 0) (found-passes (standsFor s label) words i ef g) .1)
+
+    pub acked-found : (i : ℕ) {n w : ℕ} → f ≡ At i → n ≡ codeAcked message (codeOf (getD words i 0)) → w ≡ wordOf label n → set words i w ≡ ackedOf words message label
+    unfolding ackedAt
+    acked-found i g en ew = rw (← es, ← ef, g, ew, en)
+
+    pub acked-absent : f ≡ Nowhere → words ≡ ackedOf words message label
+    unfolding ackedAt
+    acked-absent g = rw (← es, ← ef, g)
+
+-- A message of the peer's: its change, and what becomes of it.
+module _ (words : List ℕ) (message : LabelMessage) (protected : Bool) where
+  module _ (label : ℕ) where
+    pub received-low : label < 16 → Keep ≡ receivedChange words message protected label
+    unfolding receivedChange
+    received-low h = rw (listable-low label h)
+
+    pub received-high : labelCount ≤ label → Keep ≡ receivedChange words message protected label
+    unfolding receivedChange
+    received-high h = rw (listable-high label h)
+
+    pub received-is : 16 ≤ label → label < labelCount → {s : Side} {f : Found} {c n : ℕ}
+        → s ≡ receivedSide message → f ≡ findOf (standsFor s label) words → c ≡ codeIn words f → n ≡ codeReceived message protected c
+        → changeAt f (findOf isFree words) label n ≡ receivedChange words message protected label
+    unfolding receivedChange
+    received-is l h es ef ec en = rw (listable-yes label l h, en, ec, ef, es)
+
+    pub received-in : {change : Change} → change ≡ receivedChange words message protected label → ChangeIn words change
+    unfolding receivedChange
+    received-in e = rw e (pick-all (ChangeIn words) (listable label) (change-of-in words (receivedSide message) label (codeReceived message protected (codeAt words (receivedSide message) label))) tt)
+
+    pub received-label : {t : Touched} {change : Change} {a : Reception} {after : List ℕ}
+        → t ≡ Label label → change ≡ receivedChange words message protected label → a ≡ receptionOf change → after ≡ changed words change
+        → (a ≡ receivedOf words message protected t .0) × (after ≡ receivedOf words message protected t .1)
+    unfolding receivedOf
+    received-label et ec ea el = (rw (et, ← ec) ea, rw (et, ← ec) el)
+
+  pub received-every : {t : Touched} {after : List ℕ} → t ≡ Every → after ≡ everyReceived message words
+      → (Taken ≡ receivedOf words message protected t .0) × (after ≡ receivedOf words message protected t .1)
+  unfolding receivedOf
+  received-every et el = (rw et, rw et el)
+
+  pub received-nothing : {t : Touched} → t ≡ Nothing → (Taken ≡ receivedOf words message protected t .0) × (words ≡ receivedOf words message protected t .1)
+  unfolding receivedOf
+  received-nothing et = (rw et, rw et)

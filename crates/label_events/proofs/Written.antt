@@ -1,0 +1,33 @@
+-- Laws of a change: it writes inside the list. Assumes nothing.
+use mathlib.Core.Path.{_≡_, refl}
+use mathlib.Core.List.{List}
+use Prim.Native.Nat.{ℕ, _<_}
+use lib.ListN.{length}
+use lib.Dec.{eqb}
+use Rattle.label_list.specs.Word.{isFree, standsFor, wordOf}
+use Rattle.label_list.specs.Find.{findOf, FoundIn}
+use Rattle.label_list.specs.declared.Side.{Side}
+use Rattle.label_list.specs.declared.Found.{Found}
+use Rattle.label_list.specs.declared.Found.the-variants.{At, Nowhere}
+use Rattle.label_list.proofs.Choice.{pick-all}
+use Rattle.label_list.proofs.Reached.{found-in}
+use Rattle.label_events.specs.Change.{ChangeIn, takeFree, changeAt, changeOf}
+use Rattle.label_events.specs.declared.Change.{Change}
+use Rattle.label_events.specs.declared.Change.the-variants.{Put}
+
+-- A change writes inside the list where the places that it was given are inside.
+take-in : (words : List ℕ) (g : Found) (w : ℕ) → FoundIn words g → ChangeIn words (takeFree g w)
+take-in words (At i) w h = h
+take-in words Nowhere w h = tt
+
+change-in : (words : List ℕ) (f g : Found) (label code : ℕ) → FoundIn words f → FoundIn words g → ChangeIn words (changeAt f g label code)
+unfolding changeAt
+change-in words (At i) g label code h k = h
+change-in words Nowhere g label code h k = pick-all (ChangeIn words) (eqb code 0) tt (take-in words g (wordOf label code) k)
+
+pub change-of-in : (words : List ℕ) (side : Side) (label code : ℕ) → ChangeIn words (changeOf words side label code)
+change-of-in words side label code =
+    change-in words (findOf (standsFor side label) words) (findOf isFree words) label code (found-in (standsFor side label) words refl) (found-in isFree words refl)
+
+pub change-place : (words : List ℕ) (f : Change) (i w : ℕ) → ChangeIn words f → f ≡ Put i w → i < length words
+change-place words f i w h e = rw e at h

@@ -1,0 +1,21 @@
+use borrow.Author.Needs.{needs}
+use Rattle.label_events.proofs.Planned.{received-in, received-label, received-every, received-nothing}
+use Rattle.label_events.proofs.receiving.receive.Statement.{statement}
+use Rattle.label_events.proofs.receiving.receive.Tie as tie
+
+pub receive-spec : {M : Type 1} → statement M
+receive-spec =
+    tie.close
+    (tie.spec
+    (λ c. search needs)
+    (λ c κs. tt)
+    (λ c κs. received-in _ _ _ _ (c .before .plan-received .ensures))
+    (λ c κs. tt)
+    (λ c. search needs)
+    (λ c κs. tt)
+    (λ c. search needs)
+    (λ c. search needs)
+    (λ c. received-label _ _ _ _ (c .before .before .before .before .before .before .before .before .touched .given .1) (c .before .before .before .before .before .plan-received .ensures) (c .reception .ensures) (c .before .before .before .make-change .ensures))
+    (λ c. search needs)
+    (λ c. received-every _ _ _ (c .before .before .before .before .enum-told .given .1) (c .before .before .receive-every .ensures))
+    (λ c. received-nothing _ _ _ (c .enum-told2 .given .1)))

@@ -1,0 +1,48 @@
+-- What an event makes of the list: nothing, one word written, or a word is needed and none is free.
+use Prim.Native.Nat.{ℕ, _<_}
+use mathlib.Core.List.{List}
+use lib.Dec.{eqb}
+use lib.ListN.{length, getD, set}
+use Rattle.octets.specs.Pick.{pick}
+use Rattle.label_list.specs.Word.{codeOf, wordOf, isFree, standsFor}
+use Rattle.label_list.specs.Find.{findOf}
+use Rattle.label_list.specs.declared.Side.{Side}
+use Rattle.label_list.specs.declared.Found.{Found}
+use Rattle.label_list.specs.declared.Found.the-variants.{At, Nowhere}
+use Rattle.label_events.specs.declared.Change.{Change}
+use Rattle.label_events.specs.declared.Change.the-variants.{Keep, Put, NoRoom}
+
+-- the code of the word found; a label that is absent has code 0
+unfoldable pub codeIn : List ℕ → Found → ℕ
+codeIn words (At i) = codeOf (getD words i 0)
+codeIn words Nowhere = 0
+
+-- the label's code on that side
+abbrev pub codeAt : List ℕ → Side → ℕ → ℕ
+codeAt words side label = codeIn words (findOf (standsFor side label) words)
+
+-- 01: "the first free word is taken"
+abbrev pub takeFree : Found → ℕ → Change
+takeFree (At i) w = Put i w
+takeFree Nowhere w = NoRoom
+
+-- the label's word gets that code; of an absent label a free word is taken, unless its code stays 0
+unfoldable pub changeAt : Found → Found → ℕ → ℕ → Change
+changeAt (At i) free label code = Put i (wordOf label code)
+changeAt Nowhere free label code = pick (eqb code 0) Keep (takeFree free (wordOf label code))
+
+-- the label's code on that side becomes `code`
+abbrev pub changeOf : List ℕ → Side → ℕ → ℕ → Change
+changeOf words side label code = changeAt (findOf (standsFor side label) words) (findOf isFree words) label code
+
+-- the list afterwards
+unfoldable pub changed : List ℕ → Change → List ℕ
+changed words Keep = words
+changed words (Put i w) = set words i w
+changed words NoRoom = words
+
+-- it writes inside the list
+abbrev pub ChangeIn : List ℕ → Change → Type 0
+ChangeIn words Keep = Unit {0}
+ChangeIn words (Put i w) = i < length words
+ChangeIn words NoRoom = Unit {0}

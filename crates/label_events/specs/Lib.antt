@@ -1,0 +1,5 @@
+pub mod Change
+pub mod Accept
+pub mod Ack
+pub mod Receive
+pub mod Protect

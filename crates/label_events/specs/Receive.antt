@@ -1,0 +1,46 @@
+-- A message of the peer's is received: the answer and the list afterwards.
+use Prim.Native.Nat.{ℕ}
+use mathlib.Core.Bool.{Bool}
+use mathlib.Core.List.{List}
+use Rattle.octets.specs.Pick.{pick}
+use Rattle.label_list.specs.Word.{listable}
+use Rattle.label_list.specs.Rules.{receivedSide, codeReceived}
+use Rattle.label_list.specs.Sweep.{sweptOf}
+use Rattle.label_events.specs.Change.{codeAt, changeOf, changed}
+use Rattle.label_list.specs.declared.LabelMessage.{LabelMessage}
+use Rattle.label_list.specs.declared.LabelMessage.the-variants.{Mapping, Withdraw, Release}
+use Rattle.label_list.specs.declared.SweepRule.the-variants.{WithdrawAll, ReleaseAll}
+use Rattle.label_events.specs.declared.Touched.{Touched}
+use Rattle.label_events.specs.declared.Touched.the-variants.{Label, Every, Nothing}
+use Rattle.label_events.specs.declared.Change.{Change}
+use Rattle.label_events.specs.declared.Change.the-variants.{Keep, Put, NoRoom as Full}
+use Rattle.label_events.specs.declared.Reception.{Reception}
+use Rattle.label_events.specs.declared.Reception.the-variants.{Taken, NoRoom}
+
+-- 01's answer 21: "Mapping received that needs a word, none free"
+abbrev pub receptionNumber : Reception → ℕ
+receptionNumber Taken = 0
+receptionNumber NoRoom = 21
+
+-- 01: "Labels 0 to 15 are never listed, and passed on when received"; so is what is no label of 20 bits
+unfoldable pub receivedChange : List ℕ → LabelMessage → Bool → ℕ → Change
+receivedChange words message protected label =
+    pick (listable label) (changeOf words (receivedSide message) label (codeReceived message protected (codeAt words (receivedSide message) label))) Keep
+
+abbrev pub receptionOf : Change → Reception
+receptionOf Keep = Taken
+receptionOf (Put i w) = Taken
+receptionOf Full = NoRoom
+
+-- 01: "Withdraw or Release of the wildcard FEC .. acts on every label"; a Mapping names its label
+unfoldable pub everyReceived : LabelMessage → List ℕ → List ℕ
+everyReceived Mapping words = words
+everyReceived Withdraw words = sweptOf words WithdrawAll
+everyReceived Release words = sweptOf words ReleaseAll
+
+-- "of another FEC it is accepted and changes no label here"
+unfoldable pub receivedOf : List ℕ → LabelMessage → Bool → Touched → Reception × List ℕ
+receivedOf words message protected (Label label) =
+    (receptionOf (receivedChange words message protected label), changed words (receivedChange words message protected label))
+receivedOf words message protected Every = (Taken, everyReceived message words)
+receivedOf words message protected Nothing = (Taken, words)

@@ -1,0 +1,81 @@
+// Messages of ours: accepted for sending, and released by an ACK.
+ghost use mathlib.Core.Path.{_≡_};
+ghost use Rattle.label_events.specs.Accept.{planOf, acceptanceOf, acceptedOf};
+ghost use Rattle.label_events.specs.Ack.{ackedOf};
+use crate::Acceptance;
+use crate::Change;
+use crate::Plan;
+use crate::changing::code_at;
+use crate::changing::make_change;
+use crate::changing::plan_change;
+use label_list::Found;
+use label_list::LABEL_COUNT;
+use label_list::LabelMessage;
+use label_list::Next;
+use label_list::Wanted;
+use label_list::code_accepted;
+use label_list::code_acked;
+use label_list::find;
+use label_list::sent_side;
+use label_list::word_of;
+
+fn plan_accept(words: &[u32], message: LabelMessage, label: u32) -> Plan
+    ensures { λ r. ⌜ r ≡ planOf (now (words .entry)) message label ⌝ }
+{
+    if label < 16 {
+        return Plan::Refused;
+    }
+    if label >= LABEL_COUNT {
+        return Plan::Refused;
+    }
+    let place = find(words, Wanted::Label(sent_side(message), label));
+    match code_accepted(message, code_at(words, place)) {
+        Next::Code(code) => Plan::Allowed(plan_change(words, place, label, code)),
+        Next::NotAllowed => Plan::Refused,
+    }
+}
+
+fn acceptance(change: Change) -> Acceptance
+    ensures { λ r. ⌜ r ≡ acceptanceOf change ⌝ }
+{
+    match change {
+        Change::Keep => Acceptance::Taken,
+        Change::Put(_, _) => Acceptance::Taken,
+        Change::NoRoom => Acceptance::NoRoom,
+    }
+}
+
+// Whether the message may be sent, as the list stands.
+pub fn judge_accept(words: &[u32], message: LabelMessage, label: u32) -> Acceptance
+    ensures { λ r. ⌜ r ≡ acceptedOf (now (words .entry)) message label .0 ⌝ }
+{
+    match plan_accept(words, message, label) {
+        Plan::Allowed(change) => acceptance(change),
+        Plan::Refused => Acceptance::NotAllowed,
+    }
+}
+
+// Accepts the message for sending; a refusal leaves the list as it was.
+pub fn accept(words: &mut [u32], message: LabelMessage, label: u32) -> Acceptance
+    ensures { λ r. ⌜ (r ≡ acceptedOf (now (words .entry)) message label .0) × (now (words .exit) ≡ acceptedOf (now (words .entry)) message label .1) ⌝ }
+{
+    match plan_accept(words, message, label) {
+        Plan::Allowed(change) => {
+            make_change(words, change);
+            acceptance(change)
+        }
+        Plan::Refused => Acceptance::NotAllowed,
+    }
+}
+
+// An ACK releases a message of that kind and label.
+pub fn release_by_ack(words: &mut [u32], message: LabelMessage, label: u32)
+    ensures { λ _. ⌜ now (words .exit) ≡ ackedOf (now (words .entry)) message label ⌝ }
+{
+    match find(words, Wanted::Label(sent_side(message), label)) {
+        Found::At(i) => {
+            words[i] = word_of(label, code_acked(message, words[i] / LABEL_COUNT));
+        }
+        Found::Nowhere => {}
+    }
+}

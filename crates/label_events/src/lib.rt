@@ -1,0 +1,47 @@
+// What messages make of the label list: ours, accepted for sending and released by an ACK, and the peer's, received.
+//
+// Each is planned on the lent words first; a judgement reads the plan, and the act writes it.
+mod accepting;
+mod changing;
+mod protecting;
+mod receiving;
+
+pub use accepting::accept;
+pub use accepting::judge_accept;
+pub use accepting::release_by_ack;
+pub use protecting::judge_protection;
+pub use receiving::judge_received;
+pub use receiving::receive;
+
+// What an event makes of the list: nothing, one word written at an index, or a word is needed and none is free.
+pub enum Change {
+    Keep,
+    Put(usize, u32),
+    NoRoom,
+}
+
+// Whether a message of ours may be sent, and the change that it makes.
+pub enum Plan {
+    Allowed(Change),
+    Refused,
+}
+
+// The answer to a message of ours: 0, 6, 13.
+pub enum Acceptance {
+    Taken,
+    NotAllowed,
+    NoRoom,
+}
+
+// The answer to a message of the peer's: 0, 21.
+pub enum Reception {
+    Taken,
+    NoRoom,
+}
+
+// The labels that a received message touches: the one it names, every one under the wildcard FEC, none under another FEC.
+pub enum Touched {
+    Label(u32),
+    Every,
+    Nothing,
+}

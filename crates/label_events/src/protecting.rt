@@ -1,0 +1,44 @@
+// Whether a received message bears the protection that the labels it touches demand.
+ghost use mathlib.Core.Path.{_≡_};
+ghost use Rattle.label_events.specs.Protect.{protectionOf};
+ghost use Rattle.label_events.specs.declared.Touched.the-variants.{Every};
+use crate::Touched;
+use crate::changing::code_at;
+use label_list::Found;
+use label_list::LabelMessage;
+use label_list::Protection;
+use label_list::Wanted;
+use label_list::code_protection;
+use label_list::find;
+use label_list::received_side;
+
+fn protection_of_every(words: &[u32], message: LabelMessage, protected: bool) -> Protection
+    ensures { λ r. ⌜ r ≡ protectionOf (now (words .entry)) message protected Every ⌝ }
+{
+    if protected {
+        return Protection::Right;
+    }
+    match find(words, Wanted::ProtectedOn(received_side(message))) {
+        Found::At(_) => Protection::Missing,
+        Found::Nowhere => Protection::Right,
+    }
+}
+
+// The verdict on the protection of a received message, as the list stands before it acts.
+pub fn judge_protection(
+    words: &[u32],
+    message: LabelMessage,
+    protected: bool,
+    touched: Touched,
+) -> Protection
+    ensures { λ r. ⌜ r ≡ protectionOf (now (words .entry)) message protected touched ⌝ }
+{
+    match touched {
+        Touched::Label(label) => {
+            let place = find(words, Wanted::Label(received_side(message), label));
+            code_protection(message, protected, code_at(words, place))
+        }
+        Touched::Every => protection_of_every(words, message, protected),
+        Touched::Nothing => Protection::Right,
+    }
+}

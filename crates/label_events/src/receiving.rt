@@ -1,0 +1,90 @@
+// Messages of the peer's: what they make of the list.
+ghost use mathlib.Core.Path.{_≡_};
+ghost use Rattle.label_events.specs.Receive.{receivedChange, receptionOf, everyReceived, receivedOf};
+use crate::Change;
+use crate::Reception;
+use crate::Touched;
+use crate::changing::code_at;
+use crate::changing::make_change;
+use crate::changing::plan_change;
+use label_list::LABEL_COUNT;
+use label_list::LabelMessage;
+use label_list::SweepRule;
+use label_list::Wanted;
+use label_list::code_received;
+use label_list::find;
+use label_list::received_side;
+use label_list::sweep;
+
+fn plan_received(words: &[u32], message: LabelMessage, protected: bool, label: u32) -> Change
+    ensures { λ r. ⌜ r ≡ receivedChange (now (words .entry)) message protected label ⌝ }
+{
+    if label < 16 {
+        return Change::Keep;
+    }
+    if label >= LABEL_COUNT {
+        return Change::Keep;
+    }
+    let place = find(words, Wanted::Label(received_side(message), label));
+    let code = code_received(message, protected, code_at(words, place));
+    plan_change(words, place, label, code)
+}
+
+fn reception(change: Change) -> Reception
+    ensures { λ r. ⌜ r ≡ receptionOf change ⌝ }
+{
+    match change {
+        Change::Keep => Reception::Taken,
+        Change::Put(_, _) => Reception::Taken,
+        Change::NoRoom => Reception::NoRoom,
+    }
+}
+
+fn receive_every(words: &mut [u32], message: LabelMessage)
+    ensures { λ _. ⌜ now (words .exit) ≡ everyReceived message (now (words .entry)) ⌝ }
+{
+    match message {
+        LabelMessage::Mapping => {}
+        LabelMessage::Withdraw => sweep(words, SweepRule::WithdrawAll),
+        LabelMessage::Release => sweep(words, SweepRule::ReleaseAll),
+    }
+}
+
+// Whether the list has room for what the message makes of it.
+pub fn judge_received(
+    words: &[u32],
+    message: LabelMessage,
+    protected: bool,
+    touched: Touched,
+) -> Reception
+    ensures { λ r. ⌜ r ≡ receivedOf (now (words .entry)) message protected touched .0 ⌝ }
+{
+    match touched {
+        Touched::Label(label) => reception(plan_received(words, message, protected, label)),
+        Touched::Every => Reception::Taken,
+        Touched::Nothing => Reception::Taken,
+    }
+}
+
+// Receives the message; where there is no room the list stays as it was.
+pub fn receive(
+    words: &mut [u32],
+    message: LabelMessage,
+    protected: bool,
+    touched: Touched,
+) -> Reception
+    ensures { λ r. ⌜ (r ≡ receivedOf (now (words .entry)) message protected touched .0) × (now (words .exit) ≡ receivedOf (now (words .entry)) message protected touched .1) ⌝ }
+{
+    match touched {
+        Touched::Label(label) => {
+            let change = plan_received(words, message, protected, label);
+            make_change(words, change);
+            reception(change)
+        }
+        Touched::Every => {
+            receive_every(words, message);
+            Reception::Taken
+        }
+        Touched::Nothing => Reception::Taken,
+    }
+}

@@ -1,0 +1,8 @@
+pub mod Choice
+pub mod Standing
+pub mod Sought
+pub mod Reached
+pub mod Marks
+pub mod Checked
+pub mod Map
+pub mod Small

@@ -1,0 +1,50 @@
+-- Laws of one label word: ranges of codes, sides, and the label that a word stands for. Assumes nothing.
+use mathlib.Core.Path.{_≡_, refl}
+use mathlib.Core.Bool.{true, false}
+use Prim.Native.Nat.{ℕ, _≤_, _<_}
+use native.Mathlib.Omega.{arith}
+use lib.Dec.{eqb, leb}
+use borrow.Author.Tests.{le-leb, lt-leb, leb-true, eq-eqb, eqb-true}
+use Rattle.label_list.specs.Word.{labelOf, codeOf, within, onSide, standsFor}
+use Rattle.label_list.specs.declared.Side.{Side}
+use Rattle.label_list.specs.declared.Side.the-variants.{Given, Used}
+use Rattle.label_list.proofs.Choice.{both-true}
+
+module _ (low high n : ℕ) where
+  pub within-in : low ≤ n → n ≤ high → true ≡ within low high n
+  within-in l h = simp (le-leb low n l, le-leb n high h)
+
+  pub within-below : n < low → false ≡ within low high n
+  within-below l = rw (lt-leb low n l)
+
+  pub within-above : low ≤ n → high < n → false ≡ within low high n
+  within-above l h = simp (le-leb low n l, lt-leb n high h)
+
+  pub within-range : within low high n ≡ true → (low ≤ n) × (n ≤ high)
+  within-range e =
+      let parts : (leb low n ≡ true) × (leb n high ≡ true) = both-true (leb low n) (leb n high) e in
+      (leb-true low n (parts .0), leb-true n high (parts .1))
+
+-- A code stands on one side at most, and code 0 on none.
+pub one-side : (s t : Side) (c : ℕ) → onSide s c ≡ true → onSide t c ≡ true → s ≡ t
+unfolding onSide
+one-side Given Given c p q = refl
+one-side Used Used c p q = refl
+one-side Given Used c p q = absurd (omega (arith, within-range 1 2 c p, within-range 3 6 c q))
+one-side Used Given c p q = absurd (omega (arith, within-range 3 6 c p, within-range 1 2 c q))
+
+-- A word stands for a label on a side exactly if its code is of that side and the label is its own.
+pub stands-parts : (s : Side) (l w : ℕ) → standsFor s l w ≡ true → (onSide s (codeOf w) ≡ true) × (labelOf w ≡ l)
+unfolding standsFor
+stands-parts s l w e =
+    let parts : (onSide s (codeOf w) ≡ true) × (eqb (labelOf w) l ≡ true) = both-true (onSide s (codeOf w)) (eqb (labelOf w) l) e in
+    (parts .0, eqb-true (labelOf w) l (parts .1))
+
+pub parts-stands : (s : Side) (l w : ℕ) → onSide s (codeOf w) ≡ true → labelOf w ≡ l → standsFor s l w ≡ true
+unfolding standsFor
+parts-stands s l w p q = simp (p, eq-eqb (labelOf w) l q)
+
+pub free-stands : (s : Side) (l : ℕ) → standsFor s l 0 ≡ false
+unfolding standsFor onSide
+free-stands Given l = refl
+free-stands Used l = refl

@@ -1,0 +1,28 @@
+use borrow.Author.Needs.{needs}
+use native.Mathlib.Omega.{arith}
+use borrow.Author.Tests.{ne-eqb}
+use Rattle.label_list.specs.Rules.{codeReceived}
+use Rattle.label_list.proofs.Standing.{within-in, within-below, within-above}
+use mathlib.Core.Path.{sym}
+use Rattle.label_list.proofs.rules.code_received.Statement.{statement}
+use Rattle.label_list.proofs.rules.code_received.Tie as tie
+
+pub code-received-spec : {M : Type 1} → statement M
+unfolding codeReceived
+code-received-spec =
+    tie.close
+    (tie.spec
+    (λ c. search needs)
+    (λ c. search needs)
+    (λ c. search needs)
+    (λ c. rw (c .before .before .enum-told .given .1, c .before .if1 .taken, c .match2 .keys1))
+    (λ c. rw (c .before .before .enum-told .given .1, c .before .if1 .taken, c .match2 .keys2))
+    (λ c. simp (c .before .before .enum-told .given .1, c .before .if1 .taken, ne-eqb _ _ (c .match2 .rest .0 .1), ne-eqb _ _ (c .match2 .rest .1)))
+    (λ c. rw (c .before .before .enum-told .given .1, c .before .if1 .left, c .match3 .keys1))
+    (λ c. simp (c .before .before .enum-told .given .1, c .before .if1 .left, ne-eqb _ _ (c .match3 .rest .1)))
+    (λ c. rw (c .before .enum-told2 .given .1, c .match4 .keys1))
+    (λ c. rw (c .before .enum-told2 .given .1, c .match4 .keys2))
+    (λ c. simp (c .before .enum-told2 .given .1, ne-eqb _ _ (c .match4 .rest .0 .1), ne-eqb _ _ (c .match4 .rest .1)))
+    (λ c. simp (c .before .before .enum-told3 .given .1, sym (within-in 1 2 (c .before .before .before .before .args .code) (omega arith) (omega arith))))
+    (λ c. simp (c .before .enum-told3 .given .1, sym (within-below 1 2 (c .before .before .before .args .code) (omega arith))))
+    (λ c. simp (c .before .before .enum-told3 .given .1, sym (within-above 1 2 (c .before .before .before .before .args .code) (omega arith) (omega arith)))))

@@ -1,0 +1,18 @@
+use borrow.Author.Needs.{needs}
+use native.Mathlib.Omega.{arith}
+use Rattle.label_list.proofs.Marks.{unmarked-absent, marked-again, marked-now}
+use Rattle.label_list.proofs.validity.mark_label.Statement.{statement}
+use Rattle.label_list.proofs.validity.mark_label.Tie as tie
+
+pub mark-label-spec : {M : Type 1} → statement M
+mark-label-spec =
+    tie.close
+    (tie.spec
+    (λ c κs. tt)
+    (λ c. omega arith)
+    (λ c. omega arith)
+    (λ c. search needs)
+    (λ c. let place = c .before .before .place-of .ensures in
+    (unmarked-absent (c .before .before .before .before .before .pre) _ _ (place .0) (c .if1 .taken), marked-now (c .before .before .before .before .before .pre) _ _ (place .0) (place .1)))
+    (λ c κs. tt)
+    (λ c. (c .is-absent .ensures, marked-again (c .before .before .before .before .before .before .pre) _ _ (c .before .before .before .place-of .ensures .0) (c .before .if1 .left))))

@@ -1,0 +1,41 @@
+-- Searches of the words: the first that passes a test, whether any does, and how many are listed.
+use Prim.Native.Nat.{ℕ, suc, _<_}
+use mathlib.Core.Bool.{Bool, true, false}
+use mathlib.Core.List.{List, [], _∷_}
+use lib.ListN.{length}
+use Rattle.octets.specs.Pick.{pick}
+use Rattle.label_list.specs.Word.{isFree, standsFor}
+use Rattle.label_list.specs.Protection.{protectedOn}
+use Rattle.label_list.specs.declared.Found.{Found}
+use Rattle.label_list.specs.declared.Found.the-variants.{At, Nowhere}
+use Rattle.label_list.specs.declared.Wanted.{Wanted}
+use Rattle.label_list.specs.declared.Wanted.the-variants.{Label, Free, ProtectedOn}
+
+-- the test of what is looked for
+abbrev pub passes : Wanted → ℕ → Bool
+passes (Label side label) = standsFor side label
+passes Free = isFree
+passes (ProtectedOn side) = protectedOn side
+
+-- the index, counted from k, of the first word that passes
+abbrev pub findFrom : (ℕ → Bool) → ℕ → List ℕ → Found
+findFrom test k [] = Nowhere
+findFrom test k (w ∷ ws) = pick (test w) (At k) (findFrom test (suc k) ws)
+
+unfoldable pub findOf : (ℕ → Bool) → List ℕ → Found
+findOf test words = findFrom test 0 words
+
+-- whether any word passes
+unfoldable pub any : (ℕ → Bool) → List ℕ → Bool
+any test [] = false
+any test (w ∷ ws) = pick (test w) true (any test ws)
+
+-- the printer's count: "words not zero .., code 6 included"
+unfoldable pub countOf : List ℕ → ℕ
+countOf [] = 0
+countOf (w ∷ ws) = pick (isFree w) (countOf ws) (suc (countOf ws))
+
+-- what was found is inside the list
+abbrev pub FoundIn : List ℕ → Found → Type 0
+FoundIn words (At i) = i < length words
+FoundIn words Nowhere = Unit {0}

@@ -1,0 +1,19 @@
+-- The table of marks by which validity is judged in one pass: a side and a label whose place bears no mark stand in no word passed so far.
+use Prim.Native.Nat.{ℕ, _+_, _%_}
+use mathlib.Core.Path.{_≡_}
+use mathlib.Core.Bool.{false}
+use mathlib.Core.List.{List}
+use lib.ListN.{length, getD}
+use Rattle.label_list.specs.Word.{standsFor}
+use Rattle.label_list.specs.Find.{any}
+use Rattle.label_list.specs.declared.Side.{Side}
+use Rattle.label_list.specs.declared.Side.the-variants.{Given, Used}
+
+-- 256 places for each side
+unfoldable pub placeOf : Side → ℕ → ℕ
+placeOf Given label = label % 256
+placeOf Used label = 256 + label % 256
+
+pub record Marked (words marks : List ℕ) : Type 0 where
+  pub size : length marks ≡ 512
+  pub unmarked : (side : Side) (label : ℕ) → getD marks (placeOf side label) 0 ≡ 0 → any (standsFor side label) words ≡ false

@@ -1,0 +1,26 @@
+-- Which label words are right: restore's rule for block 0.
+use Prim.Native.Nat.{ℕ}
+use mathlib.Core.Bool.{Bool, true, not}
+use mathlib.Core.List.{List, [], _∷_}
+use lib.Dec.{leb}
+use Rattle.octets.specs.Pick.{pick, both}
+use Rattle.label_list.specs.Word.{labelOf, codeOf, isFree, onSide, standsFor}
+use Rattle.label_list.specs.Find.{any}
+use Rattle.label_list.specs.declared.Side.{Side}
+use Rattle.label_list.specs.declared.Side.the-variants.{Given, Used}
+
+-- the label stands in none of these words on that side
+abbrev pub absent : Side → ℕ → List ℕ → Bool
+absent side label words = not (any (standsFor side label) words)
+
+-- "A label stands once among codes 1-2 and once among 3-6": a listed label has a code of one side and stands in no later word of that side
+abbrev pub standsOnce : ℕ → ℕ → List ℕ → Bool
+standsOnce label code later = pick (onSide Given code) (absent Given label later) (both (onSide Used code) (absent Used label later))
+
+-- "0 is free"; "Labels 0 to 15 are never listed"
+unfoldable pub validWord : ℕ → List ℕ → Bool
+validWord w later = pick (isFree w) true (both (leb 16 (labelOf w)) (standsOnce (labelOf w) (codeOf w) later))
+
+unfoldable pub validOf : List ℕ → Bool
+validOf [] = true
+validOf (w ∷ ws) = both (validWord w ws) (validOf ws)

@@ -1,0 +1,45 @@
+-- A label word, and the side on which its code stands. 01: "120 numbers of 32 bits: label + 1,048,576 x code; 0 is free, and no other word has code 0".
+use Prim.Native.Nat.{ℕ, _+_, _*_, _/_, _%_}
+use mathlib.Core.Bool.{Bool}
+use lib.Dec.{eqb, leb}
+use Rattle.octets.specs.Pick.{pick, both}
+use Rattle.label_list.specs.declared.Side.{Side}
+use Rattle.label_list.specs.declared.Side.the-variants.{Given, Used}
+
+-- 01: "120 label words"
+abbrev pub wordCount : ℕ
+wordCount = 120
+
+-- the number of labels, and the value of one step of the code: labels have 20 bits
+abbrev pub labelCount : ℕ
+labelCount = 1048576
+
+abbrev pub labelOf : ℕ → ℕ
+labelOf w = w % labelCount
+
+abbrev pub codeOf : ℕ → ℕ
+codeOf w = w / labelCount
+
+-- "no other word has code 0": a label whose code becomes 0 leaves a free word
+unfoldable pub wordOf : ℕ → ℕ → ℕ
+wordOf label code = pick (eqb code 0) 0 (label + labelCount * code)
+
+unfoldable pub isFree : ℕ → Bool
+isFree w = eqb w 0
+
+-- from low to high, both included
+abbrev pub within : ℕ → ℕ → ℕ → Bool
+within low high n = both (leb low n) (leb n high)
+
+-- "A label stands once among codes 1-2 and once among 3-6": the labels that we gave, and those that we use
+unfoldable pub onSide : Side → ℕ → Bool
+onSide Given code = within 1 2 code
+onSide Used code = within 3 6 code
+
+-- the word lists that label on that side
+unfoldable pub standsFor : Side → ℕ → ℕ → Bool
+standsFor side label w = both (onSide side (codeOf w)) (eqb (labelOf w) label)
+
+-- "Labels 0 to 15 are never listed"; a label has 20 bits
+abbrev pub listable : ℕ → Bool
+listable label = within 16 1048575 label

@@ -1,0 +1,67 @@
+// The label list: label words, what each event makes of a label's code, validity, and the rules that act on every word.
+//
+// A word is label + 1,048,576 x code, and 0 is a free word. Codes: 1 given, 2 withdrawing, 3 using, 4 asked back, 5 releasing, 6 using without protection.
+mod rules;
+mod search;
+mod sweeping;
+mod validity;
+mod word;
+
+pub use rules::code_accepted;
+pub use rules::code_acked;
+pub use rules::code_protection;
+pub use rules::code_received;
+pub use rules::received_side;
+pub use rules::sent_side;
+pub use search::count_listed;
+pub use search::find;
+pub use sweeping::sweep;
+pub use validity::valid;
+pub use word::LABEL_COUNT;
+pub use word::word_of;
+
+// The two sides on which a label can stand: given to the peer, codes 1 and 2; used by us, codes 3 to 6.
+pub enum Side {
+    Given,
+    Used,
+}
+
+// Where a search of the words ended.
+pub enum Found {
+    At(usize),
+    Nowhere,
+}
+
+// The messages that change the list.
+pub enum LabelMessage {
+    Mapping,
+    Withdraw,
+    Release,
+}
+
+// A rule for every word: a Withdraw or a Release of the wildcard FEC, or the end of a connection.
+pub enum SweepRule {
+    WithdrawAll,
+    ReleaseAll,
+    AfterBreak,
+}
+
+// What a rule makes of a code where it may not allow the message.
+pub enum Next {
+    Code(u32),
+    NotAllowed,
+}
+
+// What is looked for in the words: a label on a side, a free word, or a word on a side that no message may touch without protection.
+pub enum Wanted {
+    Label(Side, u32),
+    Free,
+    ProtectedOn(Side),
+}
+
+// The verdict on a message's protection: 0, 33, 32.
+pub enum Protection {
+    Right,
+    Missing,
+    Wrong,
+}

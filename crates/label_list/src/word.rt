@@ -1,0 +1,45 @@
+// One label word: its label, its code, and the side on which it stands.
+ghost use mathlib.Core.Path.{_≡_};
+ghost use Prim.Native.Nat.{_<_};
+ghost use Rattle.label_list.specs.Word.{wordOf, onSide, standsFor};
+use crate::Side;
+
+// The number of labels, and the value of one step of the code.
+pub const LABEL_COUNT: u32 = 1048576;
+
+// 01: "A label stands once among codes 1-2 and once among 3-6."
+pub fn on_side(side: Side, code: u32) -> bool
+    ensures { λ r. ⌜ r ≡ onSide side code ⌝ }
+{
+    match side {
+        Side::Given => match code {
+            1..=2 => true,
+            _ => false,
+        },
+        Side::Used => match code {
+            3..=6 => true,
+            _ => false,
+        },
+    }
+}
+
+// Whether the word lists that label on that side.
+pub fn stands_for(side: Side, label: u32, word: u32) -> bool
+    ensures { λ r. ⌜ r ≡ standsFor side label word ⌝ }
+{
+    if on_side(side, word / LABEL_COUNT) {
+        return word % LABEL_COUNT == label;
+    }
+    false
+}
+
+// The word of a label under a code; under code 0 a free word.
+pub fn word_of(label: u32, code: u32) -> u32
+    requires { ⌜ (label < 1048576) × (code < 4096) ⌝ }
+    ensures { λ r. ⌜ r ≡ wordOf label code ⌝ }
+{
+    if code == 0 {
+        return 0;
+    }
+    label + LABEL_COUNT * code
+}

@@ -1,0 +1,171 @@
+-- A change that writes one label's word keeps the list valid, gives that label its code and leaves every other. Assumes nothing.
+use mathlib.Core.Path.{_≡_, refl, sym, _∙_}
+use mathlib.Core.Bool.{true, false, true≢false}
+use mathlib.Core.List.{List}
+use mathlib.Core.Logic.{_≢_, _⊎_, inl, inr, ⊎-elim}
+use Prim.Native.Nat.{ℕ, _+_, _*_, _≤_, _<_}
+use native.Mathlib.Omega.{arith}
+use lib.ListN.{length, getD, set}
+use lib.Seq.{getD-set-same, getD-set-other}
+use lib.Dec.{eqb}
+use borrow.Author.Tests.{eqb-true, eqb-false, eq-eqb, ne-eqb}
+use Rattle.label_list.specs.Word.{labelCount, labelOf, codeOf, wordOf, isFree, onSide, standsFor}
+use Rattle.label_list.specs.Find.{findOf}
+use Rattle.label_list.specs.declared.Side.{Side}
+use Rattle.label_list.specs.declared.Found.{Found}
+use Rattle.label_list.specs.declared.Found.the-variants.{At, Nowhere}
+use Rattle.label_list.proofs.Choice.{by-test}
+use Rattle.label_list.proofs.Standing.{parts-stands, free-stands}
+use Rattle.label_list.proofs.Reached.{found-in, found-place, found-passes}
+use Rattle.label_events.specs.Change.{takeFree, changeAt, changeOf, changed}
+use Rattle.label_events.specs.declared.Change.the-variants.{NoRoom}
+use Rattle.label_meaning.specs.Valid.{InRange, IsValid}
+use Rattle.label_meaning.specs.View.{CodeIs, listed, absent, Effect}
+use Rattle.label_meaning.proofs.Meaning.{stands-same, side-range}
+use Rattle.label_meaning.proofs.View.{found-none}
+use Rattle.label_meaning.proofs.Proper.{Proper}
+
+-- A word that may be written for a label under a code: free for code 0, else one that lists it under that code.
+pub record Lists (s : Side) (l c w : ℕ) : Type 0 where
+  pub stands : standsFor s l w ≡ true
+  pub code : codeOf w ≡ c
+  pub range : InRange w
+
+abbrev pub Written : Side → ℕ → ℕ → ℕ → Type 0
+Written s l c w = ((w ≡ 0) × (c ≡ 0)) ⊎ Lists s l c w
+
+pub word-written : (s : Side) (l c : ℕ) → 16 ≤ l → l < labelCount → Proper s c → Written s l c (wordOf l c)
+unfolding wordOf
+word-written s l c low high =
+    ⊎-elim
+    (λ (z : c ≡ 0). inl (rw (eq-eqb c 0 z), z))
+    (λ (on : onSide s c ≡ true).
+    let range : (1 ≤ c) × (c ≤ 6) = side-range s c on in
+    let listed : c ≢ 0 = omega arith in
+    let label : labelOf (l + labelCount * c) ≡ l = omega arith in
+    let code : codeOf (l + labelCount * c) ≡ c = omega arith in
+    inr (rw (ne-eqb c 0 listed)
+    (record {
+      stands = parts-stands s l (l + labelCount * c) (rw code on) label;
+      code = code;
+      range = record { label = omega arith; low = omega arith; high = omega arith };
+    })))
+
+-- One word is written, at an index where a free word or one for that label stood.
+module _ (words : List ℕ) (v : IsValid words) (s : Side) (l c i w : ℕ) (inside : i < length words)
+    (was : (getD words i 0 ≡ 0) ⊎ (standsFor s l (getD words i 0) ≡ true))
+    (alone : (j : ℕ) → standsFor s l (getD words j 0) ≡ true → j ≡ i)
+    (written : Written s l c w) where
+  -- by index
+  at : (P : ℕ → Type 0) (j : ℕ) → (j ≡ i → P w) → (j ≢ i → P (getD words j 0)) → P (getD (set words i w) j 0)
+  at P j here there =
+      by-test
+      (eqb j i)
+      (λ e. let same : j ≡ i = eqb-true j i e in rw (same, getD-set-same words i w 0 inside) (here same))
+      (λ e. let apart : j ≢ i = eqb-false j i e in rw (getD-set-other words i j w 0 apart) (there apart))
+
+  -- the word written stands for nothing else
+  only : (t : Side) (k : ℕ) → standsFor t k w ≡ true → (t ≡ s) × (k ≡ l)
+  only t k p =
+      ⊎-elim
+      (λ (z : (w ≡ 0) × (c ≡ 0)). absurd (true≢false (sym p ∙ rw (z .0) (free-stands t k))))
+      (λ (new : Lists s l c w). stands-same t s k l w p (new .stands))
+      written
+
+  -- nor did the word that it replaced
+  was-only : (t : Side) (k : ℕ) → standsFor t k (getD words i 0) ≡ true → (t ≡ s) × (k ≡ l)
+  was-only t k p =
+      ⊎-elim
+      (λ (z : getD words i 0 ≡ 0). absurd (true≢false (sym p ∙ rw z (free-stands t k))))
+      (λ (q : standsFor s l (getD words i 0) ≡ true). stands-same t s k l (getD words i 0) p q)
+      was
+
+  after-each : (j : ℕ) → getD (set words i w) j 0 ≢ 0 → InRange (getD (set words i w) j 0)
+  after-each j =
+      at
+      (λ (x : ℕ). x ≢ 0 → InRange x)
+      j
+      (λ e h. ⊎-elim (λ (z : (w ≡ 0) × (c ≡ 0)). absurd (h (z .0))) (λ (new : Lists s l c w). new .range) written)
+      (λ e h. v .each j h)
+
+  after-once : (t : Side) (k j m : ℕ) → standsFor t k (getD (set words i w) j 0) ≡ true → standsFor t k (getD (set words i w) m 0) ≡ true → j ≡ m
+  after-once t k j m =
+      at
+      (λ (x : ℕ). standsFor t k x ≡ true → standsFor t k (getD (set words i w) m 0) ≡ true → j ≡ m)
+      j
+      (λ e p. at
+      (λ (x : ℕ). standsFor t k x ≡ true → j ≡ m)
+      m
+      (λ f q. e ∙ sym f)
+      (λ f q. let same : (t ≡ s) × (k ≡ l) = only t k p in absurd (f (alone m (rw (same .0, same .1) at q)))))
+      (λ e p. at
+      (λ (x : ℕ). standsFor t k x ≡ true → j ≡ m)
+      m
+      (λ f q. let same : (t ≡ s) × (k ≡ l) = only t k q in absurd (e (alone j (rw (same .0, same .1) at p))))
+      (λ f q. v .once t k j m p q))
+
+  here : getD (set words i w) i 0 ≡ w
+  here = getD-set-same words i w 0 inside
+
+  after-there : CodeIs (set words i w) s l c
+  after-there =
+      ⊎-elim
+      (λ (z : (w ≡ 0) × (c ≡ 0)).
+      rw (z .1)
+      (absent (λ j. at
+      (λ (x : ℕ). standsFor s l x ≡ false)
+      j
+      (λ e. rw (z .0) (free-stands s l))
+      (λ e. by-test (standsFor s l (getD words j 0)) (λ p. absurd (e (alone j p))) (λ p. p)))))
+      (λ (new : Lists s l c w).
+      let found : CodeIs (set words i w) s l (codeOf (getD (set words i w) i 0)) = listed i (rw here (new .stands)) in
+      rw (here, new .code) at found)
+      written
+
+  after-elsewhere : (t : Side) (k d : ℕ) → ((t ≡ s) × (k ≡ l) → ⊥) → CodeIs words t k d → CodeIs (set words i w) t k d
+  after-elsewhere t k d other (listed j p) =
+      let apart : j ≢ i = λ e. other (was-only t k (rw e at p)) in
+      let same : getD (set words i w) j 0 ≡ getD words j 0 = getD-set-other words i j w 0 apart in
+      rw (← same) (listed j (rw same p))
+  after-elsewhere t k d other (absent p) =
+      absent (λ j. at
+      (λ (x : ℕ). standsFor t k x ≡ false)
+      j
+      (λ e. by-test (standsFor t k w) (λ q. absurd (other (only t k q))) (λ q. q))
+      (λ e. p j))
+
+  write-effect : Effect words (set words i w) s l c
+  write-effect = record { valid = record { each = after-each; once = after-once }; there = after-there; elsewhere = after-elsewhere }
+
+-- Nothing is written: the label was absent and stays so.
+pub keep-effect : (words : List ℕ) → IsValid words → (s : Side) (l c : ℕ) → ((j : ℕ) → standsFor s l (getD words j 0) ≡ false) → c ≡ 0 → Effect words words s l c
+keep-effect words v s l c none z = record { valid = v; there = rw z (absent none); elsewhere = λ t k d other code. code }
+
+free-word : (words : List ℕ) {g : Found} (j : ℕ) → g ≡ findOf isFree words → g ≡ At j → getD words j 0 ≡ 0
+unfolding isFree
+free-word words j e h = eqb-true (getD words j 0) 0 (found-passes isFree words j e h)
+
+module _ (words : List ℕ) (v : IsValid words) (s : Side) (l c : ℕ) (low : 16 ≤ l) (high : l < labelCount) (proper : Proper s c) where
+  -- an absent label takes the free word
+  effect-free : (g : Found) → findOf (standsFor s l) words ≡ Nowhere → g ≡ findOf isFree words → takeFree g (wordOf l c) ≢ NoRoom → Effect words (changed words (takeFree g (wordOf l c))) s l c
+  unfolding changed
+  effect-free (At j) e h room =
+      write-effect words v s l c j (wordOf l c) (found-place words (At j) j (found-in isFree words h) refl) (inl (free-word words j h refl))
+      (λ k p. absurd (true≢false (sym p ∙ found-none words s l e k))) (word-written s l c low high proper)
+  effect-free Nowhere e h room = absurd (room refl)
+
+  pub effect-found : (f g : Found) → f ≡ findOf (standsFor s l) words → g ≡ findOf isFree words → changeAt f g l c ≢ NoRoom → Effect words (changed words (changeAt f g l c)) s l c
+  unfolding changeAt changed
+  effect-found (At i) g e h = λ room.
+      let here : standsFor s l (getD words i 0) ≡ true = found-passes (standsFor s l) words i e refl in
+      write-effect words v s l c i (wordOf l c) (found-place words (At i) i (found-in (standsFor s l) words e) refl) (inr here) (λ j p. v .once s l j i p here) (word-written s l c low high proper)
+  effect-found Nowhere g e h =
+      ⊎-elim
+      (λ (z : c ≡ 0). rw (eq-eqb c 0 z) (λ room. keep-effect words v s l c (found-none words s l (sym e)) z))
+      (λ (on : onSide s c ≡ true).
+      let listed : c ≢ 0 = omega (arith, side-range s c on) in
+      rw (ne-eqb c 0 listed) (effect-free g (sym e) h))
+      proper
+
+  pub change-effect : changeOf words s l c ≢ NoRoom → Effect words (changed words (changeOf words s l c)) s l c
+  change-effect = effect-found (findOf (standsFor s l) words) (findOf isFree words) refl refl

@@ -1,0 +1,10 @@
+pub mod Meaning
+pub mod View
+pub mod Proper
+pub mod Effect
+pub mod Swept
+pub mod Kept
+pub mod Step
+pub mod Moved
+pub mod Life
+pub mod Protected

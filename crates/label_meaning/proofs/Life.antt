@@ -1,0 +1,143 @@
+-- The life of a label in a valid list. Assumes nothing.
+use mathlib.Core.Path.{_≡_, refl, _∙_}
+use mathlib.Core.Bool.{Bool, true}
+use mathlib.Core.List.{List}
+use mathlib.Core.Logic.{_≢_, _⊎_, inl, inr, ⊎-elim}
+use Prim.Native.Nat.{ℕ, _≤_}
+use native.Mathlib.Omega.{arith}
+use Rattle.label_list.specs.Rules.{sentSide, receivedSide, codeAccepted, codeAcked, codeReceived, codeSwept}
+use Rattle.label_list.specs.Sweep.{sweptOf}
+use Rattle.label_list.specs.declared.Side.{Side}
+use Rattle.label_list.specs.declared.Side.the-variants.{Given, Used}
+use Rattle.label_list.specs.declared.LabelMessage.{LabelMessage}
+use Rattle.label_list.specs.declared.LabelMessage.the-variants.{Mapping, Withdraw, Release}
+use Rattle.label_list.specs.declared.Next.the-variants.{Code}
+use Rattle.label_list.specs.declared.SweepRule.{SweepRule}
+use Rattle.label_list.specs.declared.SweepRule.the-variants.{WithdrawAll, ReleaseAll, AfterBreak}
+use Rattle.label_events.specs.Change.{codeAt}
+use Rattle.label_events.specs.Receive.{everyReceived, receivedOf}
+use Rattle.label_events.specs.declared.Touched.{Touched}
+use Rattle.label_events.specs.declared.Touched.the-variants.{Label}
+use Rattle.label_meaning.specs.Valid.{IsValid}
+use Rattle.label_meaning.specs.View.{Effect}
+use Rattle.label_meaning.specs.Event.{Event, Accepted, Acked, Received, step, Touches, named, every, Moves, given, withdrawn, released, returned, withdraw-acked, release-acked, taken, taken-again, taken-bare, asked-back, bare-withdrawn, given-back, withdrawn-back, bare-lost}
+use Rattle.label_meaning.specs.Life.{EndsWithdrawal, by-ack, by-release, Frees, release-of-given, release-of-withdrawing, ack-of-withdraw, our-release, ack-of-release}
+use Rattle.label_meaning.proofs.View.{code-is, is-code}
+use Rattle.label_meaning.proofs.Swept.{sweep-valid, sweep-code}
+use Rattle.label_meaning.proofs.Step.{accepted-listed, received-listed, acked-effect}
+use Rattle.label_meaning.proofs.Moved.{every-move}
+
+-- The moves from one code, taken apart.
+ends : {e : Event} {k c d : ℕ} → c ≡ 2 → Moves e Given k c d → (d ≡ 0) × EndsWithdrawal e k
+ends z given = absurd (omega arith)
+ends z withdrawn = absurd (omega arith)
+ends z withdraw-acked = (refl, by-ack)
+ends z (given-back touches) = absurd (omega arith)
+ends z (withdrawn-back touches) = (refl, by-release touches)
+
+gives-back : {e : Event} {k c d : ℕ} → c ≡ 4 → Moves e Used k c d → (d ≡ 0) × (e ≡ Accepted Release k)
+gives-back z returned = (refl, refl)
+gives-back z released = absurd (omega arith)
+gives-back z release-acked = absurd (omega arith)
+gives-back z taken = absurd (omega arith)
+gives-back z taken-again = absurd (omega arith)
+gives-back z taken-bare = absurd (omega arith)
+gives-back z (asked-back touches) = absurd (omega arith)
+gives-back z (bare-withdrawn touches) = absurd (omega arith)
+gives-back z bare-lost = absurd (omega arith)
+
+frees : {e : Event} {s : Side} {k c d : ℕ} → d ≡ 0 → 1 ≤ c → c ≤ 5 → Moves e s k c d → Frees e s k c
+frees z l h given = absurd (omega arith)
+frees z l h withdrawn = absurd (omega arith)
+frees z l h released = absurd (omega arith)
+frees z l h returned = our-release
+frees z l h withdraw-acked = ack-of-withdraw
+frees z l h release-acked = ack-of-release
+frees z l h taken = absurd (omega arith)
+frees z l h taken-again = absurd (omega arith)
+frees z l h taken-bare = absurd (omega arith)
+frees z l h (asked-back touches) = absurd (omega arith)
+frees z l h (bare-withdrawn touches) = absurd (omega arith)
+frees z l h (given-back touches) = release-of-given touches
+frees z l h (withdrawn-back touches) = release-of-withdrawing touches
+frees z l h bare-lost = absurd (omega arith)
+
+module _ (words : List ℕ) (v : IsValid words) where
+  -- A withdrawn label stays withdrawing until the first of Release and ACK, which frees it.
+  pub withdrawing-stays : (e : Event) (k : ℕ) → codeAt words Given k ≡ 2
+      → (codeAt (step words e) Given k ≡ 2) ⊎ ((codeAt (step words e) Given k ≡ 0) × EndsWithdrawal e k)
+  withdrawing-stays e k two =
+      ⊎-elim
+      (λ (same : codeAt (step words e) Given k ≡ codeAt words Given k). inl (same ∙ two))
+      (λ (move : Moves e Given k (codeAt words Given k) (codeAt (step words e) Given k)). inr (ends two move))
+      (every-move words v e Given k)
+
+  -- A label that the peer asked back stays in use until our Release of it is accepted.
+  pub asked-back-stays : (e : Event) (k : ℕ) → codeAt words Used k ≡ 4
+      → (codeAt (step words e) Used k ≡ 4) ⊎ ((codeAt (step words e) Used k ≡ 0) × (e ≡ Accepted Release k))
+  asked-back-stays e k four =
+      ⊎-elim
+      (λ (same : codeAt (step words e) Used k ≡ codeAt words Used k). inl (same ∙ four))
+      (λ (move : Moves e Used k (codeAt words Used k) (codeAt (step words e) Used k)). inr (gives-back four move))
+      (every-move words v e Used k)
+
+  -- A label of codes 1 to 5 vanishes only by the message that 01 names.
+  pub freed-by : (e : Event) (s : Side) (k : ℕ) → 1 ≤ codeAt words s k → codeAt words s k ≤ 5 → codeAt (step words e) s k ≡ 0 → Frees e s k (codeAt words s k)
+  freed-by e s k low high gone =
+      ⊎-elim
+      (λ (same : codeAt (step words e) s k ≡ codeAt words s k). absurd (omega arith))
+      (λ (move : Moves e s k (codeAt words s k) (codeAt (step words e) s k)). frees gone low high move)
+      (every-move words v e s k)
+
+  -- What 01 says of a listed label happens.
+  sweep-happens : (r : SweepRule) (s : Side) (k c d : ℕ) → codeAt words s k ≡ c → codeSwept r c ≡ d → codeAt (sweptOf words r) s k ≡ d
+  sweep-happens r s k c d e f =
+      is-code (sweptOf words r) s k (sweep-valid words v r) (rw (e, f) at (sweep-code words v r s k (codeAt words s k) (code-is words s k)))
+
+  effect-code : {after : List ℕ} {s : Side} {k : ℕ} (n d : ℕ) → Effect words after s k n → n ≡ d → codeAt after s k ≡ d
+  effect-code {after} {s} {k} n d x e = is-code after s k (x .valid) (x .there) ∙ e
+
+  accept-happens : (m : LabelMessage) (k c d : ℕ) → codeAt words (sentSide m) k ≡ c → c ≢ 0 → codeAccepted m c ≡ Code d → codeAt (step words (Accepted m k)) (sentSide m) k ≡ d
+  unfolding step
+  accept-happens m k c d e h f = effect-code d d (accepted-listed words v m k d (rw e h) (rw e f)) refl
+
+  ack-happens : (m : LabelMessage) (k c d : ℕ) → codeAt words (sentSide m) k ≡ c → codeAcked m c ≡ d → codeAt (step words (Acked m k)) (sentSide m) k ≡ d
+  unfolding step
+  ack-happens m k c d e f = effect-code (codeAcked m (codeAt words (sentSide m) k)) d (acked-effect words v m k) (rw e f)
+
+  receive-happens : (m : LabelMessage) (p : Bool) (k c d : ℕ) → codeAt words (receivedSide m) k ≡ c → c ≢ 0 → codeReceived m p c ≡ d → codeAt (step words (Received m p (Label k))) (receivedSide m) k ≡ d
+  unfolding step
+  receive-happens m p k c d e h f = effect-code (codeReceived m p (codeAt words (receivedSide m) k)) d (received-listed words v m p k (rw e h)) (rw e f)
+
+  withdraw-happens : (p : Bool) (t : Touched) (k c d : ℕ) → Touches t k → codeAt words Used k ≡ c → c ≢ 0 → ((q : Bool) → codeReceived Withdraw q c ≡ d) → codeAt (step words (Received Withdraw p t)) Used k ≡ d
+  unfolding step receivedOf everyReceived codeSwept receivedSide
+  withdraw-happens p t k c d named e h f = receive-happens Withdraw p k c d e h (f p)
+  withdraw-happens p t k c d every e h f = sweep-happens WithdrawAll Used k c d e (f true)
+
+  release-happens : (p : Bool) (t : Touched) (k c d : ℕ) → Touches t k → codeAt words Given k ≡ c → c ≢ 0 → ((q : Bool) → codeReceived Release q c ≡ d) → codeAt (step words (Received Release p t)) Given k ≡ d
+  unfolding step receivedOf everyReceived codeSwept receivedSide
+  release-happens p t k c d named e h f = receive-happens Release p k c d e h (f p)
+  release-happens p t k c d every e h f = sweep-happens ReleaseAll Given k c d e (f true)
+
+  -- Each move of a listed label takes place.
+  pub move-happens : {e : Event} {s : Side} {k c d : ℕ} → Moves e s k c d → c ≢ 0 → codeAt words s k ≡ c → codeAt (step words e) s k ≡ d
+  unfolding sentSide receivedSide codeAccepted codeAcked codeReceived codeSwept step
+  move-happens given h e = absurd (h refl)
+  move-happens (withdrawn {k}) h e = accept-happens Withdraw k 1 2 e h refl
+  move-happens (released {k}) h e = accept-happens Release k 3 5 e h refl
+  move-happens (returned {k}) h e = accept-happens Release k 4 0 e h refl
+  move-happens (withdraw-acked {k}) h e = ack-happens Withdraw k 2 0 e refl
+  move-happens (release-acked {k}) h e = ack-happens Release k 5 0 e refl
+  move-happens taken h e = absurd (h refl)
+  move-happens (taken-again {k}) h e = receive-happens Mapping true k 5 3 e h refl
+  move-happens taken-bare h e = absurd (h refl)
+  move-happens (asked-back {p} {t} {k} touches) h e = withdraw-happens p t k 3 4 touches e h (λ q. refl)
+  move-happens (bare-withdrawn {p} {t} {k} touches) h e = withdraw-happens p t k 6 0 touches e h (λ q. refl)
+  move-happens (given-back {p} {t} {k} touches) h e = release-happens p t k 1 0 touches e h (λ q. refl)
+  move-happens (withdrawn-back {p} {t} {k} touches) h e = release-happens p t k 2 0 touches e h (λ q. refl)
+  move-happens (bare-lost {k}) h e = sweep-happens AfterBreak Used k 6 0 e refl
+
+  -- So both the ACK and a Release free a withdrawn label.
+  pub withdrawal-ends : (e : Event) (k : ℕ) → codeAt words Given k ≡ 2 → EndsWithdrawal e k → codeAt (step words e) Given k ≡ 0
+  withdrawal-ends e k two by-ack = move-happens withdraw-acked (omega arith) two
+  withdrawal-ends e k two (by-release touches) = move-happens (withdrawn-back touches) (omega arith) two

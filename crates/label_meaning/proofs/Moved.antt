@@ -1,0 +1,212 @@
+-- A label's code changes by the moves that 01 names, and by nothing else. Assumes nothing.
+use mathlib.Core.Path.{_≡_, refl}
+use mathlib.Core.Bool.{Bool, true, false}
+use mathlib.Core.List.{List}
+use mathlib.Core.Logic.{_≢_, _⊎_, inl, inr, ⊎-elim}
+use Prim.Native.Nat.{ℕ, _≤_}
+use native.Mathlib.Omega.{arith}
+use lib.Dec.{eqb, leb}
+use borrow.Author.Tests.{eqb-true, eqb-false, leb-true}
+use Rattle.label_list.specs.Word.{within, onSide}
+use Rattle.label_list.specs.Rules.{sentSide, receivedSide, codeAccepted, codeAcked, codeReceived, codeSwept}
+use Rattle.label_list.specs.Sweep.{sweptOf}
+use Rattle.label_list.specs.declared.Side.{Side}
+use Rattle.label_list.specs.declared.Side.the-variants.{Given, Used}
+use Rattle.label_list.specs.declared.LabelMessage.{LabelMessage}
+use Rattle.label_list.specs.declared.LabelMessage.the-variants.{Mapping, Withdraw, Release}
+use Rattle.label_list.specs.declared.Next.the-variants.{Code}
+use Rattle.label_list.specs.declared.SweepRule.{SweepRule}
+use Rattle.label_list.specs.declared.SweepRule.the-variants.{WithdrawAll, ReleaseAll, AfterBreak}
+use Rattle.label_list.proofs.Choice.{by-test}
+use Rattle.label_list.proofs.Standing.{within-range}
+use Rattle.label_events.specs.Change.{codeAt}
+use Rattle.label_events.specs.Accept.{acceptedOf}
+use Rattle.label_events.specs.Receive.{everyReceived, receivedOf}
+use Rattle.label_events.specs.declared.Touched.{Touched}
+use Rattle.label_events.specs.declared.Touched.the-variants.{Label, Every, Nothing}
+use Rattle.label_meaning.specs.Valid.{IsValid}
+use Rattle.label_meaning.specs.View.{Effect}
+use Rattle.label_meaning.specs.Event.{Event, Accepted, Acked, Received, Broken, step, Touches, named, every, Moves, given, withdrawn, released, returned, withdraw-acked, release-acked, taken, taken-again, taken-bare, asked-back, bare-withdrawn, given-back, withdrawn-back, bare-lost}
+use Rattle.label_meaning.specs.Life.{Moved}
+use Rattle.label_meaning.proofs.View.{code-is, is-code}
+use Rattle.label_meaning.proofs.Proper.{Proper}
+use Rattle.label_meaning.proofs.Swept.{sweep-valid, sweep-code}
+use Rattle.label_meaning.proofs.Step.{Accepts, code-proper, accepted-outcome, acked-effect, received-outcome}
+
+-- The rules, as moves of one code: it stays, or it is a move.
+abbrev Move : Event → Side → ℕ → ℕ → ℕ → Type 0
+Move e s k c d = (d ≡ c) ⊎ Moves e s k c d
+
+accepted-move : (m : LabelMessage) (k c n : ℕ) → codeAccepted m c ≡ Code n → Move (Accepted m k) (sentSide m) k c n
+unfolding codeAccepted sentSide
+accepted-move Mapping k c n e =
+    by-test
+    (leb c 1)
+    (λ p.
+    let one : n ≡ 1 = cc (rw p at e) in
+    let low : c ≤ 1 = leb-true c 1 p in
+    by-test
+    (eqb c 0)
+    (λ z. let none : c ≡ 0 = eqb-true c 0 z in inr (rw (none, one) given))
+    (λ z. let some : c ≢ 0 = eqb-false c 0 z in inl (omega arith)))
+    (λ p. let q = rw p at e in let z : _≡_ {A = ℕ} 0 1 = cc in absurd (omega arith))
+accepted-move Withdraw k c n e =
+    by-test
+    (eqb c 1)
+    (λ p.
+    let two : n ≡ 2 = cc (rw p at e) in
+    let one : c ≡ 1 = eqb-true c 1 p in
+    inr (rw (one, two) withdrawn))
+    (λ p. let q = rw p at e in let z : _≡_ {A = ℕ} 0 1 = cc in absurd (omega arith))
+accepted-move Release k c n e =
+    by-test
+    (eqb c 3)
+    (λ p.
+    let five : n ≡ 5 = cc (rw p at e) in
+    let three : c ≡ 3 = eqb-true c 3 p in
+    inr (rw (three, five) released))
+    (λ p.
+    by-test
+    (eqb c 4)
+    (λ q.
+    let free : n ≡ 0 = cc (rw (p, q) at e) in
+    let four : c ≡ 4 = eqb-true c 4 q in
+    inr (rw (four, free) returned))
+    (λ q. let r = rw (p, q) at e in let z : _≡_ {A = ℕ} 0 1 = cc in absurd (omega arith)))
+
+acked-move : (m : LabelMessage) (k c : ℕ) → Move (Acked m k) (sentSide m) k c (codeAcked m c)
+unfolding codeAcked sentSide
+acked-move Mapping k c = inl refl
+acked-move Withdraw k c = by-test (eqb c 2) (λ p. let two : c ≡ 2 = eqb-true c 2 p in inr (rw two withdraw-acked)) (λ p. inl (rw p))
+acked-move Release k c = by-test (eqb c 5) (λ p. let five : c ≡ 5 = eqb-true c 5 p in inr (rw five release-acked)) (λ p. inl (rw p))
+
+-- A code from 3 up is of the used side, and one from 1 to 2 of the given side.
+used-side : (s : Side) (c : ℕ) → 3 ≤ c → Proper s c → s ≡ Used
+unfolding onSide
+used-side Given c l h = ⊎-elim (λ (z : c ≡ 0). absurd (omega arith)) (λ (e : within 1 2 c ≡ true). absurd (omega (arith, within-range 1 2 c e))) h
+used-side Used c l h = refl
+
+given-side : (s : Side) (c : ℕ) → 1 ≤ c → c ≤ 2 → Proper s c → s ≡ Given
+unfolding onSide
+given-side Given c l u h = refl
+given-side Used c l u h = ⊎-elim (λ (z : c ≡ 0). absurd (omega arith)) (λ (e : within 3 6 c ≡ true). absurd (omega (arith, within-range 3 6 c e))) h
+
+mapping-move : (p : Bool) (k c : ℕ) → Move (Received Mapping p (Label k)) Used k c (codeReceived Mapping p c)
+unfolding codeReceived
+mapping-move true k c =
+    by-test
+    (eqb c 0)
+    (λ z. let none : c ≡ 0 = eqb-true c 0 z in inr (rw none taken))
+    (λ z. by-test (eqb c 5) (λ p. let five : c ≡ 5 = eqb-true c 5 p in inr (rw five taken-again)) (λ p. inl (rw (z, p))))
+mapping-move false k c = by-test (eqb c 0) (λ z. let none : c ≡ 0 = eqb-true c 0 z in inr (rw none taken-bare)) (λ z. inl (rw z))
+
+module _ (s : Side) (k c : ℕ) (proper : Proper s c) where
+  withdraw-move : (p q : Bool) (t : Touched) → Touches t k → Move (Received Withdraw p t) s k c (codeReceived Withdraw q c)
+  unfolding codeReceived
+  withdraw-move p q t touches =
+      by-test
+      (eqb c 3)
+      (λ z.
+      let three : c ≡ 3 = eqb-true c 3 z in
+      inr (rw (used-side s c (omega arith) proper, three) (asked-back touches)))
+      (λ z. by-test
+      (eqb c 6)
+      (λ y.
+      let six : c ≡ 6 = eqb-true c 6 y in
+      inr (rw (used-side s c (omega arith) proper, six) (bare-withdrawn touches)))
+      (λ y. inl (rw (z, y))))
+
+  release-move : (p q : Bool) (t : Touched) → Touches t k → Move (Received Release p t) s k c (codeReceived Release q c)
+  unfolding codeReceived
+  release-move p q t touches =
+      by-test
+      (within 1 2 c)
+      (λ z.
+      let range : (1 ≤ c) × (c ≤ 2) = within-range 1 2 c z in
+      let side : s ≡ Given = given-side s c (range .0) (range .1) proper in
+      by-test
+      (eqb c 1)
+      (λ y. let one : c ≡ 1 = eqb-true c 1 y in inr (rw (side, one) (given-back touches)))
+      (λ y.
+      let apart : c ≢ 1 = eqb-false c 1 y in
+      let two : c ≡ 2 = omega arith in
+      inr (rw (side, two) (withdrawn-back touches))))
+      (λ z. inl (rw z))
+
+  break-move : Move Broken s k c (codeSwept AfterBreak c)
+  unfolding codeSwept
+  break-move =
+      by-test
+      (eqb c 6)
+      (λ y. let six : c ≡ 6 = eqb-true c 6 y in inr (rw (used-side s c (omega arith) proper, six) bare-lost))
+      (λ y. inl (rw y))
+
+-- By whether two places of the map are one.
+by-place : {P : Type 0} (s t : Side) (k l : ℕ) → ((s ≡ t) × (k ≡ l) → P) → (((s ≡ t) × (k ≡ l) → ⊥) → P) → P
+by-place {P} s t k l same other = by-test (eqb k l) (λ e. by-sides s t (eqb-true k l e) same other) (λ e. other (λ both. eqb-false k l e (both .1)))
+  where
+    by-sides : (s t : Side) → k ≡ l → ((s ≡ t) × (k ≡ l) → P) → (((s ≡ t) × (k ≡ l) → ⊥) → P) → P
+    by-sides Given Given e same other = same (refl, e)
+    by-sides Used Used e same other = same (refl, e)
+    by-sides Given Used e same other = other (λ both. let z : _≡_ {A = ℕ} 0 1 = cc (both .0) in omega arith)
+    by-sides Used Given e same other = other (λ both. let z : _≡_ {A = ℕ} 0 1 = cc (both .0) in omega arith)
+
+-- The map's moves, from those of the codes.
+abbrev MovedTo : List ℕ → List ℕ → Event → Side → ℕ → Type 0
+MovedTo words after e t k = Move e t k (codeAt words t k) (codeAt after t k)
+
+module _ (words : List ℕ) (v : IsValid words) where
+  same-moved : {after : List ℕ} (e : Event) → after ≡ words → (t : Side) (k : ℕ) → MovedTo words after e t k
+  same-moved e same t k = inl (rw same)
+
+  effect-moved : {after : List ℕ} (e : Event) (s : Side) (l n : ℕ) → Effect words after s l n → Move e s l (codeAt words s l) n → (t : Side) (k : ℕ) → MovedTo words after e t k
+  effect-moved {after} e s l n x move t k =
+      by-place
+      t
+      s
+      k
+      l
+      (λ same. rw (same .0, same .1, is-code after s l (x .valid) (x .there)) move)
+      (λ other. inl (is-code after t k (x .valid) (x .elsewhere t k (codeAt words t k) other (code-is words t k))))
+
+  swept-moved : (e : Event) (r : SweepRule) → ((t : Side) (k c : ℕ) → Proper t c → Move e t k c (codeSwept r c)) → (t : Side) (k : ℕ) → MovedTo words (sweptOf words r) e t k
+  swept-moved e r move t k =
+      rw (is-code (sweptOf words r) t k (sweep-valid words v r) (sweep-code words v r t k (codeAt words t k) (code-is words t k)))
+      (move t k (codeAt words t k) (code-proper words t k))
+
+  named-move : (m : LabelMessage) (p : Bool) (l : ℕ) → Move (Received m p (Label l)) (receivedSide m) l (codeAt words (receivedSide m) l) (codeReceived m p (codeAt words (receivedSide m) l))
+  unfolding receivedSide
+  named-move Mapping p l = mapping-move p l (codeAt words Used l)
+  named-move Withdraw p l = withdraw-move Used l (codeAt words Used l) (code-proper words Used l) p p (Label l) named
+  named-move Release p l = release-move Given l (codeAt words Given l) (code-proper words Given l) p p (Label l) named
+
+  every-moved : (m : LabelMessage) (p : Bool) (t : Side) (k : ℕ) → MovedTo words (everyReceived m words) (Received m p Every) t k
+  unfolding everyReceived codeSwept
+  every-moved Mapping p t k = inl refl
+  every-moved Withdraw p t k = swept-moved (Received Withdraw p Every) WithdrawAll (λ s l c proper. withdraw-move s l c proper p true Every every) t k
+  every-moved Release p t k = swept-moved (Received Release p Every) ReleaseAll (λ s l c proper. release-move s l c proper p true Every every) t k
+
+  received-moved : (m : LabelMessage) (p : Bool) (x : Touched) (t : Side) (k : ℕ) → MovedTo words (receivedOf words m p x .1) (Received m p x) t k
+  unfolding receivedOf
+  received-moved m p (Label l) t k =
+      ⊎-elim
+      (λ (same : receivedOf words m p (Label l) .1 ≡ words). same-moved (Received m p (Label l)) same t k)
+      (λ (x : Effect words (receivedOf words m p (Label l) .1) (receivedSide m) l (codeReceived m p (codeAt words (receivedSide m) l))).
+      effect-moved (Received m p (Label l)) (receivedSide m) l (codeReceived m p (codeAt words (receivedSide m) l)) x (named-move m p l) t k)
+      (received-outcome words v m p l)
+  received-moved m p Every t k = every-moved m p t k
+  received-moved m p Nothing t k = inl refl
+
+  -- Every event leaves every label's code, or moves it as 01 says.
+  pub every-move : (e : Event) (side : Side) (label : ℕ) → Moved words e side label
+  unfolding step
+  every-move (Accepted m l) t k =
+      ⊎-elim
+      (λ (same : acceptedOf words m l .1 ≡ words). same-moved (Accepted m l) same t k)
+      (λ (x : Accepts words m l (acceptedOf words m l .1)).
+      effect-moved (Accepted m l) (sentSide m) l (x .code) (x .effect) (accepted-move m l (codeAt words (sentSide m) l) (x .code) (x .rule)) t k)
+      (accepted-outcome words v m l)
+  every-move (Acked m l) t k =
+      effect-moved (Acked m l) (sentSide m) l (codeAcked m (codeAt words (sentSide m) l)) (acked-effect words v m l) (acked-move m l (codeAt words (sentSide m) l)) t k
+  every-move (Received m p x) t k = received-moved m p x t k
+  every-move Broken t k = swept-moved Broken AfterBreak (λ s l c proper. break-move s l c proper) t k

@@ -1,0 +1,187 @@
+-- Each event changes one label's code by its rule, or takes every label through a rule; a valid list stays valid. Assumes nothing.
+use mathlib.Core.Path.{_≡_, refl, sym, _∙_}
+use mathlib.Core.Bool.{Bool, true, true≢false}
+use mathlib.Core.List.{List}
+use mathlib.Core.Logic.{_≢_, _⊎_, inl, inr, ⊎-elim}
+use Prim.Native.Nat.{ℕ, _≤_, _<_}
+use native.Mathlib.Omega.{arith}
+use lib.ListN.{getD, set}
+use Rattle.label_list.specs.Word.{labelCount, labelOf, codeOf, wordOf, isFree, listable, onSide, standsFor}
+use Rattle.label_list.specs.Rules.{sentSide, receivedSide, codeAccepted, codeAcked, codeReceived}
+use Rattle.label_list.specs.Find.{findOf}
+use Rattle.label_list.specs.Valid.{validOf}
+use Rattle.label_list.specs.declared.Side.{Side}
+use Rattle.label_list.specs.declared.Found.{Found}
+use Rattle.label_list.specs.declared.Found.the-variants.{At, Nowhere}
+use Rattle.label_list.specs.declared.LabelMessage.{LabelMessage}
+use Rattle.label_list.specs.declared.LabelMessage.the-variants.{Mapping, Withdraw, Release}
+use Rattle.label_list.specs.declared.Next.{Next}
+use Rattle.label_list.specs.declared.Next.the-variants.{Code, NotAllowed}
+use Rattle.label_list.specs.declared.SweepRule.the-variants.{WithdrawAll, ReleaseAll, AfterBreak}
+use Rattle.label_list.proofs.Choice.{by-test}
+use Rattle.label_list.proofs.Standing.{within-in, within-range, stands-parts, free-stands}
+use Rattle.label_list.proofs.Reached.{found-passes}
+use Rattle.label_events.specs.Change.{codeIn, codeAt, changeAt, changeOf, changed}
+use Rattle.label_events.specs.Accept.{planBy, planOf, acceptedBy, acceptedOf}
+use Rattle.label_events.specs.Ack.{ackedAt, ackedOf}
+use Rattle.label_events.specs.Receive.{receivedChange, everyReceived, receivedOf}
+use Rattle.label_events.specs.declared.Change.{Change}
+use Rattle.label_events.specs.declared.Change.the-variants.{Keep, Put, NoRoom}
+use Rattle.label_events.specs.declared.Touched.{Touched}
+use Rattle.label_events.specs.declared.Touched.the-variants.{Label, Every, Nothing}
+use Rattle.label_meaning.specs.Valid.{InRange, IsValid}
+use Rattle.label_meaning.specs.View.{CodeIs, listed, absent, Effect}
+use Rattle.label_meaning.specs.Event.{Event, Accepted, Acked, Received, Broken, step}
+use Rattle.label_meaning.proofs.Meaning.{valid-means, means-valid}
+use Rattle.label_meaning.proofs.View.{found-none, code-is}
+use Rattle.label_meaning.proofs.Proper.{Proper, accepted-proper, acked-proper, received-proper}
+use Rattle.label_meaning.proofs.Effect.{keep-effect, effect-found, change-effect}
+use Rattle.label_meaning.proofs.Swept.{sweep-valid}
+
+-- The code of a label on a side is 0 or one of that side.
+is-proper : {words : List ℕ} {s : Side} {l c : ℕ} → CodeIs words s l c → Proper s c
+is-proper {words} {s} {l} (listed i p) = inr (stands-parts s l (getD words i 0) p .0)
+is-proper (absent p) = inl refl
+
+pub code-proper : (words : List ℕ) (s : Side) (l : ℕ) → Proper s (codeAt words s l)
+code-proper words s l = is-proper (code-is words s l)
+
+room : (x : Change) → (x ≡ NoRoom) ⊎ (x ≢ NoRoom)
+room Keep = inr (λ e. let z : _≡_ {A = ℕ} 0 1 = cc in omega arith)
+room (Put i w) = inr (λ e. let z : _≡_ {A = ℕ} 0 1 = cc in omega arith)
+room NoRoom = inl refl
+
+-- A message of ours that is allowed, with room for it.
+pub record Accepts (words : List ℕ) (m : LabelMessage) (l : ℕ) (after : List ℕ) : Type 0 where
+  pub code : ℕ
+  pub rule : codeAccepted m (codeAt words (sentSide m) l) ≡ Code code
+  pub effect : Effect words after (sentSide m) l code
+
+module _ (words : List ℕ) (v : IsValid words) where
+  -- a change to a proper code, where the label may be listed
+  change-outcome : (s : Side) (l c : ℕ) → listable l ≡ true → Proper s c → (changed words (changeOf words s l c) ≡ words) ⊎ Effect words (changed words (changeOf words s l c)) s l c
+  unfolding changed
+  change-outcome s l c may proper =
+      let range : (16 ≤ l) × (l ≤ 1048575) = within-range 16 1048575 l may in
+      ⊎-elim
+      (λ (full : changeOf words s l c ≡ NoRoom). inl (rw full))
+      (λ (free : changeOf words s l c ≢ NoRoom). inr (change-effect words v s l c (range .0) (omega arith) proper free))
+      (room (changeOf words s l c))
+
+  -- a message of ours: refused, or its label's code becomes what the rule says
+  module _ (m : LabelMessage) (l : ℕ) where
+    next-outcome : listable l ≡ true → (n : Next) → codeAccepted m (codeAt words (sentSide m) l) ≡ n
+        → (acceptedBy words (planBy n words (sentSide m) l) .1 ≡ words) ⊎ Accepts words m l (acceptedBy words (planBy n words (sentSide m) l) .1)
+    next-outcome may (Code c) e =
+        ⊎-elim
+        inl
+        (λ (x : Effect words (changed words (changeOf words (sentSide m) l c)) (sentSide m) l c). inr (record { code = c; rule = e; effect = x }))
+        (change-outcome (sentSide m) l c may (accepted-proper m (codeAt words (sentSide m) l) c e))
+    next-outcome may NotAllowed e = inl refl
+
+    pub accepted-outcome : (acceptedOf words m l .1 ≡ words) ⊎ Accepts words m l (acceptedOf words m l .1)
+    unfolding acceptedOf planOf
+    accepted-outcome =
+        by-test
+        (listable l)
+        (λ may. rw may (next-outcome may (codeAccepted m (codeAt words (sentSide m) l)) refl))
+        (λ may. inl (rw may))
+
+  -- a label that is listed may be listed, and its change needs no free word
+  listed-label : (s : Side) (l i : ℕ) → standsFor s l (getD words i 0) ≡ true → (16 ≤ l) × (l < labelCount)
+  listed-label s l i p =
+      let label : labelOf (getD words i 0) ≡ l = stands-parts s l (getD words i 0) p .1 in
+      let listed-i : getD words i 0 ≢ 0 = λ z. true≢false (sym p ∙ rw z (free-stands s l)) in
+      let range : InRange (getD words i 0) = v .each i listed-i in
+      (omega (arith, range .label), omega arith)
+
+  module _ (s : Side) (l n : ℕ) (proper : Proper s n) where
+    found-effect : (i : ℕ) → At i ≡ findOf (standsFor s l) words → Effect words (set words i (wordOf l n)) s l n
+    unfolding changeAt changed
+    found-effect i e =
+        let range : (16 ≤ l) × (l < labelCount) = listed-label s l i (found-passes (standsFor s l) words i e refl) in
+        effect-found words v s l n (range .0) (range .1) proper (At i) (findOf isFree words) e refl (λ z. let z : _≡_ {A = ℕ} 0 1 = cc in omega arith)
+
+    listed-found : (f : Found) → f ≡ findOf (standsFor s l) words → codeIn words f ≢ 0 → (listable l ≡ true) × Effect words (changed words (changeAt f (findOf isFree words) l n)) s l n
+    unfolding codeIn changeAt changed
+    listed-found (At i) e h =
+        let range : (16 ≤ l) × (l < labelCount) = listed-label s l i (found-passes (standsFor s l) words i e refl) in
+        (sym (within-in 16 1048575 l (range .0) (omega arith)), found-effect i e)
+    listed-found Nowhere e h = absurd (h refl)
+
+    listed-effect : codeAt words s l ≢ 0 → (listable l ≡ true) × Effect words (changed words (changeOf words s l n)) s l n
+    listed-effect = listed-found (findOf (standsFor s l) words) refl
+
+  pub accepted-listed : (m : LabelMessage) (l n : ℕ) → codeAt words (sentSide m) l ≢ 0 → codeAccepted m (codeAt words (sentSide m) l) ≡ Code n → Effect words (acceptedOf words m l .1) (sentSide m) l n
+  unfolding acceptedOf planOf
+  accepted-listed m l n h e =
+      let listed-l = listed-effect (sentSide m) l n (accepted-proper m (codeAt words (sentSide m) l) n e) h in
+      rw (listed-l .0, e) (listed-l .1)
+
+  pub received-listed : (m : LabelMessage) (p : Bool) (l : ℕ) → codeAt words (receivedSide m) l ≢ 0
+      → Effect words (receivedOf words m p (Label l) .1) (receivedSide m) l (codeReceived m p (codeAt words (receivedSide m) l))
+  unfolding receivedOf receivedChange
+  received-listed m p l h =
+      let proper : Proper (receivedSide m) (codeReceived m p (codeAt words (receivedSide m) l)) =
+      received-proper m p (codeAt words (receivedSide m) l) (code-proper words (receivedSide m) l) in
+      let listed-l = listed-effect (receivedSide m) l (codeReceived m p (codeAt words (receivedSide m) l)) proper h in
+      rw (listed-l .0) (listed-l .1)
+
+  -- an ACK
+  acked-none : (m : LabelMessage) → codeAcked m 0 ≡ 0
+  unfolding codeAcked
+  acked-none Mapping = refl
+  acked-none Withdraw = refl
+  acked-none Release = refl
+
+  acked-at : (m : LabelMessage) (l : ℕ) (f : Found) → f ≡ findOf (standsFor (sentSide m) l) words → Effect words (ackedAt f words m l) (sentSide m) l (codeAcked m (codeIn words f))
+  unfolding ackedAt codeIn
+  acked-at m l (At i) e =
+      let on : onSide (sentSide m) (codeOf (getD words i 0)) ≡ true = stands-parts (sentSide m) l (getD words i 0) (found-passes (standsFor (sentSide m) l) words i e refl) .0 in
+      found-effect (sentSide m) l (codeAcked m (codeOf (getD words i 0))) (acked-proper m (codeOf (getD words i 0)) (inr on)) i e
+  acked-at m l Nowhere e = keep-effect words v (sentSide m) l (codeAcked m 0) (found-none words (sentSide m) l (sym e)) (acked-none m)
+
+  pub acked-effect : (m : LabelMessage) (l : ℕ) → Effect words (ackedOf words m l) (sentSide m) l (codeAcked m (codeAt words (sentSide m) l))
+  acked-effect m l = acked-at m l (findOf (standsFor (sentSide m) l) words) refl
+
+  -- a message of the peer's that names its label
+  pub received-outcome : (m : LabelMessage) (p : Bool) (l : ℕ)
+      → (receivedOf words m p (Label l) .1 ≡ words) ⊎ Effect words (receivedOf words m p (Label l) .1) (receivedSide m) l (codeReceived m p (codeAt words (receivedSide m) l))
+  unfolding receivedOf receivedChange changed
+  received-outcome m p l =
+      by-test
+      (listable l)
+      (λ may. rw may (change-outcome (receivedSide m) l (codeReceived m p (codeAt words (receivedSide m) l)) may
+      (received-proper m p (codeAt words (receivedSide m) l) (code-proper words (receivedSide m) l))))
+      (λ may. inl (rw may))
+
+  -- validity
+  outcome-valid : {after : List ℕ} (s : Side) (l c : ℕ) → (after ≡ words) ⊎ Effect words after s l c → IsValid after
+  outcome-valid {after} s l c = ⊎-elim (λ (same : after ≡ words). rw same v) (λ (x : Effect words after s l c). x .valid)
+
+  every-valid : (m : LabelMessage) → IsValid (everyReceived m words)
+  unfolding everyReceived
+  every-valid Mapping = v
+  every-valid Withdraw = sweep-valid words v WithdrawAll
+  every-valid Release = sweep-valid words v ReleaseAll
+
+  received-valid : (m : LabelMessage) (p : Bool) (t : Touched) → IsValid (receivedOf words m p t .1)
+  unfolding receivedOf
+  received-valid m p (Label l) = outcome-valid (receivedSide m) l (codeReceived m p (codeAt words (receivedSide m) l)) (received-outcome m p l)
+  received-valid m p Every = every-valid m
+  received-valid m p Nothing = v
+
+  pub step-is-valid : (e : Event) → IsValid (step words e)
+  unfolding step
+  step-is-valid (Accepted m l) =
+      ⊎-elim
+      (λ (same : acceptedOf words m l .1 ≡ words). rw same v)
+      (λ (x : Accepts words m l (acceptedOf words m l .1)). x .effect .valid)
+      (accepted-outcome m l)
+  step-is-valid (Acked m l) = acked-effect m l .valid
+  step-is-valid (Received m p t) = received-valid m p t
+  step-is-valid Broken = sweep-valid words v AfterBreak
+
+-- Every event leaves a valid list valid.
+pub step-valid : (words : List ℕ) (e : Event) → validOf words ≡ true → validOf (step words e) ≡ true
+step-valid words e valid = means-valid (step words e) (step-is-valid words (valid-means words valid) e)

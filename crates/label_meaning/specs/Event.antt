@@ -1,0 +1,56 @@
+-- The events of the label list, the list after each, and the moves of a label's code that 01 names.
+use Prim.Native.Nat.{ℕ}
+use mathlib.Core.Bool.{Bool, true, false}
+use mathlib.Core.List.{List}
+use Rattle.label_list.specs.Sweep.{sweptOf}
+use Rattle.label_list.specs.declared.Side.{Side}
+use Rattle.label_list.specs.declared.Side.the-variants.{Given, Used}
+use Rattle.label_list.specs.declared.LabelMessage.{LabelMessage}
+use Rattle.label_list.specs.declared.LabelMessage.the-variants.{Mapping, Withdraw, Release}
+use Rattle.label_list.specs.declared.SweepRule.the-variants.{AfterBreak}
+use Rattle.label_events.specs.Accept.{acceptedOf}
+use Rattle.label_events.specs.Ack.{ackedOf}
+use Rattle.label_events.specs.Receive.{receivedOf}
+use Rattle.label_events.specs.declared.Touched.{Touched}
+use Rattle.label_events.specs.declared.Touched.the-variants.{Label, Every}
+
+-- a message of ours is accepted for sending or released by an ACK, one of the peer's is received (the Bool: protected), a connection ends
+pub data Event : Type 0 where
+  Accepted : LabelMessage → ℕ → Event
+  Acked : LabelMessage → ℕ → Event
+  Received : LabelMessage → Bool → Touched → Event
+  Broken : Event
+
+unfoldable pub step : List ℕ → Event → List ℕ
+step words (Accepted message label) = acceptedOf words message label .1
+step words (Acked message label) = ackedOf words message label
+step words (Received message protected touched) = receivedOf words message protected touched .1
+step words Broken = sweptOf words AfterBreak
+
+-- the labels that a received message touches
+pub data Touches : Touched → ℕ → Type 0 where
+  named : {k : ℕ} → Touches (Label k) k
+  every : {k : ℕ} → Touches Every k
+
+-- an event moves a label on a side from a code to a code; 0: absent
+pub data Moves : Event → Side → ℕ → ℕ → ℕ → Type 0 where
+  -- "Accepted for sending: Mapping, absent or 1, becomes 1; Withdraw, 1 becomes 2; Release, 3 becomes 5, 4 becomes free."
+  given : {k : ℕ} → Moves (Accepted Mapping k) Given k 0 1
+  withdrawn : {k : ℕ} → Moves (Accepted Withdraw k) Given k 1 2
+  released : {k : ℕ} → Moves (Accepted Release k) Used k 3 5
+  returned : {k : ℕ} → Moves (Accepted Release k) Used k 4 0
+  -- "Released by ACK: Withdraw 2 becomes free; Release 5 becomes free"
+  withdraw-acked : {k : ℕ} → Moves (Acked Withdraw k) Given k 2 0
+  release-acked : {k : ℕ} → Moves (Acked Release k) Used k 5 0
+  -- "Received: Mapping protected, absent or 3 or 5 becomes 3 ..; unprotected, absent becomes 6"
+  taken : {k : ℕ} → Moves (Received Mapping true (Label k)) Used k 0 3
+  taken-again : {k : ℕ} → Moves (Received Mapping true (Label k)) Used k 5 3
+  taken-bare : {k : ℕ} → Moves (Received Mapping false (Label k)) Used k 0 6
+  -- "Withdraw: 3 becomes 4; .. 6 becomes free"
+  asked-back : {p : Bool} {t : Touched} {k : ℕ} → Touches t k → Moves (Received Withdraw p t) Used k 3 4
+  bare-withdrawn : {p : Bool} {t : Touched} {k : ℕ} → Touches t k → Moves (Received Withdraw p t) Used k 6 0
+  -- "Release: 1, 2 become free"
+  given-back : {p : Bool} {t : Touched} {k : ℕ} → Touches t k → Moves (Received Release p t) Given k 1 0
+  withdrawn-back : {p : Bool} {t : Touched} {k : ℕ} → Touches t k → Moves (Received Release p t) Given k 2 0
+  -- "code 6 words are freed"
+  bare-lost : {k : ℕ} → Moves Broken Used k 6 0

@@ -1,0 +1,6 @@
+pub mod Valid
+pub mod View
+pub mod Event
+pub mod Keep
+pub mod Life
+pub mod Protected

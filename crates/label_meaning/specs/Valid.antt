@@ -1,0 +1,21 @@
+-- What it means that the label words are valid, over indices; past the end of the list a word counts as free.
+use Prim.Native.Nat.{ℕ, _≤_}
+use mathlib.Core.Path.{_≡_}
+use mathlib.Core.Bool.{true}
+use mathlib.Core.List.{List}
+use mathlib.Core.Logic.{_≢_}
+use lib.ListN.{getD}
+use Rattle.label_list.specs.Word.{labelOf, codeOf, standsFor}
+use Rattle.label_list.specs.declared.Side.{Side}
+
+-- 01: "Codes: 1 given, .. 6 using without protection"; "Labels 0 to 15 are never listed"
+pub record InRange (w : ℕ) : Type 0 where
+  pub label : 16 ≤ labelOf w
+  pub low : 1 ≤ codeOf w
+  pub high : codeOf w ≤ 6
+
+pub record IsValid (words : List ℕ) : Type 0 where
+  -- "0 is free, and no other word has code 0"
+  pub each : (i : ℕ) → getD words i 0 ≢ 0 → InRange (getD words i 0)
+  -- "A label stands once among codes 1-2 and once among 3-6": two words that list one label on one side are one word
+  pub once : (side : Side) (label i j : ℕ) → standsFor side label (getD words i 0) ≡ true → standsFor side label (getD words j 0) ≡ true → i ≡ j

@@ -1,0 +1,217 @@
+// Runs every event on a list that holds label 16 under each code, and prints a row for each event.
+// A cell gives the answer's number and the codes of the first two words afterwards. The expected rows are made by tests/labels/make.py.
+ghost use mathlib.Core.Path.{_≡_};
+ghost use Prim.Native.Nat.{_<_};
+ghost use lib.ListN.{length};
+ghost use Rattle.label_events.specs.Accept.{acceptanceNumber};
+ghost use Rattle.label_events.specs.Protect.{protectionNumber};
+ghost use Rattle.label_events.specs.Receive.{receptionNumber};
+use label_events::Acceptance;
+use label_events::Reception;
+use label_events::Touched;
+use label_list::LABEL_COUNT;
+use label_list::LabelMessage;
+use label_list::Protection;
+use label_list::SweepRule;
+
+const STDOUT: i32 = 1;
+
+enum Event {
+    Accepted(LabelMessage, u32),
+    Acked(LabelMessage, u32),
+    Received(LabelMessage, bool, Touched),
+    Broken,
+}
+
+fn text(s: &[u8]) {
+    io::write_all(STDOUT, s);
+}
+
+fn number(n: u32) {
+    text(b" ");
+    io::print_decimal(STDOUT, n as u64);
+}
+
+fn acceptance_number(answer: Acceptance) -> u32
+    ensures { λ r. ⌜ r ≡ acceptanceNumber answer ⌝ }
+{
+    match answer {
+        Acceptance::Taken => 0,
+        Acceptance::NotAllowed => 6,
+        Acceptance::NoRoom => 13,
+    }
+}
+
+fn reception_number(answer: Reception) -> u32
+    ensures { λ r. ⌜ r ≡ receptionNumber answer ⌝ }
+{
+    match answer {
+        Reception::Taken => 0,
+        Reception::NoRoom => 21,
+    }
+}
+
+fn protection_number(verdict: Protection) -> u32
+    ensures { λ r. ⌜ r ≡ protectionNumber verdict ⌝ }
+{
+    match verdict {
+        Protection::Right => 0,
+        Protection::Missing => 33,
+        Protection::Wrong => 32,
+    }
+}
+
+// The protection is judged first; a message whose protection is missing or wrong is not received.
+fn receive(words: &mut [u32], message: LabelMessage, protected: bool, touched: Touched) -> u32 {
+    let refusal = protection_number(label_events::judge_protection(
+        words,
+        message,
+        protected,
+        touched,
+    ));
+    if refusal != 0 {
+        return refusal;
+    }
+    reception_number(label_events::receive(words, message, protected, touched))
+}
+
+// The answer's number; 0 where the event has no answer.
+fn happen(words: &mut [u32], event: Event) -> u32 {
+    match event {
+        Event::Accepted(message, label) => acceptance_number(label_events::accept(
+            words,
+            message,
+            label,
+        )),
+        Event::Acked(message, label) => {
+            label_events::release_by_ack(words, message, label);
+            0
+        }
+        Event::Received(message, protected, touched) => receive(words, message, protected, touched),
+        Event::Broken => {
+            label_list::sweep(words, SweepRule::AfterBreak);
+            0
+        }
+    }
+}
+
+// Where the list is to be full, other labels stand in every word.
+fn fill(words: &mut [u32], full: bool)
+    requires { ⌜ length (now words) ≡ 120 ⌝ }
+{
+    if !full {
+        return;
+    }
+    let mut i = 0;
+    while i < words.len() {
+        words[i] = label_list::word_of(1000 + i as u32, 1);
+        i += 1;
+    }
+}
+
+// Lists label 16 in the first word; code 0 leaves it absent.
+fn list(words: &mut [u32], code: u32)
+    requires { ⌜ (length (now words) ≡ 120) × (code < 7) ⌝ }
+{
+    if code == 0 {
+        return;
+    }
+    words[0] = label_list::word_of(16, code);
+}
+
+fn cell(event: Event, code: u32, full: bool)
+    requires { ⌜ code < 7 ⌝ }
+{
+    let mut words = [0u32; 120];
+    fill(&mut words, full);
+    list(&mut words, code);
+    let answer = happen(&mut words, event);
+    text(b" |");
+    number(answer);
+    number(words[0] / LABEL_COUNT);
+    number(words[1] / LABEL_COUNT);
+}
+
+// A cell for each code, from 0 for a label that is absent to 6.
+fn row(event: Event, full: bool) {
+    let mut code: u32 = 0;
+    while code < 7 {
+        cell(event, code, full);
+        code += 1;
+    }
+    text(b"\n");
+}
+
+fn name(message: LabelMessage) {
+    match message {
+        LabelMessage::Mapping => text(b" mapping"),
+        LabelMessage::Withdraw => text(b" withdraw"),
+        LabelMessage::Release => text(b" release"),
+    }
+}
+
+fn sent(message: LabelMessage) {
+    text(b"accept");
+    name(message);
+    row(Event::Accepted(message, 16), false);
+    text(b"accept full");
+    name(message);
+    row(Event::Accepted(message, 16), true);
+    text(b"accept 15");
+    name(message);
+    row(Event::Accepted(message, 15), false);
+    text(b"ack");
+    name(message);
+    row(Event::Acked(message, 16), false);
+}
+
+fn named(message: LabelMessage, protected: bool) {
+    text(b"receive");
+    name(message);
+    row(
+        Event::Received(message, protected, Touched::Label(16)),
+        false,
+    );
+    text(b"receive full");
+    name(message);
+    row(
+        Event::Received(message, protected, Touched::Label(16)),
+        true,
+    );
+    text(b"receive 15");
+    name(message);
+    row(
+        Event::Received(message, protected, Touched::Label(15)),
+        false,
+    );
+}
+
+// Without a label: the wildcard FEC, and another FEC.
+fn unnamed(message: LabelMessage, protected: bool) {
+    text(b"receive every");
+    name(message);
+    row(Event::Received(message, protected, Touched::Every), false);
+    text(b"receive other");
+    name(message);
+    row(Event::Received(message, protected, Touched::Nothing), false);
+}
+
+fn received(protected: bool) {
+    named(LabelMessage::Mapping, protected);
+    named(LabelMessage::Withdraw, protected);
+    named(LabelMessage::Release, protected);
+    unnamed(LabelMessage::Withdraw, protected);
+    unnamed(LabelMessage::Release, protected);
+}
+
+fn main() {
+    sent(LabelMessage::Mapping);
+    sent(LabelMessage::Withdraw);
+    sent(LabelMessage::Release);
+    text(b"protected\n");
+    received(true);
+    text(b"unprotected\n");
+    received(false);
+    text(b"break");
+    row(Event::Broken, false);
+}

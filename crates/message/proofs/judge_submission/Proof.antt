@@ -1,0 +1,12 @@
+use borrow.Author.Needs.{needs}
+use Rattle.message.proofs.Submissions.{judgements}
+use Rattle.message.proofs.judge_submission.Statement.{statement}
+use Rattle.message.proofs.judge_submission.Tie as tie
+
+pub judge-submission-spec : {M : Type 1} → statement M
+judge-submission-spec =
+    tie.close
+    (tie.spec
+    (λ c. search (needs, judgements)) (λ c. search (needs, judgements)) (λ c. search (needs, judgements)) (λ c. search (needs, judgements))
+    (λ c. search (needs, judgements)) (λ c. search (needs, judgements)) (λ c. search (needs, judgements)) (λ c. search (needs, judgements))
+    (λ c. search (needs, judgements)))

@@ -1,0 +1,94 @@
+-- What a message is: malformed, or its type, its message ID and what its TLVs say.
+-- 01: "Message: U bit and type (2), length (2, bytes after it), message ID (4), TLVs."
+use Prim.Native.Nat.{ℕ, _%_}
+use mathlib.Core.List.{List, [], _∷_}
+use mathlib.Core.Bool.{Bool, true, not}
+use lib.Dec.{eqb}
+use Rattle.octets.specs.Be.{beAt}
+use Rattle.octets.specs.Pick.{pick, both}
+use Rattle.ft_number.specs.declared.MessageId.{MessageId}
+use Rattle.tlv.specs.Table.{lookup}
+use Rattle.tlv.specs.Walk.{tlvsOf}
+use Rattle.tlv.specs.Value.{partAt, fecAt, fieldAt, numberAt, parametersAt, sessionAt}
+use Rattle.tlv.specs.declared.Found.{Found}
+use Rattle.message.specs.declared.Message.{Message}
+use Rattle.message.specs.declared.MessageType
+use Rattle.message.specs.declared.MessageType.{MessageType}
+use Rattle.message.specs.declared.Reading
+use Rattle.message.specs.declared.Reading.{Reading}
+use Rattle.tlv.specs.declared.walk.Walk
+use Rattle.tlv.specs.declared.walk.Walk.{Walk}
+
+abbrev pub initializationNumber : ℕ
+initializationNumber = 0x0200
+
+abbrev pub keepaliveNumber : ℕ
+keepaliveNumber = 0x0201
+
+-- 01: "Types: Notification 0x0001, Initialization 0x0200, KeepAlive 0x0201, Address 0x0300, Address Withdraw 0x0301, Mapping 0x0400,
+-- Request 0x0401, Withdraw 0x0402, Release 0x0403, Abort 0x0404."
+abbrev pub types : List (ℕ × MessageType)
+types =
+    (0x0001, MessageType.Notification)
+    ∷ (initializationNumber, MessageType.Initialization)
+    ∷ (keepaliveNumber, MessageType.KeepAlive)
+    ∷ (0x0300, MessageType.Address)
+    ∷ (0x0301, MessageType.AddressWithdraw)
+    ∷ (0x0400, MessageType.Mapping)
+    ∷ (0x0401, MessageType.Request)
+    ∷ (0x0402, MessageType.Withdraw)
+    ∷ (0x0403, MessageType.Release)
+    ∷ (0x0404, MessageType.Abort)
+    ∷ []
+
+unfoldable pub typeOf : ℕ → MessageType
+typeOf n = lookup MessageType.Other types n
+
+-- the type's number: "a message's U .. ignored"
+abbrev pub numberIn : List ℕ → ℕ
+numberIn m = beAt 2 m 0 % 32768
+
+abbrev pub idIn : List ℕ → MessageId
+idIn m = record { 0 = beAt 4 m 4 }
+
+-- 01: "Malformed: .. Mapping without FEC or label; Withdraw or Release without FEC": what a type must bear, by whether FEC and label stand
+abbrev pub bearsBy : MessageType → Bool → Bool → Bool
+bearsBy MessageType.Notification fec label = true
+bearsBy MessageType.Initialization fec label = true
+bearsBy MessageType.KeepAlive fec label = true
+bearsBy MessageType.Address fec label = true
+bearsBy MessageType.AddressWithdraw fec label = true
+bearsBy MessageType.Mapping fec label = both fec label
+bearsBy MessageType.Request fec label = true
+bearsBy MessageType.Withdraw fec label = fec
+bearsBy MessageType.Release fec label = fec
+bearsBy MessageType.Abort fec label = true
+bearsBy MessageType.Other fec label = true
+
+abbrev pub bearsOf : MessageType → Found → Bool
+bearsOf t f = bearsBy t (not (eqb (f .fec) 0)) (not (eqb (f .label) 0))
+
+-- the message m, whose TLVs were found at the places f
+unfoldable pub messageOf : List ℕ → Found → Message
+messageOf m f = record {
+  typename = typeOf (numberIn m);
+  typenumber = numberIn m;
+  id = idIn m;
+  found = f;
+  fec = fecAt m (f .fec);
+  fecvalue = partAt m (f .fec);
+  label = fieldAt m (f .label);
+  status = fieldAt m (f .status);
+  parameters = parametersAt m (f .parameters);
+  parametersvalue = partAt m (f .parameters);
+  session = sessionAt m (f .session);
+  protection = numberAt m (f .protection);
+  ack = numberAt m (f .ack);
+}
+
+abbrev pub readingBy : List ℕ → Walk → Reading
+readingBy m Walk.Malformed = Reading.Malformed
+readingBy m (Walk.Whole f) = pick (bearsOf (typeOf (numberIn m)) f) (Reading.Whole (messageOf m f)) Reading.Malformed
+
+unfoldable pub readingOf : List ℕ → Reading
+readingOf m = readingBy m (tlvsOf m)

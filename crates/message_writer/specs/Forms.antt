@@ -1,0 +1,72 @@
+-- The messages that we write, byte by byte.
+-- 01: "Our Init: parameters (protocol version 1, KeepAlive time, A, D and PVLim zero, maximum PDU length, receiver identifier), FT Session,
+-- then FT ACK if R is 1: 34 or 42 bytes. KeepAlive .. carries FT ACK in UpFT, 16 bytes, and none in UpPlain, 8 bytes."
+-- "adds at its end FT Protection, then FT ACK if asked, raising its length"; "on writing FT Session begins 85 03".
+use Prim.Native.Nat.{ℕ, _+_, _-_}
+use mathlib.Core.List.{List, [], _++_}
+use lib.ListN.{length}
+use Rattle.octets.specs.Be.{bytes}
+use Rattle.octets.specs.Part.{withPart}
+use Rattle.ft_number.specs.declared.FtNumber.{FtNumber}
+use Rattle.ft_number.specs.declared.MessageId.{MessageId}
+use Rattle.tlv.specs.Tlv.{parametersNumber, sessionNumber, protectionNumber, ackNumber}
+use Rattle.tlv.specs.declared.FtField
+use Rattle.tlv.specs.declared.FtField.{FtField}
+use Rattle.message.specs.Reading.{initializationNumber, keepaliveNumber}
+use Rattle.message_writer.specs.declared.OwnParameters.{OwnParameters}
+
+-- a TLV: type (2), length of the value (2), value
+abbrev pub tlvBytes : ℕ → List ℕ → List ℕ
+tlvBytes number value = bytes 2 number ++ (bytes 2 (length value) ++ value)
+
+-- a message's head: type (2), length of what follows (2), message ID (4)
+abbrev pub headBytes : ℕ → ℕ → ℕ → List ℕ
+headBytes number size id = bytes 2 number ++ (bytes 2 size ++ bytes 4 id)
+
+abbrev pub messageBytes : ℕ → MessageId → List ℕ → List ℕ
+messageBytes number id tlvs = headBytes number (4 + length tlvs) (id .0) ++ tlvs
+
+-- FT ACK where a number is given
+abbrev pub ackTlv : FtField → List ℕ
+ackTlv FtField.Absent = []
+ackTlv (FtField.Number a) = tlvBytes ackNumber (bytes 4 (a .0))
+
+-- protocol version 1 (2), KeepAlive time (2), the A and D bits (1), PVLim (1), maximum PDU length (2), receiver's LSR ID (4) and label space (2)
+abbrev pub parametersTlv : OwnParameters → List ℕ
+parametersTlv p =
+    tlvBytes parametersNumber
+    (bytes 2 1 ++ (bytes 2 (p .keepalive) ++ (bytes 1 0 ++ (bytes 1 0 ++ (bytes 2 (p .pdulength) ++ (bytes 4 (p .lsr) ++ bytes 2 (p .space)))))))
+
+-- the 32 bits of FT Session: the top bit is R, set where there is an ACK; the last 16 are the seconds
+abbrev pub sessionValue : FtField → ℕ → ℕ
+sessionValue FtField.Absent seconds = seconds
+sessionValue (FtField.Number a) seconds = 0x80000000 + seconds
+
+-- FT Session, its U bit set
+abbrev pub sessionTlv : ℕ → List ℕ
+sessionTlv session = tlvBytes (0x8000 + sessionNumber) (bytes 4 session)
+
+-- an Init up to its FT Session, with the length of the whole
+abbrev pub initHead : ℕ → MessageId → OwnParameters → ℕ → List ℕ
+initHead size id p session = headBytes initializationNumber size (id .0) ++ (parametersTlv p ++ sessionTlv session)
+
+abbrev pub initBytes : MessageId → OwnParameters → ℕ → FtField → List ℕ
+initBytes id p seconds ack = messageBytes initializationNumber id (parametersTlv p ++ (sessionTlv (sessionValue ack seconds) ++ ackTlv ack))
+
+abbrev pub keepaliveBytes : MessageId → FtField → List ℕ
+keepaliveBytes id ack = messageBytes keepaliveNumber id (ackTlv ack)
+
+-- the message m with another number in its length
+abbrev pub raisedTo : List ℕ → ℕ → List ℕ
+raisedTo m size = withPart m 2 4 (bytes 2 size)
+
+-- the message m with TLVs behind it, its length raised
+unfoldable pub raised : List ℕ → List ℕ → List ℕ
+raised m tlvs = raisedTo m (length m + length tlvs - 4) ++ tlvs
+
+-- FT Protection, then FT ACK
+abbrev pub ftTlvs : FtNumber → FtField → List ℕ
+ftTlvs n ack = tlvBytes protectionNumber (bytes 4 (n .0)) ++ ackTlv ack
+
+abbrev pub protectedBytes : List ℕ → FtNumber → FtField → List ℕ
+protectedBytes m n ack = raised m (ftTlvs n ack)

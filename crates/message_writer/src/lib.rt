@@ -1,0 +1,158 @@
+// The messages that we write: our Init, KeepAlive, and a stored message with its FT TLVs.
+use ft_number::FtNumber;
+use ft_number::MessageId;
+use tlv::FtField;
+ghost use mathlib.Core.Path.{_≡_};
+ghost use Prim.Native.Nat.{_+_, _-_, _≤_};
+ghost use mathlib.Core.List.{_++_};
+ghost use lib.ListN.{length};
+ghost use Rattle.octets.specs.Be.{bytes};
+ghost use Rattle.tlv.specs.Tlv.{protectionNumber};
+ghost use Rattle.message_writer.specs.Forms.{tlvBytes, headBytes, parametersTlv, initHead, initBytes, keepaliveBytes, raisedTo, protectedBytes};
+ghost use Rattle.message_writer.specs.Written.{laid, writtenOf};
+
+// What our Init proposes: KeepAlive time, maximum PDU length, and the receiver's LDP identifier (LSR ID and label space).
+pub struct OwnParameters {
+    pub keepalive: u16,
+    pub pdulength: u16,
+    pub lsr: u32,
+    pub space: u16,
+}
+
+// Nothing written, for want of room (9), or the number of bytes written.
+pub enum Written {
+    TooShort,
+    Bytes(usize),
+}
+
+// Writes a message's head.
+fn put_head(out: &mut [u8], number: u16, size: u16, id: u32)
+    requires { ⌜ 8 ≤ length (now out) ⌝ }
+    ensures { λ _. ⌜ now (out .exit) ≡ laid (now (out .entry)) 0 (headBytes number size id) ⌝ }
+{
+    octets::put_u16(out, 0, number);
+    octets::put_u16(out, 2, size);
+    octets::put_u32(out, 4, id);
+}
+
+// Writes a TLV with a value of 32 bits.
+fn put_tlv(out: &mut [u8], at: usize, number: u16, value: u32)
+    requires { ⌜ at + 8 ≤ length (now out) ⌝ }
+    ensures { λ _. ⌜ now (out .exit) ≡ laid (now (out .entry)) at (tlvBytes number (bytes 4 value)) ⌝ }
+{
+    octets::put_u16(out, at, number);
+    octets::put_u16(out, at + 2, 4);
+    octets::put_u32(out, at + 4, value);
+}
+
+// Writes the Common Session Parameters behind an Init's head.
+fn put_parameters(out: &mut [u8], p: OwnParameters)
+    requires { ⌜ 26 ≤ length (now out) ⌝ }
+    ensures { λ _. ⌜ now (out .exit) ≡ laid (now (out .entry)) 8 (parametersTlv p) ⌝ }
+{
+    octets::put_u32(out, 8, 0x0500000E);
+    octets::put_u16(out, 12, 1);
+    octets::put_u16(out, 14, p.keepalive);
+    octets::put_u16(out, 16, 0);
+    octets::put_u16(out, 18, p.pdulength);
+    octets::put_u32(out, 20, p.lsr);
+    octets::put_u16(out, 24, p.space);
+}
+
+// Writes an Init up to its FT Session TLV.
+fn put_init(out: &mut [u8], size: u16, id: MessageId, p: OwnParameters, session: u32)
+    requires { ⌜ 34 ≤ length (now out) ⌝ }
+    ensures { λ _. ⌜ now (out .exit) ≡ laid (now (out .entry)) 0 (initHead size id p session) ⌝ }
+{
+    put_head(out, 0x0200, size, id.0);
+    put_parameters(out, p);
+    put_tlv(out, 26, 0x8503, session);
+}
+
+// Writes our Init: with an ACK R is set, without one it is clear.
+pub fn write_init(
+    out: &mut [u8],
+    id: MessageId,
+    p: OwnParameters,
+    seconds: u16,
+    ack: FtField,
+) -> Written
+    ensures { λ r. ⌜ (r, now (out .exit)) ≡ writtenOf (now (out .entry)) (initBytes id p seconds ack) ⌝ }
+{
+    match ack {
+        FtField::Absent => {
+            if out.len() < 34 {
+                return Written::TooShort;
+            }
+            put_init(out, 30, id, p, seconds as u32);
+            Written::Bytes(34)
+        }
+        FtField::Number(a) => {
+            if out.len() < 42 {
+                return Written::TooShort;
+            }
+            put_init(out, 38, id, p, 0x80000000 + seconds as u32);
+            put_tlv(out, 34, 0x0504, a.0);
+            Written::Bytes(42)
+        }
+    }
+}
+
+// Writes a KeepAlive, with FT ACK where one is given.
+pub fn write_keepalive(out: &mut [u8], id: MessageId, ack: FtField) -> Written
+    ensures { λ r. ⌜ (r, now (out .exit)) ≡ writtenOf (now (out .entry)) (keepaliveBytes id ack) ⌝ }
+{
+    match ack {
+        FtField::Absent => {
+            if out.len() < 8 {
+                return Written::TooShort;
+            }
+            put_head(out, 0x0201, 4, id.0);
+            Written::Bytes(8)
+        }
+        FtField::Number(a) => {
+            if out.len() < 16 {
+                return Written::TooShort;
+            }
+            put_head(out, 0x0201, 12, id.0);
+            put_tlv(out, 8, 0x0504, a.0);
+            Written::Bytes(16)
+        }
+    }
+}
+
+// Writes a message with its length raised by the bytes added behind it, and FT Protection there.
+fn put_protected(out: &mut [u8], m: &[u8], added: usize, number: u32)
+    requires { ⌜ (8 ≤ length (now m)) × ((length (now m) ≤ 480) × ((added ≤ 16) × (length (now m) + 8 ≤ length (now out)))) ⌝ }
+    ensures { λ _. ⌜ now (out .exit) ≡ laid (now (out .entry)) 0 (raisedTo (now (m .entry)) (length (now (m .entry)) + added - 4) ++ tlvBytes protectionNumber (bytes 4 number)) ⌝ }
+{
+    octets::copy_to(out, 0, m);
+    octets::put_u16(out, 2, (m.len() + added - 4) as u16);
+    put_tlv(out, m.len(), 0x0203, number);
+}
+
+// Writes a stored message with its FT number, and FT ACK where one is given. Only Send calls it, with a stored message.
+pub fn write_protected(out: &mut [u8], m: &[u8], number: FtNumber, ack: FtField) -> Written
+    requires { ⌜ (8 ≤ length (now m)) × (length (now m) ≤ 480) ⌝ }
+    ensures { λ r. ⌜ (r, now (out .exit)) ≡ writtenOf (now (out .entry)) (protectedBytes (now (m .entry)) number ack) ⌝ }
+{
+    match ack {
+        FtField::Absent => {
+            let end = m.len() + 8;
+            if out.len() < end {
+                return Written::TooShort;
+            }
+            put_protected(out, m, 8, number.0);
+            Written::Bytes(end)
+        }
+        FtField::Number(a) => {
+            let end = m.len() + 16;
+            if out.len() < end {
+                return Written::TooShort;
+            }
+            put_protected(out, m, 16, number.0);
+            put_tlv(out, m.len() + 8, 0x0504, a.0);
+            Written::Bytes(end)
+        }
+    }
+}

@@ -1,0 +1,6 @@
+pub mod Fields
+pub mod Rows
+pub mod Turns
+pub mod Noted
+pub mod Places
+pub mod Values

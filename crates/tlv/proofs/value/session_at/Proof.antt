@@ -1,0 +1,16 @@
+use native.Mathlib.Omega.{arith}
+use Rattle.tlv.proofs.Values.{where-equal, where-apart}
+use Rattle.tlv.specs.Value.{sessionAt}
+use Rattle.tlv.proofs.value.session_at.Statement.{statement}
+use Rattle.tlv.proofs.value.session_at.Tie as tie
+
+pub session-at-spec : {M : Type 1} → statement M
+session-at-spec =
+    tie.close
+    (tie.spec
+    (λ c. unfold sessionAt in where-equal _ 0 _ _ (c .if1 .taken))
+    (λ c. omega (arith, c .before .before .pre (c .if1 .left)))
+    (λ c κs. omega (arith, c .before .before .pre (c .if1 .left)))
+    (λ c. omega (arith, c .before .before .before .pre (c .before .if1 .left)))
+    (λ c κs. omega (arith, c .before .before .before .pre (c .before .if1 .left)))
+    (λ c. unfold sessionAt in where-apart _ 0 _ _ (c .before .before .if1 .left) (cc)))

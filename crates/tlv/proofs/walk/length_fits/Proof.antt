@@ -1,0 +1,18 @@
+use borrow.Author.Needs.{needs}
+use Rattle.tlv.proofs.walk.length_fits.Statement.{statement}
+use Rattle.tlv.proofs.walk.length_fits.Tie as tie
+
+pub length-fits-spec : {M : Type 1} → statement M
+length-fits-spec =
+    tie.close
+    (tie.spec
+    (λ c. search needs) (λ c. search needs) (λ c. search needs) (λ c. search needs)
+    (λ c. search needs) (λ c. search needs) (λ c. search needs) (λ c. search needs)
+    (λ c. search needs)
+    (λ c. rw (c .enum-told2 .given .1))
+    (λ c. rw (c .enum-told3 .given .1))
+    (λ c. rw (c .enum-told4 .given .1))
+    (λ c. rw (c .enum-told5 .given .1))
+    (λ c. rw (c .enum-told6 .given .1))
+    (λ c. rw (c .enum-told7 .given .1))
+    (λ c. search needs))

@@ -1,0 +1,11 @@
+use borrow.Author.Needs.{needs}
+use Rattle.tlv.proofs.Noted.{heads}
+use Rattle.tlv.proofs.walk.walk_message.Statement.{statement}
+use Rattle.tlv.proofs.walk.walk_message.Tie as tie
+
+pub walk-message-spec : {M : Type 1} → statement M
+walk-message-spec =
+    tie.close
+    (tie.spec
+    (λ c. search (needs, heads)) (λ c. search (needs, heads)) (λ c. search (needs, heads)) (λ c. search (needs, heads))
+    (λ c. search (needs, heads)) (λ c. search (needs, heads)) (λ c. search (needs, heads)))

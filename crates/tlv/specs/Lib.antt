@@ -1,0 +1,4 @@
+pub mod Table
+pub mod Tlv
+pub mod Walk
+pub mod Value

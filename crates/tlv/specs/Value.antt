@@ -1,0 +1,69 @@
+-- What the TLV at a place of a message says; the place is 0 where the TLV does not stand. A value begins 4 bytes after the place.
+use Prim.Native.Nat.{ℕ, _+_, _≤_}
+use mathlib.Core.Path.{_≡_}
+use mathlib.Core.Bool.{Bool}
+use mathlib.Core.List.{List}
+use lib.ListN.{length}
+use lib.Dec.{eqb, leb}
+use Rattle.octets.specs.Be.{beAt}
+use Rattle.octets.specs.Pick.{pick}
+use Rattle.tlv.specs.Walk.{headSize}
+use Rattle.tlv.specs.declared.Fec
+use Rattle.tlv.specs.declared.Fec.{Fec}
+use Rattle.tlv.specs.declared.Field
+use Rattle.tlv.specs.declared.Field.{Field}
+use Rattle.tlv.specs.declared.Found.{Found}
+use Rattle.tlv.specs.declared.FtField
+use Rattle.tlv.specs.declared.FtField.{FtField}
+use Rattle.tlv.specs.declared.Parameters
+use Rattle.tlv.specs.declared.Parameters.{Parameters}
+use Rattle.tlv.specs.declared.Part.{Part}
+use Rattle.tlv.specs.declared.Session
+use Rattle.tlv.specs.declared.Session.{Session}
+
+-- n bytes of the value lie within the message
+abbrev pub Within : List ℕ → ℕ → ℕ → Type 0
+Within m place n = (place ≡ 0 → ⊥) → place + 4 + n ≤ length m
+
+-- the TLVs that were found lie within the message, each with its length
+pub record Places (m : List ℕ) (f : Found) : Type 0 where
+  pub head : headSize ≤ length m
+  pub fec : Within m (f .fec) (beAt 2 m (f .fec + 2))
+  pub label : Within m (f .label) 4
+  pub status : Within m (f .status) 4
+  pub parameters : Within m (f .parameters) 14
+  pub parametersvalue : Within m (f .parameters) (beAt 2 m (f .parameters + 2))
+  pub session : Within m (f .session) 4
+  pub protection : Within m (f .protection) 4
+  pub ack : Within m (f .ack) 4
+
+-- the value's part of the message
+unfoldable pub partAt : List ℕ → ℕ → Part
+partAt m place = pick (eqb place 0) (record { start = 0; end = 0 }) (record { start = place + 4; end = place + 4 + beAt 2 m (place + 2) })
+
+-- 01: "the wildcard FEC (one element of type 1)": the value is the single byte 01
+unfoldable pub fecAt : List ℕ → ℕ → Fec
+fecAt m place =
+    pick (eqb place 0) Fec.Absent
+    (pick (eqb (beAt 2 m (place + 2)) 1) (pick (eqb (beAt 1 m (place + 4)) 1) Fec.Wildcard Fec.Other) Fec.Other)
+
+-- the first 32 bits: a label, a status
+unfoldable pub fieldAt : List ℕ → ℕ → Field
+fieldAt m place = pick (eqb place 0) Field.Absent (Field.Value (beAt 4 m (place + 4)))
+
+-- an FT number
+unfoldable pub numberAt : List ℕ → ℕ → FtField
+numberAt m place = pick (eqb place 0) FtField.Absent (FtField.Number (record { 0 = beAt 4 m (place + 4) }))
+
+-- 01: "of the peer's parameters only these are read": KeepAlive time, maximum PDU length; before them stands the protocol version (2),
+-- between them the A and D bits (1) and PVLim (1)
+unfoldable pub parametersAt : List ℕ → ℕ → Parameters
+parametersAt m place = pick (eqb place 0) Parameters.Absent (Parameters.Given (beAt 2 m (place + 6)) (beAt 2 m (place + 10)))
+
+-- the top bit of 32
+abbrev pub topBit : ℕ → Bool
+topBit v = leb 2147483648 v
+
+-- 01: "FT Session 0x0503 (4: top bit R, then seconds in the last 2 bytes)"
+unfoldable pub sessionAt : List ℕ → ℕ → Session
+sessionAt m place = pick (eqb place 0) Session.Absent (Session.Given (topBit (beAt 4 m (place + 4))) (beAt 2 m (place + 6)))

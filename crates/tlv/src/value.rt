@@ -1,0 +1,95 @@
+// What a TLV that was found says: its place is 0 where it does not stand, and its value lies within the message.
+use crate::Fec;
+use crate::Field;
+use crate::FtField;
+use crate::Parameters;
+use crate::Part;
+use crate::Session;
+use ft_number::FtNumber;
+ghost use mathlib.Core.Path.{_≡_};
+ghost use Rattle.octets.specs.Be.{beAt};
+ghost use Prim.Native.Nat.{_+_};
+ghost use Rattle.tlv.specs.Value.{Within, partAt, fecAt, fieldAt, numberAt, parametersAt, sessionAt};
+
+// The value's part of the message.
+pub fn part_at(m: &[u8], place: usize) -> Part
+    requires { ⌜ Within (now m) place (beAt 2 (now m) (place + 2)) ⌝ }
+    ensures { λ r. ⌜ r ≡ partAt (now (m .entry)) place ⌝ }
+{
+    if place == 0 {
+        return Part { start: 0, end: 0 };
+    }
+    let start = place + 4;
+    Part {
+        start: start,
+        end: start + octets::get_u16(m, place + 2) as usize,
+    }
+}
+
+pub fn fec_at(m: &[u8], place: usize) -> Fec
+    requires { ⌜ Within (now m) place (beAt 2 (now m) (place + 2)) ⌝ }
+    ensures { λ r. ⌜ r ≡ fecAt (now (m .entry)) place ⌝ }
+{
+    if place == 0 {
+        return Fec::Absent;
+    }
+    if octets::get_u16(m, place + 2) != 1 {
+        return Fec::Other;
+    }
+    if octets::get_u8(m, place + 4) != 1 {
+        return Fec::Other;
+    }
+    Fec::Wildcard
+}
+
+pub fn field_at(m: &[u8], place: usize) -> Field
+    requires { ⌜ Within (now m) place 4 ⌝ }
+    ensures { λ r. ⌜ r ≡ fieldAt (now (m .entry)) place ⌝ }
+{
+    if place == 0 {
+        return Field::Absent;
+    }
+    Field::Value(octets::get_u32(m, place + 4))
+}
+
+pub fn number_at(m: &[u8], place: usize) -> FtField
+    requires { ⌜ Within (now m) place 4 ⌝ }
+    ensures { λ r. ⌜ r ≡ numberAt (now (m .entry)) place ⌝ }
+{
+    if place == 0 {
+        return FtField::Absent;
+    }
+    FtField::Number(FtNumber(octets::get_u32(m, place + 4)))
+}
+
+// The KeepAlive time and the maximum PDU length.
+pub fn parameters_at(m: &[u8], place: usize) -> Parameters
+    requires { ⌜ Within (now m) place 14 ⌝ }
+    ensures { λ r. ⌜ r ≡ parametersAt (now (m .entry)) place ⌝ }
+{
+    if place == 0 {
+        return Parameters::Absent;
+    }
+    let keepalive = octets::get_u16(m, place + 6);
+    let pdulength = octets::get_u16(m, place + 10);
+    Parameters::Given {
+        keepalive: keepalive,
+        pdulength: pdulength,
+    }
+}
+
+// The R bit and the seconds.
+pub fn session_at(m: &[u8], place: usize) -> Session
+    requires { ⌜ Within (now m) place 4 ⌝ }
+    ensures { λ r. ⌜ r ≡ sessionAt (now (m .entry)) place ⌝ }
+{
+    if place == 0 {
+        return Session::Absent;
+    }
+    let reconnect = 2147483648 <= octets::get_u32(m, place + 4);
+    let seconds = octets::get_u16(m, place + 6);
+    Session::Given {
+        reconnect: reconnect,
+        seconds: seconds,
+    }
+}
