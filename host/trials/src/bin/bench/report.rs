@@ -54,7 +54,8 @@ fn summary(rows: &[Row]) -> String {
 pub fn markdown(rows: &[Row]) -> String {
     let mut text = String::from(
         "Times are nanoseconds per call, medians over the rounds; a ratio is the median of the rounds' ratios, library\n\
-         to model. The floor is one read of the bytes that the call must read.\n\n    \
+         to model. Models stand behind a C boundary like the library's. The floor is one read of the bytes that the\n\
+         call must read.\n\n    \
          cd host && cargo run --release --bin bench -- --markdown\n\n",
     );
     text += &summary(rows);
