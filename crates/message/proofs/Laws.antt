@@ -1,28 +1,27 @@
 -- What a whole reading and an accepted submission tell their callers. Assumes nothing.
 use Prim.Native.Nat.{ℕ, _+_, _≤_, _<_}
 use mathlib.Core.Path.{_≡_, refl, sym, _∙_, ap}
-use mathlib.Core.Bool.{Bool, true, false, not}
+use mathlib.Core.Bool.{Bool, true, false}
 use mathlib.Core.List.{List}
 use native.Mathlib.Omega.{arith}
-use borrow.Author.Tests.{eq-eqb, ne-eqb, eqb-true, eqb-false, not-false}
+use borrow.Author.Tests.{eqb-true, not-false}
 use lib.ListN.{length}
 use lib.Dec.{eqb}
 use Rattle.octets.specs.Be.{beAt}
 use Rattle.octets.specs.Pick.{pick, both}
 use Rattle.tlv.specs.Tlv.{largestLabel}
 use Rattle.tlv.specs.Walk.{headSize, tlvsOf}
-use Rattle.tlv.specs.Value.{Places, Within, partAt, fieldAt}
+use Rattle.tlv.specs.Value.{Places}
 use Rattle.tlv.specs.declared.Field
 use Rattle.tlv.specs.declared.Field.{Field}
 use Rattle.tlv.specs.declared.Found.{Found}
-use Rattle.tlv.specs.declared.Part.{Part}
 use Rattle.tlv.specs.declared.walk.Walk
 use Rattle.tlv.specs.declared.walk.Walk.{Walk}
-use Rattle.tlv.proofs.Places.{WholeTlvs, whole-tlvs, Each, Lies, found-lies, places}
+use Rattle.tlv.proofs.Places.{whole-tlvs, found-lies, places}
 use Rattle.tlv.proofs.Values.{InMessage, part-in, field-low}
 use Rattle.message.specs.Kinds.{kindOf, kindNumber}
 use Rattle.message.specs.Reading.{typeOf, numberIn, idIn, bearsOf, messageOf, readingBy, readingOf}
-use Rattle.message.specs.Submission.{bearsFt, noLabel, labelledAs, submissionBy, submissionFor, submissionOf}
+use Rattle.message.specs.Submission.{bearsFt, noLabel, labelledAs, acceptedAs, judged, submissionOf}
 use Rattle.message.specs.declared.Kind
 use Rattle.message.specs.declared.Kind.{Kind}
 use Rattle.message.specs.declared.Message.{Message}
@@ -112,7 +111,7 @@ pub record Labelled (g : Message) (k : Kind) (l : ℕ) : Type 0 where
   pub label : kindNumber k ≤ 3 → g .label ≡ Field.Value l
   pub none : 3 < kindNumber k → l ≡ noLabel
 
-labelled : (g : Message) (kind k : Kind) (l : ℕ) → submissionBy kind (g .label) ≡ Submission.Accepted k l → (kind ≡ k) × Labelled g k l
+labelled : (g : Message) (kind k : Kind) (l : ℕ) → acceptedAs kind (g .label) ≡ Submission.Accepted k l → (kind ≡ k) × Labelled g k l
 labelled g kind k l e = by-kind kind (g .label) refl e
   where
     named : (j : Kind) (field : Field) → 1 ≤ kindNumber j → kindNumber j ≤ 3 → g .label ≡ field → labelledAs j field ≡ Submission.Accepted k l → (j ≡ k) × Labelled g k l
@@ -130,7 +129,7 @@ labelled g kind k l e = by-kind kind (g .label) refl e
         let value : noLabel ≡ l = cc in
         (same, record { some = omega arith; kinds = omega arith; label = λ z. absurd (omega arith); none = λ z. sym value })
 
-    by-kind : (j : Kind) (field : Field) → g .label ≡ field → submissionBy j field ≡ Submission.Accepted k l → (j ≡ k) × Labelled g k l
+    by-kind : (j : Kind) (field : Field) → g .label ≡ field → acceptedAs j field ≡ Submission.Accepted k l → (j ≡ k) × Labelled g k l
     by-kind Kind.Mapping field q h = named Kind.Mapping field (omega arith) (omega arith) q h
     by-kind Kind.Withdraw field q h = named Kind.Withdraw field (omega arith) (omega arith) q h
     by-kind Kind.Release field q h = named Kind.Release field (omega arith) (omega arith) q h
@@ -152,12 +151,12 @@ unfolding submissionOf
 accepted m k l e = by-reading (readingOf m) refl e
   where
     by-ft : (g : Message) (b : Bool) → readingOf m ≡ Reading.Whole g → bearsFt (g .found) ≡ b
-        → pick b Submission.Refused (submissionBy (kindOf g) (g .label)) ≡ Submission.Accepted k l → Accepted m k l
+        → pick b Submission.Refused (acceptedAs (kindOf g) (g .label)) ≡ Submission.Accepted k l → Accepted m k l
     by-ft g true q p h = let z : _≡_ {A = ℕ} 0 1 = cc in absurd (omega arith)
     by-ft g false q p h =
         let by = labelled g (kindOf g) k l h in
         record { message = g; reading = q; noFt = no-ft (g .found) p; kind = by .0; labelled = by .1 }
 
-    by-reading : (r : Reading) → readingOf m ≡ r → submissionFor r ≡ Submission.Accepted k l → Accepted m k l
+    by-reading : (r : Reading) → readingOf m ≡ r → judged r ≡ Submission.Accepted k l → Accepted m k l
     by-reading Reading.Malformed q h = let z : _≡_ {A = ℕ} 0 1 = cc in absurd (omega arith)
     by-reading (Reading.Whole g) q h = by-ft g (bearsFt (g .found)) q refl h

@@ -5,9 +5,9 @@ use mathlib.Core.Bool.{Bool, true, false, not}
 use mathlib.Core.List.{List}
 use borrow.Author.Tests.{eq-eqb, ne-eqb}
 use lib.Dec.{eqb}
-use Rattle.message.specs.Kinds.{fatalOf, codeOf, resourcesAvailable, kindBy, kindOf}
+use Rattle.message.specs.Kinds.{fatalOf, codeOf, resourcesAvailable, notificationKind, kindOf}
 use Rattle.message.specs.Reading.{readingOf}
-use Rattle.message.specs.Submission.{bearsFt, submissionBy, submissionOf}
+use Rattle.message.specs.Submission.{bearsFt, acceptedAs, submissionOf}
 use Rattle.tlv.specs.declared.Field
 use Rattle.tlv.specs.declared.Field.{Field}
 use Rattle.tlv.specs.declared.Found.{Found}
@@ -21,22 +21,22 @@ use Rattle.message.specs.declared.Submission.{Submission}
 
 -- the kind of a Notification
 module _ (status : Field) where
-  pub kind-absent : status ≡ Field.Absent → Kind.NoKind ≡ kindBy status
-  unfolding kindBy
+  pub kind-absent : status ≡ Field.Absent → Kind.NoKind ≡ notificationKind status
+  unfolding notificationKind
   kind-absent e = rw e
 
   module _ (v : ℕ) (e : status ≡ Field.Value v) (fatal : Bool) (fatalq : fatal ≡ fatalOf v) where
-    pub kind-fatal : fatal ≡ true → Kind.NoKind ≡ kindBy status
-    unfolding kindBy
+    pub kind-fatal : fatal ≡ true → Kind.NoKind ≡ notificationKind status
+    unfolding notificationKind
     kind-fatal h = simp (e, sym fatalq, h)
 
     module _ (h : fatal ≡ false) (code : ℕ) (codeq : code ≡ codeOf v) where
-      pub kind-code : (code ≡ resourcesAvailable → ⊥) → Kind.NoKind ≡ kindBy status
-      unfolding kindBy
+      pub kind-code : (code ≡ resourcesAvailable → ⊥) → Kind.NoKind ≡ notificationKind status
+      unfolding notificationKind
       kind-code k = simp (e, sym fatalq, h, sym codeq, ne-eqb code resourcesAvailable k)
 
-      pub kind-available : code ≡ resourcesAvailable → Kind.ResourcesAvailable ≡ kindBy status
-      unfolding kindBy
+      pub kind-available : code ≡ resourcesAvailable → Kind.ResourcesAvailable ≡ notificationKind status
+      unfolding notificationKind
       kind-available k = simp (e, sym fatalq, h, sym codeq, eq-eqb code resourcesAvailable k)
 
 pub ruleset kinds = (kind-absent, kind-fatal, kind-code, kind-available)
@@ -68,7 +68,7 @@ module _ (m : List ℕ) (r : Reading) (rq : r ≡ readingOf m) where
     unfolding submissionOf
     judged-ft h = simp (sym rq ∙ e, sym ftq ∙ h)
 
-    pub judged-kind : ft ≡ false → (k : Kind) (a : Submission) → a ≡ submissionBy k (g .label) → k ≡ kindOf g → a ≡ submissionOf m
+    pub judged-kind : ft ≡ false → (k : Kind) (a : Submission) → a ≡ acceptedAs k (g .label) → k ≡ kindOf g → a ≡ submissionOf m
     unfolding submissionOf
     judged-kind h k a aq kq = simp (aq, kq, sym rq ∙ e, sym ftq ∙ h)
 

@@ -2,7 +2,7 @@
 -- 01: "Kinds: Mapping, Withdraw, Release, Address, Address Withdraw, Resources Available (a Notification whose Status has that code in its
 -- low 30 bits and E clear)."
 use Prim.Native.Nat.{ℕ, _%_}
-use mathlib.Core.Bool.{Bool, true, false}
+use mathlib.Core.Bool.{Bool}
 use lib.Dec.{eqb}
 use Rattle.octets.specs.Pick.{pick}
 use Rattle.tlv.specs.Value.{topBit}
@@ -36,12 +36,12 @@ abbrev pub resourcesAvailable : ℕ
 resourcesAvailable = 0x0000000F
 
 -- the kind of a Notification
-unfoldable pub kindBy : Field → Kind
-kindBy Field.Absent = Kind.NoKind
-kindBy (Field.Value v) = pick (fatalOf v) Kind.NoKind (pick (eqb (codeOf v) resourcesAvailable) Kind.ResourcesAvailable Kind.NoKind)
+unfoldable pub notificationKind : Field → Kind
+notificationKind Field.Absent = Kind.NoKind
+notificationKind (Field.Value v) = pick (fatalOf v) Kind.NoKind (pick (eqb (codeOf v) resourcesAvailable) Kind.ResourcesAvailable Kind.NoKind)
 
 abbrev pub kindFor : MessageType → Field → Kind
-kindFor MessageType.Notification status = kindBy status
+kindFor MessageType.Notification status = notificationKind status
 kindFor MessageType.Initialization status = Kind.NoKind
 kindFor MessageType.KeepAlive status = Kind.NoKind
 kindFor MessageType.Address status = Kind.Address

@@ -1,8 +1,8 @@
 -- What a message is: malformed, or its type, its message ID and what its TLVs say.
 -- 01: "Message: U bit and type (2), length (2, bytes after it), message ID (4), TLVs."
-use Prim.Native.Nat.{ℕ, _+_, _%_}
+use Prim.Native.Nat.{ℕ, _%_}
 use mathlib.Core.List.{List, [], _∷_}
-use mathlib.Core.Bool.{Bool, true, false, not}
+use mathlib.Core.Bool.{Bool, true, not}
 use lib.Dec.{eqb}
 use Rattle.octets.specs.Be.{beAt}
 use Rattle.octets.specs.Pick.{pick, both}

@@ -15,8 +15,8 @@ ghost use lib.ListN.{length};
 ghost use Rattle.tlv.specs.Walk.{headSize};
 ghost use Rattle.tlv.specs.Value.{Places};
 ghost use Rattle.message.specs.Reading.{typeOf, numberIn, idIn, bearsOf, messageOf, readingOf};
-ghost use Rattle.message.specs.Kinds.{fatalOf, codeOf, kindBy, kindOf, kindNumber};
-ghost use Rattle.message.specs.Submission.{bearsFt, labelledAs, submissionBy, submissionOf};
+ghost use Rattle.message.specs.Kinds.{fatalOf, codeOf, notificationKind, kindOf, kindNumber};
+ghost use Rattle.message.specs.Submission.{bearsFt, labelledAs, acceptedAs, submissionOf};
 
 // The message types; Other is every number that has no name here.
 pub enum MessageType {
@@ -178,8 +178,8 @@ pub fn status_code(status: u32) -> u32
     status % 1073741824
 }
 
-fn kind_by_status(status: Field) -> Kind
-    ensures { λ r. ⌜ r ≡ kindBy status ⌝ }
+fn notification_kind(status: Field) -> Kind
+    ensures { λ r. ⌜ r ≡ notificationKind status ⌝ }
 {
     match status {
         Field::Absent => Kind::NoKind,
@@ -202,7 +202,7 @@ pub fn kind_of(g: Message) -> Kind
     let t = g.typename;
     let status = g.status;
     match t {
-        MessageType::Notification => kind_by_status(status),
+        MessageType::Notification => notification_kind(status),
         MessageType::Initialization => Kind::NoKind,
         MessageType::KeepAlive => Kind::NoKind,
         MessageType::Address => Kind::Address,
@@ -231,7 +231,7 @@ pub fn kind_number(kind: Kind) -> u8
     }
 }
 
-fn bears_ft(found: Found) -> bool
+pub fn bears_ft(found: Found) -> bool
     ensures { λ r. ⌜ r ≡ bearsFt found ⌝ }
 {
     if found.session != 0 {
@@ -253,7 +253,7 @@ fn labelled(kind: Kind, label: Field) -> Submission
 }
 
 fn judge_kind(kind: Kind, label: Field) -> Submission
-    ensures { λ r. ⌜ r ≡ submissionBy kind label ⌝ }
+    ensures { λ r. ⌜ r ≡ acceptedAs kind label ⌝ }
 {
     match kind {
         Kind::Mapping => labelled(Kind::Mapping, label),

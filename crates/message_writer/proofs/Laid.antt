@@ -7,21 +7,15 @@ use native.Mathlib.Numerals.{add-one}
 use native.Mathlib.Omega.{arith}
 use borrow.Author.Tests.{lt-ltb, le-ltb}
 use lib.ListN.{length, getD, set, take, drop, length-append, length-drop, take-append-drop}
-use lib.Dec.{ltb}
-use lib.Seq.{length-take-le, take-at, drop-at, drop-drop, drop-append-le, take-append-le, set-split, take-suc, take-length, drop-append-add}
+use lib.Seq.{length-take-le, take-at, drop-at, drop-drop, set-split, take-suc, take-length}
 use Rattle.octets.specs.Be.{putBe, bytes}
 use Rattle.octets.specs.Fill.{filled, copied}
-use Rattle.octets.specs.Part.{withPart, overlaid}
-use Rattle.octets.specs.Pick.{pick}
 use Rattle.octets.proofs.Be.{putBe-suc}
+use Rattle.octets.proofs.Bytes.{length-bytes}
 use Rattle.octets.proofs.Fill.{filled-none, filled-one}
 use Rattle.message_writer.specs.Written.{laid, writtenOf}
 use Rattle.message_writer.specs.declared.Written
 use Rattle.message_writer.specs.declared.Written.{Written}
-
-pub length-bytes : (w v : ℕ) → length (bytes w v) ≡ w
-length-bytes zero v = refl
-length-bytes (suc w) v = length-append (bytes w (v / 256)) (v % 256 ∷ []) ∙ ap (λ (n : ℕ). n + 1) (length-bytes w (v / 256)) ∙ add-one w
 
 pub laid-none : (s : List ℕ) (at : ℕ) → laid s at [] ≡ s
 unfolding laid

@@ -1,2 +1,8 @@
 pub mod Laid
 pub mod Puts
+pub mod Append
+pub mod Raised
+pub mod Protected
+pub mod Kept
+pub mod Own
+pub mod RoundTrip

@@ -1,7 +1,7 @@
 -- What the stores of a head, of TLVs and of whole messages leave: the premises are what the calls ensure. Assumes nothing.
 use Prim.Native.Nat.{ℕ, _+_, _-_, _≤_, _<_}
 use mathlib.Core.Path.{_≡_, refl, sym, ap, _∙_}
-use mathlib.Core.List.{List, [], _∷_, _++_, append-assoc}
+use mathlib.Core.List.{List, _++_, append-assoc}
 use native.Mathlib.Nat.{add-zero, zero-add}
 use native.Mathlib.Omega.{arith}
 use lib.ListN.{length, take, drop, length-append}
@@ -11,7 +11,7 @@ use Rattle.octets.specs.Fill.{copied}
 use Rattle.octets.proofs.Part.{length-withPart}
 use Rattle.ft_number.specs.declared.FtNumber.{FtNumber}
 use Rattle.ft_number.specs.declared.MessageId.{MessageId}
-use Rattle.tlv.specs.Tlv.{sessionNumber, protectionNumber, ackNumber}
+use Rattle.tlv.specs.Tlv.{protectionNumber}
 use Rattle.tlv.specs.declared.FtField
 use Rattle.tlv.specs.declared.FtField.{FtField}
 use Rattle.message.specs.Reading.{initializationNumber}
@@ -19,7 +19,7 @@ use Rattle.message_writer.specs.Forms.{tlvBytes, headBytes, parametersTl
 use Rattle.message_writer.specs.Written.{laid, writtenOf}
 use Rattle.message_writer.specs.declared.Written
 use Rattle.message_writer.specs.declared.Written.{Written}
-use Rattle.message_writer.specs.declared.Parameters.{Parameters}
+use Rattle.message_writer.specs.declared.OwnParameters.{OwnParameters}
 use Rattle.message_writer.proofs.Laid.{Laid, laid-start, then-part, then-put, laid-putBe, laid-copied, length-laid, written-whole, written-short}
 
 module _ (m : List ℕ) (head : 8 ≤ length m) where
@@ -46,7 +46,7 @@ module _ (s : List ℕ) where
       let l₂ = then-put l₁ 2 4 (at + 2) e₂ refl (omega arith) in
       then-put l₂ 4 value (at + 4) e₃ refl (omega arith) .is
 
-  pub parameters-laid : (x₁ x₂ x₃ x₄ x₅ x₆ x₇ : List ℕ) (p : Parameters) → 26 ≤ length s
+  pub parameters-laid : (x₁ x₂ x₃ x₄ x₅ x₆ x₇ : List ℕ) (p : OwnParameters) → 26 ≤ length s
       → x₁ ≡ putBe 4 s 8 0x0500000E → x₂ ≡ putBe 2 x₁ 12 1 → x₃ ≡ putBe 2 x₂ 14 (p .keepalive) → x₄ ≡ putBe 2 x₃ 16 0
       → x₅ ≡ putBe 2 x₄ 18 (p .pdulength) → x₆ ≡ putBe 4 x₅ 20 (p .lsr) → x₇ ≡ putBe 2 x₆ 24 (p .space) → x₇ ≡ laid s 8 (parametersTlv p)
   parameters-laid x₁ x₂ x₃ x₄ x₅ x₆ x₇ p h e₁ e₂ e₃ e₄ e₅ e₆ e₇ =
@@ -58,7 +58,7 @@ module _ (s : List ℕ) where
       let l₆ = then-put l₅ 4 (p .lsr) 20 e₆ refl (omega arith) in
       then-put l₆ 2 (p .space) 24 e₇ refl (omega arith) .is
 
-  pub init-laid : (x₁ x₂ x₃ : List ℕ) (size : ℕ) (id : MessageId) (p : Parameters) (session : ℕ) → 34 ≤ length s
+  pub init-laid : (x₁ x₂ x₃ : List ℕ) (size : ℕ) (id : MessageId) (p : OwnParameters) (session : ℕ) → 34 ≤ length s
       → x₁ ≡ laid s 0 (headBytes initializationNumber size (id .0)) → x₂ ≡ laid x₁ 8 (parametersTlv p) → x₃ ≡ laid x₂ 26 (sessionTlv session)
       → x₃ ≡ laid s 0 (initHead size id p session)
   init-laid x₁ x₂ x₃ size id p session h e₁ e₂ e₃ =

@@ -13,7 +13,7 @@ use Rattle.tlv.specs.Tlv.{parametersNumber, sessionNumber, protectionNumber, ac
 use Rattle.tlv.specs.declared.FtField
 use Rattle.tlv.specs.declared.FtField.{FtField}
 use Rattle.message.specs.Reading.{initializationNumber, keepaliveNumber}
-use Rattle.message_writer.specs.declared.Parameters.{Parameters}
+use Rattle.message_writer.specs.declared.OwnParameters.{OwnParameters}
 
 -- a TLV: type (2), length of the value (2), value
 abbrev pub tlvBytes : ℕ → List ℕ → List ℕ
@@ -32,7 +32,7 @@ ackTlv FtField.Absent = []
 ackTlv (FtField.Number a) = tlvBytes ackNumber (bytes 4 (a .0))
 
 -- protocol version 1 (2), KeepAlive time (2), the A and D bits (1), PVLim (1), maximum PDU length (2), receiver's LSR ID (4) and label space (2)
-abbrev pub parametersTlv : Parameters → List ℕ
+abbrev pub parametersTlv : OwnParameters → List ℕ
 parametersTlv p =
     tlvBytes parametersNumber
     (bytes 2 1 ++ (bytes 2 (p .keepalive) ++ (bytes 1 0 ++ (bytes 1 0 ++ (bytes 2 (p .pdulength) ++ (bytes 4 (p .lsr) ++ bytes 2 (p .space)))))))
@@ -47,10 +47,10 @@ abbrev pub sessionTlv : ℕ → List ℕ
 sessionTlv session = tlvBytes (0x8000 + sessionNumber) (bytes 4 session)
 
 -- an Init up to its FT Session, with the length of the whole
-abbrev pub initHead : ℕ → MessageId → Parameters → ℕ → List ℕ
+abbrev pub initHead : ℕ → MessageId → OwnParameters → ℕ → List ℕ
 initHead size id p session = headBytes initializationNumber size (id .0) ++ (parametersTlv p ++ sessionTlv session)
 
-abbrev pub initBytes : MessageId → Parameters → ℕ → FtField → List ℕ
+abbrev pub initBytes : MessageId → OwnParameters → ℕ → FtField → List ℕ
 initBytes id p seconds ack = messageBytes initializationNumber id (parametersTlv p ++ (sessionTlv (sessionValue ack seconds) ++ ackTlv ack))
 
 abbrev pub keepaliveBytes : MessageId → FtField → List ℕ

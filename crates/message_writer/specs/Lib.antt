@@ -1,3 +1,4 @@
 pub mod Written
 pub mod Forms
 pub mod Payload
+pub mod ReadBack

@@ -3,7 +3,7 @@ use ft_number::FtNumber;
 use ft_number::MessageId;
 use tlv::FtField;
 ghost use mathlib.Core.Path.{_≡_};
-ghost use Prim.Native.Nat.{_+_, _≤_};
+ghost use Prim.Native.Nat.{_+_, _-_, _≤_};
 ghost use mathlib.Core.List.{_++_};
 ghost use lib.ListN.{length};
 ghost use Rattle.octets.specs.Be.{bytes};
@@ -12,7 +12,7 @@ ghost use Rattle.message_writer.specs.Forms.{tlvBytes, headBytes, parame
 ghost use Rattle.message_writer.specs.Written.{laid, writtenOf};
 
 // What our Init proposes: KeepAlive time, maximum PDU length, and the receiver's LDP identifier (LSR ID and label space).
-pub struct Parameters {
+pub struct OwnParameters {
     pub keepalive: u16,
     pub pdulength: u16,
     pub lsr: u32,
@@ -46,7 +46,7 @@ fn put_tlv(out: &mut [u8], at: usize, number: u16, value: u32)
 }
 
 // Writes the Common Session Parameters behind an Init's head.
-fn put_parameters(out: &mut [u8], p: Parameters)
+fn put_parameters(out: &mut [u8], p: OwnParameters)
     requires { ⌜ 26 ≤ length (now out) ⌝ }
     ensures { λ _. ⌜ now (out .exit) ≡ laid (now (out .entry)) 8 (parametersTlv p) ⌝ }
 {
@@ -60,7 +60,7 @@ fn put_parameters(out: &mut [u8], p: Parameters)
 }
 
 // Writes an Init up to its FT Session TLV.
-fn put_init(out: &mut [u8], size: u16, id: MessageId, p: Parameters, session: u32)
+fn put_init(out: &mut [u8], size: u16, id: MessageId, p: OwnParameters, session: u32)
     requires { ⌜ 34 ≤ length (now out) ⌝ }
     ensures { λ _. ⌜ now (out .exit) ≡ laid (now (out .entry)) 0 (initHead size id p session) ⌝ }
 {
@@ -73,7 +73,7 @@ fn put_init(out: &mut [u8], size: u16, id: MessageId, p: Parameters, session: u3
 pub fn write_init(
     out: &mut [u8],
     id: MessageId,
-    p: Parameters,
+    p: OwnParameters,
     seconds: u16,
     ack: FtField,
 ) -> Written
@@ -121,13 +121,13 @@ pub fn write_keepalive(out: &mut [u8], id: MessageId, ack: FtField) -> Written
     }
 }
 
-// Writes a message with its length raised to a size, and FT Protection behind it.
-fn put_protected(out: &mut [u8], m: &[u8], size: u16, number: u32)
-    requires { ⌜ (8 ≤ length (now m)) × (length (now m) + 8 ≤ length (now out)) ⌝ }
-    ensures { λ _. ⌜ now (out .exit) ≡ laid (now (out .entry)) 0 (raisedTo (now (m .entry)) size ++ tlvBytes protectionNumber (bytes 4 number)) ⌝ }
+// Writes a message with its length raised by the bytes added behind it, and FT Protection there.
+fn put_protected(out: &mut [u8], m: &[u8], added: usize, number: u32)
+    requires { ⌜ (8 ≤ length (now m)) × ((length (now m) ≤ 480) × ((added ≤ 16) × (length (now m) + 8 ≤ length (now out)))) ⌝ }
+    ensures { λ _. ⌜ now (out .exit) ≡ laid (now (out .entry)) 0 (raisedTo (now (m .entry)) (length (now (m .entry)) + added - 4) ++ tlvBytes protectionNumber (bytes 4 number)) ⌝ }
 {
     octets::copy_to(out, 0, m);
-    octets::put_u16(out, 2, size);
+    octets::put_u16(out, 2, (m.len() + added - 4) as u16);
     put_tlv(out, m.len(), 0x0203, number);
 }
 
@@ -142,7 +142,7 @@ pub fn write_protected(out: &mut [u8], m: &[u8], number: FtNumber, ack: FtField)
             if out.len() < end {
                 return Written::TooShort;
             }
-            put_protected(out, m, (end - 4) as u16, number.0);
+            put_protected(out, m, 8, number.0);
             Written::Bytes(end)
         }
         FtField::Number(a) => {
@@ -150,7 +150,7 @@ pub fn write_protected(out: &mut [u8], m: &[u8], number: FtNumber, ack: FtField)
             if out.len() < end {
                 return Written::TooShort;
             }
-            put_protected(out, m, (end - 4) as u16, number.0);
+            put_protected(out, m, 16, number.0);
             put_tlv(out, m.len() + 8, 0x0504, a.0);
             Written::Bytes(end)
         }

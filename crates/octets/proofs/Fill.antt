@@ -7,8 +7,8 @@ use native.Mathlib.Nat.{eq-or-lt-of-le, le-of-suc-le-suc}
 use native.Mathlib.Numerals.{add-one}
 use native.Mathlib.Omega.{arith}
 use lib.ListN.{length, getD, set, length-set}
-use lib.Seq.{getD-set-same, getD-set-other}
-use Rattle.octets.specs.Fill.{filled}
+use lib.Seq.{getD-set-same, getD-set-other, ext-getD}
+use Rattle.octets.specs.Fill.{filled, copied}
 
 pub filled-none : (f : ℕ → ℕ) (s : List ℕ) (at : ℕ) → filled 0 f s at ≡ s
 unfolding filled
@@ -57,3 +57,12 @@ module _ (n : ℕ) (f : ℕ → ℕ) (s₀ : List ℕ) (at : ℕ) where
 
   pub filling-all : {s : List ℕ} {i : ℕ} → Filling n f s₀ at s i → n ≤ i → s ≡ filled n f s₀ at
   filling-all {s} {i} w h = let e : i ≡ n = omega (arith, w .inside) in rw e at (w .done)
+
+-- a copy over the whole list
+pub copied-all : (s m : List ℕ) → length s ≡ length m → copied s 0 m ≡ m
+copied-all s m e =
+    ext-getD 0 (copied s 0 m) m (length-filled (length m) (λ i. getD m i 0) s 0 ∙ e) (λ i h.
+    let inside : i < length m = omega (arith, length-filled (length m) (λ k. getD m k 0) s 0) in
+    let at : getD (copied s 0 m) (0 + i) 0 ≡ getD m i 0 = filled-at (length m) (λ k. getD m k 0) s 0 i (omega arith) inside in
+    let same : 0 + i ≡ i = omega arith in
+    rw same at at)

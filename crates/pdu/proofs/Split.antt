@@ -15,7 +15,7 @@ use Rattle.octets.specs.Pick.{pick}
 use Rattle.octets.proofs.Be.{beAt-same, beAt-part}
 use Rattle.octets.proofs.Fix.{size-ind}
 use Rattle.octets.proofs.Part.{length-part}
-use Rattle.pdu.specs.Pdu.{placeOf, onPlace, countedFrom, openedOf}
+use Rattle.pdu.specs.Pdu.{placeOf, messageOf, countedFrom, openedOf}
 use Rattle.pdu.specs.Split.{handedOut, thenFrom, IsMessage, AreMessages, none, one, IsPdu}
 use Rattle.pdu.specs.declared.Opened
 use Rattle.pdu.specs.declared.Opened.{Opened}
@@ -112,11 +112,16 @@ module _ (pdu : List ℕ) (n : ℕ) where
   unfolding openedOf
   opened-passed e = passed-cases (ltb (length pdu) 10) (eqb (beAt 2 pdu 0) 1) (eqb (beAt 2 pdu 2 + 4) (length pdu)) refl refl refl e
 
+  pub opened-reach : openedOf pdu ≡ Opened.Whole n → (10 ≤ length pdu) × Reach pdu 10 n
+  opened-reach e =
+      let p : Passed pdu n = opened-passed e in
+      (p .head, rw sub-zero at (counted-reach pdu n 10 0 (p .counted) (p .head) .1))
+
   -- a PDU that is taken with n messages: n are handed out, and after the head they are the PDU byte for byte
   pub opened-is-pdu : openedOf pdu ≡ Opened.Whole n → IsPdu pdu (handedOut pdu n 10) × (length (handedOut pdu n 10) ≡ n)
   opened-is-pdu e =
       let p : Passed pdu n = opened-passed e in
-      let r : Reach pdu 10 n = rw sub-zero at (counted-reach pdu n 10 0 (p .counted) (p .head) .1) in (
+      let r : Reach pdu 10 n = opened-reach e .1 in (
         record { head = p .head; version = p .version; adds = p .adds; whole = r .whole; joined = rw (r .joined) (take-append-drop 10 pdu) },
         r .count,
       )
@@ -163,3 +168,32 @@ pdu-is-opened pdu ms p =
       sym (opened-counted pdu (beAt 2 pdu 0) (beAt 2 pdu 2) (countedFrom pdu 10 0) (p .head) refl (p .version) refl (p .adds) refl) ∙ r .0 ∙ ap Opened.Whole total,
       r .1,
     )
+
+-- m is the first of k + 1 messages that reach to the PDU's end, and the others reach there from its end
+pub record Next (pdu : List ℕ) (at k : ℕ) (m : List ℕ) : Type 0 where
+  pub whole : IsMessage m
+  pub inside : at + length m ≤ length pdu
+  pub handed : handedOut pdu (suc k) at ≡ m ∷ handedOut pdu k (at + length m)
+  pub rest : Reach pdu (at + length m) k
+
+pub reach-next : (pdu : List ℕ) (at k : ℕ) → Reach pdu at (suc k) → Next pdu at k (messageOf pdu (placeOf pdu at))
+unfolding flatten
+reach-next pdu at k r = go (placeOf pdu at) refl (r .whole) (r .count) (r .joined)
+  where
+    go : (p : Place) → placeOf pdu at ≡ p → AreMessages (thenFrom pdu (handedOut pdu k) p) → length (thenFrom pdu (handedOut pdu k) p) ≡ suc k
+        → flatten (thenFrom pdu (handedOut pdu k) p) ≡ drop at pdu → Next pdu at k (messageOf pdu p)
+    go Place.None q ms n j = absurd (omega arith)
+    go (Place.Message start end) q (one w ws) n j =
+        let l : Within pdu at start end = place-within pdu at start end q in
+        let size : length (part pdu start end) ≡ end - start = length-part pdu start end (l .inside) in
+        let next : at + length (part pdu start end) ≡ end = omega arith in
+        let after : flatten (handedOut pdu k end) ≡ drop (at + length (part pdu start end)) pdu =
+        sym (drop-at (part pdu start end) (flatten (handedOut pdu k end)) (length (part pdu start end)) refl)
+        ∙ ap (drop (length (part pdu start end))) j
+        ∙ drop-drop (length (part pdu start end)) at pdu in
+        record {
+          whole = w;
+          inside = omega arith;
+          handed = rw (q, next) refl;
+          rest = rw next (record { whole = ws; count = omega arith; joined = rw next at after });
+        }

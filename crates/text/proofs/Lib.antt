@@ -1,3 +1,4 @@
 pub mod Copied
+pub mod Pieces
 pub mod Digits
 pub mod Vectors

@@ -6,7 +6,6 @@ use mathlib.Core.List.{List}
 use native.Mathlib.Omega.{arith}
 use borrow.Author.Tests.{eq-eqb, ne-eqb, lt-ltb, le-ltb, eqb-true, not-true, not-false}
 use lib.ListN.{length, drop}
-use lib.Dec.{eqb, ltb}
 use Rattle.octets.specs.Be.{beAt}
 use Rattle.tlv.specs.Tlv.{lengthFits, labelIn, largestLabel}
 use Rattle.tlv.specs.Walk.{placeOf, placedOf, notedOf, walkOf, noneFound, headSize, tlvsOf}
@@ -15,7 +14,7 @@ use Rattle.tlv.specs.declared.walk.Tlv
 use Rattle.tlv.specs.declared.walk.Tlv.{Tlv}
 use Rattle.tlv.specs.declared.walk.Walk
 use Rattle.tlv.specs.declared.walk.Walk.{Walk}
-use Rattle.tlv.proofs.Fields.{beAt-drop}
+use Rattle.octets.proofs.Bytes.{beAt-drop}
 
 module _ (f : Found) (tlv : Tlv) (n at : ℕ) (ts : List ℕ) (fits : Bool) (fitsq : fits ≡ lengthFits tlv n) where
   pub noted-length : not fits ≡ true → Walk.Malformed ≡ notedOf f tlv n at ts
@@ -47,7 +46,7 @@ module _ (tlv : Tlv) (is : tlv ≡ Tlv.Label) (s : List ℕ) (at : ℕ) where
   label-room n fits room = omega (arith, eqb-true n 4 (rw is at fits))
 
   pub label-read : (label : ℕ) → label ≡ beAt 4 s (at + 4) → label ≡ labelIn tlv (drop at s)
-  label-read label e = rw is (e ∙ sym (beAt-drop 4 s at 4))
+  label-read label e = rw is (e ∙ sym (beAt-drop 4 at s 4))
 
 pub ruleset labels = (label-room, label-read)
 

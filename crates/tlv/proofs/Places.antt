@@ -12,7 +12,7 @@ use lib.Dec.{eqb, ltb}
 use Rattle.octets.specs.Be.{beAt}
 use Rattle.octets.specs.Pick.{pick}
 use Rattle.octets.proofs.Fix.{size-ind}
-use Rattle.tlv.specs.Tlv.{tlvOf, lengthFits, headOf, sizeOf, labelIn, largestLabel}
+use Rattle.tlv.specs.Tlv.{tlvOf, lengthFits, headOf, labelIn, largestLabel}
 use Rattle.tlv.specs.Walk.{noneFound, placeOf, placedOf, notedOf, turnOf, Rest, leftOf, onTurn, walkOf, headSize, tlvsOf}
 use Rattle.tlv.specs.Value.{Within, Places}
 use Rattle.tlv.specs.declared.Found.{Found}
@@ -22,7 +22,7 @@ use Rattle.tlv.specs.declared.walk.Turn
 use Rattle.tlv.specs.declared.walk.Turn.{Turn}
 use Rattle.tlv.specs.declared.walk.Walk
 use Rattle.tlv.specs.declared.walk.Walk.{Walk}
-use Rattle.tlv.proofs.Fields.{beAt-drop}
+use Rattle.octets.proofs.Bytes.{beAt-drop}
 use Rattle.tlv.proofs.Turns.{Goes, goes, walkRest, walk-step}
 
 -- a TLV that was noted: its length was right, it had not stood before, its label was no higher than the largest
@@ -112,8 +112,8 @@ Lies m tlv p = (p ≡ 0 → ⊥) → Stands m tlv p
 turn-lies : (m : List ℕ) (f g : Found) (at n : ℕ) → headSize ≤ at → at ≤ length m → Goes f g at n (drop at m) → Each (Lies m) f → Each (Lies m) g
 turn-lies m f g at n l h w e =
     let k : Noted f g (headOf (drop at m)) (beAt 2 (drop at m) 2) at (drop at m) = noted f g (headOf (drop at m)) (beAt 2 (drop at m) 2) at (drop at m) (w .noted) in
-    let len : beAt 2 (drop at m) 2 ≡ beAt 2 m (at + 2) = beAt-drop 2 m at 2 in
-    let num : beAt 2 (drop at m) 0 ≡ beAt 2 m at = beAt-drop 2 m at 0 ∙ ap (beAt 2 m) (add-zero at) in
+    let len : beAt 2 (drop at m) 2 ≡ beAt 2 m (at + 2) = beAt-drop 2 at m 2 in
+    let num : beAt 2 (drop at m) 0 ≡ beAt 2 m at = beAt-drop 2 at m 0 ∙ ap (beAt 2 m) (add-zero at) in
     let here : Stands m (headOf (drop at m)) at = record {
       after = l;
       within = omega (arith, w .within, w .size, length-drop at m);

@@ -3,7 +3,6 @@ use Prim.Native.Nat.{ℕ}
 use mathlib.Core.Path.{_≡_, refl}
 use mathlib.Core.List.{List, [], _∷_}
 use borrow.Author.Tests.{ne-eqb}
-use lib.Dec.{eqb}
 use Rattle.tlv.specs.Table.{lookup}
 
 abbrev pub Absent : {X : Type 0} → List (ℕ × X) → ℕ → Type 0

@@ -14,7 +14,7 @@ use lib.Dec.{eqb, ltb}
 use Rattle.octets.specs.Be.{beAt}
 use Rattle.octets.specs.Pick.{pick}
 use Rattle.octets.proofs.Fix.{fix-step, Shrinks}
-use Rattle.tlv.proofs.Fields.{beAt-drop}
+use Rattle.octets.proofs.Bytes.{beAt-drop}
 use Rattle.tlv.specs.Tlv.{tlvOf, headOf, sizeOf}
 use Rattle.tlv.specs.Walk.{notedOf, takenOf, turnOf, Rest, leftOf, onTurn, stepOf, walkOf}
 use Rattle.tlv.specs.declared.Found.{Found}
@@ -98,8 +98,8 @@ module _ (s : List ℕ) (at : ℕ) (f : Found) where
       → w ≡ turnOf f at (drop at s)
   unfolding turnOf
   at-is n t nq tq e =
-      let n′ : n ≡ beAt 2 (drop at s) 2 = nq ∙ sym (beAt-drop 2 s at 2) in
-      let t′ : t ≡ beAt 2 (drop at s) 0 = tq ∙ sym (beAt-drop 2 s at 0 ∙ ap (beAt 2 s) (add-zero at)) in
+      let n′ : n ≡ beAt 2 (drop at s) 2 = nq ∙ sym (beAt-drop 2 at s 2) in
+      let t′ : t ≡ beAt 2 (drop at s) 0 = tq ∙ sym (beAt-drop 2 at s 0 ∙ ap (beAt 2 s) (add-zero at)) in
       rw (n′, t′) at e
 
   pub at-end : length s - at ≡ 0 → Turn.End ≡ turnOf f at (drop at s)

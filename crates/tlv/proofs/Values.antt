@@ -1,6 +1,6 @@
 -- What a TLV's place says, by the test whether it stands. Assumes nothing.
 use Prim.Native.Nat.{ℕ, _+_, _≤_}
-use mathlib.Core.Path.{_≡_, refl, sym, _∙_}
+use mathlib.Core.Path.{_≡_, refl}
 use mathlib.Core.Bool.{Bool, true, false}
 use mathlib.Core.List.{List}
 use native.Mathlib.Omega.{arith}
@@ -16,7 +16,7 @@ use Rattle.tlv.specs.declared.Field.{Field}
 use Rattle.tlv.specs.declared.Part.{Part}
 use Rattle.tlv.specs.declared.walk.Tlv
 use Rattle.tlv.specs.declared.walk.Tlv.{Tlv}
-use Rattle.tlv.proofs.Fields.{beAt-drop}
+use Rattle.octets.proofs.Bytes.{beAt-drop}
 use Rattle.tlv.proofs.Places.{Lies}
 
 module _ {X : Type 0} (a b : ℕ) (x y : X) where
@@ -49,4 +49,4 @@ field-low m place l lies e = go (eqb place 0) refl e
     go false q h =
         let value : beAt 4 m (place + 4) ≡ l = cc in
         let low : beAt 4 (drop place m) 4 ≤ largestLabel = lies (eqb-false place 0 q) .low in
-        omega (arith, beAt-drop 4 m place 4)
+        omega (arith, beAt-drop 4 place m 4)

@@ -3,7 +3,7 @@
 -- Common Session Parameters 0x0500 (14), FT Session 0x0503 (4: ..), FT Protection 0x0203 (4), FT ACK 0x0504 (4). The last three are the FT TLVs."
 use Prim.Native.Nat.{ℕ, _+_, _%_}
 use mathlib.Core.List.{List, [], _∷_}
-use mathlib.Core.Bool.{Bool, true, false}
+use mathlib.Core.Bool.{Bool, true}
 use lib.Dec.{eqb}
 use Rattle.octets.specs.Be.{beAt}
 use Rattle.tlv.specs.Table.{lookup}

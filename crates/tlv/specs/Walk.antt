@@ -2,7 +2,6 @@
 -- 01: "Malformed: .. lengths that don't add up exactly; a wrong length of a listed TLV; a listed TLV twice; a label above 1,048,575".
 use Prim.Native.Nat.{ℕ, _+_}
 use mathlib.Core.List.{List}
-use mathlib.Core.Bool.{Bool, true, false}
 use lib.ListN.{length, drop}
 use lib.Dec.{ltb, eqb}
 use Rattle.octets.specs.Be.{beAt}

@@ -1,5 +1,4 @@
 use borrow.Author.Needs.{needs}
-use mathlib.Core.Path.{ap}
 use Rattle.message.proofs.id_in.Statement.{statement}
 use Rattle.message.proofs.id_in.Tie as tie
 

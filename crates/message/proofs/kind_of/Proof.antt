@@ -10,7 +10,7 @@ kind-of-spec =
     (λ c. search needs) (λ c. search needs) (λ c. search needs) (λ c. search needs)
     (λ c. search needs) (λ c. search needs) (λ c. search needs) (λ c. search needs)
     (λ c. search needs) (λ c. search needs) (λ c. search needs) (λ c. search needs)
-    (λ c. unfold kindOf in rw (c .before .enum-told .given .1) (c .kind-by-status .ensures))
+    (λ c. unfold kindOf in rw (c .before .enum-told .given .1) (c .notification-kind .ensures))
     (λ c. unfold kindOf in rw (c .enum-told2 .given .1))
     (λ c. unfold kindOf in rw (c .enum-told3 .given .1))
     (λ c. unfold kindOf in rw (c .enum-told4 .given .1))

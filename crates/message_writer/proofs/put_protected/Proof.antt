@@ -10,4 +10,5 @@ put-protected-spec =
     tie.close
     (tie.spec
     (λ c. search needs) (λ c. search needs) (λ c. search needs) (λ c. search needs)
+    (λ c. search needs) (λ c. search needs) (λ c. search needs)
     (λ c. protected-laid _ (now (c .before .before .before .before .before .before .before .before .before .before .before .before .before .before .args .m)) (omega arith) _ _ _ _ _ (omega arith) (c .before .before .before .before .before .before .before .before .before .before .copy-to .ensures) (c .before .before .before .before .before .before .put-u16 .ensures) (c .before .before .put-tlv .ensures)))

@@ -47,4 +47,4 @@ put-hex-spec =
     (λ c. search needs)
     (λ c. search needs)
     (λ c. search needs)
-    (λ c. hex-done _ _ _ _ _ (c .loop-test .left) (c .before .loop .inv .2)))
+    (λ c. (hex-done _ _ _ _ _ (c .loop-test .left) (c .before .loop .inv .2), refl)))

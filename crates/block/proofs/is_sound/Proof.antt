@@ -1,0 +1,18 @@
+-- `block::is_sound` meets its contract, by the definition. Assumes nothing.
+use native.Mathlib.Omega.{arith}
+use borrow.Author.Needs.{needs}
+use Rattle.block.specs.Check.{sound}
+use Rattle.block.proofs.is_sound.Statement.{statement}
+use Rattle.block.proofs.is_sound.Tie as tie
+
+pub is-sound-spec : {M : Type 1} → statement M
+unfolding sound
+is-sound-spec =
+    tie.close
+    (tie.spec
+    (λ c κs. omega arith)
+    (λ c. omega arith)
+    (λ c. omega arith)
+    (λ c. omega arith)
+    (λ c κs. search needs)
+    (λ c. cc))

@@ -1,0 +1,19 @@
+-- `block::seal` meets its contract, by the definition. Assumes nothing.
+use native.Mathlib.Omega.{arith}
+use borrow.Author.Needs.{needs}
+use Rattle.block.specs.Check.{sealed}
+use Rattle.block.proofs.seal.Statement.{statement}
+use Rattle.block.proofs.seal.Tie as tie
+
+pub seal-spec : {M : Type 1} → statement M
+unfolding sealed
+seal-spec =
+    tie.close
+    (tie.spec
+    (λ c. omega arith)
+    (λ c. omega arith)
+    (λ c. omega arith)
+    (λ c κs. search needs)
+    (λ c κs. omega arith)
+    (λ c. search needs)
+    (λ c. cc))

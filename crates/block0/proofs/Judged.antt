@@ -1,0 +1,47 @@
+-- The answers of `fieldsOk`, by the tests that lead to each. Assumes nothing.
+use mathlib.Core.Path.{_≡_, refl, sym, ap, _∙_}
+use mathlib.Core.Bool.{Bool, true, false, not}
+use mathlib.Core.List.{List}
+use Prim.Native.Nat.{ℕ}
+use borrow.Author.Tests.{eq-eqb, ne-eqb, not-true, not-false}
+use Rattle.octets.specs.Be.{beAt}
+use Rattle.octets.specs.Pick.{pick, both}
+use Rattle.label_list.specs.Valid.{validOf}
+use Rattle.block.specs.Zeros.{allZero}
+use Rattle.block0.specs.declared.Header.{Header}
+use Rattle.block0.specs.Layout.{headerOf, labelsOf}
+use Rattle.block0.specs.Fields.{headerOk, bodyOf, fieldsOk}
+use Rattle.block0.proofs.Rules.{zero-valid}
+
+zeros-decide : (t : Bool) (b : List ℕ) → allZero (bodyOf b) ≡ t → t ≡ both t (validOf (labelsOf b))
+zeros-decide true b z = sym (zero-valid b z)
+zeros-decide false b z = refl
+
+module _ (b : List ℕ) {v : ℕ} (ev : v ≡ beAt 4 b 0) where
+  pub other-version : (v ≡ 1 → ⊥) → false ≡ fieldsOk b
+  unfolding fieldsOk
+  other-version n = simp (← ev, ne-eqb v 1 n)
+
+  module _ (one : v ≡ 1) {z : ℕ} (ez : z ≡ beAt 1 b 23) where
+    pub spare-set : (z ≡ 0 → ⊥) → false ≡ fieldsOk b
+    unfolding fieldsOk
+    spare-set n = simp (← ev, eq-eqb v 1 one, ← ez, ne-eqb z 0 n)
+
+    module _ (zero : z ≡ 0) {h : Header} (eh : h ≡ headerOf b) {t : Bool} (et : t ≡ headerOk h) where
+      pub header-wrong : not t ≡ true → false ≡ fieldsOk b
+      unfolding fieldsOk
+      header-wrong n = simp (← ev, eq-eqb v 1 one, ← ez, eq-eqb z 0 zero, ← eh, ← et, not-true t n)
+
+      module _ (fine : not t ≡ false) where
+        pub released-judged : h .kept ≡ 0 → {r : Bool} → r ≡ allZero (bodyOf b) → r ≡ fieldsOk b
+        unfolding fieldsOk
+        released-judged k {r} er =
+            zeros-decide r b (sym er)
+            ∙ simp (← ev, eq-eqb v 1 one, ← ez, eq-eqb z 0 zero, ← eh, ← et, not-false t fine, eq-eqb (h .kept) 0 k, ← er)
+
+        pub labels-judged : (h .kept ≡ 0 → ⊥) → {ws : List ℕ} → ws ≡ labelsOf b → {r : Bool} → r ≡ validOf ws → r ≡ fieldsOk b
+        unfolding fieldsOk
+        labels-judged k {ws} ew {r} er =
+            simp (← ev, eq-eqb v 1 one, ← ez, eq-eqb z 0 zero, ← eh, ← et, not-false t fine, ne-eqb (h .kept) 0 k, ← ew, ← er)
+
+pub ruleset judged = (other-version, spare-set, header-wrong, released-judged, labels-judged)

@@ -1,0 +1,15 @@
+-- `block0::put_numbers` meets its contract, by the definition. Assumes nothing.
+use borrow.Author.Needs.{needs}
+use Rattle.block0.proofs.put_numbers.Statement.{statement}
+use Rattle.block0.proofs.put_numbers.Tie as tie
+
+pub put-numbers-spec : {M : Type 1} → statement M
+put-numbers-spec =
+    tie.close
+    (tie.spec
+    (λ c κs. search needs)
+    (λ c κs. search needs)
+    (λ c κs. search needs)
+    (λ c κs. search needs)
+    (λ c. search needs)
+    (λ c. cc))

@@ -1,0 +1,18 @@
+-- `block0::put_rest` meets its contract, by the definition. Assumes nothing.
+use borrow.Author.Needs.{needs}
+use Rattle.block0.proofs.put_rest.Statement.{statement}
+use Rattle.block0.proofs.put_rest.Tie as tie
+
+pub put-rest-spec : {M : Type 1} → statement M
+put-rest-spec =
+    tie.close
+    (tie.spec
+    (λ c κs. search needs)
+    (λ c κs. search needs)
+    (λ c κs. search needs)
+    (λ c κs. search needs)
+    (λ c κs. search needs)
+    (λ c κs. search needs)
+    (λ c κs. search needs)
+    (λ c. search needs)
+    (λ c. cc))

@@ -1,0 +1,59 @@
+-- "Fields: the ranges above; R to I no longer than held, and I not zero unless R is; label words by the rules below."
+-- "With kept 0, bytes 4 to 507 are zero."
+use Prim.Native.Nat.{ℕ, _≤_, _<_}
+use mathlib.Core.Path.{_≡_}
+use mathlib.Core.Bool.{Bool, true, false}
+use mathlib.Core.List.{List}
+use lib.Dec.{leb, ltb, eqb}
+use Rattle.octets.specs.Be.{beAt}
+use Rattle.octets.specs.Part.{part}
+use Rattle.octets.specs.Pick.{pick, both}
+use Rattle.ft_number.specs.Circle.{stepsOf}
+use Rattle.ft_number.specs.declared.Steps.{Steps}
+use Rattle.ft_number.specs.declared.Steps.the-variants.{Count, Unreachable}
+use Rattle.label_list.specs.Valid.{validOf}
+use Rattle.block.specs.Check.{checkAt}
+use Rattle.block.specs.Zeros.{allZero}
+use Rattle.block0.specs.declared.Header.{Header}
+use Rattle.block0.specs.Layout.{slotCount, version, headerOf, labelsOf, releasedHeader, noLabels}
+
+-- no more than n steps; where nothing leads from R to I, I is zero and R is not
+abbrev pub atMost : ℕ → Steps → Bool
+atMost n (Count k) = leb k n
+atMost n Unreachable = false
+
+unfoldable pub headerOk : Header → Bool
+headerOk h =
+    both (ltb (h .first) slotCount)
+    (both (leb (h .held) slotCount) (both (leb (h .kept) 1) (atMost (h .held) (stepsOf (h .released .0) (h .issued .0)))))
+
+-- the bytes that are zero with kept 0
+abbrev pub bodyOf : List ℕ → List ℕ
+bodyOf b = part b 4 checkAt
+
+unfoldable pub fieldsOk : List ℕ → Bool
+fieldsOk b =
+    both (eqb (beAt 4 b 0) version)
+    (both (eqb (beAt 1 b 23) 0)
+    (both (headerOk (headerOf b)) (both (pick (eqb (headerOf b .kept) 0) (allZero (bodyOf b)) true) (validOf (labelsOf b)))))
+
+-- each number has its width
+pub record Fits (h : Header) : Type 0 where
+  pub released : h .released .0 < 4294967296
+  pub issued : h .issued .0 < 4294967296
+  pub secured : h .secured .0 < 4294967296
+  pub first : h .first < 65536
+  pub held : h .held < 65536
+  pub timeout : h .timeout < 65536
+  pub kept : h .kept < 256
+  pub keepalive : h .keepalive < 65536
+  pub maxpdu : h .maxpdu < 65536
+
+-- the rules of block 0's fields, clause by clause
+pub record Valid (h : Header) (ls : List ℕ) : Type 0 where
+  pub first : h .first < slotCount
+  pub held : h .held ≤ slotCount
+  pub kept : h .kept ≤ 1
+  pub window : atMost (h .held) (stepsOf (h .released .0) (h .issued .0)) ≡ true
+  pub labels : validOf ls ≡ true
+  pub idle : h .kept ≡ 0 → (h ≡ releasedHeader) × (ls ≡ noLabels)

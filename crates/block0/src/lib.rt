@@ -1,0 +1,138 @@
+// Block 0 of the stored image: the session's numbers and its 120 label words.
+ghost use mathlib.Core.Path.{_≡_};
+ghost use Prim.Native.Nat.{_+_, _*_, _≤_};
+ghost use lib.ListN.{length, take, drop};
+ghost use Rattle.block.specs.Run.{putRun};
+ghost use Rattle.block0.specs.Layout.{widths, values, headerOf, labelsOf, block0};
+ghost use Rattle.ft_number.specs.Circle.{stepsOf};
+ghost use Rattle.block0.specs.Fields.{atMost, headerOk, fieldsOk};
+use ft_number::FtNumber;
+use ft_number::Steps;
+
+// What block 0 says beside its label words.
+pub struct Header {
+    pub released: FtNumber,
+    pub issued: FtNumber,
+    pub secured: FtNumber,
+    pub first: u16,
+    pub held: u16,
+    pub timeout: u16,
+    pub kept: u8,
+    pub keepalive: u16,
+    pub maxpdu: u16,
+}
+
+// The layout's version.
+const VERSION: u32 = 1;
+
+// Where the label words start.
+const LABELS_AT: usize = 28;
+
+// The numbers of block 0.
+pub fn read_header(block: &[u8]) -> Header
+    requires { ⌜ length (now block) ≡ 512 ⌝ }
+    ensures { λ r. ⌜ r ≡ headerOf (now (block .entry)) ⌝ }
+{
+    Header {
+        released: FtNumber(octets::get_u32(block, 4)),
+        issued: FtNumber(octets::get_u32(block, 8)),
+        secured: FtNumber(octets::get_u32(block, 12)),
+        first: octets::get_u16(block, 16),
+        held: octets::get_u16(block, 18),
+        timeout: octets::get_u16(block, 20),
+        kept: octets::get_u8(block, 22),
+        keepalive: octets::get_u16(block, 24),
+        maxpdu: octets::get_u16(block, 26),
+    }
+}
+
+// The label words of block 0.
+pub fn read_labels(block: &[u8], words: &mut [u32])
+    requires { ⌜ (length (now block) ≡ 512) × (length (now words) ≡ 120) ⌝ }
+    ensures { λ _. ⌜ now (words .exit) ≡ labelsOf (now (block .entry)) ⌝ }
+{
+    block::words::load_words(block, LABELS_AT, words)
+}
+
+fn put_numbers(block: &mut [u8], h: Header)
+    requires { ⌜ length (now block) ≡ 512 ⌝ }
+    ensures { λ _. ⌜ now (block .exit) ≡ putRun (take 4 widths) (take 4 (values h)) (now (block .entry)) 0 ⌝ }
+{
+    octets::put_u32(block, 0, VERSION);
+    octets::put_u32(block, 4, h.released.0);
+    octets::put_u32(block, 8, h.issued.0);
+    octets::put_u32(block, 12, h.secured.0);
+}
+
+fn put_rest(block: &mut [u8], h: Header)
+    requires { ⌜ length (now block) ≡ 512 ⌝ }
+    ensures { λ _. ⌜ now (block .exit) ≡ putRun (drop 4 widths) (drop 4 (values h)) (now (block .entry)) 16 ⌝ }
+{
+    octets::put_u16(block, 16, h.first);
+    octets::put_u16(block, 18, h.held);
+    octets::put_u16(block, 20, h.timeout);
+    octets::put_u8(block, 22, h.kept);
+    octets::put_u8(block, 23, 0);
+    octets::put_u16(block, 24, h.keepalive);
+    octets::put_u16(block, 26, h.maxpdu);
+}
+
+// Writes block 0 whole: its fields, its label words and its check.
+pub fn write_block0(block: &mut [u8], h: Header, labels: &[u32])
+    requires { ⌜ (length (now block) ≡ 512) × (length (now labels) ≡ 120) ⌝ }
+    ensures { λ _. ⌜ now (block .exit) ≡ block0 (now (block .entry)) h (now (labels .entry)) ⌝ }
+{
+    put_numbers(block, h);
+    put_rest(block, h);
+    block::words::store_words(block, LABELS_AT, labels);
+    block::seal(block);
+}
+
+// R to I no longer than held, and I not zero unless R is.
+fn issued_are_held(h: Header) -> bool
+    ensures { λ r. ⌜ r ≡ atMost (h .held) (stepsOf (h .released .0) (h .issued .0)) ⌝ }
+{
+    match ft_number::steps_between(h.released, h.issued) {
+        Steps::Count(n) => n <= h.held as u32,
+        Steps::Unreachable => false,
+    }
+}
+
+fn header_is_valid(h: Header) -> bool
+    ensures { λ r. ⌜ r ≡ headerOk h ⌝ }
+{
+    if h.first >= 64 {
+        return false;
+    }
+    if h.held > 64 {
+        return false;
+    }
+    if h.kept > 1 {
+        return false;
+    }
+    issued_are_held(h)
+}
+
+// Whether block 0's fields are right. Its check is not looked at.
+pub fn block0_is_valid(block: &[u8]) -> bool
+    requires { ⌜ length (now block) ≡ 512 ⌝ }
+    ensures { λ r. ⌜ r ≡ fieldsOk (now (block .entry)) ⌝ }
+{
+    if octets::get_u32(block, 0) != VERSION {
+        return false;
+    }
+    if octets::get_u8(block, 23) != 0 {
+        return false;
+    }
+    let h = read_header(block);
+    if !header_is_valid(h) {
+        return false;
+    }
+    // No label stands in zeros, so the words need no look of their own.
+    if h.kept == 0 {
+        return block::zeros::all_zero(&block[4..block::CHECK_AT]);
+    }
+    let mut words = [0u32; 120];
+    read_labels(block, &mut words);
+    label_list::valid(&words)
+}

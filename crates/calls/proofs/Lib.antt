@@ -1,0 +1,5 @@
+pub mod Effects
+pub mod Phasing
+pub mod Settled
+pub mod Releasing
+pub mod Ends

@@ -1,0 +1,59 @@
+-- The label words as messages are released one after the other. Assumes nothing.
+use mathlib.Core.Path.{_≡_, refl, sym, ap, _∙_}
+use mathlib.Core.List.{List, [], _∷_, _++_}
+use Prim.Native.Nat.{ℕ, zero, suc, _+_, _≤_, _<_}
+use native.Mathlib.Numerals.{add-one}
+use native.Mathlib.Omega.{arith}
+use borrow.Author.Tests.{eq-eqb, ne-eqb}
+use lib.ListN.{length, getD, take}
+use lib.Seq.{take-suc}
+use Rattle.message.specs.Submission.{submissionOf}
+use Rattle.label_list.specs.declared.LabelMessage
+use Rattle.label_list.specs.declared.LabelMessage.{LabelMessage}
+use Rattle.label_events.specs.Ack.{ackedOf}
+use Rattle.slot.specs.Held.{kindIn, labelIn}
+use Rattle.calls.specs.Acked.{releasedKind, releasedLabels}
+
+module _ (kind label : ℕ) (ls : List ℕ) {ys : List ℕ} where
+  pub released-withdraw : kind ≡ 2 → ys ≡ ackedOf ls LabelMessage.Withdraw label → ys ≡ releasedKind kind label ls
+  unfolding releasedKind
+  released-withdraw k e = rw (eq-eqb kind 2 k) e
+
+  pub released-release : (kind ≡ 2 → ⊥) → kind ≡ 3 → ys ≡ ackedOf ls LabelMessage.Release label → ys ≡ releasedKind kind label ls
+  unfolding releasedKind
+  released-release n k e = rw (ne-eqb kind 2 n, eq-eqb kind 3 k) e
+
+pub released-other : (kind label : ℕ) (ls : List ℕ) → (kind ≡ 2 → ⊥) → (kind ≡ 3 → ⊥) → ls ≡ releasedKind kind label ls
+unfolding releasedKind
+released-other kind label ls n k = rw (ne-eqb kind 2 n, ne-eqb kind 3 k)
+
+pub released-append : (ms ns : List (List ℕ)) (ls : List ℕ) → releasedLabels (ms ++ ns) ls ≡ releasedLabels ns (releasedLabels ms ls)
+unfolding releasedLabels
+released-append [] ns ls = refl
+released-append (m ∷ ms) ns ls = released-append ms ns (releasedKind (kindIn (submissionOf m)) (labelIn (submissionOf m)) ls)
+
+-- the oldest i of the queue were released
+pub record Releasing (queue : List (List ℕ)) (count : ℕ) (ls₀ ls : List ℕ) (i : ℕ) : Type 0 where
+  pub inside : i ≤ count
+  pub same : length ls ≡ length ls₀
+  pub done : ls ≡ releasedLabels (take i queue) ls₀
+
+module _ (queue : List (List ℕ)) (count : ℕ) (ls₀ : List ℕ) where
+  pub releasing-none : Releasing queue count ls₀ ls₀ 0
+  unfolding releasedLabels
+  releasing-none = record { inside = omega arith; same = refl; done = refl }
+
+  pub releasing-one : {ls ls′ : List ℕ} {i k l : ℕ} → Releasing queue count ls₀ ls i → i < count → i < length queue
+      → k ≡ kindIn (submissionOf (getD queue i [])) → l ≡ labelIn (submissionOf (getD queue i []))
+      → length ls′ ≡ length ls → ls′ ≡ releasedKind k l ls → Releasing queue count ls₀ ls′ (i + 1)
+  unfolding releasedLabels
+  releasing-one {ls} {ls′} {i} {k} {l} w h q ek el same e = record {
+    inside = omega arith;
+    same = same ∙ w .same;
+    done =
+        e
+        ∙ (rw (add-one i, take-suc queue i [] q, released-append (take i queue) (getD queue i [] ∷ []) ls₀, ← w .done, ek, el));
+  }
+
+  pub releasing-all : {ls : List ℕ} {i : ℕ} → Releasing queue count ls₀ ls i → count ≤ i → ls ≡ releasedLabels (take count queue) ls₀
+  releasing-all {ls} {i} w h = let e : i ≡ count = omega (arith, w .inside) in rw e at (w .done)

@@ -1,0 +1,5 @@
+pub mod Answers
+pub mod Phases
+pub mod Outcomes
+pub mod Acked
+pub mod Received

@@ -1,0 +1,78 @@
+// What every public call shares: phases, answers and what they leave, the outcome, and the acts that end a connection or a session.
+mod acking;
+mod admitting;
+mod answers;
+mod ending;
+mod phases;
+
+pub use acking::release_labels;
+pub use admitting::admit;
+pub use admitting::check;
+pub use admitting::refuse;
+pub use answers::answer_number;
+pub use answers::effect_of;
+pub use answers::is_done;
+pub use ending::block0_changed;
+pub use ending::copy_block0;
+pub use ending::fail;
+pub use ending::release;
+pub use ending::settle;
+pub use phases::issued_count;
+pub use phases::phase_fits;
+pub use phases::resting_phase;
+
+// 01's phases. InitWait bears our proposed timeout, UpFT the count sent on this connection.
+pub enum Phase {
+    Idle,
+    InitWait(u16),
+    UpFT(u32),
+    UpPlain,
+    Failed,
+}
+
+// A case for each number of 01's answer table; `answerNumber` gives the number.
+pub enum Answer {
+    Done,
+    WrongPhase,
+    ZeroDistance,
+    LengthOutOfRange,
+    Malformed,
+    KindNotSent,
+    LabelNotAllowed,
+    StoreFull,
+    NothingUnsent,
+    OutputTooShort,
+    BadBlock(usize),
+    BadField(usize),
+    WrongSize,
+    NoLabelWord,
+    OutOfTurn,
+    NoWordForMapping,
+    MalformedReceived,
+    BadInit,
+    ZeroNumber,
+    FtTlvInPlain,
+    ProtectionWrong,
+    ProtectionMissing,
+    AckSequenceError,
+    ParametersChanged,
+    StatusFatal,
+}
+
+// What an answer leaves: nothing changed, the connection failed, the state released, or the call done.
+pub enum Effect {
+    Nothing,
+    Fail,
+    Release,
+    Act,
+}
+
+// What a call answers. `slot` is the block of the slot that was written, to be stored before block 0, and 0 where none was;
+// `block0` says whether block 0's bytes changed, to be stored before output leaves.
+pub struct Outcome {
+    pub answer: Answer,
+    pub phase: Phase,
+    pub written: usize,
+    pub slot: usize,
+    pub block0: bool,
+}

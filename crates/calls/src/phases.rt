@@ -1,0 +1,44 @@
+// The phases: which the image rules out, and the one with no connection.
+ghost use mathlib.Core.Path.{_≡_};
+ghost use Rattle.calls.specs.Phases.{issuedCount, phaseFits, restingPhase};
+use crate::Phase;
+use block0::Header;
+use ft_number::Steps;
+
+// How many of the held messages have a number.
+pub fn issued_count(h: Header) -> u32
+    ensures { λ r. ⌜ r ≡ issuedCount h ⌝ }
+{
+    match ft_number::steps_between(h.released, h.issued) {
+        Steps::Count(k) => k,
+        Steps::Unreachable => 0,
+    }
+}
+
+// Whether the image allows the phase.
+pub fn phase_fits(phase: Phase, h: Header) -> bool
+    ensures { λ r. ⌜ r ≡ phaseFits phase h ⌝ }
+{
+    match phase {
+        Phase::Idle => h.kept == 0,
+        Phase::InitWait(_) => true,
+        Phase::UpFT(sent) => {
+            if h.kept != 1 {
+                return false;
+            }
+            sent <= issued_count(h)
+        }
+        Phase::UpPlain => h.kept == 0,
+        Phase::Failed => h.kept == 1,
+    }
+}
+
+// The phase of a session with no connection.
+pub fn resting_phase(h: Header) -> Phase
+    ensures { λ r. ⌜ r ≡ restingPhase h ⌝ }
+{
+    if h.kept == 1 {
+        return Phase::Failed;
+    }
+    Phase::Idle
+}

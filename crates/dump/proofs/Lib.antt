@@ -1,0 +1,4 @@
+pub mod Pieces
+pub mod Parts
+pub mod Lines
+pub mod Vectors

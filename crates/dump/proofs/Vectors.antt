@@ -1,0 +1,27 @@
+-- The example of docs/LDP_DUMP.md computes: a Mapping with FT Protection, and a malformed Withdraw. Assumes nothing.
+use mathlib.Core.Path.{_≡_, refl}
+use mathlib.Core.List.{List, [], _∷_, _++_}
+use Prim.Native.Nat.{ℕ}
+use Rattle.octets.specs.Fix.{fix, steps}
+use Rattle.tlv.specs.Tlv.{tlvOf}
+use Rattle.tlv.specs.Walk.{notedOf, turnOf, walkOf, tlvsOf}
+use Rattle.tlv.specs.Value.{partAt, fecAt, fieldAt, numberAt, parametersAt, sessionAt}
+use Rattle.message.specs.Reading.{typeOf, messageOf, readingOf}
+use Rattle.text.specs.Text.{ascii, decimal}
+use Rattle.dump.specs.Line.{headText, lineOf}
+
+abbrev mapping : List ℕ
+mapping =
+    0x04 ∷ 0x00 ∷ 0 ∷ 31 ∷ 0 ∷ 0 ∷ 0 ∷ 7
+    ∷ 0x01 ∷ 0x00 ∷ 0 ∷ 7 ∷ 0x02 ∷ 0x00 ∷ 0x01 ∷ 0x18 ∷ 0x0a ∷ 0x00 ∷ 0x00
+    ∷ 0x02 ∷ 0x00 ∷ 0 ∷ 4 ∷ 0 ∷ 0 ∷ 0 ∷ 16
+    ∷ 0x02 ∷ 0x03 ∷ 0 ∷ 4 ∷ 0 ∷ 0 ∷ 0 ∷ 27
+    ∷ []
+
+mapping-line : lineOf 0 0 mapping ≡ ascii "0 0 0x0400 7 fec 020001180a0000 label 16 ft-protection 27\n"
+unfolding lineOf headText decimal fix steps readingOf messageOf typeOf tlvsOf walkOf turnOf notedOf tlvOf partAt fecAt fieldAt numberAt parametersAt sessionAt
+mapping-line = refl
+
+withdraw-line : lineOf 0 1 (0x84 ∷ 0x02 ∷ 0 ∷ 4 ∷ 0 ∷ 0 ∷ 0 ∷ 8 ∷ []) ≡ ascii "0 1 0x0402 8 malformed\n"
+unfolding lineOf headText decimal fix steps readingOf messageOf typeOf tlvsOf walkOf turnOf notedOf tlvOf
+withdraw-line = refl

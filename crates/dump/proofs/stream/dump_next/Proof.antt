@@ -1,0 +1,26 @@
+-- `dump::stream::dump_next` is safe: what it lends lies within the two buffers. Assumes nothing.
+use borrow.Author.Needs.{needs}
+use native.Mathlib.Omega.{arith}
+use lib.ListN.{length-take}
+use Rattle.dump.proofs.stream.dump_next.Statement.{statement}
+use Rattle.dump.proofs.stream.dump_next.Tie as tie
+
+pub dump-next-spec : {M : Type 1} → statement M
+dump-next-spec =
+    tie.close
+    (tie.spec
+    (λ c. search needs)
+    (λ c. search needs)
+    (λ c. search needs)
+    (λ c. search needs)
+    (λ c. simp length-take (omega arith))
+    (λ c. λ κs. (simp length-take (omega arith), omega arith))
+    (λ c. search needs)
+    (λ c. simp length-take (omega arith))
+    (λ c. search needs)
+    (λ c. search needs)
+    (λ c. search needs)
+    (λ c. search needs)
+    (λ c. search needs)
+    (λ c. search needs)
+    (λ c. search needs))

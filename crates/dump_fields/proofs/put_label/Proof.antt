@@ -1,0 +1,19 @@
+-- `dump_fields::put_label` meets its contract. Assumes nothing.
+use borrow.Author.Needs.{needs}
+use native.Mathlib.Omega.{arith}
+use Rattle.text.proofs.Pieces.{put-none}
+use Rattle.dump_fields.proofs.put_label.Statement.{statement}
+use Rattle.dump_fields.proofs.put_label.Tie as tie
+
+pub put-label-spec : {M : Type 1} → statement M
+put-label-spec =
+    tie.close
+    (tie.spec
+    (λ c. search needs)
+    (λ c. search needs)
+    (λ c. search needs)
+    (λ c. search needs)
+    (λ c. search needs)
+    (λ c. rw (c .enum-told .given .1) (put-none _ _, omega arith))
+    (λ c. search needs)
+    (λ c. rw (c .before .before .before .before .before .before .label .given .1) (c .before .before .put-number .ensures .0, search needs)))

@@ -1,0 +1,29 @@
+-- One block of an image put, and the others as they were. Assumes nothing.
+use mathlib.Core.Path.{_≡_, _∙_}
+use mathlib.Core.List.{List}
+use mathlib.Core.Logic.{_≢_}
+use Prim.Native.Nat.{ℕ, _+_, _-_, _*_, _≤_, _<_}
+use native.Mathlib.Omega.{arith, ne-cases}
+use lib.ListN.{length}
+use Rattle.octets.proofs.Part.{length-part, length-withPart, part-same, part-before, part-after}
+use Rattle.block.specs.Check.{blockSize}
+use Rattle.image.specs.Sizes.{block, withBlock}
+
+pub length-block : (image : List ℕ) (b : ℕ) → b * blockSize + blockSize ≤ length image → length (block image b) ≡ blockSize
+length-block image b h = length-part image (b * 512) (b * 512 + 512) h ∙ omega arith
+
+module _ (image : List ℕ) (b : ℕ) (p : List ℕ) (inside : b * blockSize + blockSize ≤ length image) (long : length p ≡ blockSize) where
+  fits : length p ≡ b * 512 + 512 - b * 512
+  fits = long ∙ omega arith
+
+  pub length-put : length (withBlock image b p) ≡ length image
+  length-put = length-withPart image (b * 512) (b * 512 + 512) p inside fits
+
+  pub block-put : block (withBlock image b p) b ≡ p
+  block-put = part-same image (b * 512) (b * 512 + 512) p (omega arith) inside fits
+
+  pub block-other : (c : ℕ) → c ≢ b → block (withBlock image b p) c ≡ block image c
+  block-other c apart =
+      ne-cases c b (block (withBlock image b p) c ≡ block image c) apart
+      (λ (l : c < b). part-before image (b * 512) (b * 512 + 512) p (c * 512) (c * 512 + 512) (omega arith) inside fits (omega arith) (omega arith))
+      (λ (l : b < c). part-after image (b * 512) (b * 512 + 512) p (c * 512) (c * 512 + 512) (omega arith) inside fits (omega arith))

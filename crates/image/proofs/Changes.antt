@@ -1,0 +1,83 @@
+-- What becomes of the state of a released image, of a new one, and of one as after a break. Assumes nothing.
+use mathlib.Core.Path.{_≡_, refl, _∙_}
+use mathlib.Core.List.{List}
+use mathlib.Core.Logic.{_≢_}
+use Prim.Native.Nat.{ℕ, _+_, _*_, _≤_, _<_}
+use native.Mathlib.Omega.{arith}
+use lib.ListN.{length, replicate}
+use Rattle.ft_number.specs.Circle.{stepsOf}
+use Rattle.label_list.specs.Word.{wordCount}
+use Rattle.block.specs.Check.{blockSize}
+use Rattle.block.specs.Run.{Words}
+use Rattle.block0.specs.Layout.{slotCount, releasedHeader, noLabels}
+use Rattle.block0.specs.Fields.{Fits, Valid}
+use Rattle.block0.proofs.Rules.{none-valid}
+use Rattle.image.specs.Sizes.{imageSize, block, blockOf}
+use Rattle.image.specs.Ring.{ring}
+use Rattle.image.specs.State.{InRange, decode}
+use Rattle.image.specs.Verdict.{IsSound}
+use Rattle.image.specs.Events.{released, releaseOf, newImage}
+use Rattle.image.proofs.Stored.{decode-store0, zeroth-other}
+use Rattle.image.proofs.Sound.{sound-store0}
+use Rattle.image.proofs.Formatted.{length-zeros, zeros-at, block-zeros}
+
+-- ---- released
+fits-released : Fits releasedHeader
+fits-released = record {
+  released = omega arith;
+  issued = omega arith;
+  secured = omega arith;
+  first = omega arith;
+  held = omega arith;
+  timeout = omega arith;
+  kept = omega arith;
+  keepalive = omega arith;
+  maxpdu = omega arith;
+}
+
+words-none : Words wordCount noLabels
+words-none = record { count = length-zeros wordCount; each = λ i. rw (zeros-at wordCount i) (omega arith) }
+
+pub in-range-released : InRange released
+in-range-released = record { header = fits-released; labels = words-none }
+
+pub valid-released : Valid releasedHeader noLabels
+unfolding stepsOf
+valid-released = record {
+  first = omega arith;
+  held = omega arith;
+  kept = omega arith;
+  window = refl;
+  labels = none-valid;
+  idle = λ k. (refl, refl);
+}
+
+module _ (image : List ℕ) (size : length image ≡ imageSize) where
+  pub release-decodes : decode (releaseOf image) ≡ released
+  unfolding releaseOf ring
+  release-decodes = decode-store0 image size releasedHeader noLabels fits-released words-none
+
+  pub release-sound : IsSound (releaseOf image)
+  unfolding releaseOf
+  release-sound = sound-store0 image releasedHeader noLabels size fits-released words-none valid-released (λ i l. absurd (omega arith))
+
+  -- every slot keeps its bytes
+  pub release-other : (c : ℕ) → c ≢ 0 → block (releaseOf image) c ≡ block image c
+  unfolding releaseOf
+  release-other c apart = zeroth-other image size releasedHeader noLabels fits-released words-none c apart
+
+-- ---- a new image
+is-released : newImage ≡ releaseOf (replicate imageSize 0)
+unfolding newImage releaseOf
+is-released = refl
+
+pub new-decodes : decode newImage ≡ released
+new-decodes = rw is-released (release-decodes (replicate imageSize 0) (length-zeros imageSize))
+
+pub new-sound : IsSound newImage
+new-sound = rw is-released (release-sound (replicate imageSize 0) (length-zeros imageSize))
+
+-- its slots are zeros
+pub new-slot : (k : ℕ) → k < slotCount → block newImage (blockOf k) ≡ replicate blockSize 0
+new-slot k l =
+    rw is-released (release-other (replicate imageSize 0) (length-zeros imageSize) (blockOf k) (omega arith) ∙ block-zeros imageSize (blockOf k) (omega arith))

@@ -1,0 +1,9 @@
+pub mod Blocks
+pub mod Rings
+pub mod Scans
+pub mod Stored
+pub mod Sound
+pub mod Queue
+pub mod Formatted
+pub mod Changes
+pub mod Ranges

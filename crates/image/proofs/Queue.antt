@@ -1,0 +1,61 @@
+-- The messages held: the queue and the slots in which they stand. Assumes nothing.
+use mathlib.Core.Path.{_≡_, refl, sym, ap, _∙_}
+use mathlib.Core.Bool.{true}
+use mathlib.Core.List.{List, []}
+use Prim.Native.Nat.{ℕ, _+_, _*_, _%_, _≤_, _<_}
+use native.Mathlib.Omega.{arith}
+use lib.ListN.{length, getD}
+use Rattle.message.specs.Submission.{submissionOf}
+use Rattle.block.specs.Check.{blockSize}
+use Rattle.block0.specs.declared.Header.{Header}
+use Rattle.block0.specs.Layout.{slotCount, headerOf}
+use Rattle.slot.specs.Layout.{kindOf, labelOf, messageOf}
+use Rattle.slot.specs.Fields.{slotOk}
+use Rattle.slot.specs.Held.{Storable, kindIn, labelIn}
+use Rattle.slot.proofs.Holding.{holds-kind, holds-label, holds-storable}
+use Rattle.image.specs.Sizes.{imageSize, block, blockOf, slotAt}
+use Rattle.image.specs.State.{decode, slotsOf, heldBlock, heldPlace}
+use Rattle.image.specs.Verdict.{IsSound, SlotGood}
+use Rattle.image.proofs.Blocks.{length-block}
+use Rattle.image.proofs.Rings.{ring-at, ring-length}
+use Rattle.image.proofs.Sound.{sound-valid, sound-live}
+
+pub queue-length : (image : List ℕ) → length (decode image .queue) ≡ decode image .header .held
+unfolding decode
+queue-length image = ring-length (slotsOf image) (headerOf (block image 0) .first) (headerOf (block image 0) .held)
+
+-- the message at place i of the queue stands in slot i past the first
+pub queue-at : (image : List ℕ) (i : ℕ) → i < decode image .header .held → getD (decode image .queue) i [] ≡ messageOf (heldBlock image i)
+unfolding decode heldBlock slotsOf
+queue-at image i l = ring-at (slotsOf image) [] (headerOf (block image 0) .first) (headerOf (block image 0) .held) i l
+
+module _ (image : List ℕ) (s : IsSound image) (i : ℕ) (l : i < decode image .header .held) where
+  pub held-good : SlotGood (heldBlock image i)
+  unfolding heldBlock
+  held-good = sound-live image s i l
+
+  -- each message held may be stored again
+  pub queue-storable : Storable (getD (decode image .queue) i [])
+  unfolding heldBlock
+  queue-storable =
+      let long : length (heldBlock image i) ≡ blockSize = length-block image (blockOf (slotAt (decode image .header .first) i)) (omega (arith, s .size)) in
+      rw (queue-at image i l) (holds-storable (heldBlock image i) long (held-good .fields))
+
+  -- ---- what the readers answer
+  pub held-sum : (f : ℕ) → f < 65536 → f + i < 65600
+  held-sum f h = omega (arith, sound-valid image s .held)
+
+  module _ {b : List ℕ} (eb : b ≡ heldBlock image i) where
+    pub held-ok : slotOk b ≡ true
+    held-ok = rw eb (held-good .fields)
+
+    pub held-read : {m : List ℕ} → m ≡ messageOf b → m ≡ getD (decode image .queue) i []
+    held-read e = e ∙ rw eb (sym (queue-at image i l))
+
+    pub kind-read : {k : ℕ} → k ≡ kindOf b → k ≡ kindIn (submissionOf (getD (decode image .queue) i []))
+    kind-read e = e ∙ holds-kind b held-ok ∙ rw (eb, ← queue-at image i l)
+
+    pub label-read : {k : ℕ} → k ≡ labelOf b → k ≡ labelIn (submissionOf (getD (decode image .queue) i []))
+    label-read e = e ∙ holds-label b held-ok ∙ rw (eb, ← queue-at image i l)
+
+pub ruleset helds = (held-ok, held-read, kind-read, label-read)

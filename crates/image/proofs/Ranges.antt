@@ -1,0 +1,61 @@
+-- The numbers that an image of bytes holds have their widths. Assumes nothing.
+use mathlib.Core.Path.{_≡_, sym, ap, _∙_}
+use mathlib.Core.List.{List}
+use mathlib.Core.Logic.{⊎-elim}
+use Prim.Native.Nat.{ℕ, _+_, _*_, _-_, _≤_, _<_}
+use native.Mathlib.Omega.{arith}
+use lib.ListN.{length, getD, List·getD-eq-default}
+use Rattle.octets.proofs.Be.{beAt-lt}
+use Rattle.label_list.specs.Word.{wordCount}
+use Rattle.block.specs.Check.{blockSize}
+use Rattle.block.specs.Run.{wordsAt, Words}
+use Rattle.block.proofs.Parts.{part-at, part-inside}
+use Rattle.block.proofs.Tests.{below-or-not}
+use Rattle.block.proofs.WordRun.{length-wordsAt, getD-wordsAt}
+use Rattle.block0.specs.Layout.{labelsAt, headerOf, labelsOf}
+use Rattle.block0.specs.Fields.{Fits}
+use Rattle.image.specs.Sizes.{block}
+use Rattle.image.specs.State.{decode, InRange}
+
+-- each element is a byte
+abbrev pub Bytes : List ℕ → Type 0
+Bytes s = (i : ℕ) → getD s i 0 < 256
+
+bytes-block : (image : List ℕ) (b : ℕ) → Bytes image → Bytes (block image b)
+bytes-block image b byte i =
+    ⊎-elim
+    (λ (l : i < length (block image b)).
+    rw (part-at image (b * blockSize) (b * blockSize + blockSize) i (part-inside image (b * blockSize) (b * blockSize + blockSize) i l)) (byte (b * blockSize + i)))
+    (λ (l : length (block image b) ≤ i). rw (List·getD-eq-default (block image b) 0 {n = i} l) (omega arith))
+    (below-or-not i (length (block image b)))
+
+fits-bytes : (b : List ℕ) → Bytes b → Fits (headerOf b)
+unfolding headerOf
+fits-bytes b byte = record {
+  released = beAt-lt 4 b 4 byte;
+  issued = beAt-lt 4 b 8 byte;
+  secured = beAt-lt 4 b 12 byte;
+  first = beAt-lt 2 b 16 byte;
+  held = beAt-lt 2 b 18 byte;
+  timeout = beAt-lt 2 b 20 byte;
+  kept = beAt-lt 1 b 22 byte;
+  keepalive = beAt-lt 2 b 24 byte;
+  maxpdu = beAt-lt 2 b 26 byte;
+}
+
+words-bytes : (n : ℕ) (s : List ℕ) (at : ℕ) → Bytes s → Words n (wordsAt n s at)
+words-bytes n s at byte = record {
+  count = length-wordsAt n s at;
+  each = λ i.
+      ⊎-elim
+      (λ (l : i < n). rw (getD-wordsAt n s at i l) (beAt-lt 4 s (at + i * 4) byte))
+      (λ (l : n ≤ i). rw (List·getD-eq-default (wordsAt n s at) 0 {n = i} (rw length-wordsAt l)) (omega arith))
+      (below-or-not i n);
+}
+
+pub bytes-in-range : (image : List ℕ) → Bytes image → InRange (decode image)
+unfolding decode labelsOf
+bytes-in-range image byte = record {
+  header = fits-bytes (block image 0) (bytes-block image 0 byte);
+  labels = words-bytes wordCount (block image 0) labelsAt (bytes-block image 0 byte);
+}

@@ -1,0 +1,15 @@
+-- `image::release` meets its contract, by the definition. Assumes nothing.
+use borrow.Author.Needs.{needs}
+use Rattle.image.specs.Events.{releaseOf}
+use Rattle.image.proofs.events.release.Statement.{statement}
+use Rattle.image.proofs.events.release.Tie as tie
+
+pub release-spec : {M : Type 1} → statement M
+unfolding releaseOf
+release-spec =
+    tie.close
+    (tie.spec
+    (λ c. search needs)
+    (λ c κs. search needs)
+    (λ c. search needs)
+    (λ c. cc))

@@ -1,0 +1,32 @@
+-- `image::scan_slots` meets its contract: the slots passed are right, so the rest decides. Assumes nothing.
+use mathlib.Core.Path.{_≡_}
+use Prim.Native.Nat.{_≤_, _+_, _-_}
+use native.Mathlib.Omega.{arith}
+use borrow.Author.Needs.{needs}
+use Rattle.image.specs.Verdict.{scan}
+use Rattle.image.proofs.Scans.{scans}
+use Rattle.image.proofs.scan_slots.Statement.{statement}
+use Rattle.image.proofs.scan_slots.Tie as tie
+
+abbrev Inv-loop : tie.InvT-loop
+Inv-loop image first held i₀ i = (i ≤ held) × (scan image (first + i) (held - i) ≡ scan image first held)
+
+abbrev μ-loop : tie.MeasureT-loop
+μ-loop image first held i₀ i = held - i
+
+pub scan-slots-spec : {M : Type 1} → statement M
+scan-slots-spec =
+    tie.close
+    (tie.spec Inv-loop μ-loop
+    (λ c. search (needs, scans))
+    (λ c. omega arith)
+    (λ c. omega arith)
+    (λ c κs. search needs)
+    (λ c κs. search needs)
+    (λ c. search (needs, scans))
+    (λ c κs. search needs)
+    (λ c. search (needs, scans))
+    (λ c. omega arith)
+    (λ c. omega arith)
+    (λ c. search (needs, scans))
+    (λ c. search (needs, scans)))

@@ -1,0 +1,38 @@
+-- What is made of a whole image: a new one, one released, one as after a break.
+use Prim.Native.Nat.{ℕ}
+use mathlib.Core.List.{List, []}
+use lib.Dec.{eqb}
+use lib.ListN.{length, replicate}
+use Rattle.octets.specs.Pick.{pick}
+use Rattle.label_list.specs.Sweep.{sweptOf}
+use Rattle.label_list.specs.declared.SweepRule.the-variants.{AfterBreak}
+use Rattle.block0.specs.Layout.{releasedHeader, noLabels}
+use Rattle.image.specs.declared.Verdict.{Verdict}
+use Rattle.image.specs.declared.Verdict.the-variants.{Sound, WrongSize}
+use Rattle.image.specs.Sizes.{imageSize}
+use Rattle.image.specs.State.{State, decode, store}
+
+-- "Released means block 0 with kept 0": nothing is held, and no label is listed
+abbrev pub released : State
+released = record { header = releasedHeader; labels = noLabels; queue = [] }
+
+unfoldable pub releaseOf : List ℕ → List ℕ
+releaseOf image = store image released
+
+-- a new image: block 0 with kept 0, and 64 slots of 512 zeros; an image of another size is left as it is
+unfoldable pub newImage : List ℕ
+newImage = store (replicate imageSize 0) released
+
+-- "12: image not 33,280 bytes"
+unfoldable pub sizeVerdict : List ℕ → Verdict
+sizeVerdict image = pick (eqb (length image) imageSize) Sound WrongSize
+
+unfoldable pub formatOf : List ℕ → List ℕ
+formatOf image = pick (eqb (length image) imageSize) newImage image
+
+-- "Connection failed ..: code 6 words are freed"
+abbrev pub broken : State → State
+broken s = record { header = s .header; labels = sweptOf (s .labels) AfterBreak; queue = s .queue }
+
+unfoldable pub breakOf : List ℕ → List ℕ
+breakOf image = store image (broken (decode image))

@@ -1,0 +1,5 @@
+pub mod Sizes
+pub mod Ring
+pub mod State
+pub mod Verdict
+pub mod Events

@@ -1,0 +1,53 @@
+-- The state that an image stands for, and the two stages in which it is stored.
+use Prim.Native.Nat.{ℕ, _*_}
+use mathlib.Core.List.{List}
+use Rattle.label_list.specs.Word.{wordCount}
+use Rattle.block.specs.Check.{blockSize}
+use Rattle.block.specs.Run.{Words}
+use Rattle.block0.specs.declared.Header.{Header}
+use Rattle.block0.specs.Layout.{headerOf, labelsOf, block0}
+use Rattle.block0.specs.Fields.{Fits}
+use Rattle.slot.specs.Layout.{messageOf}
+use Rattle.slot.specs.Held.{slotFor}
+use Rattle.image.specs.Sizes.{block, withBlock, blockOf, slotAt}
+use Rattle.image.specs.Ring.{ring}
+
+-- the numbers of block 0, its label words, and the messages held, the oldest first
+pub record State : Type 0 where
+  pub header : Header
+  pub labels : List ℕ
+  pub queue : List (List ℕ)
+
+-- the message of slot k, live or not
+unfoldable pub slotsOf : List ℕ → ℕ → List ℕ
+slotsOf image k = messageOf (block image (blockOf k))
+
+unfoldable pub decode : List ℕ → State
+decode image = record {
+  header = headerOf (block image 0);
+  labels = labelsOf (block image 0);
+  queue = ring (slotsOf image) (headerOf (block image 0) .first) (headerOf (block image 0) .held);
+}
+
+-- the block of the i-th message held, counted from the oldest, and the place of that block in the image
+unfoldable pub heldBlock : List ℕ → ℕ → List ℕ
+heldBlock image i = block image (blockOf (slotAt (decode image .header .first) i))
+
+unfoldable pub heldPlace : List ℕ → ℕ → ℕ
+heldPlace image i = blockOf (slotAt (decode image .header .first) i) * blockSize
+
+-- "A call stores at most one slot, one that isn't live, and then block 0." First the slot ..
+unfoldable pub storeSlot : List ℕ → ℕ → List ℕ → List ℕ
+storeSlot image k m = withBlock image (blockOf k) (slotFor (block image (blockOf k)) m)
+
+-- .. then block 0
+unfoldable pub store0 : List ℕ → Header → List ℕ → List ℕ
+store0 image h ls = withBlock image 0 (block0 (block image 0) h ls)
+
+abbrev pub store : List ℕ → State → List ℕ
+store image s = store0 image (s .header) (s .labels)
+
+-- each number of the state has its width
+pub record InRange (s : State) : Type 0 where
+  pub header : Fits (s .header)
+  pub labels : Words wordCount (s .labels)

@@ -1,0 +1,53 @@
+// What is made of a whole image: a new one, one released, one as after a break.
+ghost use mathlib.Core.Path.{_≡_};
+ghost use lib.ListN.{length};
+ghost use Rattle.image.specs.Sizes.{imageSize};
+ghost use Rattle.image.specs.Events.{sizeVerdict, formatOf, releaseOf, breakOf};
+use crate::Verdict;
+use block0::Header;
+use ft_number::FtNumber;
+use label_list::SweepRule;
+
+// Released: block 0 with kept 0. The slots keep their bytes.
+pub fn release(image: &mut [u8])
+    requires { ⌜ length (now image) ≡ imageSize ⌝ }
+    ensures { λ _. ⌜ now (image .exit) ≡ releaseOf (now (image .entry)) ⌝ }
+{
+    let h = Header {
+        released: FtNumber(0),
+        issued: FtNumber(0),
+        secured: FtNumber(0),
+        first: 0,
+        held: 0,
+        timeout: 0,
+        kept: 0,
+        keepalive: 0,
+        maxpdu: 0,
+    };
+    let labels = [0u32; 120];
+    crate::store_block0(image, h, &labels);
+}
+
+// A new image: released, with slots of zeros.
+pub fn format(image: &mut [u8]) -> Verdict
+    ensures { λ r. ⌜ (r ≡ sizeVerdict (now (image .entry))) × (now (image .exit) ≡ formatOf (now (image .entry))) ⌝ }
+{
+    if image.len() != crate::IMAGE_SIZE {
+        return Verdict::WrongSize;
+    }
+    octets::zero_to(image, 0, crate::IMAGE_SIZE);
+    release(image);
+    Verdict::Sound
+}
+
+// As after a break: the label words of code 6 are freed.
+pub fn free_unprotected(image: &mut [u8])
+    requires { ⌜ length (now image) ≡ imageSize ⌝ }
+    ensures { λ _. ⌜ now (image .exit) ≡ breakOf (now (image .entry)) ⌝ }
+{
+    let h = crate::header_of(image);
+    let mut words = [0u32; 120];
+    crate::labels_of(image, &mut words);
+    label_list::sweep(&mut words, SweepRule::AfterBreak);
+    crate::store_block0(image, h, &words);
+}

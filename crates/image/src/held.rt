@@ -1,0 +1,47 @@
+// The messages held by a sound image, counted from the oldest: each as that very part of the image, with its kind and label.
+ghost use mathlib.Core.Path.{_≡_};
+ghost use mathlib.Core.List.{[]};
+ghost use Prim.Native.Nat.{_+_, _<_};
+ghost use lib.ListN.{length, getD};
+ghost use Rattle.message.specs.Submission.{submissionOf};
+ghost use Rattle.block.specs.Check.{blockSize};
+ghost use Rattle.slot.specs.Layout.{messageAt};
+ghost use Rattle.slot.specs.Held.{kindIn, labelIn};
+ghost use Rattle.image.specs.State.{decode, heldBlock, heldPlace};
+ghost use Rattle.image.specs.Verdict.{IsSound};
+
+// The block of the i-th message held.
+fn held_slot(image: &[u8], i: usize) -> &[u8]
+    requires { ⌜ IsSound (now image) × (i < decode (now image) .header .held) ⌝ }
+    ensures { λ r. ⌜ (now r ≡ heldBlock (now (image .entry)) i) × (length (now r) ≡ blockSize) ⌝ }
+    ensures place { λ r. ⌜ (r .ptr .0 ≡ image .entry .ptr .0) × (r .ptr .1 ≡ heldPlace (now (image .entry)) i + image .entry .ptr .1) ⌝ }
+{
+    let h = crate::header_of(image);
+    let b = (crate::wide(h.first) + i) % crate::SLOT_COUNT + 1;
+    crate::block_at(image, b)
+}
+
+// The i-th message held.
+pub fn held_message(image: &[u8], i: usize) -> &[u8]
+    requires { ⌜ IsSound (now image) × (i < decode (now image) .header .held) ⌝ }
+    ensures { λ r. ⌜ now r ≡ getD (decode (now (image .entry)) .queue) i [] ⌝ }
+    ensures place { λ r. ⌜ (r .ptr .0 ≡ image .entry .ptr .0) × (r .ptr .1 ≡ messageAt + (heldPlace (now (image .entry)) i + image .entry .ptr .1)) ⌝ }
+{
+    slot::message_of(held_slot(image, i))
+}
+
+// The number of its kind, 1 to 6.
+pub fn held_kind(image: &[u8], i: usize) -> u8
+    requires { ⌜ IsSound (now image) × (i < decode (now image) .header .held) ⌝ }
+    ensures { λ r. ⌜ r ≡ kindIn (submissionOf (getD (decode (now (image .entry)) .queue) i [])) ⌝ }
+{
+    slot::kind_of(held_slot(image, i))
+}
+
+// Its label; 0xFFFFFFFF for the kinds without one.
+pub fn held_label(image: &[u8], i: usize) -> u32
+    requires { ⌜ IsSound (now image) × (i < decode (now image) .header .held) ⌝ }
+    ensures { λ r. ⌜ r ≡ labelIn (submissionOf (getD (decode (now (image .entry)) .queue) i [])) ⌝ }
+{
+    slot::label_of(held_slot(image, i))
+}

@@ -1,0 +1,152 @@
+// The stored image: 65 blocks of 512 bytes. Block 0 holds the session's numbers and label words, the others are slots of a ring.
+ghost use mathlib.Core.Path.{_≡_};
+ghost use mathlib.Core.Bool.{true};
+ghost use mathlib.Core.List.{[]};
+ghost use Prim.Native.Nat.{_+_, _*_, _≤_, _<_};
+ghost use lib.ListN.{length, getD};
+ghost use Rattle.label_list.specs.Word.{wordCount};
+ghost use Rattle.message.specs.Submission.{submissionOf};
+ghost use Rattle.message.specs.declared.Submission.the-variants.{Accepted};
+ghost use Rattle.block.specs.Check.{blockSize};
+ghost use Rattle.block0.specs.Layout.{slotCount};
+ghost use Rattle.slot.specs.Layout.{longest};
+ghost use Rattle.image.specs.Sizes.{imageSize, block};
+ghost use Rattle.image.specs.State.{decode, storeSlot, store0};
+ghost use Rattle.image.specs.Verdict.{scan, verdict, verdictNumber, verdictBlock};
+use block0::Header;
+use message::Kind;
+
+mod events;
+mod held;
+
+pub use events::format;
+pub use events::free_unprotected;
+pub use events::release;
+pub use held::held_kind;
+pub use held::held_label;
+pub use held::held_message;
+
+// What restore's checks answer; a block or a field that is wrong, with its block's number.
+pub enum Verdict {
+    Sound,
+    WrongSize,
+    BadBlock(usize),
+    BadField(usize),
+}
+
+// The slots of the ring, and the size of the image: they and block 0.
+const SLOT_COUNT: usize = 64;
+
+const IMAGE_SIZE: usize = (SLOT_COUNT + 1) * block::BLOCK_SIZE;
+
+// The paper's number of a verdict.
+pub fn verdict_number(v: Verdict) -> u32
+    ensures { λ r. ⌜ r ≡ verdictNumber v ⌝ }
+{
+    match v {
+        Verdict::Sound => 0,
+        Verdict::WrongSize => 12,
+        Verdict::BadBlock(_) => 10,
+        Verdict::BadField(_) => 11,
+    }
+}
+
+// The block that a verdict names; 0 where none applies.
+pub fn verdict_block(v: Verdict) -> usize
+    ensures { λ r. ⌜ r ≡ verdictBlock v ⌝ }
+{
+    match v {
+        Verdict::Sound => 0,
+        Verdict::WrongSize => 0,
+        Verdict::BadBlock(b) => b,
+        Verdict::BadField(b) => b,
+    }
+}
+
+fn wide(x: u16) -> usize
+    ensures { λ r. ⌜ (r ≡ x) × (r < 65536) ⌝ }
+{
+    x as usize
+}
+
+// Block b, as that very part of the image.
+pub fn block_at(image: &[u8], b: usize) -> &[u8]
+    requires { ⌜ (length (now image) ≡ imageSize) × (b ≤ slotCount) ⌝ }
+    ensures { λ r. ⌜ (now r ≡ block (now (image .entry)) b) × (length (now r) ≡ blockSize) ⌝ }
+    ensures place { λ r. ⌜ (r .ptr .0 ≡ image .entry .ptr .0) × (r .ptr .1 ≡ b * blockSize + image .entry .ptr .1) ⌝ }
+{
+    let start = b * block::BLOCK_SIZE;
+    let end = start + block::BLOCK_SIZE;
+    &image[start..end]
+}
+
+// The live slots in ring order: the check of each, then its fields.
+fn scan_slots(image: &[u8], first: usize, held: usize) -> Verdict
+    requires { ⌜ (length (now image) ≡ imageSize) × (first < 65536) × (held < 65536) ⌝ }
+    ensures { λ r. ⌜ r ≡ scan (now (image .entry)) first held ⌝ }
+{
+    let mut i: usize = 0;
+    while i < held {
+        let b = (first + i) % SLOT_COUNT + 1;
+        let slot = block_at(image, b);
+        if !block::is_sound(slot) {
+            return Verdict::BadBlock(b);
+        }
+        if !slot::slot_is_valid(slot) {
+            return Verdict::BadField(b);
+        }
+        i += 1;
+    }
+    Verdict::Sound
+}
+
+// Restore's checks, in the paper's order. Slots that are not live are not looked at.
+pub fn check_image(image: &[u8]) -> Verdict
+    ensures { λ r. ⌜ r ≡ verdict (now (image .entry)) ⌝ }
+{
+    if image.len() != IMAGE_SIZE {
+        return Verdict::WrongSize;
+    }
+    let zeroth = block_at(image, 0);
+    if !block::is_sound(zeroth) {
+        return Verdict::BadBlock(0);
+    }
+    if !block0::block0_is_valid(zeroth) {
+        return Verdict::BadField(0);
+    }
+    let h = block0::read_header(zeroth);
+    scan_slots(image, wide(h.first), wide(h.held))
+}
+
+// The numbers of block 0.
+pub fn header_of(image: &[u8]) -> Header
+    requires { ⌜ length (now image) ≡ imageSize ⌝ }
+    ensures { λ r. ⌜ r ≡ decode (now (image .entry)) .header ⌝ }
+{
+    block0::read_header(block_at(image, 0))
+}
+
+// The label words of block 0.
+pub fn labels_of(image: &[u8], words: &mut [u32])
+    requires { ⌜ (length (now image) ≡ imageSize) × (length (now words) ≡ wordCount) ⌝ }
+    ensures { λ _. ⌜ now (words .exit) ≡ decode (now (image .entry)) .labels ⌝ }
+{
+    block0::read_labels(block_at(image, 0), words)
+}
+
+// First stage: stores a message that Submit takes in slot k, with its kind and label.
+pub fn store_slot(image: &mut [u8], k: usize, m: &[u8], kind: Kind, label: u32)
+    requires { ⌜ (length (now image) ≡ imageSize) × (k < slotCount) × (length (now m) ≤ longest) × (submissionOf (now m) ≡ Accepted kind label) ⌝ }
+    ensures { λ _. ⌜ now (image .exit) ≡ storeSlot (now (image .entry)) k (now (m .entry)) ⌝ }
+{
+    let start = (k + 1) * block::BLOCK_SIZE;
+    slot::write_slot(&mut image[start..start + block::BLOCK_SIZE], m, kind, label);
+}
+
+// Second stage: stores block 0.
+pub fn store_block0(image: &mut [u8], h: Header, labels: &[u32])
+    requires { ⌜ (length (now image) ≡ imageSize) × (length (now labels) ≡ wordCount) ⌝ }
+    ensures { λ _. ⌜ now (image .exit) ≡ store0 (now (image .entry)) h (now (labels .entry)) ⌝ }
+{
+    block0::write_block0(&mut image[0..block::BLOCK_SIZE], h, labels);
+}

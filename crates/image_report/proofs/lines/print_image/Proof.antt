@@ -1,0 +1,23 @@
+-- `image_report::lines::print_image` writes no byte beyond its text. Assumes nothing.
+use native.Mathlib.Omega.{arith}
+use borrow.Author.Needs.{needs}
+use mathlib.Core.Path.{sym}
+use lib.Seq.{length-take-le}
+use Rattle.image_report.proofs.lines.print_image.Statement.{statement}
+use Rattle.image_report.proofs.lines.print_image.Tie as tie
+
+pub print-image-spec : {M : Type 1} → statement M
+print-image-spec =
+    tie.close
+    (tie.spec
+    (λ c. search needs)
+    (λ c κs. search needs)
+    (λ c. search needs)
+    (λ c. search needs)
+    (λ c. search needs)
+    (λ c κs. search needs)
+    (λ c κs. search needs)
+    (λ c. search needs)
+    (λ c. sym (length-take-le _ _ (omega (arith, c .before .before .put-report .ensures .1, c .before .before .put-report .kept .0))))
+    (λ c κs. search needs)
+    (λ c. search needs))

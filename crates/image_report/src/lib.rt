@@ -1,0 +1,96 @@
+// What a stored image says, for people: its counts, or why it is refused, as lines of text.
+use block0::Header;
+use ft_number::FtNumber;
+use ft_number::Steps;
+use image::Verdict;
+ghost use mathlib.Core.Path.{_≡_};
+ghost use mathlib.Core.Bool.{true};
+ghost use Prim.Native.Nat.{_+_, _≤_};
+ghost use lib.ListN.{length};
+ghost use Rattle.block0.specs.Fields.{atMost};
+ghost use Rattle.ft_number.specs.Circle.{stepsOf};
+ghost use Rattle.image.specs.State.{decode};
+ghost use Rattle.image.specs.Verdict.{IsSound};
+ghost use Rattle.image_report.specs.Report.{isListed, listedOf, pendedOf, countsOf, reportOf};
+
+pub mod lines;
+
+// The numbers and counts of a sound image.
+pub struct Counts {
+    pub released: FtNumber,
+    pub issued: FtNumber,
+    pub secured: FtNumber,
+    pub held: u16,
+    pub pended: u16,
+    pub labels: u16,
+}
+
+// The counts, or the refusal's number and the block that it names.
+pub enum Report {
+    Counted(Counts),
+    Refused(u32, usize),
+}
+
+// 1 where a word is not zero.
+fn is_listed(word: u32) -> u16
+    ensures { λ r. ⌜ (r ≡ isListed word) × (r ≤ 1) ⌝ }
+{
+    if word == 0 { 0 } else { 1 }
+}
+
+// How many words are not zero.
+fn count_listed(words: &[u32]) -> u16
+    requires { ⌜ length (now words) ≤ 65535 ⌝ }
+    ensures { λ r. ⌜ r ≡ listedOf (now (words .entry)) ⌝ }
+{
+    let mut count: u16 = 0;
+    let mut i: usize = 0;
+    while i < words.len() {
+        count += is_listed(words[i]);
+        i += 1;
+    }
+    count
+}
+
+// Held messages that have no number yet.
+fn count_pended(h: Header) -> u16
+    requires { ⌜ atMost (h .held) (stepsOf (h .released .0) (h .issued .0)) ≡ true ⌝ }
+    ensures { λ r. ⌜ r ≡ pendedOf h ⌝ }
+{
+    match ft_number::steps_between(h.released, h.issued) {
+        Steps::Count(n) => h.held - n as u16,
+        Steps::Unreachable => h.held,
+    }
+}
+
+fn counts_of(image: &[u8]) -> Counts
+    requires { ⌜ IsSound (now image) ⌝ }
+    ensures { λ r. ⌜ r ≡ countsOf (decode (now (image .entry))) ⌝ }
+{
+    let h = image::header_of(image);
+    let mut words = [0u32; 120];
+    image::labels_of(image, &mut words);
+    let released = h.released;
+    let issued = h.issued;
+    let secured = h.secured;
+    Counts {
+        released: released,
+        issued: issued,
+        secured: secured,
+        held: h.held,
+        pended: count_pended(h),
+        labels: count_listed(&words),
+    }
+}
+
+// What any bytes say that may be an image.
+pub fn report_of(image: &[u8]) -> Report
+    ensures { λ r. ⌜ r ≡ reportOf (now (image .entry)) ⌝ }
+{
+    match image::check_image(image) {
+        Verdict::Sound => Report::Counted(counts_of(image)),
+        Verdict::WrongSize => Report::Refused(12, 0),
+        Verdict::BadBlock(b) => Report::Refused(10, b),
+        Verdict::BadField(b) => Report::Refused(11, b),
+    }
+}

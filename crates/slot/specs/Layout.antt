@@ -1,0 +1,47 @@
+-- A slot: "length 8 to 480 (0-1), kind 1 to 6 (2), zero (3), label of kinds 1 to 3, else 0xFFFFFFFF (4-7), the message without FT TLVs, zeros."
+use Prim.Native.Nat.{ℕ, _+_, _-_}
+use mathlib.Core.List.{List, [], _∷_}
+use lib.ListN.{length}
+use Rattle.octets.specs.Be.{beAt}
+use Rattle.octets.specs.Fill.{copied, zeroed}
+use Rattle.octets.specs.Part.{part}
+use Rattle.block.specs.Check.{checkAt, sealed}
+use Rattle.block.specs.Run.{putRun}
+
+-- "length 8 to 480"
+abbrev pub shortest : ℕ
+shortest = 8
+
+abbrev pub longest : ℕ
+longest = 480
+
+-- length, kind, zero, label
+abbrev pub headWidths : List ℕ
+headWidths = 2 ∷ 1 ∷ 1 ∷ 4 ∷ []
+
+abbrev pub lengthOf : List ℕ → ℕ
+lengthOf b = beAt 2 b 0
+
+abbrev pub kindOf : List ℕ → ℕ
+kindOf b = beAt 1 b 2
+
+abbrev pub labelOf : List ℕ → ℕ
+labelOf b = beAt 4 b 4
+
+abbrev pub messageAt : ℕ
+messageAt = 8
+
+-- the message, and what follows it up to the check
+unfoldable pub messageOf : List ℕ → List ℕ
+messageOf b = part b messageAt (messageAt + lengthOf b)
+
+unfoldable pub paddingOf : List ℕ → List ℕ
+paddingOf b = part b (messageAt + lengthOf b) checkAt
+
+-- the block with a message of that kind and label written, and sealed
+unfoldable pub slotBlock : List ℕ → List ℕ → ℕ → ℕ → List ℕ
+slotBlock b m kind label =
+    sealed
+    (zeroed (copied (putRun headWidths (length m ∷ kind ∷ 0 ∷ label ∷ []) b 0) messageAt m)
+    (messageAt + length m)
+    (checkAt - messageAt - length m))

@@ -1,0 +1,138 @@
+// A slot of the stored image: one held message with its length, kind and label.
+ghost use mathlib.Core.Path.{_≡_};
+ghost use mathlib.Core.Bool.{true};
+ghost use mathlib.Core.List.{[], _∷_};
+ghost use Prim.Native.Nat.{_+_, _*_, _≤_, _<_};
+ghost use lib.ListN.{length};
+ghost use Rattle.message.specs.Kinds.{kindNumber};
+ghost use Rattle.block.specs.Check.{blockSize};
+ghost use Rattle.block.specs.Run.{putRun};
+ghost use Rattle.slot.specs.Layout.{shortest, longest, headWidths, lengthOf, kindOf, labelOf, messageAt, messageOf, slotBlock};
+ghost use Rattle.slot.specs.Fields.{bears, slotOk};
+use message::Kind;
+use message::Submission;
+
+// The lengths that a held message may have.
+const SHORTEST: usize = 8;
+
+const LONGEST: usize = 480;
+
+// Where the message stands, and the bytes from there to the check.
+const MESSAGE_AT: usize = 8;
+
+const ROOM: usize = block::CHECK_AT - MESSAGE_AT;
+
+// The number of a kind in the stored image.
+fn kind_number(kind: Kind) -> u8
+    ensures { λ r. ⌜ r ≡ kindNumber kind ⌝ }
+{
+    match kind {
+        Kind::Mapping => 1,
+        Kind::Withdraw => 2,
+        Kind::Release => 3,
+        Kind::Address => 4,
+        Kind::AddressWithdraw => 5,
+        Kind::ResourcesAvailable => 6,
+        Kind::NoKind => 0,
+    }
+}
+
+fn put_head(block: &mut [u8], n: u16, kind: u8, label: u32)
+    requires { ⌜ length (now block) ≡ blockSize ⌝ }
+    ensures { λ _. ⌜ now (block .exit) ≡ putRun headWidths (n ∷ kind ∷ 0 ∷ label ∷ []) (now (block .entry)) 0 ⌝ }
+{
+    octets::put_u16(block, 0, n);
+    octets::put_u8(block, 2, kind);
+    octets::put_u8(block, 3, 0);
+    octets::put_u32(block, 4, label);
+}
+
+// Writes the slot whole: its head, the message, zeros to the check, and the check.
+pub fn write_slot(block: &mut [u8], m: &[u8], kind: Kind, label: u32)
+    requires { ⌜ (length (now block) ≡ blockSize) × (length (now m) ≤ longest) ⌝ }
+    ensures { λ _. ⌜ now (block .exit) ≡ slotBlock (now (block .entry)) (now (m .entry)) (kindNumber kind) label ⌝ }
+{
+    let n = m.len();
+    put_head(block, n as u16, kind_number(kind), label);
+    octets::copy_to(block, MESSAGE_AT, m);
+    octets::zero_to(block, MESSAGE_AT + n, ROOM - n);
+    block::seal(block);
+}
+
+// The length that the slot gives its message.
+fn message_length(block: &[u8]) -> usize
+    requires { ⌜ length (now block) ≡ blockSize ⌝ }
+    ensures { λ r. ⌜ r ≡ lengthOf (now (block .entry)) ⌝ }
+{
+    octets::get_u16(block, 0) as usize
+}
+
+// The number of its kind.
+pub fn kind_of(block: &[u8]) -> u8
+    requires { ⌜ length (now block) ≡ blockSize ⌝ }
+    ensures { λ r. ⌜ r ≡ kindOf (now (block .entry)) ⌝ }
+{
+    octets::get_u8(block, 2)
+}
+
+// Its label; 0xFFFFFFFF for the kinds without one.
+pub fn label_of(block: &[u8]) -> u32
+    requires { ⌜ length (now block) ≡ blockSize ⌝ }
+    ensures { λ r. ⌜ r ≡ labelOf (now (block .entry)) ⌝ }
+{
+    octets::get_u32(block, 4)
+}
+
+// Whether a judged message was accepted with that kind and label.
+fn bears_both(judged: Submission, kind: u8, label: u32) -> bool
+    ensures { λ r. ⌜ r ≡ bears judged kind label ⌝ }
+{
+    match judged {
+        Submission::Malformed => false,
+        Submission::Refused => false,
+        Submission::Accepted(k, l) => kind_number(k) == kind && l == label,
+    }
+}
+
+// Whether the slot's fields are right. Its check is not looked at.
+pub fn slot_is_valid(block: &[u8]) -> bool
+    requires { ⌜ length (now block) ≡ blockSize ⌝ }
+    ensures { λ r. ⌜ r ≡ slotOk (now (block .entry)) ⌝ }
+{
+    let n = message_length(block);
+    if n < SHORTEST {
+        return false;
+    }
+    if n > LONGEST {
+        return false;
+    }
+    let kind = kind_of(block);
+    if kind < 1 {
+        return false;
+    }
+    if kind > 6 {
+        return false;
+    }
+    if octets::get_u8(block, 3) != 0 {
+        return false;
+    }
+    let end = MESSAGE_AT + n;
+    if !block::zeros::all_zero(&block[end..block::CHECK_AT]) {
+        return false;
+    }
+    bears_both(
+        message::judge_submission(&block[MESSAGE_AT..end]),
+        kind,
+        label_of(block),
+    )
+}
+
+// The message that a slot with right fields holds, as that very part of the block.
+pub fn message_of(block: &[u8]) -> &[u8]
+    requires { ⌜ (length (now block) ≡ blockSize) × (slotOk (now block) ≡ true) ⌝ }
+    ensures { λ r. ⌜ now r ≡ messageOf (now (block .entry)) ⌝ }
+    ensures place { λ r. ⌜ (r .ptr .0 ≡ block .entry .ptr .0) × (r .ptr .1 ≡ messageAt + block .entry .ptr .1) ⌝ }
+{
+    let end = MESSAGE_AT + message_length(block);
+    &block[MESSAGE_AT..end]
+}

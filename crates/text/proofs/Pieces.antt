@@ -1,0 +1,24 @@
+-- Texts put one after the other are their join. Assumes nothing.
+use Prim.Native.Nat.{ℕ, _+_, _≤_}
+use mathlib.Core.Path.{_≡_, refl, sym, ap, _∙_}
+use mathlib.Core.List.{List, [], _++_}
+use native.Mathlib.Omega.{arith}
+use lib.ListN.{length, length-append}
+use Rattle.octets.specs.Fill.{copied}
+use Rattle.octets.proofs.Fill.{filled-none}
+use Rattle.text.specs.Text.{Put}
+use Rattle.text.proofs.Copied.{copied-append, length-copied}
+
+pub put-none : (s : List ℕ) (at : ℕ) → Put s at [] s at
+put-none s at = record { bytes = sym (filled-none (λ i. 0) s at); ends = omega arith }
+
+pub put-then : {a t b u c : List ℕ} {at mid end : ℕ} → Put a at t b mid → Put b mid u c end → Put a at (t ++ u) c end
+put-then {a} {t} {b} {u} {c} {at} {mid} {end} p q =
+    let next : c ≡ copied (copied a at t) (at + length t) u =
+    q .bytes ∙ ap (λ (s : List ℕ). copied s mid u) (p .bytes) ∙ ap (λ (i : ℕ). copied (copied a at t) i u) (p .ends) in
+    record { bytes = next ∙ copied-append a at t u; ends = rw length-append (omega (arith, p .ends, q .ends)) }
+
+pub put-length : {a t b : List ℕ} {at end : ℕ} → Put a at t b end → length b ≡ length a
+put-length {a} {t} {b} {at} p = ap length (p .bytes) ∙ length-copied a at t
+
+pub ruleset pieces = (put-none, put-then)

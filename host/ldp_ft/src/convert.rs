@@ -1,0 +1,96 @@
+//! Results as C has them and as Rust has them, both ways, field by field.
+
+use crate::abi::*;
+use cabinet::{Distance, Message, Outcome, Part, Pdu, Session};
+
+/// Conversions between two structs with the same fields.
+macro_rules! same_fields {
+    ($rust:ident, $c:ident: $($field:ident),+) => {
+        impl From<$c> for $rust {
+            fn from(c: $c) -> Self {
+                $rust { $($field: c.$field),+ }
+            }
+        }
+
+        impl From<$rust> for $c {
+            fn from(rust: $rust) -> Self {
+                $c { $($field: rust.$field),+ }
+            }
+        }
+    };
+}
+
+same_fields!(Session, ldp_ft_session: phase, value);
+same_fields!(Pdu, ldp_ft_pdu: answer, count);
+same_fields!(Part, ldp_ft_part: answer, start, end);
+same_fields!(Distance, ldp_ft_distance_result: answer, steps);
+
+impl From<ldp_ft_outcome> for Outcome {
+    fn from(c: ldp_ft_outcome) -> Self {
+        Outcome {
+            answer: c.answer,
+            block: c.block,
+            session: c.session.into(),
+            length: c.length,
+            slot: c.slot,
+            block0: c.block0,
+        }
+    }
+}
+
+impl From<Outcome> for ldp_ft_outcome {
+    fn from(rust: Outcome) -> Self {
+        ldp_ft_outcome {
+            answer: rust.answer,
+            block: rust.block,
+            session: rust.session.into(),
+            length: rust.length,
+            slot: rust.slot,
+            block0: rust.block0,
+        }
+    }
+}
+
+impl From<ldp_ft_message> for Message {
+    fn from(c: ldp_ft_message) -> Self {
+        Message {
+            answer: c.answer,
+            message_type: c.r#type,
+            message_id: c.message_id,
+            kind: c.kind,
+            has: c.has,
+            fec_start: c.fec_start,
+            fec_end: c.fec_end,
+            label: c.label,
+            status: c.status,
+            number: c.number,
+            ack: c.ack,
+            reconnect: c.reconnect,
+            timeout: c.timeout,
+            keepalive_time: c.keepalive_time,
+            max_pdu_length: c.max_pdu_length,
+        }
+    }
+}
+
+impl From<Message> for ldp_ft_message {
+    fn from(rust: Message) -> Self {
+        ldp_ft_message {
+            answer: rust.answer,
+            r#type: rust.message_type,
+            message_id: rust.message_id,
+            kind: rust.kind,
+            has: rust.has,
+            fec_start: rust.fec_start,
+            fec_end: rust.fec_end,
+            label: rust.label,
+            status: rust.status,
+            number: rust.number,
+            ack: rust.ack,
+            reconnect: rust.reconnect,
+            timeout: rust.timeout,
+            keepalive_time: rust.keepalive_time,
+            max_pdu_length: rust.max_pdu_length,
+        }
+    }
+}

@@ -1,0 +1,258 @@
+//! The stored image: the layout of block 0 and of the slots, and the checks that restore and every other call make.
+
+use crate::check::{self, COVERED};
+use crate::octets::{all_zero, be16, be32, put16, put32};
+use crate::{labels, message, number};
+use cabinet::{BLOCK_SIZE, IMAGE_SIZE};
+
+pub const SLOTS: usize = 64;
+pub const SHORTEST: usize = 8;
+pub const LONGEST: usize = 480;
+const VERSION: u32 = 1;
+
+/// Places in block 0.
+mod at {
+    pub const RELEASED: usize = 4;
+    pub const ISSUED: usize = 8;
+    pub const SECURED: usize = 12;
+    pub const FIRST: usize = 16;
+    pub const HELD: usize = 18;
+    pub const TIMEOUT: usize = 20;
+    pub const KEPT: usize = 22;
+    pub const ZERO: usize = 23;
+    pub const KEEPALIVE_TIME: usize = 24;
+    pub const MAX_PDU_LENGTH: usize = 26;
+    pub const LABELS: usize = 28;
+}
+
+/// Places in a slot.
+mod slot_at {
+    pub const LENGTH: usize = 0;
+    pub const KIND: usize = 2;
+    pub const ZERO: usize = 3;
+    pub const LABEL: usize = 4;
+    pub const MESSAGE: usize = 8;
+}
+
+/// An answer that changes nothing, with the block it names.
+#[derive(Clone, Copy, Debug)]
+pub struct Refusal {
+    pub answer: u32,
+    pub block: u32,
+}
+
+impl Refusal {
+    pub fn of(answer: u32) -> Self {
+        Refusal { answer, block: 0 }
+    }
+}
+
+/// The fields of block 0 but the labels.
+#[derive(Clone, Copy)]
+pub struct Head {
+    pub released: u32,
+    pub secured: u32,
+    pub first: usize,
+    pub held: usize,
+    pub timeout: u16,
+    pub kept: bool,
+    pub keepalive_time: u16,
+    pub max_pdu_length: u16,
+    /// The steps from released to issued: how many of the held have a number.
+    pub numbered: u32,
+}
+
+impl Head {
+    /// Reads a block 0 that passed its checks.
+    fn read(block: &[u8], numbered: u32) -> Self {
+        Head {
+            released: be32(block, at::RELEASED),
+            secured: be32(block, at::SECURED),
+            first: usize::from(be16(block, at::FIRST)),
+            held: usize::from(be16(block, at::HELD)),
+            timeout: be16(block, at::TIMEOUT),
+            kept: block[at::KEPT] == 1,
+            keepalive_time: be16(block, at::KEEPALIVE_TIME),
+            max_pdu_length: be16(block, at::MAX_PDU_LENGTH),
+            numbered,
+        }
+    }
+
+    /// The block of the message that stands so many after the oldest held.
+    pub fn block_of(&self, after: usize) -> usize {
+        1 + (self.first + after) % SLOTS
+    }
+}
+
+/// All of restore's checks: size, block 0, its fields, then each live slot in ring order.
+pub fn examine(image: &[u8]) -> Result<Head, Refusal> {
+    let image: &[u8; IMAGE_SIZE] = image.try_into().map_err(|_| Refusal::of(12))?;
+    let block = &image[..BLOCK_SIZE];
+    if check::stored(block) != check::sums(&block[..COVERED]) {
+        return Err(Refusal::of(10));
+    }
+    let numbered = judge_fields(block).ok_or(Refusal::of(11))?;
+    let head = Head::read(block, numbered);
+    for after in 0..head.held {
+        let number = head.block_of(after);
+        judge_slot(slot(image, number)).map_err(|answer| Refusal { answer, block: number as u32 })?;
+    }
+    Ok(head)
+}
+
+/// The steps from released to issued, where every field of block 0 is in its range.
+fn judge_fields(block: &[u8]) -> Option<u32> {
+    if be32(block, 0) != VERSION || block[at::KEPT] > 1 || block[at::ZERO] != 0 {
+        return None;
+    }
+    if block[at::KEPT] == 0 {
+        return all_zero(&block[at::RELEASED..COVERED]).then_some(0);
+    }
+    let held = be16(block, at::HELD);
+    if usize::from(be16(block, at::FIRST)) >= SLOTS || usize::from(held) > SLOTS {
+        return None;
+    }
+    let numbered = number::steps(be32(block, at::RELEASED), be32(block, at::ISSUED))?;
+    (numbered <= u32::from(held) && labels::is_sound(list(block))).then_some(numbered)
+}
+
+/// Answers 10 or 11 for a live slot whose check or fields are wrong.
+fn judge_slot(slot: &[u8]) -> Result<(), u32> {
+    let length = usize::from(be16(slot, slot_at::LENGTH));
+    let end = slot_at::MESSAGE + length;
+    let padded = (SHORTEST..=LONGEST).contains(&length) && all_zero(&slot[end..COVERED]);
+    let summed = if padded { check::whole_rows(end) } else { COVERED };
+    if check::stored(slot) != check::sums(&slot[..summed]) {
+        return Err(10);
+    }
+    if padded && slot[slot_at::ZERO] == 0 && message_fits(slot, &slot[slot_at::MESSAGE..end]) {
+        Ok(())
+    } else {
+        Err(11)
+    }
+}
+
+/// True where a slot's message may be queued and has the kind and label that the slot shows.
+fn message_fits(slot: &[u8], msg: &[u8]) -> bool {
+    message::read(msg).is_some_and(|read| {
+        message::may_be_queued(&read) && read.kind == slot_kind(slot) && message::slot_label(&read) == slot_label(slot)
+    })
+}
+
+/// A block by its number.
+pub fn slot(image: &[u8], block: usize) -> &[u8] {
+    &image[block * BLOCK_SIZE..][..BLOCK_SIZE]
+}
+
+pub fn slot_kind(slot: &[u8]) -> u32 {
+    u32::from(slot[slot_at::KIND])
+}
+
+pub fn slot_label(slot: &[u8]) -> u32 {
+    be32(slot, slot_at::LABEL)
+}
+
+/// The message in a live slot.
+pub fn slot_message(slot: &[u8]) -> &[u8] {
+    let length = usize::from(be16(slot, slot_at::LENGTH));
+    &slot[slot_at::MESSAGE..slot_at::MESSAGE + length]
+}
+
+/// Writes a message of at most 480 bytes to a slot, whole.
+pub fn write_slot(image: &mut [u8], block: usize, msg: &[u8], kind: u32, label: u32) {
+    let slot = &mut image[block * BLOCK_SIZE..][..BLOCK_SIZE];
+    let end = slot_at::MESSAGE + msg.len();
+    put16(slot, slot_at::LENGTH, msg.len() as u16);
+    slot[slot_at::KIND] = kind as u8;
+    slot[slot_at::ZERO] = 0;
+    put32(slot, slot_at::LABEL, label);
+    slot[slot_at::MESSAGE..end].copy_from_slice(msg);
+    slot[end..COVERED].fill(0);
+    let sums = check::sums(&slot[..check::whole_rows(end)]);
+    check::store(slot, sums);
+}
+
+/// The bytes of the label list in block 0.
+pub fn list(block: &[u8]) -> &[u8] {
+    &block[at::LABELS..COVERED]
+}
+
+/// Block 0 while it is rewritten: a copy that goes back as a whole, or not at all.
+pub struct Draft([u8; BLOCK_SIZE]);
+
+impl Draft {
+    /// A copy of an image's block 0.
+    pub fn of(image: &[u8]) -> Self {
+        let mut block = [0; BLOCK_SIZE];
+        block.copy_from_slice(&image[..BLOCK_SIZE]);
+        Draft(block)
+    }
+
+    /// Block 0 with kept 0: state released.
+    pub fn released() -> Self {
+        let mut block = [0; BLOCK_SIZE];
+        put32(&mut block, 0, VERSION);
+        Draft(block)
+    }
+
+    /// Block 0 of a fresh session.
+    pub fn fresh(keepalive_time: u16, max_pdu_length: u16) -> Self {
+        let mut draft = Draft::released();
+        draft.0[at::KEPT] = 1;
+        put16(&mut draft.0, at::KEEPALIVE_TIME, keepalive_time);
+        put16(&mut draft.0, at::MAX_PDU_LENGTH, max_pdu_length);
+        draft
+    }
+
+    pub fn list(&self) -> &[u8] {
+        list(&self.0)
+    }
+
+    pub fn list_mut(&mut self) -> &mut [u8] {
+        &mut self.0[at::LABELS..COVERED]
+    }
+
+    pub fn set_issued(&mut self, number: u32) {
+        put32(&mut self.0, at::ISSUED, number);
+    }
+
+    pub fn set_secured(&mut self, number: u32) {
+        put32(&mut self.0, at::SECURED, number);
+    }
+
+    pub fn set_timeout(&mut self, seconds: u16) {
+        put16(&mut self.0, at::TIMEOUT, seconds);
+    }
+
+    pub fn set_held(&mut self, held: usize) {
+        put16(&mut self.0, at::HELD, held as u16);
+    }
+
+    /// Lets go of the oldest held through the number acknowledged, which stands so many steps after the released one.
+    pub fn let_go(&mut self, image: &[u8], head: &Head, ack: u32, steps: usize) {
+        for after in 0..steps {
+            let slot = slot(image, head.block_of(after));
+            labels::acknowledged(self.list_mut(), slot_kind(slot), slot_label(slot));
+        }
+        put32(&mut self.0, at::RELEASED, ack);
+        put16(&mut self.0, at::FIRST, ((head.first + steps) % SLOTS) as u16);
+        self.set_held(head.held - steps);
+    }
+
+    /// Puts the block back where its bytes differ; 1 where they do.
+    pub fn store(mut self, image: &mut [u8]) -> u32 {
+        if self.0[..COVERED] == image[..COVERED] {
+            return 0;
+        }
+        let sums = check::sums(&self.0[..COVERED]);
+        check::store(&mut self.0, sums);
+        image[..BLOCK_SIZE].copy_from_slice(&self.0);
+        1
+    }
+}
+
+/// Writes a new image: kept 0, and 64 slots of zeros.
+pub fn format(image: &mut [u8; IMAGE_SIZE]) {
+    image.fill(0);
+    Draft::released().store(image);
+}

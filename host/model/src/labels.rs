@@ -1,0 +1,251 @@
+//! The label list: 120 words of label + 1,048,576 x code in block 0, read and rewritten word by word.
+//!
+//! Codes: 1 given, 2 withdrawing (our side); 3 using, 4 asked back, 5 releasing, 6 using without protection (theirs).
+
+use crate::message::kinds;
+use crate::octets::{all_zero, be32, put32};
+use core::ops::RangeInclusive;
+
+pub const PLACES: usize = 120;
+
+pub const GIVEN: u32 = 1;
+pub const WITHDRAWING: u32 = 2;
+pub const USING: u32 = 3;
+pub const ASKED_BACK: u32 = 4;
+pub const RELEASING: u32 = 5;
+pub const UNPROTECTED: u32 = 6;
+
+const CODE_SHIFT: u32 = 20;
+const LABEL_MASK: u32 = (1 << CODE_SHIFT) - 1;
+const FIRST_LISTED: u32 = 16;
+
+/// The side on which a label stands: we gave it to the peer, or the peer gave it to us.
+#[derive(Clone, Copy, PartialEq, Eq)]
+pub enum Side {
+    Ours,
+    Theirs,
+}
+
+/// Labels 0 to 15 are never listed.
+pub fn is_listed(label: u32) -> bool {
+    label >= FIRST_LISTED
+}
+
+fn compose(label: u32, code: u32) -> u32 {
+    label | code << CODE_SHIFT
+}
+
+fn side_of(code: u32) -> Side {
+    if code <= WITHDRAWING {
+        Side::Ours
+    } else {
+        Side::Theirs
+    }
+}
+
+/// The word at a place; the bytes given are those of the list.
+pub fn word(list: &[u8], place: usize) -> u32 {
+    be32(list, place * 4)
+}
+
+fn words(list: &[u8]) -> impl Iterator<Item = u32> + '_ {
+    list.chunks_exact(4).map(|bytes| be32(bytes, 0))
+}
+
+/// True where each word is free or has a code 1 to 6 with a listed label, and no label stands twice on a side.
+pub fn is_sound(list: &[u8]) -> bool {
+    if all_zero(list) {
+        return true;
+    }
+    let mut seen = Seen([0; Seen::PLACES]);
+    for word in words(list) {
+        if word == 0 {
+            continue;
+        }
+        let (label, code) = (word & LABEL_MASK, word >> CODE_SHIFT);
+        let side = side_of(code) as u32;
+        if code == 0 || code > UNPROTECTED || !is_listed(label) || !seen.add(label | side << CODE_SHIFT) {
+            return false;
+        }
+    }
+    true
+}
+
+/// The labels met so far with their sides: a table with open addressing, never more than half full.
+struct Seen([u32; Seen::PLACES]);
+
+impl Seen {
+    const PLACES: usize = 256;
+
+    /// Adds a nonzero key; false where it is there already.
+    fn add(&mut self, key: u32) -> bool {
+        let mut at = (key.wrapping_mul(0x9E37_79B1) >> 24) as usize;
+        while self.0[at] != 0 {
+            if self.0[at] == key {
+                return false;
+            }
+            at = (at + 1) % Seen::PLACES;
+        }
+        self.0[at] = key;
+        true
+    }
+}
+
+/// What the list says of a label on a side.
+#[derive(Clone, Copy)]
+pub struct Entry {
+    pub label: u32,
+    /// Its code, 0 where it is absent.
+    pub code: u32,
+    /// Its word's place, or else the first free one; none where it is absent and no word is free.
+    place: Option<usize>,
+}
+
+impl Entry {
+    /// Looks a label up on a side, in one pass.
+    pub fn find(list: &[u8], label: u32, side: Side) -> Self {
+        let mut free = None;
+        for (place, word) in words(list).enumerate() {
+            let code = word >> CODE_SHIFT;
+            if word == 0 {
+                free = free.or(Some(place));
+            } else if word & LABEL_MASK == label && side_of(code) == side {
+                return Entry { label, code, place: Some(place) };
+            }
+        }
+        Entry { label, code: 0, place: free }
+    }
+
+    /// True where the label is absent and no word is free for it.
+    pub fn is_without_word(&self) -> bool {
+        self.place.is_none()
+    }
+
+    /// Gives the label a code; false where there is no word for it.
+    pub fn set(&self, list: &mut [u8], code: u32) -> bool {
+        if let Some(place) = self.place {
+            put32(list, place * 4, compose(self.label, code));
+        }
+        self.place.is_some()
+    }
+
+    /// Frees the label's word, if it has one.
+    pub fn free(&self, list: &mut [u8]) {
+        if let Some(place) = self.place {
+            put32(list, place * 4, 0);
+        }
+    }
+}
+
+/// The side that a message of ours acts on: we give and withdraw our labels and release theirs.
+pub fn side_sending(kind: u32) -> Side {
+    if kind == kinds::RELEASE {
+        Side::Theirs
+    } else {
+        Side::Ours
+    }
+}
+
+/// The side that a message of the peer acts on.
+pub fn side_receiving(kind: u32) -> Side {
+    if kind == kinds::RELEASE {
+        Side::Ours
+    } else {
+        Side::Theirs
+    }
+}
+
+/// True where any word has a code among those given.
+pub fn any_code(list: &[u8], codes: RangeInclusive<u32>) -> bool {
+    words(list).fold(false, |any, word| any | codes.contains(&(word >> CODE_SHIFT)))
+}
+
+/// Frees the word of a label that has this very code, if there is one.
+fn free(list: &mut [u8], label: u32, code: u32) {
+    let wanted = compose(label, code);
+    let place = words(list).position(|word| word == wanted);
+    if let Some(place) = place {
+        put32(list, place * 4, 0);
+    }
+}
+
+/// Frees every word of a code.
+pub fn free_all(list: &mut [u8], code: u32) {
+    for bytes in list.chunks_exact_mut(4) {
+        if be32(bytes, 0) >> CODE_SHIFT == code {
+            bytes.fill(0);
+        }
+    }
+}
+
+/// A message of ours was released by ACK: a withdrawn or released label is free now; other codes stay.
+pub fn acknowledged(list: &mut [u8], kind: u32, label: u32) {
+    match kind {
+        kinds::WITHDRAW => free(list, label, WITHDRAWING),
+        kinds::RELEASE => free(list, label, RELEASING),
+        _ => {}
+    }
+}
+
+/// True where a message of ours may be sent about a label with this entry.
+pub fn may_send(kind: u32, entry: &Entry) -> bool {
+    is_listed(entry.label)
+        && match kind {
+            kinds::MAPPING => matches!(entry.code, 0 | GIVEN),
+            kinds::WITHDRAW => entry.code == GIVEN,
+            _ => matches!(entry.code, USING | ASKED_BACK),
+        }
+}
+
+/// A message of ours was accepted for sending.
+pub fn accepted(list: &mut [u8], kind: u32, entry: &Entry) {
+    match (kind, entry.code) {
+        (kinds::MAPPING, _) => _ = entry.set(list, GIVEN),
+        (kinds::WITHDRAW, _) => _ = entry.set(list, WITHDRAWING),
+        (_, ASKED_BACK) => entry.free(list),
+        _ => _ = entry.set(list, RELEASING),
+    }
+}
+
+/// A Mapping came in: false where it needs a word and none is free.
+pub fn mapping_received(list: &mut [u8], entry: &Entry, protected: bool) -> bool {
+    match entry.code {
+        _ if !is_listed(entry.label) => true,
+        ASKED_BACK | UNPROTECTED => true,
+        _ => entry.set(list, if protected { USING } else { UNPROTECTED }),
+    }
+}
+
+/// A Withdraw of a label came in.
+pub fn withdraw_received(list: &mut [u8], entry: &Entry) {
+    match entry.code {
+        USING => _ = entry.set(list, ASKED_BACK),
+        UNPROTECTED => entry.free(list),
+        _ => {}
+    }
+}
+
+/// A Withdraw of every label came in.
+pub fn withdraw_all_received(list: &mut [u8]) {
+    for bytes in list.chunks_exact_mut(4) {
+        let word = be32(bytes, 0);
+        match word >> CODE_SHIFT {
+            USING => put32(bytes, 0, compose(word & LABEL_MASK, ASKED_BACK)),
+            UNPROTECTED => bytes.fill(0),
+            _ => {}
+        }
+    }
+}
+
+/// A Release of a label came in.
+pub fn release_received(list: &mut [u8], entry: &Entry) {
+    if entry.code != 0 {
+        entry.free(list);
+    }
+}
+
+/// A Release of every label came in.
+pub fn release_all_received(list: &mut [u8]) {
+    free_all(list, GIVEN);
+    free_all(list, WITHDRAWING);
+}

@@ -1,0 +1,101 @@
+//! The session's rules written a second time, in plain Rust: what the library is compared with, call by call.
+//!
+//! No heap, no state between calls; block 0 is rewritten on a copy and put back as a whole.
+
+#![no_std]
+#![forbid(unsafe_code)]
+
+mod check;
+mod image;
+mod labels;
+mod message;
+mod number;
+mod octets;
+mod pdu;
+mod receive;
+mod session;
+mod write;
+
+use cabinet::{Cabinet, Distance, Message, Opening, Outcome, Part, Pdu, Session};
+
+/// True where the model was compiled with no vector instructions.
+pub const WITHOUT_VECTORS: bool = cfg!(without_vectors);
+
+/// The model of the library.
+#[derive(Clone, Copy, Debug, Default)]
+pub struct Model;
+
+impl Cabinet for Model {
+    fn format(&self, image: &mut [u8]) -> Outcome {
+        session::format(image)
+    }
+
+    fn restore(&self, image: &mut [u8]) -> Outcome {
+        session::restore(image)
+    }
+
+    fn open(&self, image: &mut [u8], session: Session, opening: &Opening, out: &mut [u8]) -> Outcome {
+        session::open(image, session, opening, out).unwrap_or_else(|refusal| refusal.outcome(session))
+    }
+
+    fn init_received(&self, image: &mut [u8], session: Session, msg: &[u8]) -> Outcome {
+        session::init_received(image, session, msg).unwrap_or_else(|refusal| refusal.outcome(session))
+    }
+
+    fn connection_failed(&self, image: &mut [u8], session: Session) -> Outcome {
+        session::connection_failed(image, session).unwrap_or_else(|refusal| refusal.outcome(session))
+    }
+
+    fn time_passed(&self, image: &mut [u8], session: Session, elapsed: u32) -> Outcome {
+        session::time_passed(image, session, elapsed).unwrap_or_else(|refusal| refusal.outcome(session))
+    }
+
+    fn submit(&self, image: &mut [u8], session: Session, msg: &[u8]) -> Outcome {
+        session::submit(image, session, msg).unwrap_or_else(|refusal| refusal.outcome(session))
+    }
+
+    fn send_next(&self, image: &mut [u8], session: Session, ack: bool, out: &mut [u8]) -> Outcome {
+        session::send_next(image, session, ack, out).unwrap_or_else(|refusal| refusal.outcome(session))
+    }
+
+    fn keepalive(&self, image: &mut [u8], session: Session, message_id: u32, out: &mut [u8]) -> Outcome {
+        session::keepalive(image, session, message_id, out).unwrap_or_else(|refusal| refusal.outcome(session))
+    }
+
+    fn receive(&self, image: &mut [u8], session: Session, msg: &[u8]) -> Outcome {
+        receive::receive(image, session, msg).unwrap_or_else(|refusal| refusal.outcome(session))
+    }
+
+    fn pdu_open(&self, pdu: &[u8]) -> Pdu {
+        pdu::open(pdu)
+    }
+
+    fn pdu_message(&self, pdu: &[u8], at: usize) -> Part {
+        pdu::message(pdu, at)
+    }
+
+    fn message_read(&self, msg: &[u8]) -> Message {
+        message::read(msg).unwrap_or(Message { answer: 22, ..Message::default() })
+    }
+
+    fn distance(&self, from: u32, to: u32) -> Distance {
+        number::distance(from, to)
+    }
+
+    fn successor(&self, from: u32) -> u32 {
+        number::successor(from)
+    }
+
+    fn lesser_timeout(&self, a: u32, b: u32) -> u32 {
+        number::lesser_timeout(a, b)
+    }
+
+    fn block_check(&self, block: &[u8]) -> u32 {
+        check::block_check(block)
+    }
+
+    fn label(&self, image: &[u8], place: u32) -> u32 {
+        let list = image::examine(image).ok().map(|_| image::list(image::slot(image, 0)));
+        list.filter(|_| (place as usize) < labels::PLACES).map_or(u32::MAX, |list| labels::word(list, place as usize))
+    }
+}

@@ -1,0 +1,235 @@
+//! The session's calls but receive: each examines the image, judges the phase, and stores block 0 last.
+
+use crate::image::{self, Draft, Head, Refusal};
+use crate::labels::{self, Entry};
+use crate::message::{self, kinds, types};
+use crate::{number, write};
+use cabinet::{has, phase, Message, Opening, Outcome, Session, IMAGE_SIZE};
+
+const DEFAULT_PROPOSAL: u16 = 5;
+
+impl Refusal {
+    /// The outcome of an answer that changes nothing.
+    pub fn outcome(self, session: Session) -> Outcome {
+        Outcome { answer: self.answer, block: self.block, session, ..Outcome::default() }
+    }
+}
+
+/// The session after a call: the value counts in InitWait and UpFT only.
+pub fn session_in(phase: u32, value: u32) -> Session {
+    let bears_value = phase == phase::INIT_WAIT || phase == phase::UP_FT;
+    Session { phase, value: if bears_value { value } else { 0 } }
+}
+
+fn done(session: Session) -> Outcome {
+    Outcome { session: session_in(session.phase, session.value), ..Outcome::default() }
+}
+
+/// Examines the image and admits the phases of a call, where the image does not rule them out.
+pub fn enter(image: &[u8], session: Session, phases: &[u32]) -> Result<Head, Refusal> {
+    let head = image::examine(image)?;
+    if phases.contains(&session.phase) && is_possible(session, &head) {
+        Ok(head)
+    } else {
+        Err(Refusal::of(1))
+    }
+}
+
+fn is_possible(session: Session, head: &Head) -> bool {
+    match session.phase {
+        phase::IDLE | phase::UP_PLAIN => !head.kept,
+        phase::INIT_WAIT => session.value <= u32::from(u16::MAX),
+        phase::UP_FT => head.kept && session.value <= head.numbered,
+        phase::FAILED => head.kept,
+        _ => false,
+    }
+}
+
+/// As connection failed: unprotected labels are freed; Failed where state is kept, else Idle.
+pub fn break_off(image: &mut [u8], kept: bool, answer: u32) -> Outcome {
+    let phase = if kept { phase::FAILED } else { phase::IDLE };
+    let mut outcome = Outcome { answer, session: session_in(phase, 0), ..Outcome::default() };
+    if labels::any_code(image::list(image::slot(image, 0)), labels::UNPROTECTED..=labels::UNPROTECTED) {
+        let mut draft = Draft::of(image);
+        labels::free_all(draft.list_mut(), labels::UNPROTECTED);
+        outcome.block0 = draft.store(image);
+    }
+    outcome
+}
+
+/// State released, in the phase given.
+pub fn release_state(image: &mut [u8], answer: u32, phase: u32) -> Outcome {
+    let block0 = Draft::released().store(image);
+    Outcome { answer, session: session_in(phase, 0), block0, ..Outcome::default() }
+}
+
+/// Applies an ACK to the draft and gives the number of messages released; none at a sequence error.
+pub fn apply_ack(draft: &mut Draft, image: &[u8], head: &Head, ack: u32) -> Option<u32> {
+    let steps = number::steps(head.released, ack).filter(|steps| *steps <= head.numbered)?;
+    draft.let_go(image, head, ack, steps as usize);
+    Some(steps)
+}
+
+pub fn format(image: &mut [u8]) -> Outcome {
+    match <&mut [u8; IMAGE_SIZE]>::try_from(image) {
+        Ok(image) => {
+            image::format(image);
+            Outcome { block0: 1, ..Outcome::default() }
+        }
+        Err(_) => Refusal::of(12).outcome(Session::default()),
+    }
+}
+
+pub fn restore(image: &mut [u8]) -> Outcome {
+    match image::examine(image) {
+        Ok(head) => break_off(image, head.kept, 0),
+        Err(refusal) => refusal.outcome(Session::default()),
+    }
+}
+
+pub fn open(image: &[u8], session: Session, opening: &Opening, out: &mut [u8]) -> Result<Outcome, Refusal> {
+    let head = enter(image, session, &[phase::IDLE, phase::FAILED])?;
+    let ack = head.kept.then_some(head.secured);
+    let length = write::INIT + if head.kept { write::FT_TLV } else { 0 };
+    let out = out.get_mut(..length).ok_or(Refusal::of(9))?;
+    let proposal = opening.proposal.unwrap_or(DEFAULT_PROPOSAL);
+    write::init(out, opening, proposal, ack);
+    let session = session_in(phase::INIT_WAIT, u32::from(proposal));
+    Ok(Outcome { session, length: length as u32, ..Outcome::default() })
+}
+
+pub fn init_received(image: &mut [u8], session: Session, msg: &[u8]) -> Result<Outcome, Refusal> {
+    let head = enter(image, session, &[phase::INIT_WAIT])?;
+    let Some(init) = message::read(msg).filter(|init| init.message_type == types::INITIALIZATION) else {
+        return Ok(break_off(image, head.kept, 22));
+    };
+    let resumes = init.reconnect == 1;
+    if init.has & has::PARAMETERS == 0 || (resumes && init.has & has::FT_ACK == 0) {
+        return Ok(break_off(image, head.kept, 23));
+    }
+    if init.has & has::FT_SESSION == 0 {
+        return Ok(release_state(image, 0, phase::UP_PLAIN));
+    }
+    let draft = if head.kept && resumes {
+        resumed(image, &head, &init)
+    } else {
+        Ok(Draft::fresh(init.keepalive_time as u16, init.max_pdu_length as u16))
+    };
+    Ok(match draft {
+        Ok(mut draft) => {
+            draft.set_timeout(number::lesser_timeout(session.value, init.timeout) as u16);
+            let block0 = draft.store(image);
+            Outcome { session: session_in(phase::UP_FT, 0), block0, ..Outcome::default() }
+        }
+        Err(answer) => release_state(image, answer, phase::IDLE),
+    })
+}
+
+/// The session resumed: the peer's parameters are the stored ones, and its ACK is applied.
+fn resumed(image: &[u8], head: &Head, init: &Message) -> Result<Draft, u32> {
+    let same =
+        init.keepalive_time == u32::from(head.keepalive_time) && init.max_pdu_length == u32::from(head.max_pdu_length);
+    if !same {
+        return Err(35);
+    }
+    let mut draft = Draft::of(image);
+    apply_ack(&mut draft, image, head, init.ack).ok_or(34u32)?;
+    Ok(draft)
+}
+
+pub fn connection_failed(image: &mut [u8], session: Session) -> Result<Outcome, Refusal> {
+    let head = enter(image, session, &[phase::INIT_WAIT, phase::UP_FT, phase::UP_PLAIN])?;
+    Ok(break_off(image, head.kept, 0))
+}
+
+pub fn time_passed(image: &mut [u8], session: Session, elapsed: u32) -> Result<Outcome, Refusal> {
+    let head = enter(image, session, &[phase::FAILED])?;
+    if head.timeout != 0 && elapsed >= u32::from(head.timeout) {
+        Ok(release_state(image, 0, phase::IDLE))
+    } else {
+        Ok(done(session))
+    }
+}
+
+pub fn submit(image: &mut [u8], session: Session, msg: &[u8]) -> Result<Outcome, Refusal> {
+    let head = enter(image, session, &[phase::INIT_WAIT, phase::UP_FT, phase::FAILED])?;
+    if !head.kept {
+        return Err(Refusal::of(1));
+    }
+    if !(image::SHORTEST..=image::LONGEST).contains(&msg.len()) {
+        return Err(Refusal::of(3));
+    }
+    let read = message::read(msg).ok_or(Refusal::of(4))?;
+    if !message::may_be_queued(&read) {
+        return Err(Refusal::of(5));
+    }
+    let entry = judge_submission(image, &head, &read)?;
+    let mut draft = Draft::of(image);
+    if let Some(entry) = entry {
+        labels::accepted(draft.list_mut(), read.kind, &entry);
+    }
+    draft.set_held(head.held + 1);
+    let block = head.block_of(head.held);
+    image::write_slot(image, block, msg, read.kind, message::slot_label(&read));
+    let block0 = draft.store(image);
+    Ok(Outcome { slot: block as u32, block0, ..done(session) })
+}
+
+/// Answers 6, 13 and 7 of a message that may be queued; the entry of the label that it names.
+fn judge_submission(image: &[u8], head: &Head, read: &Message) -> Result<Option<Entry>, Refusal> {
+    let entry = message::kind_names_label(read.kind).then(|| {
+        let list = image::list(image::slot(image, 0));
+        Entry::find(list, read.label, labels::side_sending(read.kind))
+    });
+    if let Some(entry) = &entry {
+        if !labels::may_send(read.kind, entry) || is_held(image, head, read) {
+            return Err(Refusal::of(6));
+        }
+        if entry.is_without_word() {
+            return Err(Refusal::of(13));
+        }
+    }
+    if head.held == image::SLOTS {
+        return Err(Refusal::of(7));
+    }
+    Ok(entry)
+}
+
+/// True where a Withdraw or Release of the same kind and label is still held.
+fn is_held(image: &[u8], head: &Head, read: &Message) -> bool {
+    read.kind != kinds::MAPPING
+        && (0..head.held).any(|after| {
+            let slot = image::slot(image, head.block_of(after));
+            image::slot_kind(slot) == read.kind && image::slot_label(slot) == read.label
+        })
+}
+
+pub fn send_next(image: &mut [u8], session: Session, ack: bool, out: &mut [u8]) -> Result<Outcome, Refusal> {
+    let head = enter(image, session, &[phase::UP_FT])?;
+    let sent = session.value;
+    if sent as usize == head.held {
+        return Err(Refusal::of(8));
+    }
+    let msg = image::slot_message(image::slot(image, head.block_of(sent as usize)));
+    let length = msg.len() + write::FT_TLV * if ack { 2 } else { 1 };
+    let out = out.get_mut(..length).ok_or(Refusal::of(9))?;
+    let number = number::advance(head.released, sent + 1);
+    write::protected(out, msg, number, ack.then_some(head.secured));
+    let block0 = if sent == head.numbered {
+        let mut draft = Draft::of(image);
+        draft.set_issued(number);
+        draft.store(image)
+    } else {
+        0
+    };
+    Ok(Outcome { session: session_in(phase::UP_FT, sent + 1), length: length as u32, block0, ..Outcome::default() })
+}
+
+pub fn keepalive(image: &[u8], session: Session, message_id: u32, out: &mut [u8]) -> Result<Outcome, Refusal> {
+    let head = enter(image, session, &[phase::UP_FT, phase::UP_PLAIN])?;
+    let ack = head.kept.then_some(head.secured);
+    let length = write::KEEPALIVE + if head.kept { write::FT_TLV } else { 0 };
+    let out = out.get_mut(..length).ok_or(Refusal::of(9))?;
+    write::keepalive(out, message_id, ack);
+    Ok(Outcome { length: length as u32, ..done(session) })
+}

@@ -1,0 +1,180 @@
+//! What is measured: every call at 0, 8 and 64 held, short messages and long ones, label list empty and nearly full.
+
+use cabinet::{phase, Opening, Session};
+use trials::calls::Call;
+use trials::coverage::ANSWERS;
+use trials::stored::{word, Queued, Stored};
+use trials::wire::{self, prefix, types, Message};
+
+const LONG: usize = 480;
+const NEARLY_FULL: usize = 119;
+
+/// One row of the table.
+pub struct Case {
+    pub call: Call,
+    pub image: Vec<u8>,
+    pub held: Option<usize>,
+    pub messages: &'static str,
+    pub labels: &'static str,
+    pub about: &'static str,
+    /// How many bytes the call must read at least once.
+    pub must_read: usize,
+}
+
+/// How a state is filled.
+#[derive(Clone, Copy)]
+struct Fill {
+    held: usize,
+    length: usize,
+    listed: usize,
+}
+
+impl Fill {
+    fn messages(&self) -> &'static str {
+        if self.length == LONG {
+            "480 bytes"
+        } else {
+            "short"
+        }
+    }
+
+    fn labels(&self) -> &'static str {
+        if self.listed == 0 {
+            "empty"
+        } else {
+            "119 of 120"
+        }
+    }
+
+    /// A session that holds so many Mappings, all of them with numbers.
+    fn stored(&self) -> Stored {
+        let queued = |n: usize| {
+            let label = 1_000 + n as u32;
+            Queued { kind: 1, label, bytes: mapping(label).padded_to(self.length).bytes() }
+        };
+        let mut stored = Stored {
+            released: 100,
+            issued: 100 + self.held as u32,
+            secured: 50,
+            first: 40,
+            timeout: 5,
+            kept: true,
+            keepalive_time: 30,
+            max_pdu_length: 4096,
+            queue: (0..self.held).map(queued).collect(),
+            ..Stored::idle()
+        };
+        for place in 0..self.listed {
+            stored.labels[place] = word(5_000 + 7 * place as u32, if place % 2 == 0 { 1 } else { 3 });
+        }
+        stored
+    }
+}
+
+fn mapping(label: u32) -> Message {
+    Message::new(types::MAPPING, label).fec(&prefix(label as u16)).label(label)
+}
+
+fn at(phase: u32, value: u32) -> Session {
+    Session { phase, value }
+}
+
+/// All rows.
+pub fn all() -> Vec<Case> {
+    let mut cases = Vec::new();
+    for listed in [0, NEARLY_FULL] {
+        for held in [0, 8, 64] {
+            for length in [0, LONG] {
+                let fill = Fill { held, length, listed };
+                if held > 0 || length == 0 {
+                    cases.extend(without_message(fill));
+                }
+                cases.extend(with_message(fill));
+            }
+        }
+    }
+    cases.extend(pure());
+    cases.sort_by_key(|case| order(&case.call));
+    cases
+}
+
+/// The rows of one call stand together.
+fn order(call: &Call) -> usize {
+    ANSWERS.iter().take_while(|(name, _)| *name != call.name()).count()
+}
+
+fn case(fill: Fill, about: &'static str, call: Call) -> Case {
+    let must_read = 512 * (1 + fill.held) + call.input().len();
+    let image = fill.stored().image(0);
+    Case { call, image, held: Some(fill.held), messages: fill.messages(), labels: fill.labels(), about, must_read }
+}
+
+/// Calls that are given no message.
+fn without_message(fill: Fill) -> Vec<Case> {
+    let up = at(phase::UP_FT, 0);
+    let all = 100 + fill.held as u32;
+    let init = |ack| Message::new(types::INITIALIZATION, 1).parameters(30, 4096).ft_session(true, 5).ack(ack).bytes();
+    let wait = at(phase::INIT_WAIT, 5);
+    let opening = Opening { message_id: 1, keepalive_time: 30, max_pdu_length: 4096, ..Opening::default() };
+    let keepalive = Message::new(types::KEEPALIVE, 1).ack(all).bytes();
+    let mut cases = vec![
+        case(fill, "", Call::Restore),
+        case(fill, "", Call::Open { session: at(phase::FAILED, 0), opening, room: 64 }),
+        case(fill, "resumes, releases none", Call::InitReceived { session: wait, msg: init(100) }),
+        case(fill, "", Call::ConnectionFailed { session: up }),
+        case(fill, "too early", Call::TimePassed { session: at(phase::FAILED, 0), elapsed: 4 }),
+        case(fill, "", Call::Keepalive { session: up, message_id: 1, room: 16 }),
+        case(fill, "KeepAlive, ACK of all", Call::Receive { session: up, msg: keepalive }),
+        case(fill, "", Call::Label { place: 60 }),
+    ];
+    if fill.held > 0 {
+        cases.push(case(fill, "sent before", Call::SendNext { session: up, ack: true, room: 500 }));
+        let mut first_sent = case(fill, "gets its number", Call::SendNext { session: up, ack: true, room: 500 });
+        first_sent.image = Stored { issued: 100, ..fill.stored() }.image(0);
+        cases.push(first_sent);
+    }
+    cases
+}
+
+/// Calls that are given a Mapping of the length that the held messages have.
+fn with_message(fill: Fill) -> Vec<Case> {
+    let new = mapping(900_000).padded_to(fill.length);
+    let received = mapping(900_000).protection(51).ack(100).padded_to(fill.length);
+    let submit = Call::Submit { session: at(phase::FAILED, 0), msg: new.bytes() };
+    let about = if fill.held == 64 { "refused with 7" } else { "Mapping" };
+    let mut cases = vec![
+        case(fill, about, submit.clone()),
+        case(fill, "Mapping, protected", Call::Receive { session: at(phase::UP_FT, 0), msg: received.bytes() }),
+    ];
+    if fill.held == 64 {
+        cases.push(case(Fill { held: 63, ..fill }, "Mapping, the 64th", submit));
+    }
+    cases
+}
+
+fn pure_case(about: &'static str, call: Call, must_read: usize) -> Case {
+    Case { call, image: Vec::new(), held: None, messages: "", labels: "", about, must_read }
+}
+
+/// Calls that read no image.
+fn pure() -> Vec<Case> {
+    let short = mapping(16).protection(1);
+    let long = short.clone().padded_to(LONG);
+    let mut messages = vec![short.bytes(); 110];
+    let length = 10 + messages.concat().len();
+    messages.push(Message::new(types::KEEPALIVE, 1).padded_to(4_000 - length).bytes());
+    let pdu = wire::pdu(1, &messages);
+    let mut format = pure_case("", Call::Format, 0);
+    format.image = Stored::idle().image(0);
+    vec![
+        format,
+        pure_case("4,000 bytes, 111 messages", Call::PduOpen { pdu: pdu.clone() }, pdu.len()),
+        pure_case("one message", Call::PduMessage { pdu, at: 10 }, 4),
+        pure_case("Mapping, short", Call::MessageRead { msg: short.bytes() }, short.length()),
+        pure_case("Mapping, 480 bytes", Call::MessageRead { msg: long.bytes() }, long.length()),
+        pure_case("", Call::Distance { from: 0xFFFF_FFF0, to: 16 }, 0),
+        pure_case("", Call::Successor { number: 27 }, 0),
+        pure_case("", Call::LesserTimeout { a: 0, b: 5 }, 0),
+        pure_case("", Call::BlockCheck { block: long.bytes().into_iter().cycle().take(512).collect() }, 508),
+    ]
+}

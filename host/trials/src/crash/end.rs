@@ -1,0 +1,90 @@
+//! One end: a cabinet, its memory, its store, and the history that the trial keeps of it.
+
+use crate::calls::{invoke, Call, Returned};
+use crate::store::Store;
+use crate::stored::Stored;
+use cabinet::{phase, Cabinet, Outcome, Session};
+use std::io;
+use std::path::Path;
+
+const ROOM: usize = 500;
+
+/// One end of the connection.
+pub struct End<'a> {
+    cabinet: &'a dyn Cabinet,
+    pub store: Store,
+    /// The image in memory; a power cut loses it.
+    pub image: Vec<u8>,
+    pub session: Session,
+    /// Messages accepted to send, as submitted, since the fresh start.
+    pub accepted: Vec<Vec<u8>>,
+    /// Messages secured from the other end, without FT TLVs, since the fresh start.
+    pub secured: Vec<Vec<u8>>,
+    /// The number that released and issued had at the start, and the other end's secured.
+    pub base: u32,
+}
+
+/// What a call did at an end, before anything is stored.
+pub struct Done {
+    pub outcome: Outcome,
+    pub output: Vec<u8>,
+}
+
+impl<'a> End<'a> {
+    pub fn new(cabinet: &'a dyn Cabinet, path: &Path) -> io::Result<Self> {
+        let store = Store::create(path)?;
+        let image = store.read()?;
+        let session = Session::default();
+        let mut end = End { cabinet, store, image, session, accepted: Vec::new(), secured: Vec::new(), base: 0 };
+        end.format()?;
+        Ok(end)
+    }
+
+    /// Makes a call on the memory; nothing is stored yet.
+    pub fn call(&mut self, call: &Call) -> Done {
+        let mut output = vec![0; ROOM];
+        let input = call.input().to_vec();
+        let returned = invoke(self.cabinet, call, &mut self.image, &input, &mut output);
+        let outcome = match returned {
+            Returned::Outcome(outcome) => outcome,
+            _ => Outcome::default(),
+        };
+        self.session = outcome.session;
+        output.truncate(outcome.length as usize);
+        Done { outcome, output }
+    }
+
+    /// Stores what a call names: its slot, then block 0.
+    pub fn store_all(&mut self, outcome: &Outcome) -> io::Result<()> {
+        self.store.write_slot(&self.image, outcome)?;
+        self.store.write_block0(&self.image, outcome)
+    }
+
+    /// Loses the memory and restores the session from the store; nothing of it is stored yet.
+    pub fn power_up(&mut self) -> io::Result<Outcome> {
+        self.image = self.store.read()?;
+        Ok(self.call(&Call::Restore).outcome)
+    }
+
+    /// A new image in memory and store.
+    pub fn format(&mut self) -> io::Result<()> {
+        self.call(&Call::Format);
+        self.store.write_all(&self.image)
+    }
+
+    /// Replaces what is stored, as if the session had run for long before.
+    pub fn rewrite(&mut self, change: impl FnOnce(&mut Stored)) -> io::Result<()> {
+        let mut stored = Stored::read(&self.image);
+        change(&mut stored);
+        self.image = stored.image(0);
+        self.store.write_all(&self.image)
+    }
+
+    pub fn is_down(&self) -> bool {
+        matches!(self.session.phase, phase::IDLE | phase::FAILED)
+    }
+
+    pub fn is_up(&self) -> bool {
+        self.session.phase == phase::UP_FT
+    }
+}

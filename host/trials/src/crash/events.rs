@@ -1,0 +1,156 @@
+//! The events of a world: what may befall an end in a step, and the calls that its owner makes then.
+
+use super::end::End;
+use super::owner;
+use super::world::World;
+use crate::calls::Call;
+use crate::stored::{u16_at, Stored, SLOTS};
+use crate::wire::{protection_number, without_ft};
+use cabinet::{phase, Opening};
+
+/// What may befall an end in a step.
+#[derive(Clone, Copy, Debug)]
+pub enum Event {
+    Submit,
+    Send,
+    Keepalive,
+    Deliver,
+    Break,
+    Restart,
+    Reconnect,
+    TimePassed,
+}
+
+impl World<'_, '_> {
+    /// The next event at an end; one whose session is down is mostly about its connection.
+    pub fn event(&mut self, end: usize) -> Event {
+        if self.random.percent(self.habits.submits) {
+            return Event::Submit;
+        }
+        if !self.ends[end].is_up() && self.random.percent(75) {
+            let waits = self.ends[end].session.phase == phase::INIT_WAIT && self.connected;
+            return if waits { Event::Deliver } else { Event::Reconnect };
+        }
+        if self.random.below(1_000) < self.habits.breaks {
+            return Event::Break;
+        }
+        match self.random.below(100) {
+            0..=34 => Event::Send,
+            35..=49 => Event::Keepalive,
+            50..=95 => Event::Deliver,
+            96 => Event::Restart,
+            _ => Event::TimePassed,
+        }
+    }
+
+    pub fn happen(&mut self, end: usize, event: Event) -> Result<(), String> {
+        match event {
+            Event::Submit => self.submit(end),
+            Event::Send => self.send(end),
+            Event::Keepalive => self.keepalive(end),
+            Event::Deliver => self.deliver(end),
+            Event::Break => {
+                self.break_connection();
+                Ok(())
+            }
+            Event::Restart => self.restart(end),
+            Event::Reconnect => self.reconnect(end),
+            Event::TimePassed => self.time_passed(end),
+        }
+    }
+
+    pub fn submit(&mut self, end: usize) -> Result<(), String> {
+        self.serial += 1;
+        let stored = Stored::read(&self.ends[end].image);
+        let msg = owner::submission(&mut self.random, &self.habits, &stored, self.serial);
+        let session = self.ends[end].session;
+        let made = self.perform(end, &Call::Submit { session, msg: msg.clone() })?;
+        match made.map(|outcome| outcome.answer) {
+            Some(0) => {
+                self.ends[end].accepted.push(msg);
+                self.tally.accepted += 1;
+            }
+            Some(7) if stored.queue.len() == SLOTS => self.tally.full += 1,
+            Some(7) => return Err(format!("refused for room with {} held", stored.queue.len())),
+            _ => {}
+        }
+        Ok(())
+    }
+
+    pub fn send(&mut self, end: usize) -> Result<(), String> {
+        let session = self.ends[end].session;
+        let ack = self.random.percent(50);
+        let made = self.perform(end, &Call::SendNext { session, ack, room: 0 })?;
+        self.tally.sent += u64::from(made.is_some_and(|outcome| outcome.answer == 0));
+        Ok(())
+    }
+
+    pub fn keepalive(&mut self, end: usize) -> Result<(), String> {
+        let session = self.ends[end].session;
+        self.serial += 1;
+        self.perform(end, &Call::Keepalive { session, message_id: self.serial, room: 0 })?;
+        Ok(())
+    }
+
+    /// Hands the oldest message on its way to an end that awaits it.
+    pub fn deliver(&mut self, end: usize) -> Result<(), String> {
+        let session = self.ends[end].session;
+        let waits = session.phase == phase::INIT_WAIT;
+        if !waits && !self.ends[end].is_up() {
+            return Ok(());
+        }
+        let Some(msg) = self.lines[end].pop_front() else { return Ok(()) };
+        let call = if waits {
+            Call::InitReceived { session, msg: msg.clone() }
+        } else {
+            Call::Receive { session, msg: msg.clone() }
+        };
+        let Some(outcome) = self.perform(end, &call)? else { return Ok(()) };
+        if outcome.answer != 0 {
+            return Err(format!("{} answered {}", call.name(), outcome.answer));
+        }
+        if waits {
+            self.tally.resumed += 1;
+        } else if protection_number(&msg).is_some() {
+            self.ends[end].secured.push(without_ft(&msg));
+            self.tally.secured += 1;
+        }
+        Ok(())
+    }
+
+    /// A broken connection is noticed, a new one is made once both ends are down, and each end opens it.
+    pub fn reconnect(&mut self, end: usize) -> Result<(), String> {
+        if !self.connected && !self.ends[end].is_down() {
+            let session = self.ends[end].session;
+            self.perform(end, &Call::ConnectionFailed { session })?;
+        } else if !self.connected && self.ends.iter().all(End::is_down) {
+            self.connected = true;
+        } else if self.connected && self.ends[end].is_down() {
+            self.open(end)?;
+        }
+        Ok(())
+    }
+
+    pub fn open(&mut self, end: usize) -> Result<(), String> {
+        let session = self.ends[end].session;
+        let opening = Opening {
+            message_id: self.serial,
+            keepalive_time: 30,
+            max_pdu_length: 4096,
+            receiver_lsr: 0xC000_0201,
+            receiver_space: 0,
+            proposal: self.random.pick(&[None, Some(0), Some(60)]),
+        };
+        self.perform(end, &Call::Open { session, opening, room: 0 })?;
+        Ok(())
+    }
+
+    /// Time that is too short to end the session.
+    fn time_passed(&mut self, end: usize) -> Result<(), String> {
+        let session = self.ends[end].session;
+        let timeout = u32::from(u16_at(&self.ends[end].image, 20));
+        let elapsed = timeout.checked_sub(1).unwrap_or(u32::MAX);
+        self.perform(end, &Call::TimePassed { session, elapsed })?;
+        Ok(())
+    }
+}

@@ -1,0 +1,12 @@
+//! Crash trials: two sessions over connections that break, with restarts and power cuts at every store point, and the
+//! demand that nothing is lost and nothing comes twice asserted after every step.
+
+mod demand;
+mod end;
+mod events;
+mod owner;
+mod tally;
+mod world;
+
+pub use tally::{Cut, Tally, CUTS};
+pub use world::run;

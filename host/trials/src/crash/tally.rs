@@ -1,0 +1,66 @@
+//! What the crash trials did: steps, cuts by call and store point, breaks, messages.
+
+use std::collections::BTreeMap;
+use std::fmt;
+
+/// How far a call came before the power was cut.
+#[derive(Clone, Copy, Debug, PartialEq, Eq, PartialOrd, Ord)]
+pub enum Cut {
+    /// Nothing of the call was stored.
+    Nothing,
+    /// Its slot was stored, block 0 was not.
+    SlotOnly,
+    /// Slot and block 0 were stored; the output did not leave.
+    NoOutput,
+    /// All was stored and the output left.
+    All,
+}
+
+pub const CUTS: [Cut; 4] = [Cut::Nothing, Cut::SlotOnly, Cut::NoOutput, Cut::All];
+
+/// Counts over all worlds of a run.
+#[derive(Clone, Debug, Default)]
+pub struct Tally {
+    pub worlds: u64,
+    pub steps: u64,
+    pub cuts: BTreeMap<(&'static str, Cut), u64>,
+    pub breaks: u64,
+    pub restarts: u64,
+    pub resumed: u64,
+    pub accepted: u64,
+    pub secured: u64,
+    pub sent: u64,
+    pub full: u64,
+    pub most_held: usize,
+    pub drained: u64,
+}
+
+impl Tally {
+    pub fn note_cut(&mut self, call: &'static str, cut: Cut) {
+        *self.cuts.entry((call, cut)).or_default() += 1;
+    }
+
+    pub fn cuts_in(&self, call: &'static str, cut: Cut) -> u64 {
+        self.cuts.get(&(call, cut)).copied().unwrap_or(0)
+    }
+
+    pub fn all_cuts(&self) -> u64 {
+        self.cuts.values().sum()
+    }
+}
+
+impl fmt::Display for Tally {
+    fn fmt(&self, f: &mut fmt::Formatter) -> fmt::Result {
+        writeln!(f, "{:>18}  nothing  slot only  no output      all", "cut in")?;
+        let calls: std::collections::BTreeSet<&str> = self.cuts.keys().map(|(call, _)| *call).collect();
+        for call in calls {
+            let count = |cut| self.cuts.get(&(call, cut)).copied().unwrap_or(0);
+            let [nothing, slot, silent, all] = CUTS.map(count);
+            writeln!(f, "{call:>18} {nothing:>8} {slot:>10} {silent:>10} {all:>8}")?;
+        }
+        writeln!(f, "{} worlds, {} steps, {} cuts", self.worlds, self.steps, self.all_cuts())?;
+        writeln!(f, "{} breaks, {} restarts, {} resumed", self.breaks, self.restarts, self.resumed)?;
+        writeln!(f, "{} accepted, {} sent, {} secured", self.accepted, self.sent, self.secured)?;
+        write!(f, "{} refused at 64 held, at most {} held, {} worlds drained", self.full, self.most_held, self.drained)
+    }
+}

@@ -1,0 +1,202 @@
+//! A world of two ends and one connection at a time: its start, its steps, its end, and how a call in it may be cut.
+
+use super::demand::{check_drained, Stores};
+use super::end::{Done, End};
+use super::owner::Habits;
+use super::tally::{Cut, Tally};
+use crate::calls::Call;
+use crate::random::Random;
+use crate::store::Directory;
+use crate::stored::{u16_at, Stored};
+use cabinet::{Cabinet, Outcome};
+use std::collections::VecDeque;
+use std::io;
+
+const STEPS: usize = 700;
+const DRAIN_STEPS: usize = 4_000;
+/// Numbers that both directions start from: afresh, or as after a long run, just before wrap-around.
+const BASES: [u32; 5] = [0, 0, 0, 0xFFFF_FFC8, 0xFFFF_FFFF];
+
+/// Runs worlds with the cabinets given until there have been so many cuts; the seed decides everything.
+pub fn run(cabinets: [&dyn Cabinet; 2], seed: u64, cuts: u64, tally: &mut Tally) -> Result<(), String> {
+    let directory = Directory::create("crash").map_err(text)?;
+    let mut random = Random::new(seed);
+    let [first, second] = cabinets;
+    let end = |cabinet, name: &str| End::new(cabinet, &directory.file(name)).map_err(text);
+    let mut ends = [end(first, "first")?, end(second, "second")?];
+    while tally.all_cuts() < cuts {
+        let world = tally.worlds;
+        let mut world_run = World::new(ends, Random::new(random.u64()), tally);
+        world_run.live().map_err(|what| format!("seed {seed}, world {world}: {what}"))?;
+        ends = world_run.ends;
+    }
+    Ok(())
+}
+
+fn text(error: io::Error) -> String {
+    error.to_string()
+}
+
+pub struct World<'a, 't> {
+    pub ends: [End<'a>; 2],
+    /// Messages on their way to each end.
+    pub lines: [VecDeque<Vec<u8>>; 2],
+    pub connected: bool,
+    pub random: Random,
+    pub habits: Habits,
+    pub serial: u32,
+    pub tally: &'t mut Tally,
+}
+
+impl<'a, 't> World<'a, 't> {
+    fn new(ends: [End<'a>; 2], mut random: Random, tally: &'t mut Tally) -> Self {
+        let habits = Habits::any(&mut random);
+        let lines = [VecDeque::new(), VecDeque::new()];
+        World { ends, lines, connected: false, random, habits, serial: 0, tally }
+    }
+
+    /// A fresh start, steps by chance, and a quiet end in which everything arrives.
+    fn live(&mut self) -> Result<(), String> {
+        self.tally.worlds += 1;
+        self.start().map_err(|what| format!("start: {what}"))?;
+        for step in 0..STEPS {
+            let end = self.random.below(2);
+            let event = self.event(end);
+            let result = self.happen(end, event).and_then(|()| self.check());
+            result.map_err(|what| format!("step {step}, {event:?} at end {end}, {:?}: {what}", self.habits))?;
+        }
+        self.drain().map_err(|what| format!("drain: {what}"))
+    }
+
+    /// After each step: the demand, from the bytes of both stores.
+    fn check(&mut self) -> Result<(), String> {
+        self.tally.steps += 1;
+        let stores = Stores::read(&self.ends)?;
+        let most = (0..2).map(|end| stores.of(end).queue.len()).max().unwrap_or(0);
+        self.tally.most_held = self.tally.most_held.max(most);
+        stores.check(&self.ends, &self.habits)
+    }
+
+    /// Both ends come to a fresh session on one connection; one of them may still keep state of an older one.
+    fn start(&mut self) -> Result<(), String> {
+        let cuts = std::mem::take(&mut self.habits.cuts);
+        let formatted = if self.random.percent(50) { 0..2 } else { 0..1 };
+        for end in &mut self.ends[formatted] {
+            end.format().map_err(text)?;
+        }
+        for end in 0..2 {
+            self.restart(end)?;
+            let end = &mut self.ends[end];
+            (end.base, end.accepted, end.secured) = (0, Vec::new(), Vec::new());
+        }
+        self.connected = true;
+        self.open(0)?;
+        self.open(1)?;
+        self.deliver(0)?;
+        if self.random.percent(50) {
+            self.submit(0)?;
+            self.send(0)?;
+        }
+        self.deliver(1)?;
+        self.start_late()?;
+        self.habits.cuts = cuts;
+        self.check()
+    }
+
+    /// Moves a world in which nothing has happened yet to numbers near wrap-around.
+    fn start_late(&mut self) -> Result<(), String> {
+        let bases = [self.random.pick(&BASES), self.random.pick(&BASES)];
+        if self.ends.iter().any(|end| !end.accepted.is_empty()) {
+            return Ok(());
+        }
+        for end in 0..2 {
+            let (own, other) = (bases[end], bases[1 - end]);
+            self.ends[end].base = own;
+            let change = |stored: &mut Stored| {
+                (stored.released, stored.issued, stored.secured) = (own, own, other);
+            };
+            self.ends[end].rewrite(change).map_err(text)?;
+        }
+        Ok(())
+    }
+
+    pub fn break_connection(&mut self) {
+        self.tally.breaks += u64::from(self.connected);
+        self.connected = false;
+        self.lines = [VecDeque::new(), VecDeque::new()];
+    }
+
+    /// Makes a call and stores what it names, or is cut before the end of that; none where it counts as not made.
+    pub fn perform(&mut self, end: usize, call: &Call) -> Result<Option<Outcome>, String> {
+        let Done { outcome, output } = self.ends[end].call(call);
+        let cut = self.choose_cut(&outcome);
+        let stores = &self.ends[end];
+        if cut != Some(Cut::Nothing) {
+            stores.store.write_slot(&stores.image, &outcome).map_err(text)?;
+        }
+        let made = !matches!(cut, Some(Cut::Nothing | Cut::SlotOnly));
+        if made {
+            stores.store.write_block0(&stores.image, &outcome).map_err(text)?;
+        }
+        let leaves = matches!(cut, None | Some(Cut::All)) && !output.is_empty() && self.connected;
+        if leaves {
+            self.lines[1 - end].push_back(output);
+        }
+        if let Some(cut) = cut {
+            self.tally.note_cut(call.name(), cut);
+            self.restart(end)?;
+        }
+        Ok(made.then_some(outcome))
+    }
+
+    /// A store point at which the power is cut, at times; a call without a slot has three.
+    fn choose_cut(&mut self, outcome: &Outcome) -> Option<Cut> {
+        let refused = (1..=13).contains(&outcome.answer);
+        if refused || !self.random.percent(self.habits.cuts) {
+            return None;
+        }
+        let points: &[Cut] = if outcome.slot == 0 {
+            &[Cut::Nothing, Cut::NoOutput, Cut::All]
+        } else {
+            &[Cut::Nothing, Cut::SlotOnly, Cut::NoOutput, Cut::All]
+        };
+        Some(self.random.pick(points))
+    }
+
+    /// The power comes back: the session is restored, and this may be cut too.
+    pub fn restart(&mut self, end: usize) -> Result<(), String> {
+        self.tally.restarts += 1;
+        self.break_connection();
+        loop {
+            let outcome = self.ends[end].power_up().map_err(text)?;
+            if outcome.answer != 0 {
+                return Err(format!("restore answered {} for block {}", outcome.answer, outcome.block));
+            }
+            if self.random.percent(self.habits.cuts) {
+                self.tally.note_cut("restore", Cut::Nothing);
+                continue;
+            }
+            return self.ends[end].store_all(&outcome).map_err(text);
+        }
+    }
+
+    /// No more cuts, breaks or submissions: all that was accepted arrives.
+    fn drain(&mut self) -> Result<(), String> {
+        (self.habits.cuts, self.habits.submits, self.habits.breaks) = (0, 0, 0);
+        for _ in 0..DRAIN_STEPS {
+            if self.ends.iter().all(|end| u16_at(&end.image, 18) == 0) {
+                self.tally.drained += 1;
+                return check_drained(&self.ends, &self.habits);
+            }
+            for end in 0..2 {
+                self.reconnect(end)?;
+                self.send(end)?;
+                self.keepalive(end)?;
+                self.deliver(end)?;
+                self.deliver(end)?;
+            }
+            self.check()?;
+        }
+        Err("accepted messages do not arrive".to_string())
+    }
+}

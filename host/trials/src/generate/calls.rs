@@ -1,0 +1,138 @@
+//! Calls that fit a state, and calls that do not: wrong phases, phases that do not exist, counts past issued.
+
+use super::{malformed, messages, states};
+use crate::calls::Call;
+use crate::random::Random;
+use crate::stored::Stored;
+use cabinet::{phase, Opening, Session};
+
+const EDGES: [u32; 9] = [0, 1, 2, 0x7FFF_FFFF, 0x8000_0000, 0x8000_0001, 0xFFFF_FFFD, 0xFFFF_FFFE, 0xFFFF_FFFF];
+
+/// How many of the held messages have a number.
+fn numbered(stored: &Stored) -> u32 {
+    let ahead = stored.issued.wrapping_sub(stored.released);
+    let wrapped = stored.issued < stored.released;
+    ahead - u32::from(wrapped)
+}
+
+/// A session in one of the phases given, mostly one that the image allows.
+fn session(random: &mut Random, stored: &Stored, phases: &[u32]) -> Session {
+    let phase = if random.percent(90) { random.pick(phases) } else { random.pick(&[0, 1, 2, 3, 4, 5, 6, u32::MAX]) };
+    let value = match phase {
+        phase::UP_FT => match random.below(20) {
+            0 => numbered(stored) + 1,
+            1 => random.u32(),
+            2..=6 => numbered(stored),
+            _ => random.between(0, numbered(stored) as usize) as u32,
+        },
+        phase::INIT_WAIT => match random.below(20) {
+            0 => 65_536,
+            1 => random.u32(),
+            _ => u32::from(states::timeout(random)),
+        },
+        _ => random.pick(&[0, 0, 7, u32::MAX]),
+    };
+    Session { phase, value }
+}
+
+/// The phases among those given that the state allows, or all of them where it allows none.
+fn fitting(stored: &Stored, phases: &[u32]) -> Vec<u32> {
+    let fits = |phase: &u32| match *phase {
+        phase::IDLE | phase::UP_PLAIN => !stored.kept,
+        phase::UP_FT | phase::FAILED => stored.kept,
+        _ => true,
+    };
+    let fitting: Vec<u32> = phases.iter().copied().filter(fits).collect();
+    if fitting.is_empty() {
+        phases.to_vec()
+    } else {
+        fitting
+    }
+}
+
+fn opening(random: &mut Random) -> Opening {
+    Opening {
+        message_id: random.u32(),
+        keepalive_time: random.u16(),
+        max_pdu_length: random.u16(),
+        receiver_lsr: random.u32(),
+        receiver_space: random.u16(),
+        proposal: if random.percent(30) { None } else { Some(states::timeout(random)) },
+    }
+}
+
+/// Seconds around the agreed timeout.
+fn elapsed(random: &mut Random, stored: &Stored) -> u32 {
+    let timeout = u32::from(stored.timeout);
+    random.pick(&[0, timeout.saturating_sub(1), timeout, timeout + 1, 65_536, u32::MAX])
+}
+
+/// A call on an image of the state.
+pub fn on_image(random: &mut Random, stored: &Stored) -> Call {
+    let session = |random: &mut Random, phases: &[u32]| session(random, stored, &fitting(stored, phases));
+    match random.below(100) {
+        0 => Call::Format,
+        1..=6 => Call::Restore,
+        7..=13 => Call::Open {
+            session: session(random, &[phase::IDLE, phase::FAILED]),
+            opening: opening(random),
+            room: random.pick(&[0, 33, 34, 35, 41, 42, 43, 64, 64]),
+        },
+        14..=27 => {
+            Call::InitReceived { session: session(random, &[phase::INIT_WAIT]), msg: messages::init(random, stored) }
+        }
+        28..=32 => {
+            Call::ConnectionFailed { session: session(random, &[phase::INIT_WAIT, phase::UP_FT, phase::UP_PLAIN]) }
+        }
+        33..=37 => Call::TimePassed { session: session(random, &[phase::FAILED]), elapsed: elapsed(random, stored) },
+        38..=55 => Call::Submit {
+            session: session(random, &[phase::INIT_WAIT, phase::UP_FT, phase::FAILED]),
+            msg: messages::submission(random, stored),
+        },
+        56..=65 => Call::SendNext {
+            session: session(random, &[phase::UP_FT]),
+            ack: random.percent(50),
+            room: random.pick(&[0, 15, 16, 24, 36, 44, 487, 488, 495, 496, 500, 500, 500]),
+        },
+        66..=70 => Call::Keepalive {
+            session: session(random, &[phase::UP_FT, phase::UP_PLAIN]),
+            message_id: random.u32(),
+            room: random.pick(&[0, 7, 8, 9, 15, 16, 17, 40]),
+        },
+        71..=97 => Call::Receive {
+            session: session(random, &[phase::UP_FT, phase::UP_PLAIN]),
+            msg: messages::received(random, stored),
+        },
+        _ => Call::Label { place: random.pick(&[0, 1, 60, 118, 119, 120, 121, u32::MAX]) },
+    }
+}
+
+fn edge(random: &mut Random) -> u32 {
+    if random.percent(70) {
+        random.pick(&EDGES)
+    } else {
+        random.u32()
+    }
+}
+
+/// A call that reads no image.
+pub fn pure(random: &mut Random, stored: &Stored) -> Call {
+    match random.below(10) {
+        0..=1 => Call::PduOpen { pdu: malformed::pdu(random, stored) },
+        2..=3 => {
+            let pdu = malformed::pdu(random, stored);
+            let at = random.pick(&[0, 10, 10, 10, pdu.len().saturating_sub(8), pdu.len(), usize::MAX, usize::MAX - 3]);
+            Call::PduMessage { at: if random.percent(20) { random.between(0, pdu.len()) } else { at }, pdu }
+        }
+        4..=5 => Call::MessageRead { msg: messages::any(random, stored) },
+        6 => Call::Distance { from: edge(random), to: edge(random) },
+        7 => Call::Successor { number: edge(random) },
+        8 => Call::LesserTimeout { a: edge(random), b: edge(random) },
+        _ => {
+            let length = random.pick(&[0, 507, 508, 509, 512, 512, 512, 600]);
+            let fill = random.pick(&[0x00, 0xFF, 0x80]);
+            let block = if random.percent(50) { random.bytes(length) } else { vec![fill; length] };
+            Call::BlockCheck { block }
+        }
+    }
+}

@@ -1,0 +1,191 @@
+//! Images that fail a check: wrong sizes, bad blocks, and each field wrong in turn with its block sealed again.
+
+use crate::random::Random;
+use crate::stored::{seal, steps_after, u16_at, u32_at, word, Stored};
+use cabinet::BLOCK_SIZE;
+
+/// A fault in one field; the block that bears it is sealed again afterwards.
+#[derive(Clone, Copy)]
+pub struct FieldFault {
+    pub name: &'static str,
+    pub apply: fn(&mut [u8]),
+}
+
+const fn fault(name: &'static str, apply: fn(&mut [u8])) -> FieldFault {
+    FieldFault { name, apply }
+}
+
+fn put(block: &mut [u8], at: usize, bytes: &[u8]) {
+    block[at..at + bytes.len()].copy_from_slice(bytes);
+}
+
+fn put_word(block: &mut [u8], place: usize, word: u32) {
+    put(block, 28 + 4 * place, &word.to_be_bytes());
+}
+
+/// Sets issued so many steps after released.
+fn issue(block: &mut [u8], steps: u64) {
+    let issued = steps_after(u32_at(block, 4), steps);
+    put(block, 8, &issued.to_be_bytes());
+}
+
+/// Faults of a block 0 with kept 1.
+pub const KEPT_FAULTS: &[FieldFault] = &[
+    fault("version 0", |b| put(b, 0, &[0, 0, 0, 0])),
+    fault("version 2", |b| put(b, 0, &[0, 0, 0, 2])),
+    fault("version's first byte", |b| b[0] = 1),
+    fault("first slot 64", |b| put(b, 16, &[0, 64])),
+    fault("first slot 256", |b| put(b, 16, &[1, 0])),
+    fault("held 65", |b| put(b, 18, &[0, 65])),
+    fault("held 65535", |b| put(b, 18, &[255, 255])),
+    fault("kept 2", |b| b[22] = 2),
+    fault("kept 255", |b| b[22] = 255),
+    fault("kept 0 with state", |b| b[22] = 0),
+    fault("byte 23", |b| b[23] = 1),
+    fault("issued past held", |b| issue(b, u64::from(u16_at(b, 18)) + 1)),
+    fault("issued behind released", |b| {
+        put(b, 4, &[0, 0, 0, 9]);
+        put(b, 8, &[0, 0, 0, 8]);
+    }),
+    fault("issued 0, released not", |b| {
+        put(b, 4, &[255, 255, 255, 255]);
+        put(b, 8, &[0, 0, 0, 0]);
+    }),
+    fault("issued 65 from 0", |b| {
+        put(b, 4, &[0, 0, 0, 0]);
+        put(b, 8, &[0, 0, 0, 65]);
+    }),
+    fault("code 0 with a label", |b| put_word(b, 119, 16)),
+    fault("code 0 with label 1", |b| put_word(b, 0, 1)),
+    fault("code 7", |b| put_word(b, 60, word(500_000, 7))),
+    fault("code 8", |b| put_word(b, 60, word(500_000, 8))),
+    fault("code 4095", |b| put_word(b, 60, word(500_000, 4095))),
+    fault("label 15 given", |b| put_word(b, 3, word(15, 1))),
+    fault("label 0 used", |b| put_word(b, 3, word(0, 3))),
+    fault("label twice on our side", |b| {
+        put_word(b, 0, word(500_000, 1));
+        put_word(b, 119, word(500_000, 2));
+    }),
+    fault("label twice given", |b| {
+        put_word(b, 7, word(500_000, 1));
+        put_word(b, 8, word(500_000, 1));
+    }),
+    fault("label twice on their side", |b| {
+        put_word(b, 0, word(1_048_575, 3));
+        put_word(b, 119, word(1_048_575, 6));
+    }),
+    fault("label asked back and releasing", |b| {
+        put_word(b, 118, word(16, 4));
+        put_word(b, 119, word(16, 5));
+    }),
+];
+
+/// Faults of a block 0 with kept 0.
+pub const IDLE_FAULTS: &[FieldFault] = &[
+    fault("version 0, kept 0", |b| put(b, 0, &[0, 0, 0, 0])),
+    fault("released, kept 0", |b| b[7] = 1),
+    fault("issued, kept 0", |b| b[11] = 1),
+    fault("secured, kept 0", |b| b[12] = 1),
+    fault("first slot, kept 0", |b| b[17] = 1),
+    fault("held, kept 0", |b| b[19] = 1),
+    fault("timeout, kept 0", |b| b[21] = 5),
+    fault("kept 2, all else zero", |b| b[22] = 2),
+    fault("byte 23, kept 0", |b| b[23] = 128),
+    fault("KeepAlive time, kept 0", |b| b[24] = 1),
+    fault("maximum PDU length, kept 0", |b| b[27] = 1),
+    fault("first word, kept 0", |b| put_word(b, 0, word(16, 1))),
+    fault("last word, kept 0", |b| put_word(b, 119, word(16, 6))),
+    fault("byte 507, kept 0", |b| b[507] = 1),
+];
+
+/// Faults of a slot that holds a Mapping: FEC of 8 bytes, then the label, then an unlisted TLV of 4 bytes.
+pub const MAPPING_FAULTS: &[FieldFault] = &[
+    fault("length 0", |b| put(b, 0, &[0, 0])),
+    fault("length 7", |b| put(b, 0, &[0, 7])),
+    fault("length 481", |b| put(b, 0, &[1, 225])),
+    fault("length 65535", |b| put(b, 0, &[255, 255])),
+    fault("length one more", |b| b[1] += 1),
+    fault("length one less", |b| b[1] -= 1),
+    fault("kind 0", |b| b[2] = 0),
+    fault("kind 2 for a Mapping", |b| b[2] = 2),
+    fault("kind 7", |b| b[2] = 7),
+    fault("byte 3", |b| b[3] = 1),
+    fault("another label", |b| b[7] ^= 1),
+    fault("no label for a Mapping", |b| put(b, 4, &[255; 4])),
+    fault("padding's first byte", |b| {
+        let end = 8 + usize::from(u16_at(b, 0));
+        b[end] = 1;
+    }),
+    fault("padding's last byte", |b| b[507] = 1),
+    fault("message of type Withdraw", |b| b[9] = 2),
+    fault("message of type Request", |b| b[9] = 1),
+    fault("message of an unknown type", |b| b[8] = 0x3F),
+    fault("message length one more", |b| b[11] += 1),
+    fault("FEC length 255", |b| b[19] = 255),
+    fault("FEC gone", |b| put(b, 16, &[0x3E, 0x02])),
+    fault("label TLV gone", |b| put(b, 28, &[0x3E, 0x02])),
+    fault("label TLV of length 3", |b| b[31] = 3),
+    fault("label above 1,048,575", |b| b[33] = 0x10),
+    fault("FT Protection", |b| put(b, 28, &[0x02, 0x03])),
+    fault("FEC twice", |b| put(b, 36, &[0x01, 0x00])),
+    fault("FT Protection beside", |b| put(b, 36, &[0x02, 0x03])),
+    fault("FT ACK beside", |b| put(b, 36, &[0xC5, 0x04])),
+    fault("FT Session beside", |b| put(b, 36, &[0x85, 0x03])),
+    fault("Status of length 4", |b| put(b, 36, &[0x03, 0x00])),
+];
+
+/// Faults of a slot that holds an Address message.
+pub const ADDRESS_FAULTS: &[FieldFault] = &[
+    fault("a label for Address", |b| put(b, 4, &[0, 0, 0, 16])),
+    fault("label 0 for Address", |b| put(b, 4, &[0; 4])),
+    fault("kind 5 for Address", |b| b[2] = 5),
+    fault("kind 1 for Address", |b| b[2] = 1),
+    fault("message of type KeepAlive", |b| put(b, 8, &[2, 1])),
+    fault("message of type Init", |b| put(b, 8, &[2, 0])),
+    fault("a Notification without Status", |b| put(b, 8, &[0, 1])),
+];
+
+/// Applies a fault to a block and seals the block again.
+pub fn apply(image: &mut [u8], block: usize, fault: &FieldFault) {
+    (fault.apply)(&mut image[block * BLOCK_SIZE..][..BLOCK_SIZE]);
+    seal(image, block);
+}
+
+/// An image of the state, sound in most cases.
+pub fn image(random: &mut Random, stored: &Stored) -> Vec<u8> {
+    let dead = random.u8();
+    let mut image = stored.image(dead);
+    match random.below(100) {
+        0..=1 => image.truncate(random.pick(&[0, 1, 511, 512, 33_279])),
+        2 => image.extend(vec![0; random.pick(&[1, 512])]),
+        3..=5 => flip(random, &mut image, 0),
+        6..=8 if !stored.queue.is_empty() => {
+            let block = stored.block_of(random.below(stored.queue.len()));
+            flip(random, &mut image, block);
+        }
+        9..=13 => {
+            let faults = if stored.kept { KEPT_FAULTS } else { IDLE_FAULTS };
+            apply(&mut image, 0, &random.pick(faults));
+        }
+        14..=16 if !stored.queue.is_empty() => {
+            let block = stored.block_of(random.below(stored.queue.len()));
+            spoil_byte(random, &mut image, block);
+        }
+        17 => spoil_byte(random, &mut image, 0),
+        _ => {}
+    }
+    image
+}
+
+/// Flips one bit of a block, its check included.
+fn flip(random: &mut Random, image: &mut [u8], block: usize) {
+    let at = block * BLOCK_SIZE + random.below(BLOCK_SIZE);
+    image[at] ^= 1 << random.below(8);
+}
+
+/// Changes one byte of a block, mostly near its start, and seals the block again.
+fn spoil_byte(random: &mut Random, image: &mut [u8], block: usize) {
+    let at = if random.percent(70) { random.below(32) } else { random.below(508) };
+    image[block * BLOCK_SIZE + at] = random.u8();
+    seal(image, block);
+}

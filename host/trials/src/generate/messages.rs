@@ -1,0 +1,265 @@
+//! Messages of every type, good and bad, about the labels and numbers of a given state.
+
+use super::{malformed, states};
+use crate::random::Random;
+use crate::stored::{steps_after, Queued, Stored, NO_LABEL};
+use crate::wire::{prefix, tlvs, types, Message, RESOURCES_AVAILABLE, WILDCARD};
+
+const TYPES: [u16; 10] = [
+    types::NOTIFICATION,
+    types::INITIALIZATION,
+    types::KEEPALIVE,
+    types::ADDRESS,
+    types::ADDRESS_WITHDRAW,
+    types::MAPPING,
+    types::REQUEST,
+    types::WITHDRAW,
+    types::RELEASE,
+    types::ABORT,
+];
+const QUEUED: [u16; 6] =
+    [types::MAPPING, types::WITHDRAW, types::RELEASE, types::ADDRESS, types::ADDRESS_WITHDRAW, types::NOTIFICATION];
+const STATUSES: [u32; 9] = [
+    RESOURCES_AVAILABLE,
+    RESOURCES_AVAILABLE,
+    RESOURCES_AVAILABLE | 0x4000_0000,
+    RESOURCES_AVAILABLE | 0x8000_0000,
+    0x0000_000E,
+    0x0000_0010,
+    0x8000_000A,
+    0xC000_0014,
+    0,
+];
+
+/// A label that the state lists with one of the codes, or any label.
+fn label(random: &mut Random, stored: &Stored, codes: &[u32]) -> u32 {
+    let listed: Vec<u32> = stored.labels.iter().copied().filter(|word| codes.contains(&(word >> 20))).collect();
+    match random.below(20) {
+        0 => random.below(16) as u32,
+        1..=3 => states::label(random),
+        4..=6 => random.between(200_000, 200_010) as u32,
+        _ if listed.is_empty() => states::label(random),
+        _ => random.pick(&listed) & 0xF_FFFF,
+    }
+}
+
+fn codes_for(random: &mut Random, message_type: u16, sending: bool) -> &'static [u32] {
+    let ours: [&[u32]; 4] = [&[1], &[2], &[1, 2], &[]];
+    let theirs: [&[u32]; 6] = [&[3], &[4], &[5], &[6], &[3, 4, 5, 6], &[]];
+    if (message_type == types::RELEASE) == sending {
+        random.pick(&theirs)
+    } else {
+        random.pick(&ours)
+    }
+}
+
+fn fec(random: &mut Random) -> Vec<u8> {
+    match random.below(12) {
+        0 => Vec::new(),
+        1 => vec![2],
+        2 => vec![1, 1],
+        3..=5 => WILDCARD.to_vec(),
+        _ => prefix(random.u16()).to_vec(),
+    }
+}
+
+/// A message of a type with the TLVs that belong to it, none of them an FT TLV.
+fn body(random: &mut Random, stored: &Stored, message_type: u16, sending: bool) -> Message {
+    let message = Message::new(message_type, random.u32());
+    match message_type {
+        types::NOTIFICATION if random.percent(95) => message.status(random.pick(&STATUSES)),
+        types::ADDRESS | types::ADDRESS_WITHDRAW => message.tlv(tlvs::ADDRESS_LIST, &[0, 1, 10, 0, 0, 1]),
+        types::MAPPING | types::WITHDRAW | types::RELEASE => {
+            let codes = codes_for(random, message_type, sending);
+            let label = label(random, stored, codes);
+            let message = message.fec(&fec(random));
+            let named = message_type == types::MAPPING || random.percent(if sending { 90 } else { 60 });
+            if named {
+                message.label(label)
+            } else {
+                message
+            }
+        }
+        types::REQUEST | types::ABORT => message.fec(&fec(random)),
+        _ => message,
+    }
+}
+
+/// A message that the send store may hold, with what its slot shows.
+pub fn queued(random: &mut Random, stored: &Stored) -> Queued {
+    let kind = random.between(1, 6) as u8;
+    let message_type = QUEUED[usize::from(kind) - 1];
+    let mut message = Message::new(message_type, random.u32());
+    let mut label = NO_LABEL;
+    match kind {
+        1..=3 => {
+            let code: &[u32] = [&[1], &[2], &[5]][usize::from(kind) - 1];
+            label = self::label(random, stored, code);
+            message = message.fec(&fec(random)).label(label);
+        }
+        6 => message = message.status(random.pick(&STATUSES[..3])),
+        _ => message = body(random, stored, message_type, true),
+    }
+    if random.percent(20) {
+        message = message.label_beside(random, kind);
+    }
+    let length = random.pick(&[0, 0, 0, 40, 77, 479, 480]);
+    Queued { kind, label, bytes: message.padded_to(length).bytes() }
+}
+
+impl Message {
+    /// Kinds without a label may bear one that counts for nothing.
+    fn label_beside(self, random: &mut Random, kind: u8) -> Self {
+        if kind > 3 {
+            self.label(random.below(1_048_576) as u32)
+        } else {
+            self
+        }
+    }
+
+    /// Sets bits that a reader ignores, on the message and on its TLVs.
+    fn with_ignored_bits(mut self, random: &mut Random) -> Self {
+        self.message_type |= random.pick(&[0, 0x8000]);
+        for (tlv_type, _) in &mut self.tlvs {
+            *tlv_type |= random.pick(&[0, 0x4000, 0x8000, 0xC000]);
+        }
+        self
+    }
+
+    fn shuffled(mut self, random: &mut Random) -> Self {
+        for last in (1..self.tlvs.len()).rev() {
+            self.tlvs.swap(last, random.below(last + 1));
+        }
+        self
+    }
+}
+
+fn any_type(random: &mut Random) -> u16 {
+    match random.below(20) {
+        0 => random.u16() & 0x7FFF,
+        _ => random.pick(&TYPES),
+    }
+}
+
+/// A message for submit: mostly one that may be queued, at times one byte too long or of a wrong sort.
+pub fn submission(random: &mut Random, stored: &Stored) -> Vec<u8> {
+    let message_type = if random.percent(85) { random.pick(&QUEUED) } else { any_type(random) };
+    let mut message = body(random, stored, message_type, true);
+    if random.percent(6) {
+        message = ft_tlv_at_random(random, message);
+    }
+    if random.percent(30) {
+        message = message.padded_to(random.pick(&[100, 479, 480, 481, 600]));
+    }
+    finished(random, message)
+}
+
+fn ft_tlv_at_random(random: &mut Random, message: Message) -> Message {
+    match random.below(3) {
+        0 => message.ft_session(random.percent(50), 5),
+        1 => message.protection(random.u32()),
+        _ => message.ack(random.u32()),
+    }
+}
+
+/// A message for receive: protected or not, in turn or not, with an ACK that is right or not.
+pub fn received(random: &mut Random, stored: &Stored) -> Vec<u8> {
+    let message_type = if random.percent(80) { random.pick(&QUEUED) } else { any_type(random) };
+    let mut message = body(random, stored, message_type, false);
+    if random.percent(70) {
+        message = message.protection(protection(random, stored));
+    }
+    if random.percent(40) {
+        message = message.ack(ack(random, stored));
+    }
+    if random.percent(3) {
+        message = message.ft_session(random.percent(50), random.u16());
+    }
+    if random.percent(10) {
+        message = message.padded_to(random.between(8, 4000));
+    }
+    finished(random, message)
+}
+
+fn protection(random: &mut Random, stored: &Stored) -> u32 {
+    match random.below(20) {
+        0 => 0,
+        1 => stored.secured,
+        2 => steps_after(stored.secured, 2),
+        3 => random.u32(),
+        4 => stored.secured.wrapping_add(1),
+        _ => steps_after(stored.secured, 1),
+    }
+}
+
+/// Numbers around those that the held messages bear.
+fn ack(random: &mut Random, stored: &Stored) -> u32 {
+    match random.below(20) {
+        0 => 0,
+        1 => stored.released.wrapping_sub(1),
+        2 => steps_after(stored.issued, 1),
+        3 => random.u32(),
+        4..=6 => stored.released,
+        7..=10 => stored.issued,
+        _ => steps_after(stored.released, random.between(0, stored.queue.len()) as u64),
+    }
+}
+
+/// An Init: with or without parameters, FT Session and FT ACK, resuming or not.
+pub fn init(random: &mut Random, stored: &Stored) -> Vec<u8> {
+    let mut message = Message::new(types::INITIALIZATION, random.u32());
+    if random.percent(95) {
+        let same = random.percent(85);
+        let time = if same { stored.keepalive_time } else { random.u16() };
+        let pdu = if same || random.percent(50) { stored.max_pdu_length } else { random.u16() };
+        message = message.parameters(time, pdu);
+    }
+    if random.percent(90) {
+        message = message.ft_session(random.percent(75), states::timeout(random));
+    }
+    if random.percent(85) {
+        message = message.ack(ack(random, stored));
+    }
+    if random.percent(5) {
+        message = message.protection(random.u32());
+    }
+    if random.percent(5) {
+        message = message.status(random.pick(&STATUSES));
+    }
+    if random.percent(4) {
+        message.message_type = any_type(random);
+    }
+    finished(random, message)
+}
+
+/// A message that may be anything at all, for the reader.
+pub fn any(random: &mut Random, stored: &Stored) -> Vec<u8> {
+    match random.below(5) {
+        0 => init(random, stored),
+        1 => submission(random, stored),
+        2 => received(random, stored),
+        3 => {
+            let message = body(random, stored, types::MAPPING, true);
+            malformed::message(random, message)
+        }
+        _ => {
+            let (message_type, sending) = (any_type(random), random.percent(50));
+            let message = body(random, stored, message_type, sending);
+            finished(random, message)
+        }
+    }
+}
+
+/// Bits that are ignored, another order of TLVs, and faults, each at times.
+fn finished(random: &mut Random, mut message: Message) -> Vec<u8> {
+    if random.percent(15) {
+        message = message.with_ignored_bits(random);
+    }
+    if random.percent(15) {
+        message = message.shuffled(random);
+    }
+    if random.percent(6) {
+        return malformed::message(random, message);
+    }
+    message.bytes()
+}

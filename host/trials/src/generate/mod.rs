@@ -1,0 +1,7 @@
+//! Generated inputs: stored states, messages, damaged images, and calls that fit them or do not.
+
+pub mod calls;
+pub mod damage;
+pub mod malformed;
+pub mod messages;
+pub mod states;

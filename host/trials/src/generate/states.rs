@@ -1,0 +1,84 @@
+//! Stored states that pass every check: numbers near wrap-around, empty and full rings, empty and full label lists.
+
+use super::messages;
+use crate::random::Random;
+use crate::stored::{steps_after, word, Stored, PLACES};
+use std::collections::HashSet;
+
+const NUMBERS: [u32; 11] =
+    [0, 0, 1, 2, 40, 0x7FFF_FFFF, 0x8000_0000, 0xFFFF_FFC0, 0xFFFF_FFF0, 0xFFFF_FFFE, 0xFFFF_FFFF];
+const HELD: [usize; 12] = [0, 0, 0, 1, 1, 2, 3, 8, 30, 63, 64, 64];
+const LISTED: [usize; 11] = [0, 1, 2, 4, 10, 30, 90, 119, 119, 120, 120];
+const TIMEOUTS: [u16; 6] = [0, 0, 1, 5, 600, 65_535];
+
+/// A number near the ends of the circle, or any.
+pub fn number(random: &mut Random) -> u32 {
+    if random.percent(85) {
+        random.pick(&NUMBERS)
+    } else {
+        random.u32()
+    }
+}
+
+pub fn timeout(random: &mut Random) -> u16 {
+    if random.percent(80) {
+        random.pick(&TIMEOUTS)
+    } else {
+        random.u16()
+    }
+}
+
+/// A label from a small range, so that sides and messages meet, or one at an end.
+pub fn label(random: &mut Random) -> u32 {
+    match random.below(20) {
+        0 => 16,
+        1 => 1_048_575,
+        2 => random.between(16, 1_048_575) as u32,
+        _ => random.between(17, 140) as u32,
+    }
+}
+
+/// A state, kept in most cases.
+pub fn state(random: &mut Random) -> Stored {
+    if random.percent(15) {
+        return Stored::idle();
+    }
+    let held = random.pick(&HELD);
+    let numbered = match random.below(3) {
+        0 => 0,
+        1 => held,
+        _ => random.between(0, held),
+    };
+    let released = number(random);
+    let mut stored = Stored {
+        released,
+        issued: steps_after(released, numbered as u64),
+        secured: number(random),
+        first: random.pick(&[0, 0, 1, 32, 62, 63]),
+        timeout: timeout(random),
+        kept: true,
+        keepalive_time: random.pick(&[0, 30, 65_535]),
+        max_pdu_length: random.pick(&[0, 4096, 65_535]),
+        labels: label_list(random),
+        queue: Vec::new(),
+    };
+    stored.queue = (0..held).map(|_| messages::queued(random, &stored)).collect();
+    stored
+}
+
+/// A list of labels in places by chance, each once on a side.
+fn label_list(random: &mut Random) -> [u32; PLACES] {
+    let mut places: Vec<usize> = (0..PLACES).collect();
+    let mut seen = HashSet::new();
+    let mut list = [0; PLACES];
+    let listed = random.pick(&LISTED);
+    while places.len() > PLACES - listed {
+        let code = random.between(1, 6) as u32;
+        let label = label(random);
+        if seen.insert((label, code <= 2)) {
+            let place = places.swap_remove(random.below(places.len()));
+            list[place] = word(label, code);
+        }
+    }
+    list
+}

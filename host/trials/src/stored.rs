@@ -1,0 +1,154 @@
+//! Stored images as the trials write and read them: plain records laid out and read back by the paper's words.
+
+use cabinet::{BLOCK_SIZE, IMAGE_SIZE};
+
+pub const SLOTS: usize = 64;
+pub const PLACES: usize = 120;
+pub const NO_LABEL: u32 = u32::MAX;
+
+/// A message in the send store, with the kind and label that its slot shows.
+#[derive(Clone, Debug, PartialEq, Eq)]
+pub struct Queued {
+    pub kind: u8,
+    pub label: u32,
+    pub bytes: Vec<u8>,
+}
+
+/// Everything that an image holds.
+#[derive(Clone, Debug, PartialEq, Eq)]
+pub struct Stored {
+    pub released: u32,
+    pub issued: u32,
+    pub secured: u32,
+    pub first: u16,
+    pub timeout: u16,
+    pub kept: bool,
+    pub keepalive_time: u16,
+    pub max_pdu_length: u16,
+    pub labels: [u32; PLACES],
+    pub queue: Vec<Queued>,
+}
+
+impl Stored {
+    /// Nothing kept.
+    pub fn idle() -> Self {
+        Stored {
+            released: 0,
+            issued: 0,
+            secured: 0,
+            first: 0,
+            timeout: 0,
+            kept: false,
+            keepalive_time: 0,
+            max_pdu_length: 0,
+            labels: [0; PLACES],
+            queue: Vec::new(),
+        }
+    }
+
+    /// Lays the record out as an image; slots that are not live are filled with the byte given.
+    pub fn image(&self, dead: u8) -> Vec<u8> {
+        let mut image = vec![dead; IMAGE_SIZE];
+        let block = &mut image[..BLOCK_SIZE];
+        block.fill(0);
+        block[3] = 1;
+        block[4..8].copy_from_slice(&self.released.to_be_bytes());
+        block[8..12].copy_from_slice(&self.issued.to_be_bytes());
+        block[12..16].copy_from_slice(&self.secured.to_be_bytes());
+        block[16..18].copy_from_slice(&self.first.to_be_bytes());
+        block[18..20].copy_from_slice(&(self.queue.len() as u16).to_be_bytes());
+        block[20..22].copy_from_slice(&self.timeout.to_be_bytes());
+        block[22] = self.kept.into();
+        block[24..26].copy_from_slice(&self.keepalive_time.to_be_bytes());
+        block[26..28].copy_from_slice(&self.max_pdu_length.to_be_bytes());
+        for (place, word) in self.labels.iter().enumerate() {
+            block[28 + 4 * place..][..4].copy_from_slice(&word.to_be_bytes());
+        }
+        for (after, queued) in self.queue.iter().enumerate() {
+            write_slot(&mut image, self.block_of(after), queued);
+        }
+        seal(&mut image, 0);
+        image
+    }
+
+    /// The block of the message that stands so many after the oldest held.
+    pub fn block_of(&self, after: usize) -> usize {
+        1 + (usize::from(self.first) + after) % SLOTS
+    }
+
+    /// Reads an image whose fields are in their ranges.
+    pub fn read(image: &[u8]) -> Self {
+        let mut stored = Stored {
+            released: u32_at(image, 4),
+            issued: u32_at(image, 8),
+            secured: u32_at(image, 12),
+            first: u16_at(image, 16),
+            timeout: u16_at(image, 20),
+            kept: image[22] == 1,
+            keepalive_time: u16_at(image, 24),
+            max_pdu_length: u16_at(image, 26),
+            labels: std::array::from_fn(|place| u32_at(image, 28 + 4 * place)),
+            queue: Vec::new(),
+        };
+        let held = usize::from(u16_at(image, 18));
+        stored.queue = (0..held).map(|after| read_slot(image, stored.block_of(after))).collect();
+        stored
+    }
+}
+
+pub fn u16_at(bytes: &[u8], at: usize) -> u16 {
+    u16::from_be_bytes([bytes[at], bytes[at + 1]])
+}
+
+pub fn u32_at(bytes: &[u8], at: usize) -> u32 {
+    u32::from_be_bytes([bytes[at], bytes[at + 1], bytes[at + 2], bytes[at + 3]])
+}
+
+fn write_slot(image: &mut [u8], block: usize, queued: &Queued) {
+    let slot = &mut image[block * BLOCK_SIZE..][..BLOCK_SIZE];
+    slot.fill(0);
+    slot[0..2].copy_from_slice(&(queued.bytes.len() as u16).to_be_bytes());
+    slot[2] = queued.kind;
+    slot[4..8].copy_from_slice(&queued.label.to_be_bytes());
+    slot[8..8 + queued.bytes.len()].copy_from_slice(&queued.bytes);
+    seal(image, block);
+}
+
+fn read_slot(image: &[u8], block: usize) -> Queued {
+    let slot = &image[block * BLOCK_SIZE..][..BLOCK_SIZE];
+    let length = usize::from(u16_at(slot, 0));
+    Queued { kind: slot[2], label: u32_at(slot, 4), bytes: slot[8..8 + length].to_vec() }
+}
+
+/// The check of a block word for word as the paper has it: A, then B, a remainder at each step.
+pub fn check(block: &[u8]) -> (u16, u16) {
+    let (mut a, mut b) = (1u32, 0u32);
+    for at in (0..508).step_by(2) {
+        a = (a + u32::from(u16_at(block, at))) % 65_535;
+        b = (b + a) % 65_535;
+    }
+    (a as u16, b as u16)
+}
+
+/// Writes the right check into a block.
+pub fn seal(image: &mut [u8], block: usize) {
+    let bytes = &mut image[block * BLOCK_SIZE..][..BLOCK_SIZE];
+    let (a, b) = check(bytes);
+    bytes[508..510].copy_from_slice(&a.to_be_bytes());
+    bytes[510..512].copy_from_slice(&b.to_be_bytes());
+}
+
+/// A label word.
+pub fn word(label: u32, code: u32) -> u32 {
+    label + 1_048_576 * code
+}
+
+/// The number that stands so many steps after another on the circle 1 to 0xFFFFFFFF.
+pub fn steps_after(number: u32, steps: u64) -> u32 {
+    if steps == 0 {
+        return number;
+    }
+    let circle = u64::from(u32::MAX);
+    let zero_based = (u64::from(number) + steps - 1) % circle;
+    zero_based as u32 + 1
+}

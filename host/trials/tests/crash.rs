@@ -1,0 +1,34 @@
+//! Crash trials in the gate: at least 10,000 power cuts, with the third demand asserted after every step.
+
+use model::Model;
+use trials::crash::{run, Cut, Tally, CUTS};
+use trials::under_test::UnderTest;
+
+const SEED: u64 = 0xCAB;
+const CUTS_IN_GATE: u64 = 24_000;
+
+#[test]
+fn nothing_is_lost_and_nothing_comes_twice_over_power_cuts() {
+    let mut tally = Tally::default();
+    run([&UnderTest, &UnderTest], SEED, CUTS_IN_GATE, &mut tally).unwrap();
+    println!("{tally}");
+    let in_restore: u64 = CUTS.iter().map(|cut| tally.cuts_in("restore", *cut)).sum();
+    assert!(tally.all_cuts() - in_restore >= 10_000, "cuts beside those in restore");
+    assert_eq!(tally.worlds, tally.drained, "each world ends with everything arrived");
+    assert_eq!(tally.most_held, 64, "the ring was full");
+    assert!(tally.full > 0, "a submission was refused for room");
+    for cut in CUTS {
+        assert!(tally.cuts_in("submit", cut) >= 100, "submit cut at {cut:?}");
+    }
+    for call in ["receive", "send_next", "init_received", "open", "keepalive", "connection_failed"] {
+        for cut in [Cut::Nothing, Cut::NoOutput, Cut::All] {
+            assert!(tally.cuts_in(call, cut) >= 100, "{call} cut at {cut:?}");
+        }
+    }
+}
+
+#[test]
+fn library_and_model_keep_a_session_with_each_other() {
+    let mut tally = Tally::default();
+    run([&UnderTest, &Model], SEED + 1, CUTS_IN_GATE / 10, &mut tally).unwrap();
+}

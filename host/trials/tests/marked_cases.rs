@@ -1,0 +1,167 @@
+//! The paper's marked cases and its examples to run, on the library and on the model.
+
+use cabinet::{phase, Cabinet, Opening, Session, IMAGE_SIZE};
+use model::Model;
+use trials::stored::{word, Queued, Stored};
+use trials::under_test::UnderTest;
+use trials::wire::{prefix, types, Message, RESOURCES_AVAILABLE};
+
+fn both() -> [&'static dyn Cabinet; 2] {
+    [&UnderTest, &Model]
+}
+
+fn up(sent: u32) -> Session {
+    Session { phase: phase::UP_FT, value: sent }
+}
+
+const FAILED: Session = Session { phase: phase::FAILED, value: 0 };
+
+fn mapping(label: u32) -> Vec<u8> {
+    Message::new(types::MAPPING, label).fec(&prefix(label as u16)).label(label).bytes()
+}
+
+/// A kept session with so many Mappings held, of which so many have numbers.
+fn holding(held: u32, released: u32, issued: u32) -> Stored {
+    let queue = (0..held).map(|n| Queued { kind: 1, label: 16 + n, bytes: mapping(16 + n) }).collect();
+    let mut stored = Stored { released, issued, timeout: 5, kept: true, queue, ..Stored::idle() };
+    for n in 0..held {
+        stored.labels[n as usize] = word(16 + n, 1);
+    }
+    stored
+}
+
+#[test]
+fn p1_to_p3_lesser_timeout() {
+    for cabinet in both() {
+        assert_eq!(cabinet.lesser_timeout(0, 5), 5);
+        assert_eq!(cabinet.lesser_timeout(0, 0), 0);
+        assert_eq!(cabinet.lesser_timeout(65_535, 0), 65_535);
+    }
+}
+
+/// The answer to a KeepAlive with the ACK, and how many messages are held after it.
+fn acknowledge(cabinet: &dyn Cabinet, ack: u32) -> (u32, usize) {
+    let mut image = holding(4, 0xFFFF_FFFE, 1).image(0);
+    let keepalive = Message::new(types::KEEPALIVE, 1).ack(ack).bytes();
+    let outcome = cabinet.receive(&mut image, up(2), &keepalive);
+    (outcome.answer, Stored::read(&image).queue.len())
+}
+
+#[test]
+fn p4_to_p7_acknowledgements_across_the_wrap() {
+    for cabinet in both() {
+        assert_eq!(acknowledge(cabinet, 1), (0, 2));
+        assert_eq!(acknowledge(cabinet, 0), (34, 0));
+        assert_eq!(acknowledge(cabinet, 2), (34, 0));
+        assert_eq!(acknowledge(cabinet, 0xFFFF_FFFE), (0, 4));
+    }
+}
+
+#[test]
+fn p8_and_p9_distances() {
+    for cabinet in both() {
+        assert_eq!(cabinet.distance(0xFFFF_FFFF, 1).steps, 1);
+        assert_eq!(cabinet.distance(1, 0x8000_0001).steps, -2_147_483_647);
+        assert_eq!(cabinet.distance(0x8000_0001, 1).steps, 2_147_483_647);
+        assert_eq!(cabinet.distance(0, 1).answer, 2);
+    }
+}
+
+#[test]
+fn p10_init_with_reconnect() {
+    for cabinet in both() {
+        let mut image = Stored { secured: 9, ..holding(0, 0, 0) }.image(0);
+        let mut out = [0; 64];
+        let outcome = cabinet.open(&mut image, FAILED, &Opening::default(), &mut out);
+        assert_eq!((outcome.answer, outcome.length), (0, 42));
+        assert_eq!(out[26..42], [0x85, 3, 0, 4, 0x80, 0, 0, 5, 5, 4, 0, 4, 0, 0, 0, 9]);
+        assert_eq!(outcome.session, Session { phase: phase::INIT_WAIT, value: 5 });
+    }
+}
+
+#[test]
+fn p11_number_27() {
+    for cabinet in both() {
+        let mut image = holding(1, 26, 26).image(0);
+        let mut out = [0; 64];
+        let outcome = cabinet.send_next(&mut image, up(0), false, &mut out);
+        assert_eq!((outcome.answer, outcome.length), (0, 36));
+        assert_eq!(out[28..36], [2, 3, 0, 4, 0, 0, 0, 0x1B]);
+        assert_eq!(Stored::read(&image).issued, 27);
+    }
+}
+
+#[test]
+fn p12_check_of_a_zero_block() {
+    for cabinet in both() {
+        assert_eq!(cabinet.block_check(&[0; 512]), 0x0001_00FE);
+    }
+}
+
+#[test]
+fn timeout_5_elapsed_4_keeps_and_5_releases() {
+    for cabinet in both() {
+        let mut image = holding(1, 0, 0).image(0);
+        assert_eq!(cabinet.time_passed(&mut image, FAILED, 4).session.phase, phase::FAILED);
+        assert_eq!(cabinet.time_passed(&mut image, FAILED, 5).session.phase, phase::IDLE);
+        assert_eq!(image[..512], Stored::idle().image(0)[..512]);
+    }
+}
+
+#[test]
+fn a_zero_timeout_keeps_for_ever() {
+    for cabinet in both() {
+        let mut image = Stored { timeout: 0, ..holding(1, 0, 0) }.image(0);
+        assert_eq!(cabinet.time_passed(&mut image, FAILED, u32::MAX).session.phase, phase::FAILED);
+    }
+}
+
+#[test]
+fn of_480_bytes_taken_of_481_refused() {
+    for cabinet in both() {
+        let mut image = holding(0, 0, 0).image(0);
+        let of_length = |length| Message::new(types::ADDRESS, 1).padded_to(length).bytes();
+        assert_eq!(cabinet.submit(&mut image, FAILED, &of_length(481)).answer, 3);
+        assert_eq!(cabinet.submit(&mut image, FAILED, &of_length(480)).answer, 0);
+        assert_eq!(cabinet.restore(&mut image).answer, 0);
+    }
+}
+
+#[test]
+fn the_64th_held_is_taken_and_the_65th_refused() {
+    for cabinet in both() {
+        let mut image = holding(63, 0, 0).image(0);
+        assert_eq!(cabinet.submit(&mut image, FAILED, &mapping(500)).answer, 0);
+        assert_eq!(cabinet.submit(&mut image, FAILED, &mapping(501)).answer, 7);
+    }
+}
+
+#[test]
+fn a_fresh_session_from_a_new_image() {
+    for cabinet in both() {
+        let mut image = vec![0xFF; IMAGE_SIZE];
+        let mut out = [0; 64];
+        assert_eq!(cabinet.format(&mut image).block0, 1);
+        let opened = cabinet.open(&mut image, Session::default(), &Opening::default(), &mut out);
+        assert_eq!((opened.answer, opened.length), (0, 34));
+        let init = Message::new(types::INITIALIZATION, 1).parameters(30, 4096).ft_session(true, 0).ack(8).bytes();
+        let outcome = cabinet.init_received(&mut image, opened.session, &init);
+        assert_eq!((outcome.answer, outcome.session, outcome.block0), (0, up(0), 1));
+        let submitted = cabinet.submit(&mut image, up(0), &mapping(16));
+        assert_eq!((submitted.answer, submitted.slot, submitted.block0), (0, 1, 1));
+        let stored = Stored::read(&image);
+        assert_eq!((stored.timeout, stored.keepalive_time, stored.max_pdu_length), (5, 30, 4096));
+        assert_eq!((stored.issued, stored.queue.len(), stored.labels[0]), (0, 1, word(16, 1)));
+    }
+}
+
+#[test]
+fn resources_available_is_kind_6_where_e_is_clear() {
+    for cabinet in both() {
+        let kind = |status| cabinet.message_read(&Message::new(types::NOTIFICATION, 1).status(status).bytes()).kind;
+        assert_eq!(kind(RESOURCES_AVAILABLE), 6);
+        assert_eq!(kind(RESOURCES_AVAILABLE | 0x4000_0000), 6);
+        assert_eq!(kind(RESOURCES_AVAILABLE | 0x8000_0000), 0);
+        assert_eq!(kind(0x0E), 0);
+    }
+}

@@ -1,0 +1,191 @@
+//! The order of the answers: of several faults at once the first in the paper's order is named.
+
+use cabinet::{phase, Cabinet, Opening, Session};
+use model::Model;
+use trials::stored::{word, Queued, Stored};
+use trials::under_test::UnderTest;
+use trials::wire::{prefix, types, Message};
+
+fn both() -> [&'static dyn Cabinet; 2] {
+    [&UnderTest, &Model]
+}
+
+fn in_phase(phase: u32) -> Session {
+    Session { phase, value: 0 }
+}
+
+/// A kept state that has secured 10 and lists labels with the codes given, from label 700 on.
+fn listing(codes: &[u32]) -> Stored {
+    let mut stored = Stored { secured: 10, kept: true, timeout: 5, ..Stored::idle() };
+    for (place, code) in codes.iter().enumerate() {
+        stored.labels[place] = word(700 + place as u32, *code);
+    }
+    stored
+}
+
+fn mapping(label: u32) -> Message {
+    Message::new(types::MAPPING, 1).fec(&prefix(1)).label(label)
+}
+
+fn assert_received(stored: &Stored, phase: u32, message: Message, answer: u32) {
+    for cabinet in both() {
+        let outcome = cabinet.receive(&mut stored.image(0), in_phase(phase), &message.bytes());
+        assert_eq!(outcome.answer, answer, "{message:?}");
+    }
+}
+
+#[test]
+fn receive_in_up_ft() {
+    let fatal = |number, ack| Message::new(types::NOTIFICATION, 1).status(0x8000_0001).protection(number).ack(ack);
+    let up = |stored: &Stored, message, answer| assert_received(stored, phase::UP_FT, message, answer);
+    up(&listing(&[]), fatal(0, 9).label(1 << 20), 22);
+    up(&listing(&[]), fatal(0, 9), 36);
+    up(&listing(&[6]), mapping(700).protection(0).ack(9), 30);
+    up(&listing(&[6]), mapping(700).protection(99).ack(9), 34);
+    up(&listing(&[3]), mapping(700).ack(9), 34);
+    up(&listing(&[3]), mapping(700).ack(0), 33);
+    up(&listing(&[6]), mapping(700).protection(99).ack(0), 32);
+    up(&listing(&[3; 120]), mapping(16).protection(99).ack(0), 20);
+    up(&listing(&[3; 120]), mapping(16).protection(11).ack(0), 21);
+    up(&listing(&[3; 120]), mapping(16).ack(0), 21);
+    up(&listing(&[3; 119]), mapping(16).protection(11).ack(0), 0);
+}
+
+#[test]
+fn receive_in_up_plain() {
+    let plain = |message, answer| assert_received(&Stored::idle(), phase::UP_PLAIN, message, answer);
+    let status = |status| Message::new(types::NOTIFICATION, 1).status(status);
+    plain(Message::new(types::INITIALIZATION, 1).status(0x8000_0001), 22);
+    plain(status(0x8000_0001).protection(0), 36);
+    plain(status(1).protection(0), 31);
+    plain(status(1).ack(0), 31);
+    plain(status(1).ft_session(false, 0), 31);
+    plain(status(1), 0);
+    plain(mapping(700), 0);
+}
+
+/// A state that holds one message with a number.
+fn holding(codes: &[u32], message_type: u16, kind: u8, label: u32) -> Stored {
+    let bytes = Message::new(message_type, 1).fec(&prefix(1)).label(label).bytes();
+    Stored { issued: 1, queue: vec![Queued { kind, label, bytes }], ..listing(codes) }
+}
+
+#[test]
+fn labels_are_judged_as_the_ack_leaves_them() {
+    let withdrawn = holding(&[2], types::WITHDRAW, 2, 700);
+    let release = || Message::new(types::RELEASE, 1).fec(&prefix(1)).label(700);
+    assert_received(&withdrawn, phase::UP_FT, release(), 33);
+    assert_received(&withdrawn, phase::UP_FT, release().ack(1), 0);
+    let mut full = holding(&[3; 120], types::RELEASE, 3, 700);
+    full.labels[0] = word(700, 5);
+    assert_received(&full, phase::UP_FT, mapping(16).protection(11), 21);
+    assert_received(&full, phase::UP_FT, mapping(16).protection(11).ack(1), 0);
+}
+
+#[test]
+fn after_20_to_23_the_ack_is_unapplied_and_unprotected_labels_are_free() {
+    for cabinet in both() {
+        let stored = holding(&[2, 6], types::WITHDRAW, 2, 700);
+        let mut image = stored.image(0);
+        let out_of_turn = mapping(16).protection(12).ack(1).bytes();
+        let outcome = cabinet.receive(&mut image, Session { phase: phase::UP_FT, value: 1 }, &out_of_turn);
+        assert_eq!((outcome.answer, outcome.session, outcome.block0), (20, in_phase(phase::FAILED), 1));
+        let mut expected = stored;
+        expected.labels[1] = 0;
+        assert_eq!(Stored::read(&image), expected);
+    }
+}
+
+fn full_ring(codes: &[u32]) -> Stored {
+    let address = Queued { kind: 4, label: u32::MAX, bytes: Message::new(types::ADDRESS, 1).bytes() };
+    Stored { queue: vec![address; 64], ..listing(codes) }
+}
+
+#[test]
+fn submit() {
+    let full = full_ring(&[2; 120]);
+    let assert_submitted = |stored: &Stored, phase: u32, message: Message, answer: u32| {
+        for cabinet in both() {
+            let outcome = cabinet.submit(&mut stored.image(0), in_phase(phase), &message.bytes());
+            assert_eq!(outcome.answer, answer, "{message:?}");
+        }
+    };
+    assert_submitted(&full, phase::IDLE, mapping(1 << 20).padded_to(481), 1);
+    assert_submitted(&full, phase::FAILED, mapping(1 << 20).padded_to(481), 3);
+    assert_submitted(&full, phase::FAILED, mapping(1 << 20).ack(1), 4);
+    assert_submitted(&full, phase::FAILED, mapping(700).ack(1), 5);
+    assert_submitted(&full, phase::FAILED, mapping(700), 6);
+    assert_submitted(&full, phase::FAILED, mapping(15), 6);
+    assert_submitted(&full, phase::FAILED, mapping(16), 13);
+    assert_submitted(&full_ring(&[1; 120]), phase::FAILED, mapping(700), 7);
+    assert_submitted(&full_ring(&[]), phase::FAILED, mapping(16), 7);
+    assert_submitted(&listing(&[1]), phase::FAILED, Message::new(types::MAPPING, 1).label(16), 4);
+    assert_submitted(&listing(&[1]), phase::FAILED, Message::new(types::WITHDRAW, 1).fec(&prefix(1)), 5);
+    assert_submitted(&listing(&[1]), phase::FAILED, Message::new(types::REQUEST, 1).fec(&prefix(1)), 5);
+}
+
+#[test]
+fn a_message_of_the_same_kind_and_label_that_is_still_held_bars_another() {
+    let withdraw = Message::new(types::WITHDRAW, 2).fec(&prefix(1)).label(700).bytes();
+    let release = Message::new(types::RELEASE, 2).fec(&prefix(1)).label(700).bytes();
+    for cabinet in both() {
+        let submit =
+            |stored: Stored, msg: &[u8]| cabinet.submit(&mut stored.image(0), in_phase(phase::FAILED), msg).answer;
+        assert_eq!(submit(holding(&[1], types::WITHDRAW, 2, 700), &withdraw), 6);
+        assert_eq!(submit(holding(&[1], types::WITHDRAW, 2, 701), &withdraw), 0);
+        assert_eq!(submit(holding(&[1], types::RELEASE, 3, 700), &withdraw), 0);
+        assert_eq!(submit(holding(&[3], types::RELEASE, 3, 700), &release), 6);
+        assert_eq!(submit(holding(&[1], types::WITHDRAW, 2, 700), &mapping(700).bytes()), 0);
+    }
+}
+
+#[test]
+fn writers() {
+    for cabinet in both() {
+        let send = |stored: &Stored, session, room: usize| {
+            cabinet.send_next(&mut stored.image(0), session, false, &mut vec![0; room]).answer
+        };
+        let one = holding(&[1], types::MAPPING, 1, 700);
+        let up = |value| Session { phase: phase::UP_FT, value };
+        assert_eq!(send(&one, up(2), 0), 1);
+        assert_eq!(send(&one, up(1), 0), 8);
+        assert_eq!(send(&one, up(0), 35), 9);
+        assert_eq!(send(&one, up(0), 36), 0);
+        let open = |phase, room: usize| {
+            cabinet.open(&mut one.image(0), in_phase(phase), &Opening::default(), &mut vec![0; room]).answer
+        };
+        assert_eq!([open(phase::IDLE, 0), open(phase::FAILED, 41), open(phase::FAILED, 42)], [1, 9, 0]);
+        let keepalive =
+            |phase, room: usize| cabinet.keepalive(&mut one.image(0), in_phase(phase), 1, &mut vec![0; room]).answer;
+        assert_eq!(
+            [keepalive(phase::UP_PLAIN, 0), keepalive(phase::UP_FT, 15), keepalive(phase::UP_FT, 16)],
+            [1, 9, 0]
+        );
+    }
+}
+
+#[test]
+fn init_received() {
+    let stored = Stored { keepalive_time: 30, max_pdu_length: 4096, ..holding(&[1], types::MAPPING, 1, 700) };
+    let init = || Message::new(types::INITIALIZATION, 1);
+    let assert_answer = |stored: &Stored, message: Message, answer: u32| {
+        for cabinet in both() {
+            let session = Session { phase: phase::INIT_WAIT, value: 5 };
+            let outcome = cabinet.init_received(&mut stored.image(0), session, &message.bytes());
+            assert_eq!(outcome.answer, answer, "{message:?}");
+        }
+    };
+    assert_answer(&stored, Message::new(types::KEEPALIVE, 1).ack(9), 22);
+    assert_answer(&stored, init().ft_session(true, 5).label(1 << 20), 22);
+    assert_answer(&stored, init().ft_session(true, 5).ack(9), 23);
+    assert_answer(&stored, init(), 23);
+    assert_answer(&stored, init().parameters(31, 4096).ft_session(true, 5), 23);
+    assert_answer(&stored, init().parameters(31, 4096).ft_session(true, 5).ack(9), 35);
+    assert_answer(&stored, init().parameters(30, 4097).ft_session(true, 5).ack(1), 35);
+    assert_answer(&stored, init().parameters(30, 4096).ft_session(true, 5).ack(9), 34);
+    assert_answer(&stored, init().parameters(30, 4096).ft_session(true, 5).ack(1), 0);
+    assert_answer(&stored, init().parameters(31, 4097).ft_session(false, 5).ack(9), 0);
+    assert_answer(&stored, init().parameters(31, 4097).ack(9), 0);
+    assert_answer(&Stored::idle(), init().parameters(31, 4097).ft_session(true, 5), 23);
+    assert_answer(&Stored::idle(), init().parameters(31, 4097).ft_session(true, 5).ack(9), 0);
+}

@@ -1,0 +1,271 @@
+//! Cabinets with one fault planted in each: the tests must find every one of them.
+
+mod faults;
+
+pub use faults::{Fault, ALL};
+
+use cabinet::{phase, Cabinet, Distance, Message, Opening, Outcome, Part, Pdu, Session};
+use model::Model;
+use trials::stored::{check, seal, steps_after, u16_at, u32_at, word, Stored};
+use trials::wire;
+
+/// The model with a fault.
+pub struct Planted(pub Fault);
+
+/// Rewrites bytes of block 0 and seals it.
+fn put(image: &mut [u8], at: usize, bytes: &[u8]) {
+    image[at..at + bytes.len()].copy_from_slice(bytes);
+    seal(image, 0);
+}
+
+fn is_bad(image: &[u8], block: usize) -> bool {
+    let block = &image[block * 512..][..512];
+    check(block) != (u16_at(block, 508), u16_at(block, 510))
+}
+
+/// Moves a word that a call added from the first free place to the last.
+fn move_added_word(before: &[u8], image: &mut [u8]) {
+    let free = |image: &[u8], place: usize| u32_at(image, 28 + 4 * place) == 0;
+    let added = (0..120).find(|place| free(before, *place) && !free(image, *place));
+    let last = (0..120).rev().find(|place| free(image, *place));
+    if let (Some(added), Some(last)) = (added, last) {
+        let word = u32_at(image, 28 + 4 * added);
+        put(image, 28 + 4 * added, &[0; 4]);
+        put(image, 28 + 4 * last, &word.to_be_bytes());
+    }
+}
+
+impl Planted {
+    fn restore_outcome(&self, image: &mut [u8]) -> Outcome {
+        let mut outcome = Model.restore(image);
+        match self.0 {
+            Fault::NamesNoBlock => outcome.block = 0,
+            Fault::ChecksDeadSlots if outcome.answer == 0 && (1..65).any(|block| is_bad(image, block)) => {
+                outcome.answer = 10;
+            }
+            Fault::SkipsPadding if outcome.answer == 11 && outcome.block > 0 => {
+                let mut mended = image.to_vec();
+                let slot = outcome.block as usize * 512;
+                let end = slot + (8 + usize::from(u16_at(image, slot))).min(508);
+                mended[end..slot + 508].fill(0);
+                seal(&mut mended, outcome.block as usize);
+                outcome = Model.restore(&mut mended);
+            }
+            Fault::TakesBothZeros if outcome.answer == 10 && outcome.block == 0 => {
+                let mut mended = image.to_vec();
+                for at in [508, 510] {
+                    if mended[at..at + 2] == [255, 255] {
+                        mended[at..at + 2].fill(0);
+                    }
+                }
+                outcome = Model.restore(&mut mended);
+            }
+            _ => {}
+        }
+        outcome
+    }
+
+    /// What submit does wrong after it accepted a message.
+    fn after_submission(&self, before: &[u8], image: &mut [u8], given: Session, outcome: &mut Outcome) {
+        let stored = Stored::read(image);
+        let slot = outcome.slot as usize * 512;
+        match self.0 {
+            Fault::FreesOnWithdraw if image[slot + 2] == 2 => {
+                let withdrawn = word(u32_at(image, slot + 4), 2);
+                if let Some(place) = stored.labels.iter().position(|word| *word == withdrawn) {
+                    put(image, 28 + 4 * place, &[0; 4]);
+                }
+            }
+            Fault::NumbersAtQueueing => {
+                let issued = steps_after(stored.released, stored.queue.len() as u64);
+                put(image, 8, &issued.to_be_bytes());
+            }
+            Fault::RefusesAt63 if stored.queue.len() == 64 => {
+                image.copy_from_slice(before);
+                *outcome = Outcome { answer: 7, session: given, ..Outcome::default() };
+            }
+            Fault::OverwritesLiveSlot => {
+                let oldest = stored.block_of(0) * 512;
+                image.copy_within(slot..slot + 512, oldest);
+                outcome.slot = stored.block_of(0) as u32;
+            }
+            Fault::HidesSlot => outcome.slot = 0,
+            Fault::KeepsValue => outcome.session.value = given.value,
+            _ => {}
+        }
+    }
+
+    fn acknowledged_as_all(&self, image: &[u8], msg: &[u8]) -> Vec<u8> {
+        let mut msg = msg.to_vec();
+        let zero_ack = [5, 4, 0, 4, 0, 0, 0, 0];
+        if let (Some(at), Some(issued)) = (msg.windows(8).position(|tlv| tlv == zero_ack), image.get(8..12)) {
+            msg[at + 4..at + 8].copy_from_slice(issued);
+        }
+        msg
+    }
+}
+
+impl Cabinet for Planted {
+    fn format(&self, image: &mut [u8]) -> Outcome {
+        Model.format(image)
+    }
+
+    fn restore(&self, image: &mut [u8]) -> Outcome {
+        let before = image.to_vec();
+        let mut outcome = self.restore_outcome(image);
+        if self.0 == Fault::KeepsUnprotected && outcome.block0 == 1 {
+            image.copy_from_slice(&before);
+            outcome.block0 = 0;
+        }
+        outcome
+    }
+
+    fn open(&self, image: &mut [u8], session: Session, opening: &Opening, out: &mut [u8]) -> Outcome {
+        let unknown = self.0 == Fault::TakesUnknownPhase && session.phase > phase::FAILED;
+        let session = if unknown { Session::default() } else { session };
+        let outcome = Model.open(image, session, opening, out);
+        if self.0 == Fault::WritesWhenRefused && outcome.answer == 9 && !out.is_empty() {
+            out[0] = 2;
+        }
+        outcome
+    }
+
+    fn init_received(&self, image: &mut [u8], session: Session, msg: &[u8]) -> Outcome {
+        let before = image.to_vec();
+        let mut outcome = Model.init_received(image, session, msg);
+        let resumed = outcome.session.phase == phase::UP_FT && before[22] == 1;
+        match self.0 {
+            Fault::CountSurvivesBreak if resumed => {
+                let stored = Stored::read(image);
+                let numbered = Model.distance(stored.released.max(1), stored.issued.max(1)).steps;
+                outcome.session.value = numbered as u32;
+            }
+            Fault::KeepsOldTimeout if resumed => {
+                put(image, 20, &before[20..22]);
+                outcome.block0 = u32::from(image[..512] != before[..512]);
+            }
+            _ => {}
+        }
+        outcome
+    }
+
+    fn connection_failed(&self, image: &mut [u8], session: Session) -> Outcome {
+        let before = image.to_vec();
+        let mut outcome = Model.connection_failed(image, session);
+        if self.0 == Fault::KeepsUnprotected && outcome.block0 == 1 {
+            image.copy_from_slice(&before);
+            outcome.block0 = 0;
+        }
+        outcome
+    }
+
+    fn time_passed(&self, image: &mut [u8], session: Session, elapsed: u32) -> Outcome {
+        let mut outcome = Model.time_passed(image, session, elapsed);
+        if self.0 == Fault::ZeroTimeoutIsNoWait && outcome.answer == 0 && image[20..22] == [0, 0] {
+            image[..512].copy_from_slice(&Stored::idle().image(0)[..512]);
+            outcome = Outcome { block0: 1, ..Outcome::default() };
+        }
+        outcome
+    }
+
+    fn submit(&self, image: &mut [u8], session: Session, msg: &[u8]) -> Outcome {
+        let before = image.to_vec();
+        let mut outcome = Model.submit(image, session, msg);
+        if outcome.answer == 0 {
+            self.after_submission(&before, image, session, &mut outcome);
+        }
+        outcome
+    }
+
+    fn send_next(&self, image: &mut [u8], session: Session, ack: bool, out: &mut [u8]) -> Outcome {
+        let outcome = Model.send_next(image, session, ack, out);
+        let length = outcome.length as usize;
+        match self.0 {
+            Fault::WritesPastOutput if outcome.answer == 0 && length < out.len() => out[length] = 0,
+            Fault::WrapsToZero if outcome.block0 == 1 && u32_at(image, 8) == 1 && u32_at(image, 4) != 0 => {
+                put(image, 8, &[0; 4]);
+                let number = length - if ack { 12 } else { 4 };
+                out[number..number + 4].fill(0);
+            }
+            _ => {}
+        }
+        outcome
+    }
+
+    fn keepalive(&self, image: &mut [u8], session: Session, message_id: u32, out: &mut [u8]) -> Outcome {
+        let mut outcome = Model.keepalive(image, session, message_id, out);
+        match self.0 {
+            Fault::AckAhead if outcome.length == 16 => {
+                let ahead = steps_after(u32_at(out, 12), 1);
+                out[12..16].copy_from_slice(&ahead.to_be_bytes());
+            }
+            Fault::NamesBlock0InVain if outcome.answer == 0 => outcome.block0 = 1,
+            _ => {}
+        }
+        outcome
+    }
+
+    fn receive(&self, image: &mut [u8], session: Session, msg: &[u8]) -> Outcome {
+        let before = image.to_vec();
+        let all = self.acknowledged_as_all(image, msg);
+        let msg = if self.0 == Fault::ZeroAckIsAll { &all } else { msg };
+        let mut outcome = Model.receive(image, session, msg);
+        let accepted = outcome.answer == 0 && session.phase == phase::UP_FT;
+        match self.0 {
+            Fault::HidesBlock0 if accepted => outcome.block0 = 0,
+            Fault::SecuredStays if accepted => {
+                put(image, 12, &before[12..16]);
+                outcome.block0 = u32::from(image[..512] != before[..512]);
+            }
+            Fault::TakesLastFreeWord if accepted && wire::protection_number(msg).is_some() => {
+                move_added_word(&before, image);
+            }
+            _ => {}
+        }
+        outcome
+    }
+
+    fn pdu_open(&self, pdu: &[u8]) -> Pdu {
+        Model.pdu_open(pdu)
+    }
+
+    fn pdu_message(&self, pdu: &[u8], at: usize) -> Part {
+        Model.pdu_message(pdu, at)
+    }
+
+    fn message_read(&self, msg: &[u8]) -> Message {
+        Model.message_read(msg)
+    }
+
+    fn distance(&self, from: u32, to: u32) -> Distance {
+        let mut distance = Model.distance(from, to);
+        if self.0 == Fault::LongWayRound && distance.steps == -2_147_483_647 {
+            distance.steps = i32::MIN;
+        }
+        distance
+    }
+
+    fn successor(&self, number: u32) -> u32 {
+        if self.0 == Fault::WrapsToZero {
+            number.wrapping_add(1)
+        } else {
+            Model.successor(number)
+        }
+    }
+
+    fn lesser_timeout(&self, a: u32, b: u32) -> u32 {
+        if self.0 == Fault::LesserOfZeroIsZero {
+            a.min(b)
+        } else {
+            Model.lesser_timeout(a, b)
+        }
+    }
+
+    fn block_check(&self, block: &[u8]) -> u32 {
+        Model.block_check(block)
+    }
+
+    fn label(&self, image: &[u8], place: u32) -> u32 {
+        Model.label(image, place)
+    }
+}

@@ -1,0 +1,59 @@
+//! Tests of the tests: a cabinet with a fault planted in it must be told from the model.
+
+mod planted;
+
+use model::Model;
+use planted::{Fault, Planted, ALL};
+use trials::crafted;
+use trials::crash::{self, Tally};
+use trials::differential::Run;
+
+const SEED: u64 = 0x1_D9F7;
+const CALLS: u64 = 250_000;
+const CUTS: u64 = 20_000;
+
+/// A fault in how zero sums are stored, which generated images are too few to meet.
+const CRAFTED_ONLY: Fault = Fault::TakesBothZeros;
+
+#[test]
+fn the_differential_run_finds_planted_faults() {
+    for fault in ALL.into_iter().filter(|fault| *fault != CRAFTED_ONLY) {
+        let tested = Planted(fault);
+        let mut run = Run::new(&Model, &tested, SEED);
+        let difference = run.calls(CALLS).expect_err(&format!("{fault:?} was not found"));
+        println!("{fault:?} found after {} calls: {}", run.coverage.total(), difference.what);
+    }
+}
+
+#[test]
+fn the_crafted_images_find_planted_faults() {
+    for fault in [CRAFTED_ONLY, Fault::SkipsPadding, Fault::NamesNoBlock] {
+        let tested = Planted(fault);
+        let mut run = Run::new(&Model, &tested, SEED);
+        let found = crafted::images().iter().find_map(|image| crafted::check_refused(&mut run, image).err());
+        println!("{fault:?}: {}", found.unwrap_or_else(|| panic!("{fault:?} was not found")));
+    }
+}
+
+#[test]
+fn the_crash_trials_find_planted_faults() {
+    let faults = [
+        Fault::OverwritesLiveSlot,
+        Fault::HidesSlot,
+        Fault::HidesBlock0,
+        Fault::AckAhead,
+        Fault::SecuredStays,
+        Fault::WrapsToZero,
+        Fault::CountSurvivesBreak,
+        Fault::RefusesAt63,
+        Fault::ZeroAckIsAll,
+        Fault::FreesOnWithdraw,
+        Fault::ZeroTimeoutIsNoWait,
+    ];
+    for fault in faults {
+        let tested = Planted(fault);
+        let mut tally = Tally::default();
+        let found = crash::run([&tested, &Model], SEED, CUTS, &mut tally);
+        println!("{fault:?} after {} steps: {}", tally.steps, found.expect_err(&format!("{fault:?} was not found")));
+    }
+}
