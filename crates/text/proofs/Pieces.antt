@@ -3,11 +3,11 @@ use Prim.Native.Nat.{ℕ, _+_, _≤_}
 use mathlib.Core.Path.{_≡_, refl, sym, ap, _∙_}
 use mathlib.Core.List.{List, [], _++_}
 use native.Mathlib.Omega.{arith}
-use lib.ListN.{length, length-append}
+use lib.ListN.{length, take, length-append}
 use Rattle.octets.specs.Fill.{copied}
 use Rattle.octets.proofs.Fill.{filled-none}
 use Rattle.text.specs.Text.{Put}
-use Rattle.text.proofs.Copied.{copied-append, length-copied}
+use Rattle.text.proofs.Copied.{copied-append, length-copied, take-copied}
 
 pub put-none : (s : List ℕ) (at : ℕ) → Put s at [] s at
 put-none s at = record { bytes = sym (filled-none (λ i. 0) s at); ends = omega arith }
@@ -20,5 +20,11 @@ put-then {a} {t} {b} {u} {c} {at} {mid} {end} p q =
 
 pub put-length : {a t b : List ℕ} {at end : ℕ} → Put a at t b end → length b ≡ length a
 put-length {a} {t} {b} {at} p = ap length (p .bytes) ∙ length-copied a at t
+
+-- a text put at the start is what stands before its end
+pub put-read : {a t b : List ℕ} {end : ℕ} → Put a 0 t b end → length t ≤ length a → take end b ≡ t
+put-read {a} {t} {b} {end} p room =
+    let size : end ≡ length t = omega (arith, p .ends) in
+    ap (take end) (p .bytes) ∙ ap (λ (n : ℕ). take n (copied a 0 t)) size ∙ take-copied a t room
 
 pub ruleset pieces = (put-none, put-then)
