@@ -2,7 +2,7 @@
 ghost use mathlib.Core.Path.{_≡_};
 ghost use Prim.Native.Nat.{_+_, _*_, _≤_, _<_};
 ghost use lib.ListN.{length};
-ghost use Rattle.block.specs.Check.{checkOf, sound, sealed, blockCheckOf};
+ghost use Rattle.block.specs.Check.{blockSize, checkAt, checkOf, sound, sealed, blockCheckOf};
 
 pub mod words;
 pub mod zeros;
@@ -26,7 +26,7 @@ fn wide(x: u16) -> u32
 
 // The check of the 254 words before it. The sums of so many fit 32 bits, so each remainder is taken once.
 fn check(s: &[u8]) -> u32
-    requires { ⌜ length (now s) ≡ 508 ⌝ }
+    requires { ⌜ length (now s) ≡ checkAt ⌝ }
     ensures { λ r. ⌜ r ≡ checkOf (now (s .entry)) ⌝ }
 {
     let mut a: u32 = 1;
@@ -42,7 +42,7 @@ fn check(s: &[u8]) -> u32
 
 // Whether the block has its check.
 pub fn is_sound(block: &[u8]) -> bool
-    requires { ⌜ length (now block) ≡ 512 ⌝ }
+    requires { ⌜ length (now block) ≡ blockSize ⌝ }
     ensures { λ r. ⌜ r ≡ sound (now (block .entry)) ⌝ }
 {
     octets::get_u32(block, CHECK_AT) == check(&block[0..CHECK_AT])
@@ -50,7 +50,7 @@ pub fn is_sound(block: &[u8]) -> bool
 
 // Writes the check of the block.
 pub fn seal(block: &mut [u8])
-    requires { ⌜ length (now block) ≡ 512 ⌝ }
+    requires { ⌜ length (now block) ≡ blockSize ⌝ }
     ensures { λ _. ⌜ now (block .exit) ≡ sealed (now (block .entry)) ⌝ }
 {
     let check = check(&block[0..CHECK_AT]);

@@ -2,6 +2,8 @@
 ghost use mathlib.Core.Path.{_≡_};
 ghost use Prim.Native.Nat.{_+_, _*_, _≤_};
 ghost use lib.ListN.{length, take, drop};
+ghost use Rattle.label_list.specs.Word.{wordCount};
+ghost use Rattle.block.specs.Check.{blockSize};
 ghost use Rattle.block.specs.Run.{putRun};
 ghost use Rattle.block0.specs.Layout.{widths, values, headerOf, labelsOf, block0};
 ghost use Rattle.ft_number.specs.Circle.{stepsOf};
@@ -22,6 +24,11 @@ pub struct Header {
     pub maxpdu: u16,
 }
 
+// The slots of the ring, and the label words.
+pub const SLOT_COUNT: u16 = 64;
+
+pub const WORD_COUNT: usize = 120;
+
 // The layout's version.
 const VERSION: u32 = 1;
 
@@ -30,7 +37,7 @@ const LABELS_AT: usize = 28;
 
 // The numbers of block 0.
 pub fn read_header(block: &[u8]) -> Header
-    requires { ⌜ length (now block) ≡ 512 ⌝ }
+    requires { ⌜ length (now block) ≡ blockSize ⌝ }
     ensures { λ r. ⌜ r ≡ headerOf (now (block .entry)) ⌝ }
 {
     Header {
@@ -48,14 +55,14 @@ pub fn read_header(block: &[u8]) -> Header
 
 // The label words of block 0.
 pub fn read_labels(block: &[u8], words: &mut [u32])
-    requires { ⌜ (length (now block) ≡ 512) × (length (now words) ≡ 120) ⌝ }
+    requires { ⌜ (length (now block) ≡ blockSize) × (length (now words) ≡ wordCount) ⌝ }
     ensures { λ _. ⌜ now (words .exit) ≡ labelsOf (now (block .entry)) ⌝ }
 {
     block::words::load_words(block, LABELS_AT, words)
 }
 
 fn put_numbers(block: &mut [u8], h: Header)
-    requires { ⌜ length (now block) ≡ 512 ⌝ }
+    requires { ⌜ length (now block) ≡ blockSize ⌝ }
     ensures { λ _. ⌜ now (block .exit) ≡ putRun (take 4 widths) (take 4 (values h)) (now (block .entry)) 0 ⌝ }
 {
     octets::put_u32(block, 0, VERSION);
@@ -65,7 +72,7 @@ fn put_numbers(block: &mut [u8], h: Header)
 }
 
 fn put_rest(block: &mut [u8], h: Header)
-    requires { ⌜ length (now block) ≡ 512 ⌝ }
+    requires { ⌜ length (now block) ≡ blockSize ⌝ }
     ensures { λ _. ⌜ now (block .exit) ≡ putRun (drop 4 widths) (drop 4 (values h)) (now (block .entry)) 16 ⌝ }
 {
     octets::put_u16(block, 16, h.first);
@@ -79,7 +86,7 @@ fn put_rest(block: &mut [u8], h: Header)
 
 // Writes block 0 whole: its fields, its label words and its check.
 pub fn write_block0(block: &mut [u8], h: Header, labels: &[u32])
-    requires { ⌜ (length (now block) ≡ 512) × (length (now labels) ≡ 120) ⌝ }
+    requires { ⌜ (length (now block) ≡ blockSize) × (length (now labels) ≡ wordCount) ⌝ }
     ensures { λ _. ⌜ now (block .exit) ≡ block0 (now (block .entry)) h (now (labels .entry)) ⌝ }
 {
     put_numbers(block, h);
@@ -101,10 +108,10 @@ fn issued_are_held(h: Header) -> bool
 fn header_is_valid(h: Header) -> bool
     ensures { λ r. ⌜ r ≡ headerOk h ⌝ }
 {
-    if h.first >= 64 {
+    if h.first >= SLOT_COUNT {
         return false;
     }
-    if h.held > 64 {
+    if h.held > SLOT_COUNT {
         return false;
     }
     if h.kept > 1 {
@@ -115,7 +122,7 @@ fn header_is_valid(h: Header) -> bool
 
 // Whether block 0's fields are right. Its check is not looked at.
 pub fn block0_is_valid(block: &[u8]) -> bool
-    requires { ⌜ length (now block) ≡ 512 ⌝ }
+    requires { ⌜ length (now block) ≡ blockSize ⌝ }
     ensures { λ r. ⌜ r ≡ fieldsOk (now (block .entry)) ⌝ }
 {
     if octets::get_u32(block, 0) != VERSION {
@@ -132,7 +139,7 @@ pub fn block0_is_valid(block: &[u8]) -> bool
     if h.kept == 0 {
         return block::zeros::all_zero(&block[4..block::CHECK_AT]);
     }
-    let mut words = [0u32; 120];
+    let mut words = [0u32; WORD_COUNT];
     read_labels(block, &mut words);
     label_list::valid(&words)
 }

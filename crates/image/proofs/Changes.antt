@@ -1,12 +1,18 @@
 -- What becomes of the state of a released image, of a new one, and of one as after a break. Assumes nothing.
-use mathlib.Core.Path.{_≡_, refl, _∙_}
+use mathlib.Core.Path.{_≡_, refl, ap, _∙_}
 use mathlib.Core.List.{List}
 use mathlib.Core.Logic.{_≢_}
 use Prim.Native.Nat.{ℕ, _+_, _*_, _≤_, _<_}
 use native.Mathlib.Omega.{arith}
-use lib.ListN.{length, replicate}
+use lib.ListN.{length, replicate, length-map}
 use Rattle.ft_number.specs.Circle.{stepsOf}
-use Rattle.label_list.specs.Word.{wordCount}
+use Rattle.label_list.specs.Word.{wordCount, wordOf}
+use Rattle.label_list.specs.Rules.{codeSwept}
+use Rattle.label_list.specs.Sweep.{wordSwept, sweptOf}
+use Rattle.label_list.specs.declared.SweepRule.the-variants.{AfterBreak}
+use Rattle.label_meaning.specs.Valid.{IsValid}
+use Rattle.label_meaning.proofs.Meaning.{valid-means, means-valid, valid-range}
+use Rattle.label_meaning.proofs.Swept.{sweep-valid}
 use Rattle.block.specs.Check.{blockSize}
 use Rattle.block.specs.Run.{Words}
 use Rattle.block0.specs.Layout.{slotCount, releasedHeader, noLabels}
@@ -16,9 +22,9 @@ use Rattle.image.specs.Sizes.{imageSize, block, blockOf}
 use Rattle.image.specs.Ring.{ring}
 use Rattle.image.specs.State.{InRange, decode}
 use Rattle.image.specs.Verdict.{IsSound}
-use Rattle.image.specs.Events.{released, releaseOf, newImage}
-use Rattle.image.proofs.Stored.{decode-store0, zeroth-other}
-use Rattle.image.proofs.Sound.{sound-store0}
+use Rattle.image.specs.Events.{released, releaseOf, newImage, broken, breakOf}
+use Rattle.image.proofs.Stored.{decode-store0, decode-keep, zeroth-other}
+use Rattle.image.proofs.Sound.{sound-store0, sound-keep, sound-valid}
 use Rattle.image.proofs.Formatted.{length-zeros, zeros-at, block-zeros}
 
 -- ---- released
@@ -81,3 +87,49 @@ new-sound = rw is-released (release-sound (replicate imageSize 0) (length-zeros 
 pub new-slot : (k : ℕ) → k < slotCount → block newImage (blockOf k) ≡ replicate blockSize 0
 new-slot k l =
     rw is-released (release-other (replicate imageSize 0) (length-zeros imageSize) (blockOf k) (omega arith) ∙ block-zeros imageSize (blockOf k) (omega arith))
+
+-- ---- as after a break
+swept-none : sweptOf noLabels AfterBreak ≡ noLabels
+unfolding wordSwept wordOf codeSwept
+swept-none = refl
+
+module _ (image : List ℕ) (s : IsSound image) (range : InRange (decode image)) where
+  freed : List ℕ
+  freed = sweptOf (decode image .labels) AfterBreak
+
+  freed-valid : IsValid freed
+  unfolding freed
+  freed-valid = sweep-valid (decode image .labels) (valid-means (decode image .labels) (sound-valid image s .labels)) AfterBreak
+
+  freed-words : Words wordCount freed
+  unfolding freed
+  freed-words = record {
+    count = length-map (decode image .labels) (wordSwept AfterBreak) ∙ range .labels .count;
+    each = λ i. omega (arith, valid-range freed-valid i);
+  }
+
+  -- a valid list stays valid, and one of free words stays as it is
+  freed-fields : Valid (decode image .header) freed
+  unfolding freed
+  freed-fields =
+      let v = sound-valid image s in
+      record {
+        first = v .first;
+        held = v .held;
+        kept = v .kept;
+        window = v .window;
+        labels = means-valid freed freed-valid;
+        idle = λ k. (v .idle k .0, ap (λ (ls : List ℕ). sweptOf ls AfterBreak) (v .idle k .1) ∙ swept-none);
+      }
+
+  pub break-decodes : decode (breakOf image) ≡ broken (decode image)
+  unfolding breakOf freed
+  break-decodes = decode-keep image (decode image .header) freed (s .size) (range .header) freed-words refl refl
+
+  pub break-sound : IsSound (breakOf image)
+  unfolding breakOf freed
+  break-sound = sound-keep image (decode image .header) freed s (range .header) freed-words freed-fields refl refl
+
+  pub in-range-broken : InRange (broken (decode image))
+  unfolding freed
+  in-range-broken = record { header = range .header; labels = freed-words }

@@ -35,7 +35,7 @@ pub enum Verdict {
 }
 
 // The slots of the ring, and the size of the image: they and block 0.
-const SLOT_COUNT: usize = 64;
+const SLOT_COUNT: usize = block0::SLOT_COUNT as usize;
 
 const IMAGE_SIZE: usize = (SLOT_COUNT + 1) * block::BLOCK_SIZE;
 

@@ -68,7 +68,7 @@ fn counts_of(image: &[u8]) -> Counts
     ensures { λ r. ⌜ r ≡ countsOf (decode (now (image .entry))) ⌝ }
 {
     let h = image::header_of(image);
-    let mut words = [0u32; 120];
+    let mut words = [0u32; block0::WORD_COUNT];
     image::labels_of(image, &mut words);
     let released = h.released;
     let issued = h.issued;

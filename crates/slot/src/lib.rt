@@ -22,21 +22,6 @@ const MESSAGE_AT: usize = 8;
 
 const ROOM: usize = block::CHECK_AT - MESSAGE_AT;
 
-// The number of a kind in the stored image.
-fn kind_number(kind: Kind) -> u8
-    ensures { λ r. ⌜ r ≡ kindNumber kind ⌝ }
-{
-    match kind {
-        Kind::Mapping => 1,
-        Kind::Withdraw => 2,
-        Kind::Release => 3,
-        Kind::Address => 4,
-        Kind::AddressWithdraw => 5,
-        Kind::ResourcesAvailable => 6,
-        Kind::NoKind => 0,
-    }
-}
-
 fn put_head(block: &mut [u8], n: u16, kind: u8, label: u32)
     requires { ⌜ length (now block) ≡ blockSize ⌝ }
     ensures { λ _. ⌜ now (block .exit) ≡ putRun headWidths (n ∷ kind ∷ 0 ∷ label ∷ []) (now (block .entry)) 0 ⌝ }
@@ -53,7 +38,7 @@ pub fn write_slot(block: &mut [u8], m: &[u8], kind: Kind, label: u32)
     ensures { λ _. ⌜ now (block .exit) ≡ slotBlock (now (block .entry)) (now (m .entry)) (kindNumber kind) label ⌝ }
 {
     let n = m.len();
-    put_head(block, n as u16, kind_number(kind), label);
+    put_head(block, n as u16, message::kind_number(kind), label);
     octets::copy_to(block, MESSAGE_AT, m);
     octets::zero_to(block, MESSAGE_AT + n, ROOM - n);
     block::seal(block);
@@ -90,7 +75,7 @@ fn bears_both(judged: Submission, kind: u8, label: u32) -> bool
     match judged {
         Submission::Malformed => false,
         Submission::Refused => false,
-        Submission::Accepted(k, l) => kind_number(k) == kind && l == label,
+        Submission::Accepted(k, l) => message::kind_number(k) == kind && l == label,
     }
 }
 
