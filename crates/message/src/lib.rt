@@ -231,7 +231,7 @@ pub fn kind_number(kind: Kind) -> u8
     }
 }
 
-fn bears_ft(found: Found) -> bool
+pub fn bears_ft(found: Found) -> bool
     ensures { λ r. ⌜ r ≡ bearsFt found ⌝ }
 {
     if found.session != 0 {
