@@ -45,7 +45,7 @@ isFatal Field.Absent = false
 isFatal (Field.Value v) = fatalOf v
 
 -- "Init received in UpFT or UpPlain" is malformed (22); then 36; then the tests of the phase
-abbrev pub messageRule : Message → Answer → Answer
+unfoldable pub messageRule : Message → Answer → Answer
 messageRule g a = pick (isInit (g .typename)) Answer.MalformedReceived (pick (isFatal (g .status)) Answer.StatusFatal a)
 
 -- "31: FT TLV in UpPlain"
@@ -82,7 +82,7 @@ ackRule s g (Ack.Releases k) = labelsRule (acked s k (ackBorne (s .header) (g .a
 ackRule s g Ack.SequenceError = Answer.AckSequenceError
 
 -- the ACK that the message bears, against R and I
-abbrev pub ackOn : Header → Message → Ack
+unfoldable pub ackOn : Header → Message → Ack
 ackOn h g = ackOf (h .released .0) (h .issued .0) (ackBorne h (g .ack))
 
 unfoldable pub ftRule : State → Message → Answer

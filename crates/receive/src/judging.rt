@@ -7,13 +7,6 @@ ghost use Rattle.image.specs.State.{decode};
 ghost use Rattle.image.specs.Verdict.{IsSound};
 ghost use Rattle.calls.specs.declared.Answer;
 ghost use Rattle.receive.specs.Rule.{plainRule, labelsRule, ackOn, ackRule, ftRule, ackedLabels};
-use block0::Header;
-use calls::Answer;
-use ft_number::Ack;
-use ft_number::FtNumber;
-use label_events::Reception;
-use label_list::Protection;
-use message::Message;
 use crate::labels::judge_protection;
 use crate::labels::judge_reception;
 use crate::labels::label_effect;
@@ -23,6 +16,13 @@ use crate::reading::is_fatal;
 use crate::reading::is_init;
 use crate::reading::is_protected;
 use crate::reading::is_zero;
+use block0::Header;
+use calls::Answer;
+use ft_number::Ack;
+use ft_number::FtNumber;
+use label_events::Reception;
+use label_list::Protection;
+use message::Message;
 
 // 22, 36, 31: a message in UpPlain.
 pub fn judge_plain(g: Message) -> Answer

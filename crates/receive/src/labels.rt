@@ -3,6 +3,8 @@ ghost use mathlib.Core.Path.{_≡_};
 ghost use mathlib.Core.Bool.{not};
 ghost use Rattle.octets.specs.Pick.{both};
 ghost use Rattle.receive.specs.Labels.{touchedBy, effectOn, labelEffect, alwaysProtected, effectProtection, protectionRule, effectReception, effectLabels, isProtected};
+use crate::LabelEffect;
+use crate::reading::is_protected;
 use label_events::Reception;
 use label_events::Touched;
 use label_list::LabelMessage;
@@ -12,8 +14,6 @@ use message::Field;
 use message::Kind;
 use message::Message;
 use message::MessageType;
-use crate::reading::is_protected;
-use crate::LabelEffect;
 
 // The labels that a message touches.
 fn touched_by(label: Field, fec: Fec) -> Touched

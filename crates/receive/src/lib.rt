@@ -1,7 +1,7 @@
 // Receive: one message of the peer's, on a session that is up.
-mod reading;
-mod labels;
 mod judging;
+mod labels;
+mod reading;
 mod taking;
 
 pub use taking::receive;

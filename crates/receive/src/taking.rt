@@ -2,16 +2,25 @@
 ghost use mathlib.Core.Path.{_≡_};
 ghost use mathlib.Core.List.{[]};
 ghost use Prim.Native.Nat.{_-_, _≤_, _<_};
-
 ghost use Rattle.message.specs.Reading.{readingOf};
 ghost use Rattle.message.specs.declared.Reading;
-ghost use Rattle.image.specs.State.{decode};
+ghost use lib.ListN.{length};
+ghost use Rattle.octets.specs.Differ.{differ};
+ghost use Rattle.label_list.specs.Word.{wordCount};
+ghost use Rattle.image.specs.Sizes.{imageSize, block};
+ghost use Rattle.image.specs.State.{decode, store0};
 ghost use Rattle.image.specs.Verdict.{IsSound};
 ghost use Rattle.calls.specs.declared.Answer;
 ghost use Rattle.calls.specs.declared.Phase;
 ghost use Rattle.calls.specs.Acked.{ackBorne, withReleased};
 ghost use Rattle.calls.specs.Outcomes.{after, settleOf};
 ghost use Rattle.receive.specs.Rule.{ackOn, ackCount, securedBy, withSecured, ackedLabels, Taken, takenFt, takenAs, readRule, ftRule, plainRule, receiveOf};
+use crate::judging::judge_ft;
+use crate::judging::judge_plain;
+use crate::labels::change_labels;
+use crate::labels::label_effect;
+use crate::reading::ack_borne;
+use crate::reading::is_protected;
 use block0::Header;
 use calls::Answer;
 use calls::Outcome;
@@ -21,12 +30,6 @@ use ft_number::FtNumber;
 use message::FtField;
 use message::Message;
 use message::Reading;
-use crate::judging::judge_ft;
-use crate::judging::judge_plain;
-use crate::labels::change_labels;
-use crate::labels::label_effect;
-use crate::reading::ack_borne;
-use crate::reading::is_protected;
 
 // How many messages the ACK releases.
 fn ack_count(h: Header, g: Message) -> u32
@@ -66,9 +69,10 @@ fn next_header(h: Header, k: u32, g: Message) -> Header
 {
     let ack = g.ack;
     let number = g.protection;
+    let issued = h.issued;
     Header {
         released: ack_borne(h, ack),
-        issued: h.issued,
+        issued: issued,
         secured: secured_by(h.secured, number),
         first: ((h.first as u32 + k) % 64) as u16,
         held: h.held - k as u16,
@@ -79,19 +83,33 @@ fn next_header(h: Header, k: u32, g: Message) -> Header
     }
 }
 
+// Stores block 0; whether its bytes changed.
+fn store(image: &mut [u8], h: Header, words: &[u32]) -> bool
+    requires { ⌜ (length (now image) ≡ imageSize) × (length (now words) ≡ wordCount) ⌝ }
+    ensures { λ r. ⌜ (now (image .exit) ≡ store0 (now (image .entry)) h (now (words .entry))) × (r ≡ differ (block (now (image .entry)) 0) (block (now (image .exit)) 0)) ⌝ }
+{
+    let old = calls::copy_block0(image);
+    image::store_block0(image, h, words);
+    calls::block0_changed(&old, image)
+}
+
 // A message that was judged Done in UpFT: the words are those that its ACK leaves.
 fn take_ft(image: &mut [u8], sent: u32, g: Message, words: &mut [u32]) -> Outcome
     requires { ⌜ Taken (now image) g (now words) ⌝ }
     ensures { λ r. ⌜ after r (now (image .exit)) [] ≡ takenFt (now (image .entry)) sent g ⌝ }
 {
-    let old = calls::copy_block0(image);
     let h = image::header_of(image);
     let k = ack_count(h, g);
     let number = g.protection;
     change_labels(words, is_protected(number), label_effect(g));
-    image::store_block0(image, next_header(h, k, g), words);
-    let changed = calls::block0_changed(&old, image);
-    Outcome { answer: Answer::Done, phase: Phase::UpFT(lowered(sent, k)), written: 0, slot: 0, block0: changed }
+    let changed = store(image, next_header(h, k, g), words);
+    Outcome {
+        answer: Answer::Done,
+        phase: Phase::UpFT(lowered(sent, k)),
+        written: 0,
+        slot: 0,
+        block0: changed,
+    }
 }
 
 // A well-formed message in UpFT.
