@@ -1,0 +1,27 @@
+-- What a message does, by its parts. Assumes nothing.
+use mathlib.Core.Path.{_≡_, refl, sym, ap, _∙_}
+use mathlib.Core.Bool.{Bool, true, false, not}
+use mathlib.Core.List.{List}
+use Prim.Native.Nat.{ℕ}
+use Rattle.octets.specs.Pick.{pick, both}
+use Rattle.message.specs.Kinds.{kindOf}
+use Rattle.message.specs.declared.Kind.{Kind}
+use Rattle.message.specs.declared.Message.{Message}
+use Rattle.label_events.specs.declared.Touched.{Touched}
+use Rattle.label_list.specs.declared.Protection
+use Rattle.label_list.specs.declared.Protection.{Protection}
+use Rattle.receive.specs.declared.LabelEffect.{LabelEffect}
+use Rattle.receive.specs.Labels.{touchedBy, effectOn, labelEffect, isProtected, alwaysProtected, effectProtection, protectionRule}
+
+pub effect-is : (g : Message) {t : Touched} {e : LabelEffect} → t ≡ touchedBy (g .label) (g .fec) → e ≡ effectOn (g .typename) t → e ≡ labelEffect g
+unfolding labelEffect
+effect-is g p q = q ∙ ap (effectOn (g .typename)) p
+
+module _ (ls : List ℕ) (g : Message) {p : Bool} {k : Kind} {b : Bool} (ep : p ≡ isProtected (g .protection)) (ek : k ≡ kindOf g) (eb : b ≡ both (not p) (alwaysProtected k)) where
+  pub protection-missing : b ≡ true → Protection.Missing ≡ protectionRule ls g
+  unfolding protectionRule
+  protection-missing t = rw (← ep, ← ek, ← eb, t)
+
+  pub protection-by : {e : LabelEffect} {r : Protection} → b ≡ false → e ≡ labelEffect g → r ≡ effectProtection ls p e → r ≡ protectionRule ls g
+  unfolding protectionRule
+  protection-by t q r = rw (← ep, ← ek, ← eb, t, ← q) r

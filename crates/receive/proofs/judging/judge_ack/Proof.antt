@@ -1,0 +1,20 @@
+use borrow.Author.Needs.{needs}
+use Rattle.receive.proofs.Judged.{ack-on, ack-within, ack-error, ack-right}
+use Rattle.receive.proofs.judging.judge_ack.Statement.{statement}
+use Rattle.receive.proofs.judging.judge_ack.Tie as tie
+
+pub judge-ack-spec : {M : Type 1} → statement M
+judge-ack-spec =
+    tie.close
+    (tie.spec
+    (λ c κs. search needs)
+    (λ c κs. search needs)
+    (λ c. search needs)
+    (λ c. search needs)
+    (λ c κs. search needs)
+    (λ c. search needs)
+    (λ c κs. (c .before .before .before .before .before .before .before .before .before .before .before .before .pre .0, ack-within _ _ _ _ (c .before .before .before .before .before .before .before .before .before .before .before .before .pre .0) (c .before .before .before .before .before .before .before .before .before .before .before .before .pre .1) (c .before .before .before .before .before .before .before .before .acknowledge .ensures) (c .before .before .before .before .before .before .k .given .1)))
+    (λ c κs. search needs)
+    (λ c. ack-error _ _ _ (ack-on _ _ (c .before .before .acknowledge .ensures) (c .before .before .before .ack-borne .ensures)) (c .enum-told .given .1))
+    (λ c. search needs)
+    (λ c. ack-right _ _ _ (ack-on _ _ (c .before .before .before .before .before .before .before .before .before .before .before .before .before .acknowledge .ensures) (c .before .before .before .before .before .before .before .before .before .before .before .before .before .before .ack-borne .ensures)) (c .before .before .before .before .before .before .before .before .before .before .before .before .before .before .before .before .before .pre .1) (c .before .before .before .before .before .before .before .before .before .before .before .k .given .1) (c .before .before .before .before .before .before .before .before .labels-of .ensures) (c .before .before .before .before .release-labels .ensures) (c .judge-labels .ensures)))

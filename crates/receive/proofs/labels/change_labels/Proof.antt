@@ -1,0 +1,14 @@
+use borrow.Author.Needs.{needs}
+use Rattle.receive.proofs.labels.change_labels.Statement.{statement}
+use Rattle.receive.proofs.labels.change_labels.Tie as tie
+
+pub change-labels-spec : {M : Type 1} → statement M
+change-labels-spec =
+    tie.close
+    (tie.spec
+    (λ c. search needs)
+    (λ c. search needs)
+    (λ c κs. search needs)
+    (λ c. search needs)
+    (λ c. search needs)
+    (λ c. rw (c .before .before .before .before .before .effect .given .1) (c .before .before .receive .ensures .1)))

@@ -1,0 +1,19 @@
+use borrow.Author.Needs.{needs}
+use Rattle.receive.proofs.Taken.{plain-malformed, plain-whole}
+use Rattle.receive.proofs.taking.receive_plain.Statement.{statement}
+use Rattle.receive.proofs.taking.receive_plain.Tie as tie
+
+pub receive-plain-spec : {M : Type 1} → statement M
+receive-plain-spec =
+    tie.close
+    (tie.spec
+    (λ c κs. search needs)
+    (λ c. search needs)
+    (λ c κs. search needs)
+    (λ c. search needs)
+    (λ c κs. search needs)
+    (λ c κs. search needs)
+    (λ c. search needs)
+    (λ c. plain-malformed _ _ _ (c .before .before .before .before .before .before .read-message .ensures) (c .before .before .before .before .enum-told .given .1) (c .before .before .settle .ensures))
+    (λ c. search needs)
+    (λ c. plain-whole _ _ (c .before .before .before .before .before .before .before .before .read-message .ensures) (c .before .before .before .before .before .before .g .given .1) (c .before .before .before .judge-plain .ensures) (c .before .before .settle2 .ensures)))

@@ -1,0 +1,18 @@
+use borrow.Author.Needs.{needs}
+use Rattle.receive.proofs.Taken.{up-malformed, up-whole}
+use Rattle.receive.proofs.taking.receive_up.Statement.{statement}
+use Rattle.receive.proofs.taking.receive_up.Tie as tie
+
+pub receive-up-spec : {M : Type 1} → statement M
+receive-up-spec =
+    tie.close
+    (tie.spec
+    (λ c κs. search needs)
+    (λ c. search needs)
+    (λ c κs. search needs)
+    (λ c. search needs)
+    (λ c κs. search needs)
+    (λ c. search needs)
+    (λ c. up-malformed _ _ _ _ (c .before .before .before .before .before .before .read-message .ensures) (c .before .before .before .before .enum-told .given .1) (c .before .before .settle .ensures))
+    (λ c. search needs)
+    (λ c. up-whole _ _ _ (c .before .before .before .before .before .before .before .read-message .ensures) (c .before .before .before .before .before .g .given .1) (c .before .before .receive-ft .ensures)))

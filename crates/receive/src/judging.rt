@@ -1,0 +1,103 @@
+// The answer to a message that was read, in 01's order.
+ghost use mathlib.Core.Path.{_≡_};
+ghost use Prim.Native.Nat.{_≤_};
+ghost use lib.ListN.{length};
+ghost use Rattle.label_list.specs.Word.{wordCount};
+ghost use Rattle.image.specs.State.{decode};
+ghost use Rattle.image.specs.Verdict.{IsSound};
+ghost use Rattle.calls.specs.declared.Answer;
+ghost use Rattle.receive.specs.Rule.{plainRule, labelsRule, ackOn, ackRule, ftRule, ackedLabels};
+use crate::labels::judge_protection;
+use crate::labels::judge_reception;
+use crate::labels::label_effect;
+use crate::reading::ack_borne;
+use crate::reading::in_turn;
+use crate::reading::is_fatal;
+use crate::reading::is_init;
+use crate::reading::is_protected;
+use crate::reading::is_zero;
+use block0::Header;
+use calls::Answer;
+use ft_number::Ack;
+use ft_number::FtNumber;
+use label_events::Reception;
+use label_list::Protection;
+use message::Message;
+
+// 22, 36, 31: a message in UpPlain.
+pub fn judge_plain(g: Message) -> Answer
+    ensures { λ r. ⌜ r ≡ plainRule g ⌝ }
+{
+    let t = g.typename;
+    if is_init(t) {
+        return Answer::MalformedReceived;
+    }
+    let status = g.status;
+    if is_fatal(status) {
+        return Answer::StatusFatal;
+    }
+    let found = g.found;
+    if message::bears_ft(found) {
+        return Answer::FtTlvInPlain;
+    }
+    Answer::Done
+}
+
+// 33, 32, 20, 21: a message over the label words as its ACK leaves them.
+fn judge_labels(words: &[u32], secured: FtNumber, g: Message) -> Answer
+    ensures { λ r. ⌜ r ≡ labelsRule (now (words .entry)) (secured .0) g ⌝ }
+{
+    match judge_protection(words, g) {
+        Protection::Missing => {
+            return Answer::ProtectionMissing;
+        }
+        Protection::Wrong => {
+            return Answer::ProtectionWrong;
+        }
+        Protection::Right => {}
+    }
+    let number = g.protection;
+    if !in_turn(secured, number) {
+        return Answer::OutOfTurn;
+    }
+    match judge_reception(words, is_protected(number), label_effect(g)) {
+        Reception::Taken => Answer::Done,
+        Reception::NoRoom => Answer::NoWordForMapping,
+    }
+}
+
+// 34 and later: the ACK, and then the message. Where the answer is Done, the words are those that the ACK leaves.
+fn judge_ack(image: &[u8], h: Header, g: Message, words: &mut [u32]) -> Answer
+    requires { ⌜ IsSound (now image) × (h ≡ decode (now image) .header) × (length (now words) ≡ wordCount) ⌝ }
+    ensures { λ r. ⌜ (r ≡ ackRule (decode (now (image .entry))) g (ackOn h g)) × (r ≡ Answer.Done → now (words .exit) ≡ ackedLabels (decode (now (image .entry))) g) ⌝ }
+{
+    let ack = g.ack;
+    match ft_number::acknowledge(h.released, h.issued, ack_borne(h, ack)) {
+        Ack::SequenceError => Answer::AckSequenceError,
+        Ack::Releases(k) => {
+            image::labels_of(image, words);
+            calls::release_labels(image, k as usize, words);
+            judge_labels(words, h.secured, g)
+        }
+    }
+}
+
+// 22, 36, 30, and then the ACK: a message in UpFT.
+pub fn judge_ft(image: &[u8], h: Header, g: Message, words: &mut [u32]) -> Answer
+    requires { ⌜ IsSound (now image) × (h ≡ decode (now image) .header) × (length (now words) ≡ wordCount) ⌝ }
+    ensures { λ r. ⌜ (r ≡ ftRule (decode (now (image .entry))) g) × (r ≡ Answer.Done → now (words .exit) ≡ ackedLabels (decode (now (image .entry))) g) ⌝ }
+{
+    let t = g.typename;
+    if is_init(t) {
+        return Answer::MalformedReceived;
+    }
+    let status = g.status;
+    if is_fatal(status) {
+        return Answer::StatusFatal;
+    }
+    let number = g.protection;
+    if is_zero(number) {
+        return Answer::ZeroNumber;
+    }
+    judge_ack(image, h, g, words)
+}

@@ -1,0 +1,126 @@
+// What a received message does to the label words, and whether it is protected as they demand.
+ghost use mathlib.Core.Path.{_≡_};
+ghost use mathlib.Core.Bool.{not};
+ghost use Rattle.octets.specs.Pick.{both};
+ghost use Rattle.receive.specs.Labels.{touchedBy, effectOn, labelEffect, alwaysProtected, effectProtection, protectionRule, effectReception, effectLabels, isProtected};
+use crate::LabelEffect;
+use crate::reading::is_protected;
+use label_events::Reception;
+use label_events::Touched;
+use label_list::LabelMessage;
+use label_list::Protection;
+use message::Fec;
+use message::Field;
+use message::Kind;
+use message::Message;
+use message::MessageType;
+
+// The labels that a message touches.
+fn touched_by(label: Field, fec: Fec) -> Touched
+    ensures { λ r. ⌜ r ≡ touchedBy label fec ⌝ }
+{
+    match label {
+        Field::Value(l) => Touched::Label(l),
+        Field::Absent => match fec {
+            Fec::Absent => Touched::Nothing,
+            Fec::Wildcard => Touched::Every,
+            Fec::Other => Touched::Nothing,
+        },
+    }
+}
+
+fn effect_on(t: MessageType, touched: Touched) -> LabelEffect
+    ensures { λ r. ⌜ r ≡ effectOn t touched ⌝ }
+{
+    match t {
+        MessageType::Notification => LabelEffect::Nothing,
+        MessageType::Initialization => LabelEffect::Nothing,
+        MessageType::KeepAlive => LabelEffect::Nothing,
+        MessageType::Address => LabelEffect::Nothing,
+        MessageType::AddressWithdraw => LabelEffect::Nothing,
+        MessageType::Mapping => LabelEffect::Change(LabelMessage::Mapping, touched),
+        MessageType::Request => LabelEffect::Nothing,
+        MessageType::Withdraw => LabelEffect::Change(LabelMessage::Withdraw, touched),
+        MessageType::Release => LabelEffect::Change(LabelMessage::Release, touched),
+        MessageType::Abort => LabelEffect::Nothing,
+        MessageType::Other => LabelEffect::Nothing,
+    }
+}
+
+// What a message does to the labels.
+pub fn label_effect(g: Message) -> LabelEffect
+    ensures { λ r. ⌜ r ≡ labelEffect g ⌝ }
+{
+    let t = g.typename;
+    let label = g.label;
+    let fec = g.fec;
+    effect_on(t, touched_by(label, fec))
+}
+
+// Whether a kind is protected whatever the labels are.
+fn always_protected(kind: Kind) -> bool
+    ensures { λ r. ⌜ r ≡ alwaysProtected kind ⌝ }
+{
+    match kind {
+        Kind::Mapping => false,
+        Kind::Withdraw => false,
+        Kind::Release => false,
+        Kind::Address => true,
+        Kind::AddressWithdraw => true,
+        Kind::ResourcesAvailable => true,
+        Kind::NoKind => false,
+    }
+}
+
+// Whether a message of such a kind comes without protection.
+fn lacks_protection(protected: bool, kind: Kind) -> bool
+    ensures { λ r. ⌜ r ≡ both (not protected) (alwaysProtected kind) ⌝ }
+{
+    if protected {
+        return false;
+    }
+    always_protected(kind)
+}
+
+fn judge_effect(words: &[u32], protected: bool, effect: LabelEffect) -> Protection
+    ensures { λ r. ⌜ r ≡ effectProtection (now (words .entry)) protected effect ⌝ }
+{
+    match effect {
+        LabelEffect::Nothing => Protection::Right,
+        LabelEffect::Change(m, t) => label_events::judge_protection(words, m, protected, t),
+    }
+}
+
+// Whether a message is protected as it must be.
+pub fn judge_protection(words: &[u32], g: Message) -> Protection
+    ensures { λ r. ⌜ r ≡ protectionRule (now (words .entry)) g ⌝ }
+{
+    let number = g.protection;
+    let protected = is_protected(number);
+    if lacks_protection(protected, message::kind_of(g)) {
+        return Protection::Missing;
+    }
+    judge_effect(words, protected, label_effect(g))
+}
+
+// Whether there is a word for what the message lists.
+pub fn judge_reception(words: &[u32], protected: bool, effect: LabelEffect) -> Reception
+    ensures { λ r. ⌜ r ≡ effectReception (now (words .entry)) protected effect ⌝ }
+{
+    match effect {
+        LabelEffect::Nothing => Reception::Taken,
+        LabelEffect::Change(m, t) => label_events::judge_received(words, m, protected, t),
+    }
+}
+
+// The label words after the message.
+pub fn change_labels(words: &mut [u32], protected: bool, effect: LabelEffect)
+    ensures { λ _. ⌜ now (words .exit) ≡ effectLabels (now (words .entry)) protected effect ⌝ }
+{
+    match effect {
+        LabelEffect::Nothing => {}
+        LabelEffect::Change(m, t) => {
+            label_events::receive(words, m, protected, t);
+        }
+    }
+}

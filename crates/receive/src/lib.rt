@@ -1,0 +1,13 @@
+// Receive: one message of the peer's, on a session that is up.
+mod judging;
+mod labels;
+mod reading;
+mod taking;
+
+pub use taking::receive;
+
+// What a message does to the labels.
+pub enum LabelEffect {
+    Nothing,
+    Change(label_list::LabelMessage, label_events::Touched),
+}

@@ -1,0 +1,80 @@
+// What a received message is asked, one question a function.
+ghost use mathlib.Core.Path.{_≡_};
+ghost use Rattle.calls.specs.Received.{isInit};
+ghost use Rattle.calls.specs.Acked.{ackBorne};
+ghost use Rattle.receive.specs.Labels.{isProtected};
+ghost use Rattle.receive.specs.Rule.{isFatal, isZero, inTurn};
+use block0::Header;
+use ft_number::FtNumber;
+use message::Field;
+use message::FtField;
+use message::MessageType;
+
+// Whether it is an Init.
+pub fn is_init(t: MessageType) -> bool
+    ensures { λ r. ⌜ r ≡ isInit t ⌝ }
+{
+    match t {
+        MessageType::Notification => false,
+        MessageType::Initialization => true,
+        MessageType::KeepAlive => false,
+        MessageType::Address => false,
+        MessageType::AddressWithdraw => false,
+        MessageType::Mapping => false,
+        MessageType::Request => false,
+        MessageType::Withdraw => false,
+        MessageType::Release => false,
+        MessageType::Abort => false,
+        MessageType::Other => false,
+    }
+}
+
+// Whether its Status has E set.
+pub fn is_fatal(status: Field) -> bool
+    ensures { λ r. ⌜ r ≡ isFatal status ⌝ }
+{
+    match status {
+        Field::Absent => false,
+        Field::Value(v) => message::is_fatal(v),
+    }
+}
+
+// Whether it bears FT Protection.
+pub fn is_protected(n: FtField) -> bool
+    ensures { λ r. ⌜ r ≡ isProtected n ⌝ }
+{
+    match n {
+        FtField::Absent => false,
+        FtField::Number(_) => true,
+    }
+}
+
+// Whether its FT Protection is the number zero.
+pub fn is_zero(n: FtField) -> bool
+    ensures { λ r. ⌜ r ≡ isZero n ⌝ }
+{
+    match n {
+        FtField::Absent => false,
+        FtField::Number(m) => m.0 == 0,
+    }
+}
+
+// Whether a number is the one after the last secured.
+pub fn in_turn(secured: FtNumber, n: FtField) -> bool
+    ensures { λ r. ⌜ r ≡ inTurn (secured .0) n ⌝ }
+{
+    match n {
+        FtField::Absent => true,
+        FtField::Number(m) => m.0 == ft_number::successor(secured).0,
+    }
+}
+
+// The number that it acknowledges.
+pub fn ack_borne(h: Header, ack: FtField) -> FtNumber
+    ensures { λ r. ⌜ r .0 ≡ ackBorne h ack ⌝ }
+{
+    match ack {
+        FtField::Absent => h.released,
+        FtField::Number(n) => n,
+    }
+}

@@ -1,0 +1,164 @@
+// The public call, and what a message leaves that is taken.
+ghost use mathlib.Core.Path.{_≡_};
+ghost use mathlib.Core.List.{[]};
+ghost use Prim.Native.Nat.{_-_, _≤_, _<_};
+ghost use Rattle.message.specs.Reading.{readingOf};
+ghost use Rattle.message.specs.declared.Reading;
+ghost use lib.ListN.{length};
+ghost use Rattle.octets.specs.Differ.{differ};
+ghost use Rattle.label_list.specs.Word.{wordCount};
+ghost use Rattle.image.specs.Sizes.{imageSize, block};
+ghost use Rattle.image.specs.State.{decode, store0};
+ghost use Rattle.image.specs.Verdict.{IsSound};
+ghost use Rattle.calls.specs.declared.Answer;
+ghost use Rattle.calls.specs.declared.Phase;
+ghost use Rattle.calls.specs.Acked.{ackBorne, withReleased};
+ghost use Rattle.calls.specs.Outcomes.{after, settleOf};
+ghost use Rattle.receive.specs.Rule.{ackOn, ackCount, securedBy, withSecured, ackedLabels, Taken, takenFt, takenAs, readRule, ftRule, plainRule, receiveOf};
+use crate::judging::judge_ft;
+use crate::judging::judge_plain;
+use crate::labels::change_labels;
+use crate::labels::label_effect;
+use crate::reading::ack_borne;
+use crate::reading::is_protected;
+use block0::Header;
+use calls::Answer;
+use calls::Outcome;
+use calls::Phase;
+use ft_number::Ack;
+use ft_number::FtNumber;
+use message::FtField;
+use message::Message;
+use message::Reading;
+
+// How many messages the ACK releases.
+fn ack_count(h: Header, g: Message) -> u32
+    ensures { λ r. ⌜ r ≡ ackCount (ackOn h g) ⌝ }
+{
+    let ack = g.ack;
+    match ft_number::acknowledge(h.released, h.issued, ack_borne(h, ack)) {
+        Ack::Releases(k) => k,
+        Ack::SequenceError => 0,
+    }
+}
+
+// S after the message.
+fn secured_by(secured: FtNumber, number: FtField) -> FtNumber
+    ensures { λ r. ⌜ r ≡ securedBy secured number ⌝ }
+{
+    match number {
+        FtField::Absent => secured,
+        FtField::Number(n) => n,
+    }
+}
+
+// The count sent on this connection, lowered by what was released.
+fn lowered(sent: u32, k: u32) -> u32
+    ensures { λ r. ⌜ r ≡ sent - k ⌝ }
+{
+    if sent < k {
+        return 0;
+    }
+    sent - k
+}
+
+// Block 0's numbers after the ACK and the message.
+fn next_header(h: Header, k: u32, g: Message) -> Header
+    requires { ⌜ k ≤ h .held ⌝ }
+    ensures { λ r. ⌜ r ≡ withSecured (withReleased h k (ackBorne h (g .ack))) (securedBy (h .secured) (g .protection)) ⌝ }
+{
+    let ack = g.ack;
+    let number = g.protection;
+    let issued = h.issued;
+    Header {
+        released: ack_borne(h, ack),
+        issued: issued,
+        secured: secured_by(h.secured, number),
+        first: ((h.first as u32 + k) % 64) as u16,
+        held: h.held - k as u16,
+        timeout: h.timeout,
+        kept: h.kept,
+        keepalive: h.keepalive,
+        maxpdu: h.maxpdu,
+    }
+}
+
+// Stores block 0; whether its bytes changed.
+fn store(image: &mut [u8], h: Header, words: &[u32]) -> bool
+    requires { ⌜ (length (now image) ≡ imageSize) × (length (now words) ≡ wordCount) ⌝ }
+    ensures { λ r. ⌜ (now (image .exit) ≡ store0 (now (image .entry)) h (now (words .entry))) × (r ≡ differ (block (now (image .entry)) 0) (block (now (image .exit)) 0)) ⌝ }
+{
+    let old = calls::copy_block0(image);
+    image::store_block0(image, h, words);
+    calls::block0_changed(&old, image)
+}
+
+// A message that was judged Done in UpFT: the words are those that its ACK leaves.
+fn take_ft(image: &mut [u8], sent: u32, g: Message, words: &mut [u32]) -> Outcome
+    requires { ⌜ Taken (now image) g (now words) ⌝ }
+    ensures { λ r. ⌜ after r (now (image .exit)) [] ≡ takenFt (now (image .entry)) sent g ⌝ }
+{
+    let h = image::header_of(image);
+    let k = ack_count(h, g);
+    let number = g.protection;
+    change_labels(words, is_protected(number), label_effect(g));
+    let changed = store(image, next_header(h, k, g), words);
+    Outcome {
+        answer: Answer::Done,
+        phase: Phase::UpFT(lowered(sent, k)),
+        written: 0,
+        slot: 0,
+        block0: changed,
+    }
+}
+
+// A well-formed message in UpFT.
+fn receive_ft(image: &mut [u8], sent: u32, g: Message) -> Outcome
+    requires { ⌜ IsSound (now image) ⌝ }
+    ensures { λ r. ⌜ after r (now (image .exit)) [] ≡ settleOf (ftRule (decode (now (image .entry))) g) (Phase.UpFT sent) (now (image .entry)) [] (takenFt (now (image .entry)) sent g) ⌝ }
+{
+    let mut words = [0u32; 120];
+    let a = judge_ft(image, image::header_of(image), g, &mut words);
+    if !calls::is_done(a) {
+        return calls::settle(image, a, Phase::UpFT(sent));
+    }
+    take_ft(image, sent, g, &mut words)
+}
+
+fn receive_up(image: &mut [u8], sent: u32, msg: &[u8]) -> Outcome
+    requires { ⌜ IsSound (now image) ⌝ }
+    ensures { λ r. ⌜ after r (now (image .exit)) [] ≡ settleOf (readRule (readingOf (now (msg .entry))) (ftRule (decode (now (image .entry))))) (Phase.UpFT sent) (now (image .entry)) [] (takenAs (now (image .entry)) (Phase.UpFT sent) (readingOf (now (msg .entry)))) ⌝ }
+{
+    match message::read_message(msg) {
+        Reading::Malformed => calls::settle(image, Answer::MalformedReceived, Phase::UpFT(sent)),
+        Reading::Whole(g) => receive_ft(image, sent, g),
+    }
+}
+
+// In UpPlain a message is passed on: nothing changes where it is taken.
+fn receive_plain(image: &mut [u8], msg: &[u8]) -> Outcome
+    requires { ⌜ IsSound (now image) ⌝ }
+    ensures { λ r. ⌜ after r (now (image .exit)) [] ≡ settleOf (readRule (readingOf (now (msg .entry))) plainRule) Phase.UpPlain (now (image .entry)) [] (takenAs (now (image .entry)) Phase.UpPlain (readingOf (now (msg .entry)))) ⌝ }
+{
+    match message::read_message(msg) {
+        Reading::Malformed => calls::settle(image, Answer::MalformedReceived, Phase::UpPlain),
+        Reading::Whole(g) => calls::settle(image, judge_plain(g), Phase::UpPlain),
+    }
+}
+
+// One message of the peer's.
+pub fn receive(image: &mut [u8], phase: Phase, msg: &[u8]) -> Outcome
+    ensures { λ r. ⌜ after r (now (image .exit)) [] ≡ receiveOf (now (image .entry)) phase (now (msg .entry)) ⌝ }
+{
+    let a = calls::admit(image, phase);
+    if !calls::is_done(a) {
+        return calls::refuse(a, phase);
+    }
+    match phase {
+        Phase::Idle => calls::refuse(Answer::WrongPhase, phase),
+        Phase::InitWait(_) => calls::refuse(Answer::WrongPhase, phase),
+        Phase::UpFT(sent) => receive_up(image, sent, msg),
+        Phase::UpPlain => receive_plain(image, msg),
+        Phase::Failed => calls::refuse(Answer::WrongPhase, phase),
+    }
+}
