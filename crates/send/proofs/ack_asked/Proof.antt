@@ -1,0 +1,12 @@
+use Rattle.send.proofs.Acts.{ack-is}
+use Rattle.send.specs.Rule.{ackAsked}
+use Rattle.send.proofs.ack_asked.Statement.{statement}
+use Rattle.send.proofs.ack_asked.Tie as tie
+
+pub ack-asked-spec : {M : Type 1} → statement M
+unfolding ackAsked
+ack-asked-spec =
+    tie.close
+    (tie.spec
+    (λ c. ack-is _ (c .if1 .taken))
+    (λ c. ack-is _ (c .if1 .left)))

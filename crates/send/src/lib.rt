@@ -1,0 +1,142 @@
+// Send next: the oldest held message not sent on this connection, with its FT number.
+ghost use mathlib.Core.Path.{_≡_};
+ghost use Prim.Native.Nat.{_<_};
+ghost use lib.ListN.{length};
+ghost use Rattle.octets.specs.Differ.{differ};
+ghost use Rattle.message_writer.specs.Written.{writtenOf};
+ghost use Rattle.image.specs.Sizes.{imageSize, block};
+ghost use Rattle.image.specs.State.{decode};
+ghost use Rattle.image.specs.Verdict.{IsSound};
+ghost use Rattle.calls.specs.declared.Answer;
+ghost use Rattle.calls.specs.Outcomes.{after, admitted};
+ghost use Rattle.send.specs.Rule.{isUp, sentOf, numberAt, ackAsked, sendBytes, sendRule, sendImage, sendOf};
+use block0::Header;
+use calls::Answer;
+use calls::Outcome;
+use calls::Phase;
+use ft_number::FtNumber;
+use message_writer::Written;
+use tlv::FtField;
+
+// Whether messages are sent in the phase.
+fn is_up(phase: Phase) -> bool
+    ensures { λ r. ⌜ r ≡ isUp phase ⌝ }
+{
+    match phase {
+        Phase::Idle => false,
+        Phase::InitWait(_) => false,
+        Phase::UpFT(_) => true,
+        Phase::UpPlain => false,
+        Phase::Failed => false,
+    }
+}
+
+// The count sent on this connection.
+fn sent_of(phase: Phase) -> u32
+    ensures { λ r. ⌜ r ≡ sentOf phase ⌝ }
+{
+    match phase {
+        Phase::Idle => 0,
+        Phase::InitWait(_) => 0,
+        Phase::UpFT(sent) => sent,
+        Phase::UpPlain => 0,
+        Phase::Failed => 0,
+    }
+}
+
+// 12, 1, 8: all tests but that of the room.
+fn judge_send(image: &[u8], phase: Phase) -> Answer
+    ensures { λ r. ⌜ r ≡ admitted (now (image .entry)) phase (sendRule (decode (now (image .entry))) phase Answer.Done) ⌝ }
+{
+    let a = calls::admit(image, phase);
+    if !calls::is_done(a) {
+        return a;
+    }
+    if !is_up(phase) {
+        return Answer::WrongPhase;
+    }
+    let h = image::header_of(image);
+    if sent_of(phase) >= h.held as u32 {
+        return Answer::NothingUnsent;
+    }
+    Answer::Done
+}
+
+// The number of the message at a place of the queue.
+fn number_at(h: Header, sent: u32) -> FtNumber
+    requires { ⌜ sent < 65536 ⌝ }
+    ensures { λ r. ⌜ r ≡ numberAt h sent ⌝ }
+{
+    ft_number::advance(h.released, sent + 1)
+}
+
+// The FT ACK to write.
+fn ack_asked(ack: bool, h: Header) -> FtField
+    ensures { λ r. ⌜ r ≡ ackAsked ack h ⌝ }
+{
+    let secured = h.secured;
+    if ack {
+        return FtField::Number(secured);
+    }
+    FtField::Absent
+}
+
+// Writes the message at a place of the queue, with its number; the writer tests the room (9).
+fn write_next(image: &[u8], sent: u32, ack: bool, out: &mut [u8]) -> Written
+    requires { ⌜ IsSound (now image) × (sent < decode (now image) .header .held) ⌝ }
+    ensures { λ r. ⌜ (r, now (out .exit)) ≡ writtenOf (now (out .entry)) (sendBytes (decode (now (image .entry))) sent ack) ⌝ }
+{
+    let h = image::header_of(image);
+    let m = image::held_message(image, sent as usize);
+    message_writer::write_protected(out, m, number_at(h, sent), ack_asked(ack, h))
+}
+
+// Numbers the message at a place of the queue, if it has no number. Whether block 0 changed.
+fn issue(image: &mut [u8], sent: u32) -> bool
+    requires { ⌜ (length (now image) ≡ imageSize) × (sent < 65536) ⌝ }
+    ensures { λ r. ⌜ (r ≡ differ (block (now (image .entry)) 0) (block (now (image .exit)) 0)) × (now (image .exit) ≡ sendImage (now (image .entry)) sent) ⌝ }
+{
+    let h = image::header_of(image);
+    if sent < calls::issued_count(h) {
+        return false;
+    }
+    let old = calls::copy_block0(image);
+    let mut words = [0u32; 120];
+    image::labels_of(image, &mut words);
+    let released = h.released;
+    let secured = h.secured;
+    let next = Header {
+        released: released,
+        issued: number_at(h, sent),
+        secured: secured,
+        first: h.first,
+        held: h.held,
+        timeout: h.timeout,
+        kept: h.kept,
+        keepalive: h.keepalive,
+        maxpdu: h.maxpdu,
+    };
+    image::store_block0(image, next, &words);
+    calls::block0_changed(&old, image)
+}
+
+// Sends the oldest message not sent on this connection; `ack` asks for FT ACK. Block 0 is stored before the output leaves.
+pub fn send_next(image: &mut [u8], phase: Phase, ack: bool, out: &mut [u8]) -> Outcome
+    ensures { λ r. ⌜ after r (now (image .exit)) (now (out .exit)) ≡ sendOf (now (image .entry)) phase ack (now (out .entry)) ⌝ }
+{
+    let a = judge_send(image, phase);
+    if !calls::is_done(a) {
+        return calls::refuse(a, phase);
+    }
+    let sent = sent_of(phase);
+    match write_next(image, sent, ack, out) {
+        Written::TooShort => calls::refuse(Answer::OutputTooShort, phase),
+        Written::Bytes(n) => Outcome {
+            answer: Answer::Done,
+            phase: Phase::UpFT(sent + 1),
+            written: n,
+            slot: 0,
+            block0: issue(image, sent),
+        },
+    }
+}

@@ -1,0 +1,4 @@
+pub mod Refusals
+pub mod Judged
+pub mod Stands
+pub mod Meaning
