@@ -73,3 +73,12 @@ module _ (im : List ℕ) (ph : Phase) {r : Answer} (e : r ≡ admitted im ph Ans
   -- one that they pass is settled by its own answer
   pub call-own : {x : After} → isDone r ≡ true → x ≡ settleOf a ph im o d → x ≡ settleOf (admitted im ph a) ph im o d
   call-own t p = rw (admitted-is (admit-passed im ph e t) a) p
+
+-- done: what the call does itself
+pub own-done : (a : Answer) (ph : Phase) (im o : List ℕ) (d : After) {x : After} → isDone a ≡ true → x ≡ d → x ≡ settleOf a ph im o d
+unfolding settleOf effectOf
+own-done a ph im o d t p = rw t p
+
+-- a refusal of its own changes nothing
+pub own-refused : (a : Answer) (ph : Phase) (im o : List ℕ) (d : After) {x : Outcome} → effectOf a ≡ Effect.Nothing → x ≡ refusal a ph → after x im o ≡ settleOf a ph im o d
+own-refused a ph im o d f p = unchanged-is a ph im o p ∙ sym (settle-refusal a ph im o d f)

@@ -19,24 +19,20 @@ use Rattle.calls.specs.declared.Phase
 use Rattle.calls.specs.declared.Phase.{Phase}
 use Rattle.calls.specs.Answers.{effectOf}
 use Rattle.calls.specs.Outcomes.{After, after, isDone, refusal, checked, failedWith, settleOf}
-use Rattle.calls.proofs.Ends.{settle-done, settle-refusal, unchanged-is}
+use Rattle.calls.proofs.Ends.{settle-done}
 use Rattle.connect.specs.Start.{formatted, formatOf, restoreOf}
-use Rattle.connect.proofs.Calling.{checks-refused}
+use Rattle.connect.proofs.Calling.{checks-refused, own-refused}
 
 -- ---- Format
-wrong-nothing : (im o : List ℕ) (d : After) {x : Outcome} → x ≡ refusal Answer.WrongSize Phase.Idle → after x im o ≡ settleOf Answer.WrongSize Phase.Idle im o d
-unfolding effectOf
-wrong-nothing im o d p = unchanged-is Answer.WrongSize Phase.Idle im o p ∙ sym (settle-refusal Answer.WrongSize Phase.Idle im o d refl)
-
 -- by the size, what Format and the image's own format say
 module _ (im : List ℕ) {v : Verdict} {n : ℕ} {im′ : List ℕ} (ev : (v ≡ sizeVerdict im) × (im′ ≡ formattedOf im)) (en : n ≡ verdictNumber v) where
   pub format-wrong : {x : Outcome} → (n ≡ 0 → ⊥) → x ≡ refusal Answer.WrongSize Phase.Idle → after x im′ [] ≡ formatOf im
-  unfolding sizeVerdict formattedOf formatOf
+  unfolding sizeVerdict formattedOf formatOf effectOf
   format-wrong {x} apart p = by (eqb (length im) imageSize) refl
     where
       by : (b : Bool) → eqb (length im) imageSize ≡ b → after x im′ [] ≡ settleOf (pick b Answer.Done Answer.WrongSize) Phase.Idle im [] formatted
       by true t = let z : v ≡ Verdict.Sound = ev .0 ∙ rw t in absurd (apart (en ∙ rw z))
-      by false t = let z : im′ ≡ im = ev .1 ∙ rw t in rw z (wrong-nothing im [] formatted p)
+      by false t = let z : im′ ≡ im = ev .1 ∙ rw t in rw z (own-refused Answer.WrongSize Phase.Idle im [] formatted refl p)
 
   pub format-right : n ≡ 0 → after (formatted .outcome) im′ [] ≡ formatOf im
   unfolding sizeVerdict formattedOf formatOf

@@ -32,13 +32,9 @@ use Rattle.calls.specs.declared.Phase
 use Rattle.calls.specs.declared.Phase.{Phase}
 use Rattle.calls.specs.Answers.{effectOf}
 use Rattle.calls.specs.Outcomes.{After, after, isDone, refusal, admitted, roomFor, wrote, settleOf}
-use Rattle.calls.proofs.Ends.{settle-done, settle-refusal, unchanged-is}
+use Rattle.calls.proofs.Ends.{settle-done}
 use Rattle.connect.specs.Writers.{writerOf, writtenAs, opens, keptAck, openBytes, openOf, isUp, aliveAck, aliveBytes, keepaliveOf}
-use Rattle.connect.proofs.Calling.{call-refused, call-own}
-
--- an answer of the writers' own that changes nothing
-left : (a : Answer) (ph : Phase) (im o : List ℕ) (d : After) {x : Outcome} → effectOf a ≡ Effect.Nothing → x ≡ refusal a ph → after x im o ≡ settleOf a ph im o d
-left a ph im o d f p = unchanged-is a ph im o p ∙ sym (settle-refusal a ph im o d f)
+use Rattle.connect.proofs.Calling.{call-refused, call-own, own-refused}
 
 -- the ACK of our Init
 pub kept-set : (h : Header) → h .kept ≡ 1 → FtField.Number (h .secured) ≡ keptAck h
@@ -61,7 +57,7 @@ wrote-by im ph next out bytes {w} {out′} {x} e p = by (ltb (length out) (lengt
     by true t =
         let z : _≡_ {A = Written × List ℕ} (w, out′) (Written.TooShort, out) = e ∙ rw t in
         rw (ap (λ (q : Written × List ℕ). q .1) z)
-        (left Answer.OutputTooShort ph im out (wrote next im im out bytes) refl (p ∙ ap (λ (q : Written × List ℕ). writtenAs (q .0) ph next) z))
+        (own-refused Answer.OutputTooShort ph im out (wrote next im im out bytes) refl (p ∙ ap (λ (q : Written × List ℕ). writtenAs (q .0) ph next) z))
     by false t =
         let z : _≡_ {A = Written × List ℕ} (w, out′) (Written.Bytes (length bytes), overlaid out bytes) = e ∙ rw t in
         rw (ap (λ (q : Written × List ℕ). q .1) z, p, ap (λ (q : Written × List ℕ). q .0) z, ← differ-self (block im 0))
@@ -76,7 +72,7 @@ module _ (im : List ℕ) (ph : Phase) (may : Bool) (next : Phase) (out bytes : L
   unfolding writerOf effectOf
   writer-barred t f p =
       call-own im ph e out (pick may (roomFor bytes (length out)) Answer.WrongPhase) (wrote next im im out bytes) t
-      (rw f (left Answer.WrongPhase ph im out (wrote next im im out bytes) refl p))
+      (rw f (own-refused Answer.WrongPhase ph im out (wrote next im im out bytes) refl p))
 
   writer-wrote : {x : Outcome} {w : Written} {out′ : List ℕ} → isDone r ≡ true → may ≡ true → (w, out′) ≡ writtenOf out bytes → x ≡ writtenAs w ph next
       → after x im out′ ≡ writerOf im ph may next out bytes
