@@ -1,0 +1,25 @@
+-- `connect::writing::keepalive` meets its contract. Assumes nothing.
+use borrow.Author.Needs.{needs}
+use Rattle.connect.proofs.Calling.{denied, granted}
+use Rattle.calls.proofs.Settled.{admit-passed, admitted-sound}
+use Rattle.connect.proofs.Written.{alive-refused, alive-barred, alive-wrote}
+use Rattle.connect.proofs.writing.keepalive.Statement.{statement}
+use Rattle.connect.proofs.writing.keepalive.Tie as tie
+
+pub keepalive-spec : {M : Type 1} → statement M
+keepalive-spec =
+    tie.close
+    (tie.spec
+    (λ c κs. search needs)
+    (λ c κs. search needs)
+    (λ c κs. search needs)
+    (λ c. alive-refused _ _ _ _ (c .before .before .before .admit .ensures) (denied (c .before .before .is-done .ensures) (c .before .if1 .taken)) (c .refuse .ensures))
+    (λ c κs. search needs)
+    (λ c κs. search needs)
+    (λ c. alive-barred _ _ _ _ (c .before .before .before .before .before .admit .ensures) (granted (c .before .before .before .before .is-done .ensures) (c .before .before .before .if1 .left)) (denied (c .before .before .is-up .ensures) (c .before .if2 .taken)) (c .refuse2 .ensures))
+    (λ c κs. admitted-sound (admit-passed _ _ (c .before .before .before .before .admit .ensures) (granted (c .before .before .before .is-done .ensures) (c .before .before .if1 .left))) .size)
+    (λ c κs. search needs)
+    (λ c κs. search needs)
+    (λ c κs. search needs)
+    (λ c. search needs)
+    (λ c. alive-wrote _ _ _ _ (c .before .before .before .before .before .before .before .before .before .before .before .admit .ensures) (granted (c .before .before .before .before .before .before .before .before .before .before .is-done .ensures) (c .before .before .before .before .before .before .before .before .before .if1 .left)) (granted (c .before .before .before .before .before .before .before .before .is-up .ensures) (c .before .before .before .before .before .before .before .if2 .left)) (c .before .before .before .before .before .before .header-of .ensures) (c .before .before .before .before .before .alive-ack .ensures) (c .before .before .before .write-keepalive .ensures) (c .answer-written .ensures)))

@@ -1,0 +1,11 @@
+-- `connect::writing::kept_ack` meets its contract. Assumes nothing.
+use Rattle.connect.proofs.Written.{kept-set, kept-clear}
+use Rattle.connect.proofs.writing.kept_ack.Statement.{statement}
+use Rattle.connect.proofs.writing.kept_ack.Tie as tie
+
+pub kept-ack-spec : {M : Type 1} → statement M
+kept-ack-spec =
+    tie.close
+    (tie.spec
+    (λ c. kept-set _ (c .if1 .taken))
+    (λ c. kept-clear _ (c .if1 .left)))

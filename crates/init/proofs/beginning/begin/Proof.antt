@@ -1,0 +1,17 @@
+-- `init::beginning::begin` meets its contract. Assumes nothing.
+use borrow.Author.Needs.{needs}
+use Rattle.init.proofs.Received.{begun-is}
+use Rattle.init.proofs.beginning.begin.Statement.{statement}
+use Rattle.init.proofs.beginning.begin.Tie as tie
+
+pub begin-spec : {M : Type 1} → statement M
+begin-spec =
+    tie.close
+    (tie.spec
+    (λ c κs. search needs)
+    (λ c κs. search needs)
+    (λ c κs. search needs)
+    (λ c. search needs)
+    (λ c κs. search needs)
+    (λ c. search needs)
+    (λ c. begun-is _ _ _ (c .before .before .before .before .before .before .before .before .copy-block0 .ensures) (c .before .before .before .before .before .before .store-start .ensures) (c .before .before .before .start-phase .ensures) (c .block0-changed .ensures)))

@@ -1,0 +1,20 @@
+-- `init::beginning::store_resumed` meets its contract. Assumes nothing.
+use borrow.Author.Needs.{needs}
+use Rattle.init.proofs.Received.{header-room, resumed-is}
+use Rattle.init.proofs.beginning.store_resumed.Statement.{statement}
+use Rattle.init.proofs.beginning.store_resumed.Tie as tie
+
+pub store-resumed-spec : {M : Type 1} → statement M
+store-resumed-spec =
+    tie.close
+    (tie.spec
+    (λ c κs. search needs)
+    (λ c. search needs)
+    (λ c κs. search needs)
+    (λ c. search needs)
+    (λ c κs. search needs)
+    (λ c κs. header-room _ (c .before .before .before .before .before .before .before .before .before .before .before .pre .0) (c .before .before .before .before .before .before .before .before .header-of .ensures) (c .before .before .before .before .before .before .before .before .before .before .before .pre .1))
+    (λ c. search needs)
+    (λ c κs. search needs)
+    (λ c. search needs)
+    (λ c. resumed-is _ _ _ _ (c .before .before .before .before .before .before .before .before .before .before .before .before .before .before .header-of .ensures) (c .before .before .before .before .before .before .before .before .before .before .before .labels-of .ensures) (c .before .before .before .before .before .before .before .release-labels .ensures) (c .before .before .before .before .before .released-header .ensures) (c .before .before .store-block0 .ensures)))

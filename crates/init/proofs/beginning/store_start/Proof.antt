@@ -1,0 +1,25 @@
+-- `init::beginning::store_start` meets its contract. Assumes nothing.
+use borrow.Author.Needs.{needs}
+use Rattle.init.specs.Begun.{startImage}
+use Rattle.init.proofs.beginning.store_start.Statement.{statement}
+use Rattle.init.proofs.beginning.store_start.Tie as tie
+
+pub store-start-spec : {M : Type 1} → statement M
+unfolding startImage
+store-start-spec =
+    tie.close
+    (tie.spec
+    (λ c. search needs)
+    (λ c. search needs)
+    (λ c κs. search needs)
+    (λ c. search needs)
+    (λ c κs. search needs)
+    (λ c. search needs)
+    (λ c κs. (c .before .before .before .before .before .pre .0, rw (c .before .before .start2 .given .1) at (c .before .before .before .before .before .pre .1)))
+    (λ c. rw (c .enum-told .given .1))
+    (λ c. search needs)
+    (λ c. rw (c .before .before .before .before .enum-told2 .given .1) (c .before .before .release .ensures))
+    (λ c. search needs)
+    (λ c. rw (c .before .before .before .before .before .start .given .1) (c .before .before .store-fresh .ensures))
+    (λ c. search needs)
+    (λ c. rw (c .before .before .before .before .before .start2 .given .1) (c .before .before .store-resumed .ensures)))

@@ -1,0 +1,155 @@
+// The session that the peer's Init begins: released, fresh, or resumed.
+ghost use mathlib.Core.Path.{_≡_};
+ghost use mathlib.Core.List.{[]};
+ghost use Prim.Native.Nat.{_≤_, _<_};
+ghost use lib.ListN.{length};
+ghost use Rattle.block0.specs.Layout.{slotCount};
+ghost use Rattle.image.specs.Sizes.{imageSize};
+ghost use Rattle.image.specs.State.{decode, store};
+ghost use Rattle.image.specs.Verdict.{IsSound};
+ghost use Rattle.calls.specs.Acked.{withReleased};
+ghost use Rattle.calls.specs.Outcomes.{after};
+ghost use Rattle.init.specs.Begun.{StartFits, fresh, resumed, startImage, startPhase, begunAs, awaits, proposalOf, initReceivedOf};
+use crate::Start;
+use crate::Terms;
+use crate::judging::judge_start;
+use crate::judging::start_answer;
+use block0::Header;
+use calls::Answer;
+use calls::Outcome;
+use calls::Phase;
+use ft_number::FtNumber;
+
+// Whether the peer's Init is awaited.
+fn awaits_init(phase: Phase) -> bool
+    ensures { λ r. ⌜ r ≡ awaits phase ⌝ }
+{
+    match phase {
+        Phase::Idle => false,
+        Phase::InitWait(_) => true,
+        Phase::UpFT(_) => false,
+        Phase::UpPlain => false,
+        Phase::Failed => false,
+    }
+}
+
+// Our proposed timeout: InitWait alone bears one.
+fn proposal_of(phase: Phase) -> u16
+    ensures { λ r. ⌜ r ≡ proposalOf phase ⌝ }
+{
+    match phase {
+        Phase::Idle => 0,
+        Phase::InitWait(seconds) => seconds,
+        Phase::UpFT(_) => 0,
+        Phase::UpPlain => 0,
+        Phase::Failed => 0,
+    }
+}
+
+// A fresh session: kept 1, the terms, and nothing else.
+fn store_fresh(image: &mut [u8], terms: Terms)
+    requires { ⌜ length (now image) ≡ imageSize ⌝ }
+    ensures { λ _. ⌜ now (image .exit) ≡ store (now (image .entry)) (fresh terms) ⌝ }
+{
+    let h = Header {
+        released: FtNumber(0),
+        issued: FtNumber(0),
+        secured: FtNumber(0),
+        first: 0,
+        held: 0,
+        timeout: terms.timeout,
+        kept: 1,
+        keepalive: terms.keepalive,
+        maxpdu: terms.maxpdu,
+    };
+    let labels = [0u32; 120];
+    image::store_block0(image, h, &labels);
+}
+
+// The header after an ACK: R is the number acknowledged, and the oldest `count` slots are free.
+fn released_header(h: Header, count: u32, ack: FtNumber) -> Header
+    requires { ⌜ (h .first < slotCount) × (h .held ≤ slotCount) × (count ≤ h .held) ⌝ }
+    ensures { λ r. ⌜ r ≡ withReleased h count (ack .0) ⌝ }
+{
+    let n = count as u16;
+    let mut next = h;
+    next.released = ack;
+    next.first = (h.first + n) % 64;
+    next.held = h.held - n;
+    next
+}
+
+// A resumed session: the peer's ACK is applied, and the timeout is the newly agreed one.
+fn store_resumed(image: &mut [u8], terms: Terms, count: u32, ack: FtNumber)
+    requires { ⌜ IsSound (now image) × (count ≤ decode (now image) .header .held) ⌝ }
+    ensures { λ _. ⌜ now (image .exit) ≡ store (now (image .entry)) (resumed (decode (now (image .entry))) terms count (ack .0)) ⌝ }
+{
+    let h = image::header_of(image);
+    let mut words = [0u32; 120];
+    image::labels_of(image, &mut words);
+    calls::release_labels(image, count as usize, &mut words);
+    let mut next = released_header(h, count, ack);
+    next.timeout = terms.timeout;
+    image::store_block0(image, next, &words);
+}
+
+// Stores the state that a start leads to; a refusal leaves the image as it is.
+fn store_start(image: &mut [u8], start: Start)
+    requires { ⌜ IsSound (now image) × StartFits (decode (now image) .header .held) start ⌝ }
+    ensures { λ _. ⌜ now (image .exit) ≡ startImage (now (image .entry)) start ⌝ }
+{
+    match start {
+        Start::Refused(_) => {}
+        Start::Plain => image::release(image),
+        Start::Fresh(terms) => store_fresh(image, terms),
+        Start::Resumed(terms, count, ack) => store_resumed(image, terms, count, ack),
+    }
+}
+
+// The phase that a start leads to.
+fn start_phase(start: Start, phase: Phase) -> Phase
+    ensures { λ r. ⌜ r ≡ startPhase phase start ⌝ }
+{
+    match start {
+        Start::Refused(_) => phase,
+        Start::Plain => Phase::UpPlain,
+        Start::Fresh(_) => Phase::UpFT(0),
+        Start::Resumed(_, _, _) => Phase::UpFT(0),
+    }
+}
+
+// Begins the session.
+fn begin(image: &mut [u8], phase: Phase, start: Start) -> Outcome
+    requires { ⌜ IsSound (now image) × StartFits (decode (now image) .header .held) start ⌝ }
+    ensures { λ r. ⌜ after r (now (image .exit)) [] ≡ begunAs (now (image .entry)) phase start ⌝ }
+{
+    let old = calls::copy_block0(image);
+    store_start(image, start);
+    Outcome {
+        answer: Answer::Done,
+        phase: start_phase(start, phase),
+        written: 0,
+        slot: 0,
+        block0: calls::block0_changed(&old, image),
+    }
+}
+
+// The peer's Init was received.
+pub fn init_received(image: &mut [u8], phase: Phase, msg: &[u8]) -> Outcome
+    ensures { λ r. ⌜ after r (now (image .exit)) [] ≡ initReceivedOf (now (image .entry)) phase (now (msg .entry)) ⌝ }
+{
+    let a = calls::admit(image, phase);
+    if !calls::is_done(a) {
+        return calls::refuse(a, phase);
+    }
+    if !awaits_init(phase) {
+        return calls::refuse(Answer::WrongPhase, phase);
+    }
+    let h = image::header_of(image);
+    let start = judge_start(h, proposal_of(phase), message::read_message(msg));
+    let answer = start_answer(start);
+    if !calls::is_done(answer) {
+        return calls::settle(image, answer, phase);
+    }
+    begin(image, phase, start)
+}

@@ -1,0 +1,144 @@
+// How the peer's Init is judged: 22, 23, 35, 34, or the session that it begins. Nothing is changed here.
+ghost use mathlib.Core.Path.{_≡_};
+ghost use Rattle.ft_number.specs.Timeout.{lesserOf};
+ghost use Rattle.calls.specs.Received.{isInit};
+ghost use Rattle.init.specs.Judged.{bothSet, peerSet, sessionStart, parametersStart, startOf, startAnswer};
+use crate::Start;
+use crate::Terms;
+use block0::Header;
+use calls::Answer;
+use ft_number::Ack;
+use ft_number::FtNumber;
+use message::Message;
+use message::MessageType;
+use message::Reading;
+use tlv::FtField;
+use tlv::Parameters;
+use tlv::Session;
+
+// The timeout agreed by both proposals, in seconds.
+fn agreed_timeout(ours: u16, peers: u16) -> u16
+    ensures { λ r. ⌜ r ≡ lesserOf ours peers ⌝ }
+{
+    ft_number::lesser_timeout(ours as u32, peers as u32) as u16
+}
+
+// Both R set.
+fn judge_both(h: Header, terms: Terms, ack: FtNumber) -> Start
+    ensures { λ r. ⌜ r ≡ bothSet h terms (ack .0) ⌝ }
+{
+    if h.keepalive != terms.keepalive {
+        return Start::Refused(Answer::ParametersChanged);
+    }
+    if h.maxpdu != terms.maxpdu {
+        return Start::Refused(Answer::ParametersChanged);
+    }
+    match ft_number::acknowledge(h.released, h.issued, ack) {
+        Ack::Releases(k) => Start::Resumed(terms, k, ack),
+        Ack::SequenceError => Start::Refused(Answer::AckSequenceError),
+    }
+}
+
+// The peer's R set; ours is set where the state is kept.
+fn judge_reconnect(h: Header, terms: Terms, ack: FtField) -> Start
+    ensures { λ r. ⌜ r ≡ peerSet h terms ack ⌝ }
+{
+    match ack {
+        FtField::Absent => Start::Refused(Answer::BadInit),
+        FtField::Number(a) => {
+            if h.kept != 1 {
+                return Start::Fresh(terms);
+            }
+            judge_both(h, terms, a)
+        }
+    }
+}
+
+// An Init with parameters.
+fn judge_session(
+    h: Header,
+    proposed: u16,
+    keepalive: u16,
+    maxpdu: u16,
+    ack: FtField,
+    session: Session,
+) -> Start
+    ensures { λ r. ⌜ r ≡ sessionStart h proposed keepalive maxpdu ack session ⌝ }
+{
+    match session {
+        Session::Absent => Start::Plain,
+        Session::Given { reconnect, seconds } => {
+            let terms = Terms {
+                timeout: agreed_timeout(proposed, seconds),
+                keepalive: keepalive,
+                maxpdu: maxpdu,
+            };
+            if !reconnect {
+                return Start::Fresh(terms);
+            }
+            judge_reconnect(h, terms, ack)
+        }
+    }
+}
+
+// An Init.
+fn judge_init(h: Header, proposed: u16, g: Message) -> Start
+    ensures { λ r. ⌜ r ≡ parametersStart h proposed (g .ack) (g .session) (g .parameters) ⌝ }
+{
+    let ack = g.ack;
+    let session = g.session;
+    let parameters = g.parameters;
+    match parameters {
+        Parameters::Absent => Start::Refused(Answer::BadInit),
+        Parameters::Given {
+            keepalive,
+            pdulength,
+        } => judge_session(h, proposed, keepalive, pdulength, ack, session),
+    }
+}
+
+fn is_init(t: MessageType) -> bool
+    ensures { λ r. ⌜ r ≡ isInit t ⌝ }
+{
+    match t {
+        MessageType::Notification => false,
+        MessageType::Initialization => true,
+        MessageType::KeepAlive => false,
+        MessageType::Address => false,
+        MessageType::AddressWithdraw => false,
+        MessageType::Mapping => false,
+        MessageType::Request => false,
+        MessageType::Withdraw => false,
+        MessageType::Release => false,
+        MessageType::Abort => false,
+        MessageType::Other => false,
+    }
+}
+
+// How the session begins with what was read, with the image's header and our proposed timeout.
+pub fn judge_start(h: Header, proposed: u16, reading: Reading) -> Start
+    ensures { λ r. ⌜ r ≡ startOf h proposed reading ⌝ }
+{
+    match reading {
+        Reading::Malformed => Start::Refused(Answer::MalformedReceived),
+        Reading::Whole(g) => {
+            let t = g.typename;
+            if !is_init(t) {
+                return Start::Refused(Answer::MalformedReceived);
+            }
+            judge_init(h, proposed, g)
+        }
+    }
+}
+
+// The answer to a start.
+pub fn start_answer(start: Start) -> Answer
+    ensures { λ r. ⌜ r ≡ startAnswer start ⌝ }
+{
+    match start {
+        Start::Refused(a) => a,
+        Start::Plain => Answer::Done,
+        Start::Fresh(_) => Answer::Done,
+        Start::Resumed(_, _, _) => Answer::Done,
+    }
+}
