@@ -1,11 +1,16 @@
-"""The rows that label_table prints, from the words of 01-scope.md "Label list" and "What each answer does".
+#!/usr/bin/env python3
+"""The rows that label_table prints, from the build paper's words "Label list" and "What each answer does".
 
-    python3 tests/labels/make.py > crates/label_table/stdout
+    tests/labels/make.py            writes crates/label_table/stdout
+    tests/labels/make.py --check    fails where the stored file is another
 
 The list is a dictionary here, from (side, label) to code, with a count of free words: nothing of the words' layout, the searches or the
 order of the program's tests is in it. A label that is new takes the first free word, which is the first or the second of the list.
 """
+import pathlib
+import sys
 
+LINES = []
 GIVEN, USED = "codes 1-2", "codes 3-6"
 SENT_SIDE = {"mapping": GIVEN, "withdraw": GIVEN, "release": USED}
 RECEIVED_SIDE = {"mapping": USED, "withdraw": USED, "release": GIVEN}
@@ -100,7 +105,7 @@ def row(name, event, full=False):
         for added in cells.values():
             words[0 if code == 0 else 1] = added
         line += f" | {answer} {words[0]} {words[1]}"
-    print(line)
+    LINES.append(line)
 
 
 def received(protected):
@@ -113,13 +118,28 @@ def received(protected):
         row(f"receive other {message}", lambda c: receive(c, message, protected, "other", False))
 
 
-for message in ("mapping", "withdraw", "release"):
-    row(f"accept {message}", lambda c: accept(c, message, 16, False))
-    row(f"accept full {message}", lambda c: accept(c, message, 16, True), True)
-    row(f"accept 15 {message}", lambda c: accept(c, message, 15, False))
-    row(f"ack {message}", lambda c: ack(c, message, 16))
-print("protected")
-received(True)
-print("unprotected")
-received(False)
-row("break", lose_connection)
+def rows():
+    for message in ("mapping", "withdraw", "release"):
+        row(f"accept {message}", lambda c: accept(c, message, 16, False))
+        row(f"accept full {message}", lambda c: accept(c, message, 16, True), True)
+        row(f"accept 15 {message}", lambda c: accept(c, message, 15, False))
+        row(f"ack {message}", lambda c: ack(c, message, 16))
+    LINES.append("protected")
+    received(True)
+    LINES.append("unprotected")
+    received(False)
+    row("break", lose_connection)
+
+
+def main():
+    rows()
+    path = pathlib.Path(__file__).resolve().parents[2] / "crates/label_table/stdout"
+    text = "".join(line + "\n" for line in LINES)
+    if sys.argv[1:] == ["--check"]:
+        if path.read_text() != text:
+            sys.exit(f"{path.name} of label_table is not what tests/labels/make.py makes")
+        return
+    path.write_text(text)
+
+
+main()
