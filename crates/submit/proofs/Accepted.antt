@@ -1,0 +1,56 @@
+-- The label words once a message is accepted for sending: as many, valid again, each of 32 bits. Assumes nothing.
+use mathlib.Core.Path.{_≡_, refl, sym, ap, _∙_}
+use mathlib.Core.Bool.{true}
+use mathlib.Core.List.{List}
+use Prim.Native.Nat.{ℕ, _*_, _<_}
+use native.Mathlib.Omega.{arith}
+use lib.ListN.{length, getD}
+use Rattle.message.specs.declared.Kind
+use Rattle.message.specs.declared.Kind.{Kind}
+use Rattle.message.specs.declared.Submission
+use Rattle.message.specs.declared.Submission.{Submission}
+use Rattle.label_list.specs.Word.{wordCount, labelCount}
+use Rattle.label_list.specs.Valid.{validOf}
+use Rattle.label_list.specs.declared.LabelMessage
+use Rattle.label_list.specs.declared.LabelMessage.{LabelMessage}
+use Rattle.label_events.specs.Accept.{acceptedOf}
+use Rattle.label_meaning.specs.Event.{Accepted, step}
+use Rattle.label_meaning.proofs.Kept.{step-length}
+use Rattle.label_meaning.proofs.Step.{step-valid}
+use Rattle.label_meaning.proofs.Meaning.{valid-means, valid-range}
+use Rattle.block.specs.Run.{Words}
+use Rattle.submit.specs.Labels.{acceptedAs}
+use Rattle.submit.specs.Act.{acceptedLabels}
+
+-- what every event of the label list keeps, a submission keeps
+module _ (P : List ℕ → Type 0) (words : List ℕ) (here : P words) (each : (message : LabelMessage) (label : ℕ) → P (step words (Accepted message label))) where
+  kept-as : (kind : Kind) (label : ℕ) → P (acceptedAs words kind label .1)
+  unfolding acceptedAs step
+  kept-as Kind.Mapping label = each LabelMessage.Mapping label
+  kept-as Kind.Withdraw label = each LabelMessage.Withdraw label
+  kept-as Kind.Release label = each LabelMessage.Release label
+  kept-as Kind.Address label = here
+  kept-as Kind.AddressWithdraw label = here
+  kept-as Kind.ResourcesAvailable label = here
+  kept-as Kind.NoKind label = here
+
+  kept : (j : Submission) → P (acceptedLabels words j)
+  kept Submission.Malformed = here
+  kept Submission.Refused = here
+  kept (Submission.Accepted kind label) = kept-as kind label
+
+module _ (words : List ℕ) (valid : validOf words ≡ true) (j : Submission) where
+  pub labels-valid : validOf (acceptedLabels words j) ≡ true
+  labels-valid = kept (λ (ws : List ℕ). validOf ws ≡ true) words valid (λ message label. step-valid words (Accepted message label) valid) j
+
+  labels-count : length (acceptedLabels words j) ≡ length words
+  labels-count = kept (λ (ws : List ℕ). length ws ≡ length words) words refl (λ message label. step-length words (Accepted message label)) j
+
+  -- a valid word has 32 bits
+  pub labels-fit : length words ≡ wordCount → Words wordCount (acceptedLabels words j)
+  labels-fit count = record {
+    count = labels-count ∙ count;
+    each = λ i.
+        let small : getD (acceptedLabels words j) i 0 < 7 * labelCount = valid-range (valid-means (acceptedLabels words j) labels-valid) i in
+        omega arith;
+  }

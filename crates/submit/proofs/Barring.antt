@@ -1,0 +1,71 @@
+-- Whether a message of a kind and label is held: asked of one message after the other. Assumes nothing.
+use mathlib.Core.Path.{_≡_, refl, sym, ap, _∙_}
+use mathlib.Core.Bool.{Bool, true, false}
+use mathlib.Core.List.{List, [], _∷_}
+use Prim.Native.Nat.{ℕ, suc, _+_, _≤_, _<_}
+use native.Mathlib.Numerals.{add-one}
+use native.Mathlib.Omega.{arith}
+use borrow.Author.Tests.{eq-eqb, ne-eqb}
+use lib.Dec.{eqb}
+use lib.ListN.{length, getD, drop}
+use lib.Seq.{drop-cons, drop-length}
+use Rattle.message.specs.Kinds.{kindNumber}
+use Rattle.message.specs.Submission.{submissionOf}
+use Rattle.slot.specs.Fields.{bears}
+use Rattle.slot.specs.Held.{Storable, kindIn, labelIn}
+use Rattle.image.specs.State.{decode}
+use Rattle.image.proofs.Queue.{queue-length}
+use Rattle.submit.specs.Labels.{isHeld}
+
+-- ---- one message, by the kind and the label that its slot gives
+module _ (m : List ℕ) (s : Storable m) (kind label : ℕ) {k : ℕ} (ek : k ≡ kindIn (submissionOf m)) where
+  is-kind : k ≡ kindNumber (s .kind)
+  is-kind = rw (s .accepted) at ek
+
+  pub bears-other : (k ≡ kind → ⊥) → false ≡ bears (submissionOf m) kind label
+  bears-other apart = rw (s .accepted, ← is-kind, ne-eqb k kind apart)
+
+  pub bears-kind : {l : ℕ} → l ≡ labelIn (submissionOf m) → k ≡ kind → eqb l label ≡ bears (submissionOf m) kind label
+  bears-kind {l} el same =
+      let is-label : l ≡ s .label = rw (s .accepted) at el in
+      rw (s .accepted, ← is-kind, eq-eqb k kind same, ← is-label)
+
+-- ---- all of them: none of the oldest i is of that kind and label
+pub record Searched (kind label : ℕ) (queue : List (List ℕ)) (held i : ℕ) : Type 0 where
+  pub counted : length queue ≡ held
+  pub inside : i ≤ held
+  pub rest : isHeld kind label queue ≡ isHeld kind label (drop i queue)
+
+module _ (kind label : ℕ) (queue : List (List ℕ)) (held : ℕ) where
+  pub searched-none : length queue ≡ held → Searched kind label queue held 0
+  searched-none e = record { counted = e; inside = omega arith; rest = refl }
+
+  module _ {i : ℕ} (w : Searched kind label queue held i) {b : Bool} (e : b ≡ bears (submissionOf (getD queue i [])) kind label) (l : i < held) where
+    low : i < length queue
+    low = omega (arith, w .counted)
+
+    pub searched-one : b ≡ false → Searched kind label queue held (i + 1)
+    unfolding isHeld
+    searched-one n = record {
+      counted = w .counted;
+      inside = omega arith;
+      rest = w .rest ∙ rw (drop-cons queue i [] low, ← e, n, add-one i);
+    }
+
+    pub searched-found : b ≡ true → true ≡ isHeld kind label queue
+    unfolding isHeld
+    searched-found y = rw (w .rest, drop-cons queue i [] low, ← e, y)
+
+  pub searched-all : {i : ℕ} → Searched kind label queue held i → held ≤ i → false ≡ isHeld kind label queue
+  unfolding isHeld
+  searched-all {i} w l =
+      let e : i ≡ length queue = omega (arith, w .counted, w .inside) in
+      rw (w .rest, e, drop-length queue)
+
+-- ---- of an image
+module _ (im : List ℕ) (kind label : ℕ) {held : ℕ} where
+  pub searched-held : held ≡ decode im .header .held → Searched kind label (decode im .queue) held 0
+  searched-held e = searched-none kind label (decode im .queue) held (queue-length im ∙ sym e)
+
+  pub searched-low : {i : ℕ} → Searched kind label (decode im .queue) held i → i < held → i < decode im .header .held
+  searched-low w l = omega (arith, w .counted, queue-length im)

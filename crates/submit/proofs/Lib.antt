@@ -1,0 +1,5 @@
+pub mod Barring
+pub mod Accepted
+pub mod Queueing
+pub mod Answered
+pub mod Settling

@@ -1,0 +1,102 @@
+-- The image with one more message held: what it stands for, that it is sound again, and that block 0 is another. Assumes nothing.
+use mathlib.Core.Path.{_≡_, refl, sym, ap, _∙_}
+use mathlib.Core.Bool.{Bool, true, false}
+use mathlib.Core.List.{List, [], _∷_, _++_}
+use mathlib.Core.Logic.{_≢_}
+use Prim.Native.Nat.{ℕ, _+_, _*_, _%_, _≤_, _<_}
+use native.Mathlib.Omega.{arith}
+use borrow.Author.Tests.{leb-true, le-leb}
+use lib.ListN.{length}
+use Rattle.octets.specs.Differ.{differ}
+use Rattle.octets.proofs.Differ.{differ-false}
+use Rattle.ft_number.specs.Circle.{stepsOf}
+use Rattle.ft_number.specs.declared.Steps.{Steps}
+use Rattle.ft_number.specs.declared.Steps.the-variants.{Count, Unreachable}
+use Rattle.message.specs.Submission.{submissionOf}
+use Rattle.label_list.specs.Word.{wordCount}
+use Rattle.label_list.proofs.Choice.{by-test}
+use Rattle.block.specs.Run.{Words}
+use Rattle.block0.specs.declared.Header.{Header}
+use Rattle.block0.specs.Layout.{slotCount, headerOf}
+use Rattle.block0.specs.Fields.{atMost, Fits, Valid}
+use Rattle.slot.specs.Held.{Storable}
+use Rattle.image.specs.Sizes.{block, blockOf, slotAt}
+use Rattle.image.specs.State.{State, decode, storeSlot, store0, InRange}
+use Rattle.image.specs.Verdict.{IsSound}
+use Rattle.image.proofs.Stored.{decode-accept}
+use Rattle.image.proofs.Sound.{sound-valid, sound-accept}
+use Rattle.submit.specs.Act.{withHeld, submitted, submitSlot, submitImage}
+use Rattle.submit.proofs.Accepted.{labels-valid, labels-fit}
+
+-- the stores, one after the other: the premises are what the callees ensure
+pub stored-is : (im m ls : List ℕ) {h h′ : Header} {k : ℕ} {slotted stored : List ℕ} → h ≡ decode im .header → k ≡ slotAt (h .first) (h .held)
+    → slotted ≡ storeSlot im k m → h′ ≡ withHeld h (h .held + 1) → stored ≡ store0 slotted h′ ls
+    → (k + 1 ≡ blockOf (submitSlot (decode im)))
+    × (stored ≡ store0 (storeSlot im (submitSlot (decode im)) m) (withHeld (decode im .header) (decode im .header .held + 1)) ls)
+stored-is im m ls eh ek es en e = (rw (ek, eh), rw (e, en, es, ek, eh))
+
+-- a window that was no longer than n is no longer than n + 1
+window-more : (n : ℕ) (k : Steps) → atMost n k ≡ true → atMost (n + 1) k ≡ true
+window-more n (Count k) e = let low : k ≤ n = leb-true k n e in le-leb k (n + 1) (omega arith)
+window-more n Unreachable e = e
+
+module _ (im m : List ℕ) (s : IsSound im) (r : InRange (decode im)) (fits : Storable m) (room : decode im .header .held < slotCount) where
+  h : Header
+  h = withHeld (decode im .header) (decode im .header .held + 1)
+
+  ls : List ℕ
+  ls = submitted (decode im) m .labels
+
+  header-fits : Fits h
+  unfolding h
+  header-fits = record {
+    released = r .header .released;
+    issued = r .header .issued;
+    secured = r .header .secured;
+    first = r .header .first;
+    held = omega arith;
+    timeout = r .header .timeout;
+    kept = r .header .kept;
+    keepalive = r .header .keepalive;
+    maxpdu = r .header .maxpdu;
+  }
+
+  labels-in-range : Words wordCount ls
+  unfolding ls submitted
+  labels-in-range = labels-fit (decode im .labels) (sound-valid im s .labels) (submissionOf m) (r .labels .count)
+
+  pub in-range-submitted : InRange (submitted (decode im) m)
+  unfolding submitted h ls
+  in-range-submitted = record { header = header-fits; labels = labels-in-range }
+
+  pub image-decodes : decode (submitImage im m) ≡ submitted (decode im) m
+  unfolding submitImage submitted h ls
+  image-decodes = decode-accept im h ls m (s .size) header-fits labels-in-range fits refl refl room
+
+  -- with kept 0 nothing may be held
+  pub image-sound : decode im .header .kept ≡ 1 → IsSound (submitImage im m)
+  unfolding submitImage submitted h ls
+  image-sound kept =
+      let v = sound-valid im s in
+      let valid : Valid h ls = record {
+        first = v .first;
+        held = omega arith;
+        kept = v .kept;
+        window = window-more (decode im .header .held) (stepsOf (decode im .header .released .0) (decode im .header .issued .0)) (v .window);
+        labels = labels-valid (decode im .labels) (v .labels) (submissionOf m);
+        idle = λ zero. absurd (omega arith);
+      } in
+      sound-accept im h ls m s header-fits labels-in-range valid fits refl refl room
+
+  -- the count of held messages is another
+  pub image-changed : true ≡ differ (block im 0) (block (submitImage im m) 0)
+  unfolding decode submitted
+  image-changed =
+      by-test
+      (differ (block im 0) (block (submitImage im m) 0))
+      sym
+      (λ same.
+      let kept : headerOf (block im 0) .held ≡ headerOf (block (submitImage im m) 0) .held =
+      ap (λ (b : List ℕ). headerOf b .held) (differ-false (block im 0) (block (submitImage im m) 0) same) in
+      let more : headerOf (block (submitImage im m) 0) .held ≡ headerOf (block im 0) .held + 1 = ap (λ (t : State). t .header .held) image-decodes in
+      absurd (omega arith))

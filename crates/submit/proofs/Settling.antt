@@ -1,0 +1,91 @@
+-- What each return of Submit leaves is what its answer leaves. Assumes nothing.
+use mathlib.Core.Path.{_≡_, refl, sym, ap, _∙_}
+use mathlib.Core.Bool.{Bool, true, false}
+use mathlib.Core.List.{List, []}
+use Prim.Native.Nat.{ℕ, _+_, _≤_, _<_}
+use native.Mathlib.Omega.{arith}
+use lib.ListN.{length}
+use Rattle.octets.specs.Pick.{pick}
+use Rattle.message.specs.Submission.{submissionOf}
+use Rattle.message.specs.declared.Kind.{Kind}
+use Rattle.message.specs.declared.Submission
+use Rattle.message.specs.declared.Submission.{Submission}
+use Rattle.block0.specs.declared.Header.{Header}
+use Rattle.block0.specs.Layout.{slotCount}
+use Rattle.slot.specs.Layout.{shortest, longest}
+use Rattle.image.specs.Sizes.{blockOf}
+use Rattle.image.specs.State.{decode, storeSlot, store0}
+use Rattle.image.specs.Verdict.{verdict, IsSound}
+use Rattle.image.specs.declared.Verdict
+use Rattle.image.specs.declared.Verdict.{Verdict}
+use Rattle.image.proofs.Ranges.{Bytes, bytes-in-range}
+use Rattle.calls.specs.declared.Answer
+use Rattle.calls.specs.declared.Answer.{Answer}
+use Rattle.calls.specs.declared.Effect
+use Rattle.calls.specs.declared.Effect.{Effect}
+use Rattle.calls.specs.declared.Outcome.{Outcome}
+use Rattle.calls.specs.declared.Phase.{Phase}
+use Rattle.calls.specs.Answers.{answerNumber, effectBy, effectOf}
+use Rattle.calls.specs.Phases.{phaseFits}
+use Rattle.calls.specs.Outcomes.{After, after, refusal, isDone, checked, admitted, settleOf}
+use Rattle.calls.proofs.Settled.{Admitted, admit-refused, admitted-is}
+use Rattle.calls.proofs.Ends.{settle-nothing, settle-done}
+use Rattle.submit.specs.Labels.{acceptedAs}
+use Rattle.submit.specs.Rule.{submitRule, submitAnswer}
+use Rattle.submit.specs.Act.{withHeld, submitted, submitSlot, submitImage, queued, submitOf}
+use Rattle.submit.proofs.Queueing.{image-changed}
+
+-- an answer from 1 to 13: nothing is changed, whatever the call would have done
+pub refused-is : {a x : Answer} (ph : Phase) (im : List ℕ) (d : After) {r : Outcome}
+    → a ≡ x → r ≡ refusal a ph → effectBy (answerNumber a) ≡ Effect.Nothing → after r im [] ≡ settleOf x ph im [] d
+unfolding effectOf
+refused-is {a} ph im d e p n = rw (← e) (settle-nothing a ph im [] d (sym n) refl p)
+
+-- an image or a phase that is refused has such an answer
+nothing-by : (v : Verdict) (b : Bool) → isDone (checked v (pick b Answer.Done Answer.WrongPhase)) ≡ false
+    → effectBy (answerNumber (checked v (pick b Answer.Done Answer.WrongPhase))) ≡ Effect.Nothing
+nothing-by Verdict.Sound true e = let z : _≡_ {A = ℕ} 0 1 = cc in absurd (omega arith)
+nothing-by Verdict.Sound false e = refl
+nothing-by Verdict.WrongSize b e = refl
+nothing-by (Verdict.BadBlock k) b e = refl
+nothing-by (Verdict.BadField k) b e = refl
+
+pub admit-nothing : (im : List ℕ) (ph : Phase) {a : Answer} → a ≡ admitted im ph Answer.Done → isDone a ≡ false → effectBy (answerNumber a) ≡ Effect.Nothing
+unfolding admitted
+admit-nothing im ph e n = rw e (nothing-by (verdict im) (phaseFits ph (decode im .header)) (ap isDone (sym e) ∙ n))
+
+-- ---- the message is queued; the premises are what the callees ensure
+module _ (im : List ℕ) (ph : Phase) (m : List ℕ) (kind : Kind) (label : ℕ) (j : submissionOf m ≡ Submission.Accepted kind label) where
+  queued-image : {words words′ im′ : List ℕ} → words ≡ decode im .labels → words′ ≡ acceptedAs words kind label .1
+      → im′ ≡ store0 (storeSlot im (submitSlot (decode im)) m) (withHeld (decode im .header) (decode im .header .held + 1)) words′
+      → im′ ≡ submitImage im m
+  unfolding submitImage submitted
+  queued-image ew el e = rw (e, el, ew, j)
+
+  pub queued-is : {x : Answer} → Answer.Done ≡ x → IsSound im → Bytes im → shortest ≤ length m → length m ≤ longest
+      → {h : Header} → h ≡ decode im .header → h .held < slotCount
+      → {words words′ im′ : List ℕ} → words ≡ decode im .labels → words′ ≡ acceptedAs words kind label .1
+      → {k : ℕ} → (k ≡ blockOf (submitSlot (decode im)))
+      × (im′ ≡ store0 (storeSlot im (submitSlot (decode im)) m) (withHeld (decode im .header) (decode im .header .held + 1)) words′)
+      → after (record { answer = Answer.Done; phase = ph; written = 0; slot = k; block0 = true }) im′ [] ≡ settleOf x ph im [] (queued im ph m)
+  unfolding queued
+  queued-is done s bytes low high eh room ew el e =
+      let few : decode im .header .held < slotCount = rw eh at room in
+      let changed = image-changed im m s (bytes-in-range im bytes) (record { low = low; short = high; kind = kind; label = label; accepted = j }) few in
+      rw (← done, settle-done, e .0, queued-image ew el (e .1), changed)
+
+-- ---- the public call
+module _ (im : List ℕ) (ph : Phase) (m : List ℕ) where
+  pub admit-is : {a : Answer} {r : Outcome} → a ≡ admitted im ph Answer.Done → isDone a ≡ false → r ≡ refusal a ph → after r im [] ≡ submitOf im ph m
+  unfolding submitOf submitAnswer
+  admit-is e n p = refused-is ph im (queued im ph m) (admit-refused im ph e (submitRule (decode im) m) n) p (admit-nothing im ph e n)
+
+  module _ (w : Admitted im ph) where
+    pub submit-refused : {a : Answer} {r : Outcome} → a ≡ submitRule (decode im) m → r ≡ refusal a ph → effectBy (answerNumber a) ≡ Effect.Nothing
+        → after r im [] ≡ submitOf im ph m
+    unfolding submitOf submitAnswer
+    submit-refused e p n = refused-is ph im (queued im ph m) (e ∙ sym (admitted-is w (submitRule (decode im) m))) p n
+
+    pub submit-judged : {a : Answer} {x : After} → a ≡ submitRule (decode im) m → x ≡ settleOf a ph im [] (queued im ph m) → x ≡ submitOf im ph m
+    unfolding submitOf submitAnswer
+    submit-judged e p = rw (admitted-is w (submitRule (decode im) m), ← e) p

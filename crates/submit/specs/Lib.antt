@@ -1,0 +1,3 @@
+pub mod Labels
+pub mod Rule
+pub mod Act

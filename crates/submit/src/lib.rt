@@ -1,0 +1,92 @@
+// Submit: the message is judged, and queued as the newest one held. It gets its number when it is first sent.
+ghost use mathlib.Core.Path.{_≡_};
+ghost use mathlib.Core.List.{[]};
+ghost use Prim.Native.Nat.{_≤_};
+ghost use lib.ListN.{length};
+ghost use Rattle.message.specs.Submission.{submissionOf};
+ghost use Rattle.message.specs.declared.Submission.the-variants.{Accepted};
+ghost use Rattle.slot.specs.Layout.{shortest, longest};
+ghost use Rattle.image.specs.State.{decode};
+ghost use Rattle.image.specs.Verdict.{IsSound};
+ghost use Rattle.calls.specs.Outcomes.{after, settleOf};
+ghost use Rattle.submit.specs.Rule.{kindRule};
+ghost use Rattle.submit.specs.Act.{queued, submitOf};
+use calls::Answer;
+use calls::Outcome;
+use calls::Phase;
+use label_events::Acceptance;
+use message::Kind;
+use message::Submission;
+
+mod labels;
+mod storing;
+
+// The lengths that a submitted message may have.
+const SHORTEST: usize = 8;
+
+const LONGEST: usize = 480;
+
+// The most messages that are held.
+const HELD_LIMIT: u16 = 64;
+
+// A message that passes 3, 4 and 5, with its kind and label.
+fn submit_accepted(
+    image: &mut [u8],
+    phase: Phase,
+    msg: &[u8],
+    kind: Kind,
+    label: u32,
+) -> Outcome
+    requires { ⌜ IsSound (now image) × (shortest ≤ length (now msg)) × (length (now msg) ≤ longest) × (submissionOf (now msg) ≡ Accepted kind label) ⌝ }
+    ensures { λ r. ⌜ after r (now (image .exit)) [] ≡ settleOf (kindRule (decode (now (image .entry))) kind label) phase (now (image .entry)) [] (queued (now (image .entry)) phase (now (msg .entry))) ⌝ }
+{
+    if labels::is_barred(image, kind, label) {
+        return calls::refuse(Answer::LabelNotAllowed, phase);
+    }
+    let mut words = [0u32; 120];
+    image::labels_of(image, &mut words);
+    match labels::accept_as(&mut words, kind, label) {
+        Acceptance::Taken => {}
+        Acceptance::NotAllowed => {
+            return calls::refuse(Answer::LabelNotAllowed, phase);
+        }
+        Acceptance::NoRoom => {
+            return calls::refuse(Answer::NoLabelWord, phase);
+        }
+    }
+    if image::header_of(image).held >= HELD_LIMIT {
+        return calls::refuse(Answer::StoreFull, phase);
+    }
+    let slot = storing::store_message(image, msg, kind, label, &words);
+    Outcome {
+        answer: Answer::Done,
+        phase: phase,
+        written: 0,
+        slot: slot,
+        block0: true,
+    }
+}
+
+// Submits a message.
+pub fn submit(image: &mut [u8], phase: Phase, msg: &[u8]) -> Outcome
+    ensures { λ r. ⌜ after r (now (image .exit)) [] ≡ submitOf (now (image .entry)) phase (now (msg .entry)) ⌝ }
+{
+    let a = calls::admit(image, phase);
+    if !calls::is_done(a) {
+        return calls::refuse(a, phase);
+    }
+    if image::header_of(image).kept != 1 {
+        return calls::refuse(Answer::WrongPhase, phase);
+    }
+    if msg.len() < SHORTEST {
+        return calls::refuse(Answer::LengthOutOfRange, phase);
+    }
+    if msg.len() > LONGEST {
+        return calls::refuse(Answer::LengthOutOfRange, phase);
+    }
+    match message::judge_submission(msg) {
+        Submission::Malformed => calls::refuse(Answer::Malformed, phase),
+        Submission::Refused => calls::refuse(Answer::KindNotSent, phase),
+        Submission::Accepted(kind, label) => submit_accepted(image, phase, msg, kind, label),
+    }
+}

@@ -1,0 +1,58 @@
+// The two stores of Submit: the message's slot, then block 0.
+ghost use mathlib.Core.Path.{_≡_};
+ghost use Prim.Native.Nat.{_+_, _≤_, _<_};
+ghost use lib.ListN.{length};
+ghost use Rattle.message.specs.Submission.{submissionOf};
+ghost use Rattle.message.specs.declared.Submission.the-variants.{Accepted};
+ghost use Rattle.label_list.specs.Word.{wordCount};
+ghost use Rattle.block0.specs.Layout.{slotCount};
+ghost use Rattle.slot.specs.Layout.{longest};
+ghost use Rattle.image.specs.Sizes.{imageSize, blockOf, slotAt};
+ghost use Rattle.image.specs.State.{decode, storeSlot, store0};
+ghost use Rattle.submit.specs.Act.{withHeld, submitSlot};
+use block0::Header;
+use message::Kind;
+
+// The slot after that of the newest held.
+fn next_slot(h: Header) -> usize
+    ensures { λ r. ⌜ (r ≡ slotAt (h .first) (h .held)) × (r < slotCount) ⌝ }
+{
+    (h.first as usize + h.held as usize) % 64
+}
+
+fn with_held(h: Header, held: u16) -> Header
+    ensures { λ r. ⌜ r ≡ withHeld h held ⌝ }
+{
+    let released = h.released;
+    let issued = h.issued;
+    let secured = h.secured;
+    Header {
+        released: released,
+        issued: issued,
+        secured: secured,
+        first: h.first,
+        held: held,
+        timeout: h.timeout,
+        kept: h.kept,
+        keepalive: h.keepalive,
+        maxpdu: h.maxpdu,
+    }
+}
+
+// Stores the message as the newest held, with the label words that it leads to. The block of its slot.
+pub fn store_message(
+    image: &mut [u8],
+    msg: &[u8],
+    kind: Kind,
+    label: u32,
+    words: &[u32],
+) -> usize
+    requires { ⌜ (length (now image) ≡ imageSize) × (decode (now image) .header .held < slotCount) × (length (now msg) ≤ longest) × (submissionOf (now msg) ≡ Accepted kind label) × (length (now words) ≡ wordCount) ⌝ }
+    ensures { λ r. ⌜ (r ≡ blockOf (submitSlot (decode (now (image .entry))))) × (now (image .exit) ≡ store0 (storeSlot (now (image .entry)) (submitSlot (decode (now (image .entry)))) (now (msg .entry))) (withHeld (decode (now (image .entry)) .header) (decode (now (image .entry)) .header .held + 1)) (now (words .entry))) ⌝ }
+{
+    let h = image::header_of(image);
+    let k = next_slot(h);
+    image::store_slot(image, k, msg, kind, label);
+    image::store_block0(image, with_held(h, h.held + 1), words);
+    k + 1
+}
