@@ -23,7 +23,7 @@ use Rattle.calls.specs.Outcomes.{after, isDone, refusal, admitted, roomFor, set
 use Rattle.calls.proofs.Settled.{Admitted, admit-refused, admit-passed, admitted-is, admitted-sound}
 use Rattle.calls.proofs.Ends.{settle-refusal, unchanged-is}
 use Rattle.send.specs.Rule.{isUp, sentOf, sendBytes, sendRule, sendAnswer, sendOf}
-use Rattle.send.proofs.Refusals.{Harmless, admitted-harmless, admitted-done, admitted-other}
+use Rattle.call_meaning.proofs.Refusals.{Harmless, admitted-harmless, admitted-done, admitted-other}
 
 -- ---- the tests; the premises are what the callees ensure
 module _ (im : List ℕ) (ph : Phase) (a : Answer) {r : Answer} (e : r ≡ admitted im ph Answer.Done) where
