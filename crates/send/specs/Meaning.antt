@@ -3,7 +3,6 @@ use mathlib.Core.Path.{_≡_}
 use mathlib.Core.Bool.{Bool}
 use mathlib.Core.List.{List}
 use Prim.Native.Nat.{ℕ, _+_, _≤_, _<_}
-use lib.ListN.{length}
 use Rattle.octets.specs.Part.{overlaid}
 use Rattle.ft_number.specs.Circle.{next}
 use Rattle.message_writer.specs.Forms.{protectedBytes}
