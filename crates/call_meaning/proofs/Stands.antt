@@ -1,4 +1,4 @@
--- However a call ends that is not done, it leaves a sound image in range and a phase that the image allows. Assumes nothing.
+-- However a call ends, it leaves a sound image in range and a phase that the image allows. Assumes nothing.
 use mathlib.Core.Path.{_≡_, refl, ap, _∙_}
 use mathlib.Core.Bool.{true}
 use mathlib.Core.List.{List}
@@ -13,6 +13,7 @@ use Rattle.label_list.specs.Rules.{codeSwept}
 use Rattle.label_list.specs.Sweep.{wordSwept, sweptOf}
 use Rattle.label_list.specs.Valid.{validOf}
 use Rattle.label_list.specs.declared.SweepRule.the-variants.{AfterBreak}
+use Rattle.label_list.proofs.Choice.{by-test}
 use Rattle.label_meaning.specs.Event.{Broken, step}
 use Rattle.label_meaning.proofs.Kept.{step-length}
 use Rattle.label_meaning.proofs.Meaning.{valid-means, valid-range}
@@ -33,9 +34,11 @@ use Rattle.calls.specs.declared.Effect.{Effect}
 use Rattle.calls.specs.declared.Phase.{Phase}
 use Rattle.calls.specs.Answers.{effectOf}
 use Rattle.calls.specs.Phases.{phaseFits, restingPhase}
-use Rattle.calls.specs.Outcomes.{After, failedWith, releasedWith, settledBy, settleOf}
+use Rattle.calls.specs.Outcomes.{After, isDone, unchanged, failedWith, releasedWith, settledBy, settleOf}
+use Rattle.calls.proofs.Ends.{settle-other}
 use Rattle.calls.proofs.Phasing.{resting-failed, resting-idle}
-use Rattle.timers.specs.Standing.{Standing, Stands}
+use Rattle.call_meaning.specs.Standing.{Standing, Stands}
+use Rattle.call_meaning.proofs.Refusals.{settle-does}
 
 -- ---- as connection failed
 broken-valid : (ls : List ℕ) → validOf ls ≡ true → validOf (sweptOf ls AfterBreak) ≡ true
@@ -107,13 +110,16 @@ module _ (im : List ℕ) (ph : Phase) (st : Standing im ph) (a : Answer) (o : Li
     fits = rw (release-decodes im (st .sound .size));
   }
 
-  -- what is done stands, so whatever the answer is, what is left stands
-  pub settled-stands : (done : After) → Stands done → Stands (settleOf a ph im o done)
+  other-stands : (f : Effect) → Stands (settledBy f a ph im o (unchanged a ph im o))
+  other-stands Effect.Nothing = st
+  other-stands Effect.Fail = failed-stands
+  other-stands Effect.Release = released-stands
+  other-stands Effect.Act = st
+
+  -- where what is done stands, what is left stands whatever the answer is
+  pub settled-stands : (done : After) → (isDone a ≡ true → Stands done) → Stands (settleOf a ph im o done)
   unfolding settleOf
-  settled-stands done d = by (effectOf a)
-    where
-      by : (f : Effect) → Stands (settledBy f a ph im o done)
-      by Effect.Nothing = st
-      by Effect.Fail = failed-stands
-      by Effect.Release = released-stands
-      by Effect.Act = d
+  settled-stands done d =
+      by-test (isDone a)
+      (λ t. rw (settle-does a ph im o done t) (d t))
+      (λ n. rw (settle-other a ph im o done (unchanged a ph im o) n) (other-stands (effectOf a)))
