@@ -1,3 +1,5 @@
 pub mod Calling
+pub mod Stands
 pub mod Started
 pub mod Written
+pub mod Meaning

@@ -110,7 +110,7 @@ module _ (im : List ℕ) (ph : Phase) (id : MessageId) (out : List ℕ) {r : Ans
   alive-barred d f p = writer-barred im ph (isUp ph) ph out (aliveBytes (decode im .header) ph id) e d f p
 
   pub alive-wrote : {x : Outcome} {h : Header} {ack : FtField} {w : Written} {out′ : List ℕ} → isDone r ≡ true → isUp ph ≡ true
-      → h ≡ decode im .header → ack ≡ aliveAck ph h → (w, out′) ≡ writtenOf out (keepaliveBytes id ack) → x ≡ writtenAs w ph ph
+      → h ≡ decode im .header → ack ≡ aliveAck ph (h .secured) → (w, out′) ≡ writtenOf out (keepaliveBytes id ack) → x ≡ writtenAs w ph ph
       → after x im out′ ≡ keepaliveOf im ph id out
   unfolding keepaliveOf
   alive-wrote d f eh ea q p =

@@ -7,6 +7,7 @@ use lib.Dec.{eqb}
 use lib.ListN.{length}
 use Rattle.octets.specs.Pick.{pick}
 use Rattle.ft_number.specs.Timeout.{proposedOf}
+use Rattle.ft_number.specs.declared.FtNumber.{FtNumber}
 use Rattle.ft_number.specs.declared.MessageId.{MessageId}
 use Rattle.ft_number.specs.declared.Proposal.{Proposal}
 use Rattle.tlv.specs.declared.FtField
@@ -62,16 +63,16 @@ isUp (Phase.UpFT sent) = true
 isUp Phase.UpPlain = true
 isUp Phase.Failed = false
 
--- the ACK that a KeepAlive bears
-abbrev pub aliveAck : Phase → Header → FtField
-aliveAck Phase.Idle h = FtField.Absent
-aliveAck (Phase.InitWait t) h = FtField.Absent
-aliveAck (Phase.UpFT sent) h = FtField.Number (h .secured)
-aliveAck Phase.UpPlain h = FtField.Absent
-aliveAck Phase.Failed h = FtField.Absent
+-- the ACK that a KeepAlive bears, S in UpFT
+abbrev pub aliveAck : Phase → FtNumber → FtField
+aliveAck Phase.Idle secured = FtField.Absent
+aliveAck (Phase.InitWait t) secured = FtField.Absent
+aliveAck (Phase.UpFT sent) secured = FtField.Number secured
+aliveAck Phase.UpPlain secured = FtField.Absent
+aliveAck Phase.Failed secured = FtField.Absent
 
 abbrev pub aliveBytes : Header → Phase → MessageId → List ℕ
-aliveBytes h ph id = keepaliveBytes id (aliveAck ph h)
+aliveBytes h ph id = keepaliveBytes id (aliveAck ph (h .secured))
 
 unfoldable pub keepaliveOf : List ℕ → Phase → MessageId → List ℕ → After
 keepaliveOf im ph id out = writerOf im ph (isUp ph) ph out (aliveBytes (decode im .header) ph id)

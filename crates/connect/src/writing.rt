@@ -6,6 +6,7 @@ use block0::Header;
 use calls::Answer;
 use calls::Outcome;
 use calls::Phase;
+use ft_number::FtNumber;
 use ft_number::MessageId;
 use ft_number::Proposal;
 use message_writer::OwnParameters;
@@ -50,10 +51,9 @@ fn is_up(phase: Phase) -> bool
 }
 
 // The ACK that a KeepAlive bears: in UpFT alone.
-fn alive_ack(phase: Phase, h: Header) -> FtField
-    ensures { λ r. ⌜ r ≡ aliveAck phase h ⌝ }
+fn alive_ack(phase: Phase, secured: FtNumber) -> FtField
+    ensures { λ r. ⌜ r ≡ aliveAck phase secured ⌝ }
 {
-    let secured = h.secured;
     match phase {
         Phase::Idle => FtField::Absent,
         Phase::InitWait(_) => FtField::Absent,
@@ -114,7 +114,8 @@ pub fn keepalive(image: &[u8], phase: Phase, id: MessageId, out: &mut [u8]) -> O
     if !is_up(phase) {
         return calls::refuse(Answer::WrongPhase, phase);
     }
-    let ack = alive_ack(phase, image::header_of(image));
+    let h = image::header_of(image);
+    let ack = alive_ack(phase, h.secured);
     let written = message_writer::write_keepalive(out, id, ack);
     answer_written(written, phase, phase)
 }

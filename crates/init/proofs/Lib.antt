@@ -1,2 +1,7 @@
 pub mod Starts
+pub mod Cases
+pub mod Widths
 pub mod Received
+pub mod Released
+pub mod Begun
+pub mod Meaning

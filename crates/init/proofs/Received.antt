@@ -29,7 +29,7 @@ use Rattle.init.specs.declared.Start.{Start}
 use Rattle.init.specs.declared.Terms.{Terms}
 use Rattle.init.specs.Judged.{startOf, startAnswer}
 use Rattle.init.specs.Begun.{resumed, withTimeout, startImage, StartFits, awaits, proposalOf, startPhase, initStart, begunAs, initReceivedOf}
-use Rattle.init.proofs.Starts.{start-fits}
+use Rattle.init.proofs.Cases.{start-fits}
 
 -- ---- the state stored
 pub resumed-is : (im : List ℕ) (t : Terms) (k a : ℕ) {h h₂ : Header} {ls ls₂ im′ : List ℕ} → h ≡ decode im .header → ls ≡ decode im .labels

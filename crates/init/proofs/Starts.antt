@@ -1,38 +1,27 @@
 -- How an Init is judged, test by test. Assumes nothing.
-use mathlib.Core.Path.{_≡_, refl, sym, ap, _∙_}
+use mathlib.Core.Path.{_≡_}
 use mathlib.Core.Bool.{Bool, true, false, not}
-use Prim.Native.Nat.{ℕ, _≤_}
-use native.Mathlib.Omega.{arith}
-use borrow.Author.Tests.{eq-eqb, ne-eqb, leb-true, not-true, not-false}
-use lib.Dec.{eqb}
-use Rattle.octets.specs.Pick.{pick, both}
-use Rattle.ft_number.specs.Circle.{stepsOf}
+use Prim.Native.Nat.{ℕ}
+use borrow.Author.Tests.{eq-eqb, ne-eqb, not-true, not-false}
 use Rattle.ft_number.specs.Ack.{ackOf}
 use Rattle.ft_number.specs.Timeout.{lesserOf}
 use Rattle.ft_number.specs.declared.Ack
 use Rattle.ft_number.specs.declared.Ack.{Ack}
-use Rattle.ft_number.specs.declared.Steps
-use Rattle.ft_number.specs.declared.Steps.{Steps}
-use Rattle.ft_number.proofs.Circle.{Acknowledged, ack-releases}
 use Rattle.tlv.specs.declared.FtField
 use Rattle.tlv.specs.declared.FtField.{FtField}
-use Rattle.tlv.specs.declared.Parameters
-use Rattle.tlv.specs.declared.Parameters.{Parameters}
 use Rattle.tlv.specs.declared.Session
 use Rattle.tlv.specs.declared.Session.{Session}
 use Rattle.message.specs.declared.Message.{Message}
 use Rattle.message.specs.declared.Reading
 use Rattle.message.specs.declared.Reading.{Reading}
 use Rattle.block0.specs.declared.Header.{Header}
-use Rattle.block0.specs.Fields.{atMost}
 use Rattle.calls.specs.declared.Answer
 use Rattle.calls.specs.declared.Answer.{Answer}
 use Rattle.calls.specs.Received.{isInit}
 use Rattle.init.specs.declared.Start
 use Rattle.init.specs.declared.Start.{Start}
 use Rattle.init.specs.declared.Terms.{Terms}
-use Rattle.init.specs.Judged.{termsOf, resumedBy, bothSet, peerSet, sessionStart, parametersStart, startOf}
-use Rattle.init.specs.Begun.{StartFits}
+use Rattle.init.specs.Judged.{resumedBy, bothSet, peerSet, sessionStart, parametersStart, startOf}
 
 -- ---- both R set
 module _ (h : Header) (t : Terms) (a : ℕ) where
@@ -82,45 +71,3 @@ module _ (h : Header) (p : ℕ) {rd : Reading} {g : Message} (w : rd ≡ Reading
 pub start-malformed : (h : Header) (p : ℕ) {rd : Reading} → rd ≡ Reading.Malformed → Start.Refused Answer.MalformedReceived ≡ startOf h p rd
 unfolding startOf
 start-malformed h p w = rw w
-
--- ---- an ACK that releases names no more than are held
-module _ (h : Header) (window : atMost (h .held) (stepsOf (h .released .0) (h .issued .0)) ≡ true) where
-  pub ack-held : (a k : ℕ) → ackOf (h .released .0) (h .issued .0) a ≡ Ack.Releases k → k ≤ h .held
-  ack-held a k e =
-      let c : Acknowledged (h .released .0) (h .issued .0) a k = ack-releases (h .released .0) (h .issued .0) a k e in
-      omega (arith, c .few, leb-true (c .issued) (h .held) (rw (c .window) at window))
-
-  both-fits : (t : Terms) (a : ℕ) → StartFits (h .held) (bothSet h t a)
-  unfolding bothSet
-  both-fits t a = by (both (eqb (h .keepalive) (t .keepalive)) (eqb (h .maxpdu) (t .maxpdu))) (ackOf (h .released .0) (h .issued .0) a) refl
-    where
-      by : (b : Bool) (k : Ack) → ackOf (h .released .0) (h .issued .0) a ≡ k → StartFits (h .held) (pick b (resumedBy t a k) (Start.Refused Answer.ParametersChanged))
-      by true (Ack.Releases k) e = ack-held a k e
-      by true Ack.SequenceError e = tt
-      by false k e = tt
-
-  peer-fits : (t : Terms) (ack : FtField) → StartFits (h .held) (peerSet h t ack)
-  peer-fits t FtField.Absent = tt
-  peer-fits t (FtField.Number a) = by (eqb (h .kept) 1)
-    where
-      by : (b : Bool) → StartFits (h .held) (pick b (bothSet h t (a .0)) (Start.Fresh t))
-      by true = both-fits t (a .0)
-      by false = tt
-
-  session-fits : (p ka mp : ℕ) (ack : FtField) (s : Session) → StartFits (h .held) (sessionStart h p ka mp ack s)
-  session-fits p ka mp ack Session.Absent = tt
-  session-fits p ka mp ack (Session.Given true n) = peer-fits (termsOf p n ka mp) ack
-  session-fits p ka mp ack (Session.Given false n) = tt
-
-  parameters-fit : (p : ℕ) (ack : FtField) (s : Session) (q : Parameters) → StartFits (h .held) (parametersStart h p ack s q)
-  parameters-fit p ack s Parameters.Absent = tt
-  parameters-fit p ack s (Parameters.Given ka mp) = session-fits p ka mp ack s
-
-  pub start-fits : (p : ℕ) (rd : Reading) → StartFits (h .held) (startOf h p rd)
-  unfolding startOf
-  start-fits p Reading.Malformed = tt
-  start-fits p (Reading.Whole g) = by (isInit (g .typename))
-    where
-      by : (b : Bool) → StartFits (h .held) (pick b (parametersStart h p (g .ack) (g .session) (g .parameters)) (Start.Refused Answer.MalformedReceived))
-      by true = parameters-fit p (g .ack) (g .session) (g .parameters)
-      by false = tt

@@ -1,2 +1,4 @@
 pub mod Judged
 pub mod Begun
+pub mod Cases
+pub mod Meaning

@@ -1,5 +1,5 @@
 -- What Send next writes and stores; the premises are what the callees ensure. Assumes nothing.
-use mathlib.Core.Path.{_≡_, refl, sym, ap, ap₂, _∙_}
+use mathlib.Core.Path.{_≡_, refl, sym, ap, _∙_}
 use mathlib.Core.Bool.{Bool, true, false}
 use mathlib.Core.List.{List, []}
 use Prim.Native.Nat.{ℕ, _+_, _≤_, _<_}
@@ -13,7 +13,6 @@ use Rattle.octets.specs.Pick.{pick}
 use Rattle.octets.proofs.Differ.{differ-self}
 use Rattle.ft_number.specs.Circle.{after as successors}
 use Rattle.ft_number.specs.declared.FtNumber.{FtNumber}
-use Rattle.tlv.specs.declared.FtField
 use Rattle.tlv.specs.declared.FtField.{FtField}
 use Rattle.message_writer.specs.Forms.{protectedBytes}
 use Rattle.message_writer.specs.Written.{writtenOf}
@@ -33,7 +32,7 @@ use Rattle.calls.specs.declared.Phase
 use Rattle.calls.specs.declared.Phase.{Phase}
 use Rattle.calls.specs.Answers.{effectOf}
 use Rattle.calls.specs.Phases.{issuedCount}
-use Rattle.calls.specs.Outcomes.{after, refusal, roomFor, wrote, settleOf}
+use Rattle.calls.specs.Outcomes.{after, refusal}
 use Rattle.calls.proofs.Ends.{settle-refusal, settle-done, unchanged-is}
 use Rattle.send.specs.Rule.{sentOf, numberAt, ackAsked, sendBytes, sendAnswer, withIssued, numbered, sendImage, sendOf}
 use Rattle.send.proofs.Judged.{Sendable, sendable-answer}

@@ -9,7 +9,7 @@ use lib.Dec.{ltb}
 use lib.ListN.{length}
 use Rattle.octets.specs.Pick.{pick}
 use Rattle.block0.specs.declared.Header.{Header}
-use Rattle.image.specs.State.{State, decode}
+use Rattle.image.specs.State.{decode}
 use Rattle.image.specs.Verdict.{IsSound}
 use Rattle.image.proofs.Sound.{sound-valid}
 use Rattle.calls.specs.declared.Answer
@@ -19,11 +19,11 @@ use Rattle.calls.specs.declared.Effect.{Effect}
 use Rattle.calls.specs.declared.Outcome.{Outcome}
 use Rattle.calls.specs.declared.Phase.{Phase}
 use Rattle.calls.specs.Answers.{effectOf}
-use Rattle.calls.specs.Outcomes.{after, isDone, refusal, admitted, roomFor, settleOf}
+use Rattle.calls.specs.Outcomes.{after, isDone, refusal, admitted, roomFor}
 use Rattle.calls.proofs.Settled.{Admitted, admit-refused, admit-passed, admitted-is, admitted-sound}
 use Rattle.calls.proofs.Ends.{settle-refusal, unchanged-is}
 use Rattle.send.specs.Rule.{isUp, sentOf, sendBytes, sendRule, sendAnswer, sendOf}
-use Rattle.send.proofs.Refusals.{Harmless, admitted-harmless, admitted-done, admitted-other}
+use Rattle.call_meaning.proofs.Refusals.{Harmless, admitted-harmless, admitted-done, admitted-other}
 
 -- ---- the tests; the premises are what the callees ensure
 module _ (im : List ℕ) (ph : Phase) (a : Answer) {r : Answer} (e : r ≡ admitted im ph Answer.Done) where
@@ -77,32 +77,36 @@ rule-other true true a n = let z : _≡_ {A = ℕ} 0 1 = cc in absurd (omega ari
 rule-other true false a n = refl
 rule-other false l a n = refl
 
-rule-done : (u l : Bool) → isDone (pick u (pick l Answer.Done Answer.NothingUnsent) Answer.WrongPhase) ≡ true → (u ≡ true) × (l ≡ true)
-rule-done true true t = (refl, refl)
-rule-done true false t = let z : _≡_ {A = ℕ} 0 1 = cc in absurd (omega arith)
-rule-done false l t = let z : _≡_ {A = ℕ} 0 1 = cc in absurd (omega arith)
+rule-done : (u l : Bool) (a : Answer) → isDone (pick u (pick l a Answer.NothingUnsent) Answer.WrongPhase) ≡ true → (u ≡ true) × (l ≡ true)
+rule-done true true a t = (refl, refl)
+rule-done true false a t = let z : _≡_ {A = ℕ} 0 1 = cc in absurd (omega arith)
+rule-done false l a t = let z : _≡_ {A = ℕ} 0 1 = cc in absurd (omega arith)
 
-module _ (im : List ℕ) (ph : Phase) {r : Answer} (e : r ≡ admitted im ph (sendRule (decode im) ph Answer.Done)) where
-  pub judged-sendable : isDone r ≡ true → Sendable im ph
-  unfolding sendRule
-  judged-sendable t =
-      let p = admitted-done im ph (sendRule (decode im) ph Answer.Done) (ap isDone (sym e) ∙ t) in
-      let q = rule-done (isUp ph) (ltb (sentOf ph) (decode im .header .held)) (p .1) in
-      record { admitted = p .0; up = q .0; some = ltb-true (sentOf ph) (decode im .header .held) (q .1) }
+pub judged-sendable : (im : List ℕ) (ph : Phase) (a : Answer) {r : Answer} → r ≡ admitted im ph (sendRule (decode im) ph a) → isDone r ≡ true → Sendable im ph
+unfolding sendRule
+judged-sendable im ph a e t =
+    let p = admitted-done im ph (sendRule (decode im) ph a) (ap isDone (sym e) ∙ t) in
+    let q = rule-done (isUp ph) (ltb (sentOf ph) (decode im .header .held)) a (p .1) in
+    record { admitted = p .0; up = q .0; some = ltb-true (sentOf ph) (decode im .header .held) (q .1) }
 
-  pub judged-refused : (ask : Bool) (o : List ℕ) {x : Outcome} → isDone r ≡ false → x ≡ refusal r ph → after x im o ≡ sendOf im ph ask o
-  unfolding sendRule sendAnswer sendOf
-  judged-refused ask o n ex =
-      let u : Bool = isUp ph in
-      let l : Bool = ltb (sentOf ph) (decode im .header .held) in
-      let room : Answer = roomFor (sendBytes (decode im) (sentOf ph) ask) (length o) in
-      let own : Answer = pick u (pick l Answer.Done Answer.NothingUnsent) Answer.WrongPhase in
-      let full : Answer = pick u (pick l room Answer.NothingUnsent) Answer.WrongPhase in
-      let refused : isDone (admitted im ph own) ≡ false = ap isDone (sym e) ∙ n in
-      let same : admitted im ph own ≡ admitted im ph full = admitted-other im ph own full (rule-other u l room) refused in
-      let nothing : effectOf (admitted im ph full) ≡ Effect.Nothing = ap effectOf (sym same) ∙ admitted-harmless im ph own (rule-harmless u l) refused in
-      unchanged-is (admitted im ph full) ph im o (ex ∙ ap (λ (a : Answer). refusal a ph) (e ∙ same))
-      ∙ sym (settle-refusal (admitted im ph full) ph im o _ nothing)
+pub judged-refused : (im : List ℕ) (ph : Phase) (ask : Bool) (o : List ℕ) {r : Answer} {x : Outcome} → r ≡ admitted im ph (sendRule (decode im) ph Answer.Done)
+    → isDone r ≡ false → x ≡ refusal r ph → after x im o ≡ sendOf im ph ask o
+unfolding sendRule sendAnswer sendOf
+judged-refused im ph ask o e n ex =
+    let u : Bool = isUp ph in
+    let l : Bool = ltb (sentOf ph) (decode im .header .held) in
+    let room : Answer = roomFor (sendBytes (decode im) (sentOf ph) ask) (length o) in
+    let own : Answer = pick u (pick l Answer.Done Answer.NothingUnsent) Answer.WrongPhase in
+    let full : Answer = pick u (pick l room Answer.NothingUnsent) Answer.WrongPhase in
+    let refused : isDone (admitted im ph own) ≡ false = ap isDone (sym e) ∙ n in
+    let same : admitted im ph own ≡ admitted im ph full = admitted-other im ph own full (rule-other u l room) refused in
+    let nothing : effectOf (admitted im ph full) ≡ Effect.Nothing = ap effectOf (sym same) ∙ admitted-harmless im ph own (rule-harmless u l) refused in
+    unchanged-is (admitted im ph full) ph im o (ex ∙ ap (λ (a : Answer). refusal a ph) (e ∙ same))
+    ∙ sym (settle-refusal (admitted im ph full) ph im o _ nothing)
+
+pub answered-sendable : (im : List ℕ) (ph : Phase) (ask : Bool) (room : ℕ) → isDone (sendAnswer im ph ask room) ≡ true → Sendable im ph
+unfolding sendAnswer
+answered-sendable im ph ask room t = judged-sendable im ph (roomFor (sendBytes (decode im) (sentOf ph) ask) room) refl t
 
 -- then the room decides
 pub sendable-answer : {im : List ℕ} {ph : Phase} → Sendable im ph → (ask : Bool) (room : ℕ) → sendAnswer im ph ask room ≡ roomFor (sendBytes (decode im) (sentOf ph) ask) room

@@ -1,3 +1,4 @@
 pub mod Labels
 pub mod Rule
 pub mod Act
+pub mod Passed

@@ -30,13 +30,7 @@ const LONGEST: usize = 480;
 const HELD_LIMIT: u16 = 64;
 
 // A message that passes 3, 4 and 5, with its kind and label.
-fn submit_accepted(
-    image: &mut [u8],
-    phase: Phase,
-    msg: &[u8],
-    kind: Kind,
-    label: u32,
-) -> Outcome
+fn submit_accepted(image: &mut [u8], phase: Phase, msg: &[u8], kind: Kind, label: u32) -> Outcome
     requires { ⌜ IsSound (now image) × (shortest ≤ length (now msg)) × (length (now msg) ≤ longest) × (submissionOf (now msg) ≡ Accepted kind label) ⌝ }
     ensures { λ r. ⌜ after r (now (image .exit)) [] ≡ settleOf (kindRule (decode (now (image .entry))) kind label) phase (now (image .entry)) [] (queued (now (image .entry)) phase (now (msg .entry))) ⌝ }
 {

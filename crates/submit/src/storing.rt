@@ -40,13 +40,7 @@ fn with_held(h: Header, held: u16) -> Header
 }
 
 // Stores the message as the newest held, with the label words that it leads to. The block of its slot.
-pub fn store_message(
-    image: &mut [u8],
-    msg: &[u8],
-    kind: Kind,
-    label: u32,
-    words: &[u32],
-) -> usize
+pub fn store_message(image: &mut [u8], msg: &[u8], kind: Kind, label: u32, words: &[u32]) -> usize
     requires { ⌜ (length (now image) ≡ imageSize) × (decode (now image) .header .held < slotCount) × (length (now msg) ≤ longest) × (submissionOf (now msg) ≡ Accepted kind label) × (length (now words) ≡ wordCount) ⌝ }
     ensures { λ r. ⌜ (r ≡ blockOf (submitSlot (decode (now (image .entry))))) × (now (image .exit) ≡ store0 (storeSlot (now (image .entry)) (submitSlot (decode (now (image .entry)))) (now (msg .entry))) (withHeld (decode (now (image .entry)) .header) (decode (now (image .entry)) .header .held + 1)) (now (words .entry))) ⌝ }
 {

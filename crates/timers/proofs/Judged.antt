@@ -18,7 +18,7 @@ use Rattle.calls.specs.Outcomes.{After, after, isDone, refusal, unchanged, rele
 use Rattle.calls.proofs.Settled.{admit-refused, admit-passed, admitted-is, admitted-sound}
 use Rattle.calls.proofs.Ends.{settle-refusal, unchanged-is}
 use Rattle.timers.specs.Events.{eventAnswer, expired}
-use Rattle.timers.proofs.Refusals.{Harmless, admitted-harmless, admitted-done, settle-does}
+use Rattle.call_meaning.proofs.Refusals.{Harmless, admitted-harmless, admitted-done, settle-does}
 
 -- ---- the first tests
 module _ (im : List ℕ) (ph : Phase) (may : Bool) {r : Answer} (e : r ≡ admitted im ph Answer.Done) where

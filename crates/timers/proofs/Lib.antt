@@ -1,4 +1,2 @@
-pub mod Refusals
 pub mod Judged
-pub mod Stands
 pub mod Meaning

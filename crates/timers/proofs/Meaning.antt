@@ -29,11 +29,11 @@ use Rattle.calls.specs.Outcomes.{unchanged, failedWith, releasedWith}
 use Rattle.calls.proofs.Settled.{Admitted, admitted-is}
 use Rattle.calls.proofs.Phasing.{resting-failed, resting-idle}
 use Rattle.timers.specs.Events.{connected, waiting, eventAnswer, connectionFailedOf, expired, timePassedOf}
-use Rattle.timers.specs.Standing.{Standing, Stands}
+use Rattle.call_meaning.specs.Standing.{Standing, Stands}
 use Rattle.timers.specs.Meaning.{freed, failedState, FailedFrom, ReleasedFrom, TimePassed}
-use Rattle.timers.proofs.Refusals.{settle-does}
+use Rattle.call_meaning.proofs.Refusals.{settle-does}
 use Rattle.timers.proofs.Judged.{never-expires, expires}
-use Rattle.timers.proofs.Stands.{break-decodes, failed-stands, released-stands, settled-stands}
+use Rattle.call_meaning.proofs.Stands.{break-decodes, failed-stands, released-stands, settled-stands}
 
 -- ---- the words
 -- a word that is free or in range is freed exactly if its code is 6
@@ -86,13 +86,13 @@ module _ (im : List ℕ) (ph : Phase) (st : Standing im ph) where
   -- whatever the answer is, what is left stands
   pub failed-keeps : Stands (connectionFailedOf im ph)
   unfolding connectionFailedOf
-  failed-keeps = settled-stands im ph st (eventAnswer im ph (connected ph)) [] (failedWith Answer.Done im []) (failed-stands im ph st Answer.Done [])
+  failed-keeps = settled-stands im ph st (eventAnswer im ph (connected ph)) [] (failedWith Answer.Done im []) (λ t. failed-stands im ph st Answer.Done [])
 
   pub passed-keeps : (elapsed : ℕ) → Stands (timePassedOf im ph elapsed)
   unfolding timePassedOf
   passed-keeps elapsed =
       settled-stands im ph st (eventAnswer im ph (waiting ph)) [] _
-      (pick-all Stands (expired (decode im .header) elapsed) (released-stands im ph st Answer.Done []) st)
+      (λ t. pick-all Stands (expired (decode im .header) elapsed) (released-stands im ph st Answer.Done []) st)
 
 -- ---- passed time
 module _ (im : List ℕ) (st : Standing im Phase.Failed) (elapsed : ℕ) where

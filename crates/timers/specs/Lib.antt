@@ -1,3 +1,2 @@
 pub mod Events
-pub mod Standing
 pub mod Meaning

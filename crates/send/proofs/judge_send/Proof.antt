@@ -13,7 +13,7 @@ judge-send-spec =
     (tie.spec
     (λ c κs. search needs)
     (λ c κs. search needs)
-    (λ c. judge-first _ _ _ (c .before .before .admit .ensures) (sym (c .before .is-done .ensures) ∙ not-true (c .before .is-done .result) (c  .if1 .taken)))
+    (λ c. judge-first _ _ _ (c .before .before .admit .ensures) (sym (c .before .is-done .ensures) ∙ not-true (c .before .is-done .result) (c .if1 .taken)))
     (λ c κs. search needs)
     (λ c. judge-down _ _ _ (c .before .before .before .before .admit .ensures) (sym (c .before .before .before .is-done .ensures) ∙ not-false (c .before .before .before .is-done .result) (c .before .before .if1 .left)) (c .before .is-up .ensures) (not-true (c .before .is-up .result) (c .if2 .taken)))
     (λ c κs. judge-sound _ _ Answer.Done (c .before .before .before .before .admit .ensures) (sym (c .before .before .before .is-done .ensures) ∙ not-false (c .before .before .before .is-done .result) (c .before .before .if1 .left)) .size)

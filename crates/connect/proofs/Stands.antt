@@ -35,7 +35,7 @@ use Rattle.calls.specs.Answers.{effectOf}
 use Rattle.calls.specs.Phases.{phaseFits, restingPhase}
 use Rattle.calls.specs.Outcomes.{After, failedWith, releasedWith, settledBy, settleOf}
 use Rattle.calls.proofs.Phasing.{resting-failed, resting-idle}
-use Rattle.timers.specs.Standing.{Standing, Stands}
+use Rattle.connect.specs.Standing.{Standing, Stands}
 
 -- ---- as connection failed
 broken-valid : (ls : List ℕ) → validOf ls ≡ true → validOf (sweptOf ls AfterBreak) ≡ true

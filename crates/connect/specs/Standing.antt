@@ -1,0 +1,19 @@
+-- What every call keeps: a sound image whose numbers have their widths, and a phase that it allows.
+use mathlib.Core.Path.{_≡_}
+use mathlib.Core.Bool.{true}
+use mathlib.Core.List.{List}
+use Prim.Native.Nat.{ℕ}
+use Rattle.image.specs.State.{decode, InRange}
+use Rattle.image.specs.Verdict.{IsSound}
+use Rattle.calls.specs.declared.Phase.{Phase}
+use Rattle.calls.specs.Phases.{phaseFits}
+use Rattle.calls.specs.Outcomes.{After}
+
+pub record Standing (im : List ℕ) (ph : Phase) : Type 0 where
+  pub sound : IsSound im
+  pub range : InRange (decode im)
+  pub fits : phaseFits ph (decode im .header) ≡ true
+
+-- what a call leaves stands
+abbrev pub Stands : After → Type 0
+Stands x = Standing (x .image) (x .outcome .phase)

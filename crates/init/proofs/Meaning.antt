@@ -1,0 +1,74 @@
+-- What the peer's Init leaves. Assumes nothing.
+use mathlib.Core.Path.{_≡_, refl, sym, ap, _∙_}
+use mathlib.Core.Bool.{true, false}
+use mathlib.Core.List.{List, []}
+use Prim.Native.Nat.{ℕ, _<_}
+use lib.ListN.{length, drop}
+use Rattle.octets.specs.Pick.{pick}
+use Rattle.message.specs.Reading.{readingOf}
+use Rattle.block0.specs.Layout.{noLabels}
+use Rattle.image.specs.Sizes.{imageSize}
+use Rattle.image.specs.State.{State, decode, store}
+use Rattle.image.proofs.Ranges.{Bytes}
+use Rattle.image.proofs.Sound.{parts-sound}
+use Rattle.calls.specs.declared.Answer
+use Rattle.calls.specs.declared.Answer.{Answer}
+use Rattle.calls.specs.declared.Phase
+use Rattle.calls.specs.declared.Phase.{Phase}
+use Rattle.calls.specs.Acked.{acked}
+use Rattle.calls.specs.Outcomes.{After, isDone, admitted, settleOf}
+use Rattle.calls.proofs.Settled.{Admitted, admitted-is}
+use Rattle.connect.specs.Standing.{Standing, Stands}
+use Rattle.connect.proofs.Calling.{own-done}
+use Rattle.connect.proofs.Stands.{settled-stands}
+use Rattle.init.specs.declared.Start
+use Rattle.init.specs.declared.Start.{Start}
+use Rattle.init.specs.declared.Terms.{Terms}
+use Rattle.init.specs.Judged.{startAnswer}
+use Rattle.init.specs.Begun.{fresh, freshHeader, resumed, startState, startPhase, startImage, awaits, proposalOf, initStart, begunAs, initReceivedOf}
+use Rattle.init.specs.Meaning.{TermsFit, BegunFrom}
+use Rattle.init.proofs.Cases.{cases}
+use Rattle.init.proofs.Widths.{start-width}
+use Rattle.init.proofs.Begun.{Stored, start-stored, fresh-stored}
+
+-- ---- the states
+-- "fresh UpFT, kept 1, peer's parameters stored": exactly that, whatever was there
+pub fresh-leaves : (im : List ℕ) (t : Terms) → length im ≡ imageSize → TermsFit t → decode (store im (fresh t)) ≡ record { header = freshHeader t; labels = noLabels; queue = [] }
+unfolding fresh
+fresh-leaves im t size f = fresh-stored t f im size .decodes
+
+-- a resumed session holds what the ACK did not release
+pub resumed-queue : (s : State) (t : Terms) (k a : ℕ) → resumed s t k a .queue ≡ drop k (s .queue)
+unfolding resumed acked
+resumed-queue s t k a = refl
+
+-- ---- the call
+module _ (im : List ℕ) (ph : Phase) (m : List ℕ) (st : Standing im ph) (byte : Bytes m) (low : proposalOf ph < 65536) where
+  stored : Stored (startImage im (initStart im ph m)) (startState (decode im) (initStart im ph m)) (startPhase ph (initStart im ph m))
+  stored =
+      start-stored im ph (st .sound) (st .range) (st .fits)
+      (start-width (decode im .header) (proposalOf ph) m low byte) (cases (decode im .header) (proposalOf ph) (readingOf m))
+
+  begun-stands : Stands (begunAs im ph (initStart im ph m))
+  unfolding begunAs
+  begun-stands = record { sound = stored .sound; range = rw (stored .decodes) (stored .range); fits = rw (stored .decodes) (stored .fits) }
+
+  -- whatever the answer is
+  pub init-stands : Stands (initReceivedOf im ph m)
+  unfolding initReceivedOf
+  init-stands =
+      settled-stands im ph st (admitted im ph (pick (awaits ph) (startAnswer (initStart im ph m)) Answer.WrongPhase)) [] (begunAs im ph (initStart im ph m)) begun-stands
+
+  admitted-here : Admitted im ph
+  admitted-here = record { passes = parts-sound im (st .sound); fits = st .fits }
+
+  init-is : awaits ph ≡ true → isDone (startAnswer (initStart im ph m)) ≡ true → initReceivedOf im ph m ≡ begunAs im ph (initStart im ph m)
+  unfolding initReceivedOf
+  init-is w d =
+      rw (admitted-is admitted-here (pick (awaits ph) (startAnswer (initStart im ph m)) Answer.WrongPhase), w)
+      (sym (own-done (startAnswer (initStart im ph m)) ph im [] (begunAs im ph (initStart im ph m)) d refl))
+
+  -- a start that is not refused leaves its state, and its phase
+  pub init-decodes : awaits ph ≡ true → isDone (startAnswer (initStart im ph m)) ≡ true → BegunFrom (decode im) ph (initStart im ph m) (initReceivedOf im ph m)
+  unfolding begunAs
+  init-decodes w d = rw (init-is w d) (record { answer = refl; state = stored .decodes; phase = refl })

@@ -1,0 +1,141 @@
+-- What Send next leaves: the state, the bytes, the numbers; and that it stands. Assumes nothing.
+use mathlib.Core.Path.{_≡_, refl, _∙_}
+use mathlib.Core.Bool.{Bool, true}
+use mathlib.Core.List.{List}
+use Prim.Native.Nat.{ℕ, _+_, _≤_, _<_}
+use native.Mathlib.Omega.{arith}
+use borrow.Author.Tests.{eq-eqb, eqb-true, lt-ltb, le-ltb, le-leb, leb-true, ltb-true}
+use lib.Dec.{eqb, leb, ltb}
+use lib.ListN.{length}
+use Rattle.label_list.proofs.Choice.{by-test, both-true}
+use Rattle.block0.specs.declared.Header.{Header}
+use Rattle.block0.specs.Fields.{Fits, Valid}
+use Rattle.image.specs.State.{decode, store, InRange}
+use Rattle.image.specs.Verdict.{IsSound}
+use Rattle.image.proofs.Stored.{decode-keep}
+use Rattle.image.proofs.Sound.{sound-valid, sound-keep, parts-sound}
+use Rattle.calls.specs.declared.Answer
+use Rattle.calls.specs.declared.Answer.{Answer}
+use Rattle.calls.specs.declared.Phase
+use Rattle.calls.specs.declared.Phase.{Phase}
+use Rattle.calls.specs.Phases.{phaseFits, issuedCount}
+use Rattle.calls.proofs.Ends.{settle-done}
+use Rattle.call_meaning.specs.Standing.{Standing, Stands}
+use Rattle.call_meaning.proofs.Stands.{settled-stands}
+use Rattle.send.specs.Rule.{isUp, sentOf, numberAt, sendBytes, sendAnswer, withIssued, numbered, sentState, sendImage, sendOf}
+use Rattle.send.specs.Meaning.{SentFrom, NumberedFrom}
+use Rattle.send.proofs.Judged.{Sendable, sendable-answer, answered-sendable}
+use Rattle.send.proofs.Numbers.{number-stays, number-next, number-fits, count-numbered, window-numbered}
+
+-- what UpFT tells of the image
+up-fits : (ph : Phase) (h : Header) → isUp ph ≡ true → phaseFits ph h ≡ true → (h .kept ≡ 1) × (sentOf ph ≤ issuedCount h)
+unfolding phaseFits
+up-fits Phase.Idle h u f = let z : _≡_ {A = ℕ} 0 1 = cc in absurd (omega arith)
+up-fits (Phase.InitWait t) h u f = let z : _≡_ {A = ℕ} 0 1 = cc in absurd (omega arith)
+up-fits (Phase.UpFT sent) h u f =
+    let p = both-true (eqb (h .kept) 1) (leb sent (issuedCount h)) f in
+    (eqb-true (h .kept) 1 (p .0), leb-true sent (issuedCount h) (p .1))
+up-fits Phase.UpPlain h u f = let z : _≡_ {A = ℕ} 0 1 = cc in absurd (omega arith)
+up-fits Phase.Failed h u f = let z : _≡_ {A = ℕ} 0 1 = cc in absurd (omega arith)
+
+fits-up : (h : Header) (n : ℕ) → h .kept ≡ 1 → n ≤ issuedCount h → phaseFits (Phase.UpFT n) h ≡ true
+unfolding phaseFits
+fits-up h n k l = rw (eq-eqb (h .kept) 1 k, le-leb n (issuedCount h) l)
+
+-- ---- the message at place `sent` is numbered
+module _ (im : List ℕ) (s : IsSound im) (r : InRange (decode im)) (sent : ℕ) (held : sent < decode im .header .held) (kept : decode im .header .kept ≡ 1) where
+  v : Valid (decode im .header) (decode im .labels)
+  v = sound-valid im s
+
+  few : sent < 64
+  few = omega (arith, v .held)
+
+  fit : Fits (withIssued (decode im .header) (numberAt (decode im .header) sent))
+  fit =
+      let f = r .header in
+      record {
+        released = f .released;
+        issued = number-fits (decode im .header) sent;
+        secured = f .secured;
+        first = f .first;
+        held = f .held;
+        timeout = f .timeout;
+        kept = f .kept;
+        keepalive = f .keepalive;
+        maxpdu = f .maxpdu;
+      }
+
+  valid : Valid (withIssued (decode im .header) (numberAt (decode im .header) sent)) (decode im .labels)
+  valid = record {
+    first = v .first;
+    held = v .held;
+    kept = v .kept;
+    window = window-numbered (decode im .header) (r .header) sent few held;
+    labels = v .labels;
+    idle = λ z. absurd (omega (arith, kept, z));
+  }
+
+  numbered-decodes : decode (store im (numbered (decode im) sent)) ≡ numbered (decode im) sent
+  unfolding numbered
+  numbered-decodes = decode-keep im (withIssued (decode im .header) (numberAt (decode im .header) sent)) (decode im .labels) (s .size) fit (r .labels) refl refl
+
+  numbered-stands : Standing (store im (numbered (decode im) sent)) (Phase.UpFT (sent + 1))
+  unfolding numbered
+  numbered-stands = record {
+    sound = sound-keep im (withIssued (decode im .header) (numberAt (decode im .header) sent)) (decode im .labels) s fit (r .labels) valid refl refl;
+    range = rw numbered-decodes (record { header = fit; labels = r .labels });
+    fits =
+        rw numbered-decodes
+        (fits-up (withIssued (decode im .header) (numberAt (decode im .header) sent)) (sent + 1) kept
+        (omega (arith, count-numbered (decode im .header) (r .header) sent few)));
+  }
+
+  -- ---- or has its number already
+  pub image-decodes : decode (sendImage im sent) ≡ sentState (decode im) sent
+  unfolding sendImage sentState
+  image-decodes =
+      by-test (ltb sent (issuedCount (decode im .header)))
+      (λ t. rw t)
+      (λ n. rw n numbered-decodes)
+
+  pub image-stands : Standing (sendImage im sent) (Phase.UpFT (sent + 1))
+  unfolding sendImage
+  image-stands =
+      by-test (ltb sent (issuedCount (decode im .header)))
+      (λ t.
+      rw t
+      (record { sound = s; range = r; fits = fits-up (decode im .header) (sent + 1) kept (omega (arith, ltb-true sent (issuedCount (decode im .header)) t)) }))
+      (λ n. rw n numbered-stands)
+
+-- ---- the call
+-- whatever the answer is, what is left stands
+pub send-keeps : (im : List ℕ) (ph : Phase) (ask : Bool) (out : List ℕ) → Standing im ph → Stands (sendOf im ph ask out)
+unfolding sendOf
+send-keeps im ph ask out st =
+    settled-stands im ph st (sendAnswer im ph ask (length out)) out _ (λ t.
+    let d : Sendable im ph = answered-sendable im ph ask (length out) t in
+    image-stands im (st .sound) (st .range) (sentOf ph) (d .some) (up-fits ph (decode im .header) (d .up) (st .fits) .0))
+
+module _ (im : List ℕ) (sent : ℕ) (st : Standing im (Phase.UpFT sent)) where
+  up : (decode im .header .kept ≡ 1) × (sent ≤ issuedCount (decode im .header))
+  up = up-fits (Phase.UpFT sent) (decode im .header) refl (st .fits)
+
+  -- a message unsent and enough room: it is sent
+  pub send-leaves : (ask : Bool) (out : List ℕ) → sent < decode im .header .held → length (sendBytes (decode im) sent ask) ≤ length out
+      → SentFrom (decode im) sent ask out (sendOf im (Phase.UpFT sent) ask out)
+  unfolding sendOf sendBytes
+  send-leaves ask out l room =
+      let d : Sendable im (Phase.UpFT sent) = record { admitted = record { passes = parts-sound im (st .sound); fits = st .fits }; up = refl; some = l } in
+      let done : sendAnswer im (Phase.UpFT sent) ask (length out) ≡ Answer.Done = sendable-answer d ask (length out) ∙ (rw (le-ltb (length out) (length (sendBytes (decode im) sent ask)) room)) in
+      rw (done, settle-done)
+      (record { answer = refl; phase = refl; state = image-decodes im (st .sound) (st .range) sent l (up .0); output = refl })
+
+  -- "it numbers it if it has no number"
+  pub send-numbers : NumberedFrom (decode im) sent
+  unfolding sentState numbered
+  send-numbers = record {
+    again = λ l. rw (lt-ltb sent (issuedCount (decode im .header)) l);
+    first = λ l. number-next (decode im .header) (decode im .labels) (sound-valid im (st .sound)) (st .range .header) sent (omega (arith, up .1, l));
+    moves = λ l. rw (le-ltb sent (issuedCount (decode im .header)) l);
+    others = λ place. number-stays (decode im) sent place;
+  }
