@@ -4,7 +4,8 @@ use denote.Ref.{now}
 use Rattle.image.specs.State.{decode}
 use Rattle.submit.specs.Passed.{Judged}
 use Rattle.submit.proofs.Answered.{barred-is, judged-is, acceptance-is, full-is, done-is}
-use Rattle.submit.proofs.Settling.{refused-is, queued-is}
+use Rattle.submit.proofs.Refusals.{refused-is}
+use Rattle.submit.proofs.Settling.{queued-is}
 use Rattle.submit.proofs.submit_accepted.Statement.{statement}
 use Rattle.submit.proofs.submit_accepted.Tie as tie
 
