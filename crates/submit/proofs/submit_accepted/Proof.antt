@@ -35,6 +35,7 @@ submit-accepted-spec =
     (λ c. search needs)
     (λ c. refused-is _ _ _ (acceptance-is (judged (c .before .before .before .before)) (c .before .enum-told3 .given .1)) (c .refuse3 .ensures) refl)
     (λ c κs. search needs)
+    (λ c. search needs)
     (λ c κs. search needs)
     (λ c. search needs)
     (λ c. refused-is _ _ _ (full-is (judged (c .before .before .before .before .before .before .before .before)) (c .before .before .before .before .before .enum-told .given .1) (c .before .before .before .header-of .ensures) (c .before .if2 .taken)) (c .refuse4 .ensures) refl)
