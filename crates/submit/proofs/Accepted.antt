@@ -1,5 +1,5 @@
 -- The label words once a message is accepted for sending: as many, valid again, each of 32 bits. Assumes nothing.
-use mathlib.Core.Path.{_≡_, refl, sym, ap, _∙_}
+use mathlib.Core.Path.{_≡_, refl, _∙_}
 use mathlib.Core.Bool.{true}
 use mathlib.Core.List.{List}
 use Prim.Native.Nat.{ℕ, _*_, _<_}
@@ -13,7 +13,6 @@ use Rattle.label_list.specs.Word.{wordCount, labelCount}
 use Rattle.label_list.specs.Valid.{validOf}
 use Rattle.label_list.specs.declared.LabelMessage
 use Rattle.label_list.specs.declared.LabelMessage.{LabelMessage}
-use Rattle.label_events.specs.Accept.{acceptedOf}
 use Rattle.label_meaning.specs.Event.{Accepted, step}
 use Rattle.label_meaning.proofs.Kept.{step-length}
 use Rattle.label_meaning.proofs.Step.{step-valid}

@@ -1,5 +1,8 @@
+pub mod Refusals
 pub mod Barring
 pub mod Accepted
 pub mod Queueing
 pub mod Answered
 pub mod Settling
+pub mod Passing
+pub mod Meaning

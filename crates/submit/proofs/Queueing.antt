@@ -1,12 +1,11 @@
 -- The image with one more message held: what it stands for, that it is sound again, and that block 0 is another. Assumes nothing.
 use mathlib.Core.Path.{_≡_, refl, sym, ap, _∙_}
-use mathlib.Core.Bool.{Bool, true, false}
-use mathlib.Core.List.{List, [], _∷_, _++_}
+use mathlib.Core.Bool.{true}
+use mathlib.Core.List.{List}
 use mathlib.Core.Logic.{_≢_}
-use Prim.Native.Nat.{ℕ, _+_, _*_, _%_, _≤_, _<_}
+use Prim.Native.Nat.{ℕ, _+_, _≤_, _<_}
 use native.Mathlib.Omega.{arith}
 use borrow.Author.Tests.{leb-true, le-leb}
-use lib.ListN.{length}
 use Rattle.octets.specs.Differ.{differ}
 use Rattle.octets.proofs.Differ.{differ-false}
 use Rattle.ft_number.specs.Circle.{stepsOf}
@@ -23,7 +22,7 @@ use Rattle.slot.specs.Held.{Storable}
 use Rattle.image.specs.Sizes.{block, blockOf, slotAt}
 use Rattle.image.specs.State.{State, decode, storeSlot, store0, InRange}
 use Rattle.image.specs.Verdict.{IsSound}
-use Rattle.image.proofs.Stored.{decode-accept}
+use Rattle.image.proofs.Stored.{length-storeSlot, slot-other, zeroth-other, decode-accept}
 use Rattle.image.proofs.Sound.{sound-valid, sound-accept}
 use Rattle.submit.specs.Act.{withHeld, submitted, submitSlot, submitImage}
 use Rattle.submit.proofs.Accepted.{labels-valid, labels-fit}
@@ -72,6 +71,15 @@ module _ (im m : List ℕ) (s : IsSound im) (r : InRange (decode im)) (fits : St
   pub image-decodes : decode (submitImage im m) ≡ submitted (decode im) m
   unfolding submitImage submitted h ls
   image-decodes = decode-accept im h ls m (s .size) header-fits labels-in-range fits refl refl room
+
+  -- every block but that slot's and block 0 keeps its bytes
+  pub image-other : (c : ℕ) → c ≢ 0 → c ≢ blockOf (submitSlot (decode im)) → block (submitImage im m) c ≡ block im c
+  unfolding submitImage submitted h ls
+  image-other c zero slot =
+      let k : ℕ = submitSlot (decode im) in
+      let low : k < slotCount = omega arith in
+      zeroth-other (storeSlot im k m) (length-storeSlot im (s .size) k low m fits) h ls header-fits labels-in-range c zero
+      ∙ slot-other im (s .size) k low m fits c slot
 
   -- with kept 0 nothing may be held
   pub image-sound : decode im .header .kept ≡ 1 → IsSound (submitImage im m)

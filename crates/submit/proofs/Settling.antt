@@ -1,11 +1,9 @@
 -- What each return of Submit leaves is what its answer leaves. Assumes nothing.
-use mathlib.Core.Path.{_≡_, refl, sym, ap, _∙_}
-use mathlib.Core.Bool.{Bool, true, false}
+use mathlib.Core.Path.{_≡_, sym, _∙_}
+use mathlib.Core.Bool.{true, false}
 use mathlib.Core.List.{List, []}
 use Prim.Native.Nat.{ℕ, _+_, _≤_, _<_}
-use native.Mathlib.Omega.{arith}
 use lib.ListN.{length}
-use Rattle.octets.specs.Pick.{pick}
 use Rattle.message.specs.Submission.{submissionOf}
 use Rattle.message.specs.declared.Kind.{Kind}
 use Rattle.message.specs.declared.Submission
@@ -15,9 +13,7 @@ use Rattle.block0.specs.Layout.{slotCount}
 use Rattle.slot.specs.Layout.{shortest, longest}
 use Rattle.image.specs.Sizes.{blockOf}
 use Rattle.image.specs.State.{decode, storeSlot, store0}
-use Rattle.image.specs.Verdict.{verdict, IsSound}
-use Rattle.image.specs.declared.Verdict
-use Rattle.image.specs.declared.Verdict.{Verdict}
+use Rattle.image.specs.Verdict.{IsSound}
 use Rattle.image.proofs.Ranges.{Bytes, bytes-in-range}
 use Rattle.calls.specs.declared.Answer
 use Rattle.calls.specs.declared.Answer.{Answer}
@@ -25,34 +21,15 @@ use Rattle.calls.specs.declared.Effect
 use Rattle.calls.specs.declared.Effect.{Effect}
 use Rattle.calls.specs.declared.Outcome.{Outcome}
 use Rattle.calls.specs.declared.Phase.{Phase}
-use Rattle.calls.specs.Answers.{answerNumber, effectBy, effectOf}
-use Rattle.calls.specs.Phases.{phaseFits}
-use Rattle.calls.specs.Outcomes.{After, after, refusal, isDone, checked, admitted, settleOf}
+use Rattle.calls.specs.Answers.{answerNumber, effectBy}
+use Rattle.calls.specs.Outcomes.{After, after, refusal, isDone, admitted, settleOf}
 use Rattle.calls.proofs.Settled.{Admitted, admit-refused, admitted-is}
-use Rattle.calls.proofs.Ends.{settle-nothing, settle-done}
+use Rattle.calls.proofs.Ends.{settle-done}
 use Rattle.submit.specs.Labels.{acceptedAs}
 use Rattle.submit.specs.Rule.{submitRule, submitAnswer}
 use Rattle.submit.specs.Act.{withHeld, submitted, submitSlot, submitImage, queued, submitOf}
+use Rattle.submit.proofs.Refusals.{refused-is, admit-nothing}
 use Rattle.submit.proofs.Queueing.{image-changed}
-
--- an answer from 1 to 13: nothing is changed, whatever the call would have done
-pub refused-is : {a x : Answer} (ph : Phase) (im : List ℕ) (d : After) {r : Outcome}
-    → a ≡ x → r ≡ refusal a ph → effectBy (answerNumber a) ≡ Effect.Nothing → after r im [] ≡ settleOf x ph im [] d
-unfolding effectOf
-refused-is {a} ph im d e p n = rw (← e) (settle-nothing a ph im [] d (sym n) refl p)
-
--- an image or a phase that is refused has such an answer
-nothing-by : (v : Verdict) (b : Bool) → isDone (checked v (pick b Answer.Done Answer.WrongPhase)) ≡ false
-    → effectBy (answerNumber (checked v (pick b Answer.Done Answer.WrongPhase))) ≡ Effect.Nothing
-nothing-by Verdict.Sound true e = let z : _≡_ {A = ℕ} 0 1 = cc in absurd (omega arith)
-nothing-by Verdict.Sound false e = refl
-nothing-by Verdict.WrongSize b e = refl
-nothing-by (Verdict.BadBlock k) b e = refl
-nothing-by (Verdict.BadField k) b e = refl
-
-pub admit-nothing : (im : List ℕ) (ph : Phase) {a : Answer} → a ≡ admitted im ph Answer.Done → isDone a ≡ false → effectBy (answerNumber a) ≡ Effect.Nothing
-unfolding admitted
-admit-nothing im ph e n = rw e (nothing-by (verdict im) (phaseFits ph (decode im .header)) (ap isDone (sym e) ∙ n))
 
 -- ---- the message is queued; the premises are what the callees ensure
 module _ (im : List ℕ) (ph : Phase) (m : List ℕ) (kind : Kind) (label : ℕ) (j : submissionOf m ≡ Submission.Accepted kind label) where

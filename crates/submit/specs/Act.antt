@@ -2,6 +2,7 @@
 use Prim.Native.Nat.{ℕ, _+_}
 use mathlib.Core.List.{List, [], _∷_, _++_}
 use Rattle.octets.specs.Differ.{differ}
+use Rattle.ft_number.specs.declared.FtNumber.{FtNumber}
 use Rattle.message.specs.Submission.{submissionOf}
 use Rattle.message.specs.declared.Submission
 use Rattle.message.specs.declared.Submission.{Submission}
@@ -14,6 +15,10 @@ use Rattle.calls.specs.declared.Phase.{Phase}
 use Rattle.calls.specs.Outcomes.{After, after, settleOf}
 use Rattle.submit.specs.Labels.{acceptedAs}
 use Rattle.submit.specs.Rule.{submitAnswer}
+
+-- R, I and S
+abbrev pub numbersOf : Header → FtNumber × FtNumber × FtNumber
+numbersOf h = (h .released, h .issued, h .secured)
 
 -- the header with another count of held messages; the numbers R, I and S stay
 abbrev pub withHeld : Header → ℕ → Header

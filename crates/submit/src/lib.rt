@@ -26,10 +26,10 @@ const SHORTEST: usize = 8;
 
 const LONGEST: usize = 480;
 
-// The most messages that are held.
-const HELD_LIMIT: u16 = 64;
+// The slots of the ring: the most messages that are held.
+const SLOT_COUNT: usize = 64;
 
-// A message that passes 3, 4 and 5, with its kind and label.
+// A message that passes 3, 4 and 5, with its kind and label: 6, 13 and 7 are asked, and it is queued.
 fn submit_accepted(image: &mut [u8], phase: Phase, msg: &[u8], kind: Kind, label: u32) -> Outcome
     requires { ⌜ IsSound (now image) × (shortest ≤ length (now msg)) × (length (now msg) ≤ longest) × (submissionOf (now msg) ≡ Accepted kind label) ⌝ }
     ensures { λ r. ⌜ after r (now (image .exit)) [] ≡ settleOf (kindRule (decode (now (image .entry))) kind label) phase (now (image .entry)) [] (queued (now (image .entry)) phase (now (msg .entry))) ⌝ }
@@ -48,10 +48,11 @@ fn submit_accepted(image: &mut [u8], phase: Phase, msg: &[u8], kind: Kind, label
             return calls::refuse(Answer::NoLabelWord, phase);
         }
     }
-    if image::header_of(image).held >= HELD_LIMIT {
+    if image::header_of(image).held as usize >= SLOT_COUNT {
         return calls::refuse(Answer::StoreFull, phase);
     }
     let slot = storing::store_message(image, msg, kind, label, &words);
+    // The count of held messages is another, so block 0 changed.
     Outcome {
         answer: Answer::Done,
         phase: phase,
@@ -61,7 +62,7 @@ fn submit_accepted(image: &mut [u8], phase: Phase, msg: &[u8], kind: Kind, label
     }
 }
 
-// Submits a message.
+// Submits a message: 12, 1, 3, 4, 5, then what its kind and label say. A refusal changes nothing.
 pub fn submit(image: &mut [u8], phase: Phase, msg: &[u8]) -> Outcome
     ensures { λ r. ⌜ after r (now (image .exit)) [] ≡ submitOf (now (image .entry)) phase (now (msg .entry)) ⌝ }
 {

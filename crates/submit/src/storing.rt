@@ -17,9 +17,10 @@ use message::Kind;
 fn next_slot(h: Header) -> usize
     ensures { λ r. ⌜ (r ≡ slotAt (h .first) (h .held)) × (r < slotCount) ⌝ }
 {
-    (h.first as usize + h.held as usize) % 64
+    (h.first as usize + h.held as usize) % crate::SLOT_COUNT
 }
 
+// The header with another count of held messages.
 fn with_held(h: Header, held: u16) -> Header
     ensures { λ r. ⌜ r ≡ withHeld h held ⌝ }
 {

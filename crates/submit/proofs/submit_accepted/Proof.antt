@@ -4,7 +4,8 @@ use denote.Ref.{now}
 use Rattle.image.specs.State.{decode}
 use Rattle.submit.specs.Passed.{Judged}
 use Rattle.submit.proofs.Answered.{barred-is, judged-is, acceptance-is, full-is, done-is}
-use Rattle.submit.proofs.Settling.{refused-is, queued-is}
+use Rattle.submit.proofs.Refusals.{refused-is}
+use Rattle.submit.proofs.Settling.{queued-is}
 use Rattle.submit.proofs.submit_accepted.Statement.{statement}
 use Rattle.submit.proofs.submit_accepted.Tie as tie
 
@@ -34,6 +35,7 @@ submit-accepted-spec =
     (λ c. search needs)
     (λ c. refused-is _ _ _ (acceptance-is (judged (c .before .before .before .before)) (c .before .enum-told3 .given .1)) (c .refuse3 .ensures) refl)
     (λ c κs. search needs)
+    (λ c. search needs)
     (λ c κs. search needs)
     (λ c. search needs)
     (λ c. refused-is _ _ _ (full-is (judged (c .before .before .before .before .before .before .before .before)) (c .before .before .before .before .before .enum-told .given .1) (c .before .before .before .header-of .ensures) (c .before .if2 .taken)) (c .refuse4 .ensures) refl)

@@ -1,0 +1,145 @@
+-- Submit's answers and its tests: done or full exactly where every earlier test is passed; anything else changes nothing. Assumes nothing.
+use mathlib.Core.Path.{_≡_, refl, sym, _∙_}
+use mathlib.Core.Bool.{Bool, true, false}
+use mathlib.Core.List.{List}
+use mathlib.Core.Logic.{_⊎_, inl, inr, ⊎-elim}
+use Prim.Native.Nat.{ℕ, _≤_, _<_}
+use native.Mathlib.Omega.{arith}
+use borrow.Author.Tests.{eqb-true, leb-true, ltb-true, ltb-false}
+use lib.Dec.{eqb, leb, ltb}
+use lib.ListN.{length}
+use Rattle.octets.specs.Pick.{pick, both}
+use Rattle.message.specs.Submission.{submissionOf}
+use Rattle.message.specs.declared.Kind.{Kind}
+use Rattle.message.specs.declared.Submission
+use Rattle.message.specs.declared.Submission.{Submission}
+use Rattle.label_events.specs.declared.Acceptance
+use Rattle.label_events.specs.declared.Acceptance.{Acceptance}
+use Rattle.label_list.proofs.Choice.{pick-all}
+use Rattle.block.proofs.Tests.{no, passed, both-true}
+use Rattle.block0.specs.Layout.{slotCount}
+use Rattle.slot.specs.Layout.{shortest, longest}
+use Rattle.slot.specs.Held.{Storable}
+use Rattle.image.specs.State.{State, decode}
+use Rattle.image.specs.Verdict.{verdict}
+use Rattle.image.specs.declared.Verdict
+use Rattle.image.specs.declared.Verdict.{Verdict}
+use Rattle.image.proofs.Sound.{sound-valid}
+use Rattle.calls.specs.declared.Answer
+use Rattle.calls.specs.declared.Answer.{Answer}
+use Rattle.calls.specs.declared.Effect
+use Rattle.calls.specs.declared.Effect.{Effect}
+use Rattle.calls.specs.declared.Phase.{Phase}
+use Rattle.calls.specs.Answers.{effectOf}
+use Rattle.calls.specs.Phases.{phaseFits}
+use Rattle.calls.specs.Outcomes.{checked, admitted}
+use Rattle.calls.proofs.Settled.{Admitted, admitted-is, admitted-sound}
+use Rattle.submit.specs.Labels.{isBarred, acceptedAs}
+use Rattle.submit.specs.Rule.{roomRule, acceptanceRule, submissionRule, kindRule, submitRule, submitAnswer}
+use Rattle.submit.specs.Passed.{Fitting, Judged, Passes}
+use Rattle.submit.proofs.Refusals.{Plain, plain-admitted}
+use Rattle.submit.proofs.Answered.{submission-is, full-is, done-is}
+
+-- ---- a message that passes is queued where there is room, and only there
+module _ (im : List ℕ) (ph : Phase) (m : List ℕ) (w : Passes im ph m) where
+  by-kind : submitAnswer im ph m ≡ kindRule (decode im) (w .kind) (w .label)
+  unfolding submitAnswer
+  by-kind = admitted-is (w .admitted) (submitRule (decode im) m) ∙ sym (submission-is (w .fitting) refl (w .accepted))
+
+  pub passes-done : decode im .header .held < slotCount → submitAnswer im ph m ≡ Answer.Done
+  passes-done l = by-kind ∙ sym (done-is (w .judged) refl refl l)
+
+  pub passes-full : decode im .header .held ≡ slotCount → submitAnswer im ph m ≡ Answer.StoreFull
+  passes-full l = by-kind ∙ sym (full-is (w .judged) refl refl (omega arith))
+
+-- such a message may be held
+pub passes-storable : {im : List ℕ} {ph : Phase} {m : List ℕ} → Passes im ph m → Storable m
+passes-storable w = record { low = w .fitting .low; short = w .fitting .high; kind = w .kind; label = w .label; accepted = w .accepted }
+
+-- a test that was not met: what it would have answered is not the answer that came
+cleared : {A : Type 0} (b : Bool) (w v a : A) → (w ≡ a → _≡_ {A = ℕ} 0 1) → pick b w v ≡ a → (b ≡ false) × (v ≡ a)
+cleared true w v a bad h = no (bad h)
+cleared false w v a bad h = (refl, h)
+
+-- ---- the other way: these two answers come after every other test
+abbrev Last : Answer → Type 0
+Last x = (x ≡ Answer.Done) ⊎ (x ≡ Answer.StoreFull)
+
+module _ {x : Answer} (last : Last x) where
+  earlier : {a : Answer} → (a ≡ Answer.Done → _≡_ {A = ℕ} 0 1) → (a ≡ Answer.StoreFull → _≡_ {A = ℕ} 0 1) → a ≡ x → _≡_ {A = ℕ} 0 1
+  earlier done full e = ⊎-elim (λ (d : x ≡ Answer.Done). done (e ∙ d)) (λ (f : x ≡ Answer.StoreFull). full (e ∙ f)) last
+
+  module _ (im : List ℕ) (ph : Phase) (m : List ℕ) where
+    admitted-last : (v : Verdict) (a : Answer) → verdict im ≡ v → checked v (pick (phaseFits ph (decode im .header)) a Answer.WrongPhase) ≡ x → Admitted im ph × (a ≡ x)
+    admitted-last Verdict.Sound a v e =
+        let p = passed (phaseFits ph (decode im .header)) a Answer.WrongPhase x (earlier (λ d. cc) (λ f. cc)) e in
+        (record { passes = v; fits = p .0 }, p .1)
+    admitted-last Verdict.WrongSize a v e = no (earlier (λ d. cc) (λ f. cc) e)
+    admitted-last (Verdict.BadBlock b) a v e = no (earlier (λ d. cc) (λ f. cc) e)
+    admitted-last (Verdict.BadField b) a v e = no (earlier (λ d. cc) (λ f. cc) e)
+
+    acceptance-last : (s : State) (a : Acceptance) → acceptanceRule s a ≡ x → (a ≡ Acceptance.Taken) × (roomRule s ≡ x)
+    acceptance-last s Acceptance.Taken e = (refl, e)
+    acceptance-last s Acceptance.NotAllowed e = no (earlier (λ d. cc) (λ f. cc) e)
+    acceptance-last s Acceptance.NoRoom e = no (earlier (λ d. cc) (λ f. cc) e)
+
+    kind-last : (s : State) (kind : Kind) (label : ℕ) → kindRule s kind label ≡ x → Judged s kind label Acceptance.Taken × (roomRule s ≡ x)
+    unfolding kindRule
+    kind-last s kind label e =
+        let p = cleared (isBarred (s .queue) kind label) Answer.LabelNotAllowed (acceptanceRule s (acceptedAs (s .labels) kind label .0)) x (earlier (λ d. cc) (λ f. cc)) e in
+        let q = acceptance-last s (acceptedAs (s .labels) kind label .0) (p .1) in
+        (record { free = p .0; acceptance = q .0 }, q .1)
+
+    submission-last : Admitted im ph → Fitting (decode im) m → (j : Submission) → submissionOf m ≡ j → submissionRule (decode im) j ≡ x → Passes im ph m × (roomRule (decode im) ≡ x)
+    submission-last w fits Submission.Malformed ej e = no (earlier (λ d. cc) (λ f. cc) e)
+    submission-last w fits Submission.Refused ej e = no (earlier (λ d. cc) (λ f. cc) e)
+    submission-last w fits (Submission.Accepted kind label) ej e =
+        let p = kind-last (decode im) kind label e in
+        (record { admitted = w; fitting = fits; kind = kind; label = label; accepted = ej; judged = p .0 }, p .1)
+
+    last-passes : submitAnswer im ph m ≡ x → Passes im ph m × (roomRule (decode im) ≡ x)
+    unfolding submitAnswer admitted submitRule
+    last-passes e =
+        let s : State = decode im in
+        let p = admitted-last (verdict im) (submitRule s m) refl e in
+        let q = passed (eqb (s .header .kept) 1) _ Answer.WrongPhase x (earlier (λ d. cc) (λ f. cc)) (p .1) in
+        let r = passed (both (leb shortest (length m)) (leb (length m) longest)) (submissionRule s (submissionOf m)) Answer.LengthOutOfRange x (earlier (λ d. cc) (λ f. cc)) (q .1) in
+        let l = both-true (leb shortest (length m)) (leb (length m) longest) (r .0) in
+        submission-last (p .0) (record { kept = eqb-true _ _ (q .0); low = leb-true _ _ (l .0); high = leb-true _ _ (l .1) }) (submissionOf m) refl (r .1)
+
+module _ (im : List ℕ) (ph : Phase) (m : List ℕ) where
+  pub done-passes : submitAnswer im ph m ≡ Answer.Done → Passes im ph m × (decode im .header .held < slotCount)
+  done-passes e =
+      let p = last-passes (inl refl) im ph m e in
+      (p .0, ltb-true _ _ (passed (ltb (decode im .header .held) slotCount) Answer.Done Answer.StoreFull Answer.Done (λ f. cc) (p .1) .0))
+
+  pub full-passes : submitAnswer im ph m ≡ Answer.StoreFull → Passes im ph m × (decode im .header .held ≡ slotCount)
+  full-passes e =
+      let p = last-passes (inr refl) im ph m e in
+      let most : decode im .header .held ≤ slotCount = sound-valid im (admitted-sound (p .0 .admitted)) .held in
+      let full : slotCount ≤ decode im .header .held = ltb-false _ _ (cleared (ltb (decode im .header .held) slotCount) Answer.Done Answer.StoreFull Answer.StoreFull (λ f. cc) (p .1) .0) in
+      (p .0, omega arith)
+
+-- ---- every other answer changes nothing
+plain-acceptance : (s : State) (a : Acceptance) → Plain (acceptanceRule s a)
+plain-acceptance s Acceptance.Taken = pick-all Plain (ltb (s .header .held) slotCount) (inl refl) (inr refl)
+plain-acceptance s Acceptance.NotAllowed = inr refl
+plain-acceptance s Acceptance.NoRoom = inr refl
+
+plain-submission : (s : State) (j : Submission) → Plain (submissionRule s j)
+unfolding kindRule
+plain-submission s Submission.Malformed = inr refl
+plain-submission s Submission.Refused = inr refl
+plain-submission s (Submission.Accepted kind label) =
+    pick-all Plain (isBarred (s .queue) kind label) (inr refl) (plain-acceptance s (acceptedAs (s .labels) kind label .0))
+
+plain-rule : (s : State) (m : List ℕ) → Plain (submitRule s m)
+unfolding submitRule
+plain-rule s m =
+    pick-all Plain (eqb (s .header .kept) 1)
+    (pick-all Plain (both (leb shortest (length m)) (leb (length m) longest)) (plain-submission s (submissionOf m)) (inr refl))
+    (inr refl)
+
+pub done-or-nothing : (im : List ℕ) (ph : Phase) (m : List ℕ) → (submitAnswer im ph m ≡ Answer.Done) ⊎ (effectOf (submitAnswer im ph m) ≡ Effect.Nothing)
+unfolding effectOf submitAnswer
+done-or-nothing im ph m = plain-admitted im ph (plain-rule (decode im) m)
