@@ -1,9 +1,10 @@
 -- What the first tests of a call leave, whatever its own tests are. Assumes nothing.
-use mathlib.Core.Path.{_≡_, refl}
-use mathlib.Core.Bool.{Bool, true, false}
+use mathlib.Core.Path.{_≡_, refl, sym, _∙_}
+use mathlib.Core.Bool.{Bool, true, false, not}
 use mathlib.Core.List.{List}
 use Prim.Native.Nat.{ℕ}
 use native.Mathlib.Omega.{arith}
+use borrow.Author.Tests.{not-true, not-false}
 use Rattle.octets.specs.Pick.{pick}
 use Rattle.image.specs.State.{decode}
 use Rattle.image.specs.Verdict.{verdict}
@@ -18,6 +19,13 @@ use Rattle.calls.specs.Answers.{effectOf}
 use Rattle.calls.specs.Phases.{phaseFits}
 use Rattle.calls.specs.Outcomes.{After, isDone, checked, admitted, settleOf}
 use Rattle.calls.proofs.Settled.{Admitted}
+
+-- what a function answered, after the code asked `if !` of it
+pub denied : {b d : Bool} → b ≡ d → not b ≡ true → d ≡ false
+denied {b} e t = sym e ∙ not-true b t
+
+pub granted : {b d : Bool} → b ≡ d → not b ≡ false → d ≡ true
+granted {b} e t = sym e ∙ not-false b t
 
 -- an answer that, where it is not Done, leaves everything as it was
 abbrev pub Harmless : Answer → Type 0

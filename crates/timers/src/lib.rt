@@ -55,7 +55,7 @@ fn has_expired(h: Header, elapsed: u32) -> bool
     if h.timeout == 0 {
         return false;
     }
-    h.timeout as u32 <= elapsed
+    elapsed >= h.timeout as u32
 }
 
 // The connection failed: labels used without protection are freed; the session waits in Failed if its state is kept, and else is Idle.

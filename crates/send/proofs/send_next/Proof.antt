@@ -1,7 +1,6 @@
-use mathlib.Core.Path.{sym, _∙_}
+use Rattle.call_meaning.proofs.Refusals.{denied, granted}
 use native.Mathlib.Omega.{arith}
 use borrow.Author.Needs.{needs}
-use borrow.Author.Tests.{not-true, not-false}
 use Rattle.send.proofs.Judged.{Sendable, sendable-sound, sendable-few, judged-sendable, judged-refused}
 use Rattle.send.proofs.Acts.{send-short, send-acts}
 use Rattle.send.proofs.send_next.Statement.{statement}
@@ -15,17 +14,17 @@ send-next-spec =
     (λ c κs. search needs)
     (λ c κs. search needs)
     (λ c. search needs)
-    (λ c. judged-refused _ _ _ _ (c .before .before .before .judge-send .ensures) (sym (c .before .before .is-done .ensures) ∙ not-true (c .before .before .is-done .result) (c .before .if1 .taken)) (c .refuse .ensures))
+    (λ c. judged-refused _ _ _ _ (c .before .before .before .judge-send .ensures) (denied (c .before .before .is-done .ensures) (c .before .if1 .taken)) (c .refuse .ensures))
     (λ c κs. search needs)
-    (λ c κs. let d : Sendable _ _ = (judged-sendable _ _ _ (c .before .before .before .before .before .judge-send .ensures) (sym (c .before .before .before .before .is-done .ensures) ∙ not-false (c .before .before .before .before .is-done .result) (c .before .before .before .if1 .left))) in (sendable-sound d, rw (c .before .before .sent-of .ensures) (d .some)))
+    (λ c κs. let d : Sendable _ _ = (judged-sendable _ _ _ (c .before .before .before .before .before .judge-send .ensures) (granted (c .before .before .before .before .is-done .ensures) (c .before .before .before .if1 .left))) in (sendable-sound d, rw (c .before .before .sent-of .ensures) (d .some)))
     (λ c. search needs)
     (λ c κs. search needs)
     (λ c. search needs)
-    (λ c. let e = c .before .before .before .before .before .before .before .before .sent-of .ensures in omega (arith, e, sendable-few (judged-sendable _ _ _ (c .before .before .before .before .before .before .before .before .before .before .before .judge-send .ensures) (sym (c .before .before .before .before .before .before .before .before .before .before .is-done .ensures) ∙ not-false (c .before .before .before .before .before .before .before .before .before .before .is-done .result) (c .before .before .before .before .before .before .before .before .before .if1 .left)))))
-    (λ c κs. (sendable-sound (judged-sendable _ _ _ (c .before .before .before .before .before .before .before .before .before .before .before .before .judge-send .ensures) (sym (c .before .before .before .before .before .before .before .before .before .before .before .is-done .ensures) ∙ not-false (c .before .before .before .before .before .before .before .before .before .before .before .is-done .result) (c .before .before .before .before .before .before .before .before .before .before .if1 .left))) .size, let e = c .before .before .before .before .before .before .before .before .before .sent-of .ensures in omega (arith, e, sendable-few (judged-sendable _ _ _ (c .before .before .before .before .before .before .before .before .before .before .before .before .judge-send .ensures) (sym (c .before .before .before .before .before .before .before .before .before .before .before .is-done .ensures) ∙ not-false (c .before .before .before .before .before .before .before .before .before .before .before .is-done .result) (c .before .before .before .before .before .before .before .before .before .before .if1 .left))))))
+    (λ c. let e = c .before .before .before .before .before .before .before .before .sent-of .ensures in omega (arith, e, sendable-few (judged-sendable _ _ _ (c .before .before .before .before .before .before .before .before .before .before .before .judge-send .ensures) (granted (c .before .before .before .before .before .before .before .before .before .before .is-done .ensures) (c .before .before .before .before .before .before .before .before .before .if1 .left)))))
+    (λ c κs. (sendable-sound (judged-sendable _ _ _ (c .before .before .before .before .before .before .before .before .before .before .before .before .judge-send .ensures) (granted (c .before .before .before .before .before .before .before .before .before .before .before .is-done .ensures) (c .before .before .before .before .before .before .before .before .before .before .if1 .left))) .size, let e = c .before .before .before .before .before .before .before .before .before .sent-of .ensures in omega (arith, e, sendable-few (judged-sendable _ _ _ (c .before .before .before .before .before .before .before .before .before .before .before .before .judge-send .ensures) (granted (c .before .before .before .before .before .before .before .before .before .before .before .is-done .ensures) (c .before .before .before .before .before .before .before .before .before .before .if1 .left))))))
     (λ c. search needs)
     (λ c. search needs)
-    (λ c. send-short _ _ _ _ (judged-sendable _ _ _ (c .before .before .before .before .before .before .before .before .before .before .before .judge-send .ensures) (sym (c .before .before .before .before .before .before .before .before .before .before .is-done .ensures) ∙ not-false (c .before .before .before .before .before .before .before .before .before .before .is-done .result) (c .before .before .before .before .before .before .before .before .before .if1 .left))) (c .before .before .before .before .before .before .before .before .sent-of .ensures) (c .before .before .before .before .before .write-next .ensures) (c .before .enum-told .given .1) (c .refuse2 .ensures))
+    (λ c. send-short _ _ _ _ (judged-sendable _ _ _ (c .before .before .before .before .before .before .before .before .before .before .before .judge-send .ensures) (granted (c .before .before .before .before .before .before .before .before .before .before .is-done .ensures) (c .before .before .before .before .before .before .before .before .before .if1 .left))) (c .before .before .before .before .before .before .before .before .sent-of .ensures) (c .before .before .before .before .before .write-next .ensures) (c .before .enum-told .given .1) (c .refuse2 .ensures))
     (λ c. search needs)
     (λ c. search needs)
-    (λ c. send-acts _ _ _ _ (judged-sendable _ _ _ (c .before .before .before .before .before .before .before .before .before .before .before .before .before .before .before .judge-send .ensures) (sym (c .before .before .before .before .before .before .before .before .before .before .before .before .before .before .is-done .ensures) ∙ not-false (c .before .before .before .before .before .before .before .before .before .before .before .before .before .before .is-done .result) (c .before .before .before .before .before .before .before .before .before .before .before .before .before .if1 .left))) (c .before .before .before .before .before .before .before .before .before .before .before .before .sent-of .ensures) (c .before .before .before .before .before .before .before .before .before .write-next .ensures) (c .before .before .before .before .before .n .given .1) (c .before .before .issue .ensures)))
+    (λ c. send-acts _ _ _ _ (judged-sendable _ _ _ (c .before .before .before .before .before .before .before .before .before .before .before .before .before .before .before .judge-send .ensures) (granted (c .before .before .before .before .before .before .before .before .before .before .before .before .before .before .is-done .ensures) (c .before .before .before .before .before .before .before .before .before .before .before .before .before .if1 .left))) (c .before .before .before .before .before .before .before .before .before .before .before .before .sent-of .ensures) (c .before .before .before .before .before .before .before .before .before .write-next .ensures) (c .before .before .before .before .before .n .given .1) (c .before .before .issue .ensures)))

@@ -1,4 +1,4 @@
-use mathlib.Core.Path.{sym, _∙_}
+use Rattle.call_meaning.proofs.Refusals.{denied, granted}
 use borrow.Author.Needs.{needs}
 use borrow.Author.Tests.{not-true, not-false}
 use Rattle.timers.proofs.Judged.{event-first, event-phase}
@@ -11,6 +11,6 @@ judge-event-spec =
     (tie.spec
     (λ c κs. search needs)
     (λ c κs. search needs)
-    (λ c. event-first _ _ _ (c .before .before .admit .ensures) (sym (c .before .is-done .ensures) ∙ not-true (c .before .is-done .result) (c .if1 .taken)))
-    (λ c. event-phase _ _ _ (c .before .before .before .admit .ensures) (sym (c .before .before .is-done .ensures) ∙ not-false (c .before .before .is-done .result) (c .before .if1 .left)) (not-true _ (c .if2 .taken)))
-    (λ c. event-phase _ _ _ (c .before .before .before .admit .ensures) (sym (c .before .before .is-done .ensures) ∙ not-false (c .before .before .is-done .result) (c .before .if1 .left)) (not-false _ (c .if2 .left))))
+    (λ c. event-first _ _ _ (c .before .before .admit .ensures) (denied (c .before .is-done .ensures) (c .if1 .taken)))
+    (λ c. event-phase _ _ _ (c .before .before .before .admit .ensures) (granted (c .before .before .is-done .ensures) (c .before .if1 .left)) (not-true _ (c .if2 .taken)))
+    (λ c. event-phase _ _ _ (c .before .before .before .admit .ensures) (granted (c .before .before .is-done .ensures) (c .before .if1 .left)) (not-false _ (c .if2 .left))))

@@ -1,4 +1,4 @@
-use mathlib.Core.Path.{sym, _∙_}
+use Rattle.call_meaning.proofs.Refusals.{denied, granted}
 use borrow.Author.Needs.{needs}
 use borrow.Author.Tests.{not-true, not-false}
 use Rattle.timers.specs.Events.{timePassedOf}
@@ -16,12 +16,12 @@ time-passed-spec =
     (λ c κs. search needs)
     (λ c κs. search needs)
     (λ c. search needs)
-    (λ c. event-refused _ _ _ (c .before .before .before .before .is-waiting .ensures) (c .before .before .before .judge-event .ensures) _ (sym (c .before .before .is-done .ensures) ∙ not-true (c .before .before .is-done .result) (c .before .if1 .taken)) (c .refuse .ensures))
-    (λ c κs. event-sound _ _ _ (c .before .before .before .before .is-waiting .ensures) (c .before .before .before .judge-event .ensures) (sym (c .before .before .is-done .ensures) ∙ not-false (c .before .before .is-done .result) (c .before .if1 .left)) .size)
+    (λ c. event-refused _ _ _ (c .before .before .before .before .is-waiting .ensures) (c .before .before .before .judge-event .ensures) _ (denied (c .before .before .is-done .ensures) (c .before .if1 .taken)) (c .refuse .ensures))
+    (λ c κs. event-sound _ _ _ (c .before .before .before .before .is-waiting .ensures) (c .before .before .before .judge-event .ensures) (granted (c .before .before .is-done .ensures) (c .before .if1 .left)) .size)
     (λ c κs. search needs)
     (λ c κs. search needs)
     (λ c. search needs)
-    (λ c. event-done _ _ _ (c .before .before .before .before .before .before .before .before .is-waiting .ensures) (c .before .before .before .before .before .before .before .judge-event .ensures) _ (sym (c .before .before .before .before .before .before .is-done .ensures) ∙ not-false (c .before .before .before .before .before .before .is-done .result) (c .before .before .before .before .before .if1 .left)) (too-early _ _ _ (c .before .before .before .header-of .ensures) (c .before .before .has-expired .ensures) (not-true (c .before .before .has-expired .result) (c .before .if2 .taken)) (c .refuse2 .ensures)))
-    (λ c κs. event-sound _ _ _ (c .before .before .before .before .before .before .before .before .is-waiting .ensures) (c .before .before .before .before .before .before .before .judge-event .ensures) (sym (c .before .before .before .before .before .before .is-done .ensures) ∙ not-false (c .before .before .before .before .before .before .is-done .result) (c .before .before .before .before .before .if1 .left)) .size)
+    (λ c. event-done _ _ _ (c .before .before .before .before .before .before .before .before .is-waiting .ensures) (c .before .before .before .before .before .before .before .judge-event .ensures) _ (granted (c .before .before .before .before .before .before .is-done .ensures) (c .before .before .before .before .before .if1 .left)) (too-early _ _ _ (c .before .before .before .header-of .ensures) (c .before .before .has-expired .ensures) (not-true (c .before .before .has-expired .result) (c .before .if2 .taken)) (c .refuse2 .ensures)))
+    (λ c κs. event-sound _ _ _ (c .before .before .before .before .before .before .before .before .is-waiting .ensures) (c .before .before .before .before .before .before .before .judge-event .ensures) (granted (c .before .before .before .before .before .before .is-done .ensures) (c .before .before .before .before .before .if1 .left)) .size)
     (λ c. search needs)
-    (λ c. event-done _ _ _ (c .before .before .before .before .before .before .before .before .before .before .before .is-waiting .ensures) (c .before .before .before .before .before .before .before .before .before .before .judge-event .ensures) _ (sym (c .before .before .before .before .before .before .before .before .before .is-done .ensures) ∙ not-false (c .before .before .before .before .before .before .before .before .before .is-done .result) (c .before .before .before .before .before .before .before .before .if1 .left)) (late _ _ _ (c .before .before .before .before .before .before .header-of .ensures) (c .before .before .before .before .before .has-expired .ensures) (not-false (c .before .before .before .before .before .has-expired .result) (c .before .before .before .before .if2 .left)) (c .before .before .release .ensures))))
+    (λ c. event-done _ _ _ (c .before .before .before .before .before .before .before .before .before .before .before .is-waiting .ensures) (c .before .before .before .before .before .before .before .before .before .before .judge-event .ensures) _ (granted (c .before .before .before .before .before .before .before .before .before .is-done .ensures) (c .before .before .before .before .before .before .before .before .if1 .left)) (late _ _ _ (c .before .before .before .before .before .before .header-of .ensures) (c .before .before .before .before .before .has-expired .ensures) (not-false (c .before .before .before .before .before .has-expired .result) (c .before .before .before .before .if2 .left)) (c .before .before .release .ensures))))
