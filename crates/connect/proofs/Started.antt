@@ -20,6 +20,7 @@ use Rattle.calls.specs.declared.Phase.{Phase}
 use Rattle.calls.specs.Answers.{effectOf}
 use Rattle.calls.specs.Outcomes.{After, after, isDone, refusal, checked, failedWith, settleOf}
 use Rattle.calls.proofs.Ends.{settle-done}
+use Rattle.calls.proofs.Settled.{checks-sound}
 use Rattle.connect.specs.Start.{formatted, formatOf, restoreOf}
 use Rattle.connect.proofs.Calling.{checks-refused, own-refused}
 
@@ -50,10 +51,4 @@ module _ (im : List ℕ) {r : Answer} (e : r ≡ checked (verdict im) Answer.Don
 
   pub restore-passed : {x : After} → isDone r ≡ true → x ≡ failedWith Answer.Done im [] → x ≡ restoreOf im
   unfolding restoreOf
-  restore-passed t p = p ∙ sym (ap (λ (a : Answer). settleOf a Phase.Idle im [] (failedWith Answer.Done im [])) (passed (verdict im) (ap isDone (sym e) ∙ t)) ∙ settle-done Phase.Idle im [] (failedWith Answer.Done im []))
-    where
-      passed : (v : Verdict) → isDone (checked v Answer.Done) ≡ true → checked v Answer.Done ≡ Answer.Done
-      passed Verdict.Sound t = refl
-      passed Verdict.WrongSize t = let z : _≡_ {A = ℕ} 0 1 = cc in absurd (omega arith)
-      passed (Verdict.BadBlock b) t = let z : _≡_ {A = ℕ} 0 1 = cc in absurd (omega arith)
-      passed (Verdict.BadField b) t = let z : _≡_ {A = ℕ} 0 1 = cc in absurd (omega arith)
+  restore-passed t p = rw (checks-sound im e t) (p ∙ sym (settle-done Phase.Idle im [] (failedWith Answer.Done im [])))

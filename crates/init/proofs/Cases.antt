@@ -31,7 +31,7 @@ use Rattle.calls.specs.Received.{isInit}
 use Rattle.init.specs.declared.Start
 use Rattle.init.specs.declared.Start.{Start}
 use Rattle.init.specs.declared.Terms.{Terms}
-use Rattle.init.specs.Judged.{termsOf, resumedBy, bothSet, peerSet, sessionStart, parametersStart, startOf}
+use Rattle.init.specs.Judged.{termsOf, resumedBy, bothSet, peerSet, sessionStart, parametersStart, startOf, startAnswer}
 use Rattle.init.specs.Begun.{StartFits}
 use Rattle.init.specs.Cases.{IsInit, BothSet, Case, malformed, another, without-parameters, without-ack, plain, peer-clear, ours-clear, changed, wrong-ack, resumes}
 use Rattle.init.specs.Meaning.{BothR, Bears, Agreed}
@@ -104,21 +104,21 @@ start-fits h w p rd = case-fits w (cases h p rd)
 both-of : {h : Header} {g : Message} {ka mp n : ℕ} {a : FtNumber} → BothSet h g ka mp n a → BothR h (Reading.Whole g)
 both-of {g = g} {n = n} b = record { message = g; seconds = n; read = refl; peers = b .session; ours = b .kept }
 
-releasing-case : {h : Header} {p : ℕ} {rd : Reading} {st : Start} (a : Answer) → 30 ≤ answerNumber a → st ≡ Start.Refused a → Case h p rd st → BothR h rd
-releasing-case a l e malformed = let z : Answer.MalformedReceived ≡ a = cc in let n : 22 ≡ answerNumber a = ap answerNumber z in absurd (omega arith)
-releasing-case a l e (another i) = let z : Answer.MalformedReceived ≡ a = cc in let n : 22 ≡ answerNumber a = ap answerNumber z in absurd (omega arith)
-releasing-case a l e (without-parameters i q) = let z : Answer.BadInit ≡ a = cc in let n : 23 ≡ answerNumber a = ap answerNumber z in absurd (omega arith)
-releasing-case a l e (without-ack i s q) = let z : Answer.BadInit ≡ a = cc in let n : 23 ≡ answerNumber a = ap answerNumber z in absurd (omega arith)
-releasing-case a l e (plain i s) = let z : _≡_ {A = ℕ} 0 1 = cc in absurd (omega arith)
-releasing-case a l e (peer-clear i s) = let z : _≡_ {A = ℕ} 0 1 = cc in absurd (omega arith)
-releasing-case a l e (ours-clear i s q k) = let z : _≡_ {A = ℕ} 0 1 = cc in absurd (omega arith)
-releasing-case a l e (changed b q) = both-of b
-releasing-case a l e (wrong-ack b q r) = both-of b
-releasing-case a l e (resumes b q r) = both-of b
+releasing-case : {h : Header} {p : ℕ} {rd : Reading} {st : Start} → Case h p rd st → 30 ≤ answerNumber (startAnswer st) → BothR h rd
+releasing-case malformed l = absurd (omega arith)
+releasing-case (another i) l = absurd (omega arith)
+releasing-case (without-parameters i q) l = absurd (omega arith)
+releasing-case (without-ack i s q) l = absurd (omega arith)
+releasing-case (plain i s) l = absurd (omega arith)
+releasing-case (peer-clear i s) l = absurd (omega arith)
+releasing-case (ours-clear i s q k) l = absurd (omega arith)
+releasing-case (changed b q) l = both-of b
+releasing-case (wrong-ack b q r) l = both-of b
+releasing-case (resumes b q r) l = both-of b
 
--- the answers from 30 on release the state, and of an Init only 34 and 35 are among them
-pub both-needed : (h : Header) (p : ℕ) (rd : Reading) (a : Answer) → 30 ≤ answerNumber a → startOf h p rd ≡ Start.Refused a → BothR h rd
-both-needed h p rd a l e = releasing-case a l e (cases h p rd)
+-- the answers from 30 on release the state; of an Init these are 34 and 35
+pub both-needed : (h : Header) (p : ℕ) (rd : Reading) → 30 ≤ answerNumber (startAnswer (startOf h p rd)) → BothR h rd
+both-needed h p rd l = releasing-case (cases h p rd) l
 
 -- ---- the agreed terms
 agreed-of : (p : ℕ) {g : Message} {r : Bool} {ka mp n : ℕ} {t : Terms} → IsInit g ka mp → g .session ≡ Session.Given r n → termsOf p n ka mp ≡ t → Agreed p (Reading.Whole g) t

@@ -1,14 +1,18 @@
 -- What the peer's Init leaves. Assumes nothing.
 use mathlib.Core.Path.{_≡_, refl, sym, ap, _∙_}
-use mathlib.Core.Bool.{true, false}
+use mathlib.Core.Bool.{Bool, true, false}
 use mathlib.Core.List.{List, []}
-use Prim.Native.Nat.{ℕ, _<_}
+use Prim.Native.Nat.{ℕ, _≤_, _<_}
+use native.Mathlib.Omega.{arith}
 use lib.ListN.{length, drop}
 use Rattle.octets.specs.Pick.{pick}
 use Rattle.message.specs.Reading.{readingOf}
 use Rattle.block0.specs.Layout.{noLabels}
 use Rattle.image.specs.Sizes.{imageSize}
 use Rattle.image.specs.State.{State, decode, store}
+use Rattle.image.specs.Verdict.{verdict}
+use Rattle.image.specs.declared.Verdict
+use Rattle.image.specs.declared.Verdict.{Verdict}
 use Rattle.image.proofs.Ranges.{Bytes}
 use Rattle.image.proofs.Sound.{parts-sound}
 use Rattle.calls.specs.declared.Answer
@@ -16,18 +20,20 @@ use Rattle.calls.specs.declared.Answer.{Answer}
 use Rattle.calls.specs.declared.Phase
 use Rattle.calls.specs.declared.Phase.{Phase}
 use Rattle.calls.specs.Acked.{acked}
-use Rattle.calls.specs.Outcomes.{After, isDone, admitted, settleOf}
+use Rattle.calls.specs.Answers.{answerNumber}
+use Rattle.calls.specs.Phases.{phaseFits}
+use Rattle.calls.specs.Outcomes.{After, isDone, checked, admitted, settleOf}
 use Rattle.calls.proofs.Settled.{Admitted, admitted-is}
 use Rattle.connect.specs.Standing.{Standing, Stands}
 use Rattle.connect.proofs.Calling.{own-done}
-use Rattle.connect.proofs.Stands.{settled-stands}
+use Rattle.connect.proofs.Stands.{settled-stands, settled-answer}
 use Rattle.init.specs.declared.Start
 use Rattle.init.specs.declared.Start.{Start}
 use Rattle.init.specs.declared.Terms.{Terms}
 use Rattle.init.specs.Judged.{startAnswer}
 use Rattle.init.specs.Begun.{fresh, freshHeader, resumed, startState, startPhase, startImage, awaits, proposalOf, initStart, begunAs, initReceivedOf}
-use Rattle.init.specs.Meaning.{TermsFit, BegunFrom}
-use Rattle.init.proofs.Cases.{cases}
+use Rattle.init.specs.Meaning.{TermsFit, BothR, BegunFrom}
+use Rattle.init.proofs.Cases.{cases, both-needed}
 use Rattle.init.proofs.Widths.{start-width}
 use Rattle.init.proofs.Begun.{Stored, start-stored, fresh-stored}
 
@@ -41,6 +47,24 @@ fresh-leaves im t size f = fresh-stored t f im size .decodes
 pub resumed-queue : (s : State) (t : Terms) (k a : ℕ) → resumed s t k a .queue ≡ drop k (s .queue)
 unfolding resumed acked
 resumed-queue s t k a = refl
+
+-- ---- the answers
+admitted-late : (v : Verdict) (fits may : Bool) (a : Answer) → 30 ≤ answerNumber (checked v (pick fits (pick may a Answer.WrongPhase) Answer.WrongPhase)) → 30 ≤ answerNumber a
+admitted-late Verdict.Sound true true a l = l
+admitted-late Verdict.Sound true false a l = absurd (omega arith)
+admitted-late Verdict.Sound false may a l = absurd (omega arith)
+admitted-late Verdict.WrongSize fits may a l = absurd (omega arith)
+admitted-late (Verdict.BadBlock b) fits may a l = absurd (omega arith)
+admitted-late (Verdict.BadField b) fits may a l = absurd (omega arith)
+
+-- "35 and 34 arise only with both R set": no other answer of the call releases the state
+pub init-releases : (im : List ℕ) (ph : Phase) (m : List ℕ) → 30 ≤ answerNumber (initReceivedOf im ph m .outcome .answer) → BothR (decode im .header) (readingOf m)
+unfolding initReceivedOf begunAs admitted
+init-releases im ph m l =
+    both-needed (decode im .header) (proposalOf ph) (readingOf m)
+    (admitted-late (verdict im) (phaseFits ph (decode im .header)) (awaits ph) (startAnswer (initStart im ph m))
+    (settled-answer (λ (a : Answer). 30 ≤ answerNumber a) (admitted im ph (pick (awaits ph) (startAnswer (initStart im ph m)) Answer.WrongPhase)) ph im []
+    (begunAs im ph (initStart im ph m)) (λ late. absurd (omega arith)) l))
 
 -- ---- the call
 module _ (im : List ℕ) (ph : Phase) (m : List ℕ) (st : Standing im ph) (byte : Bytes m) (low : proposalOf ph < 65536) where
