@@ -5,3 +5,6 @@ pub mod Sealed
 pub mod ZeroBytes
 pub mod Run
 pub mod WordRun
+pub mod Lanes
+pub mod Ends
+pub mod ZeroPairs

@@ -50,11 +50,11 @@ getRun-same (w ∷ ws) s t at same =
 
 -- ---- zeros
 -- a field of bytes that are zero is zero, and so are the bytes of a field that is
-zeros-beAt : (w : ℕ) (s : List ℕ) (at : ℕ) → ((k : ℕ) → k < w → getD s (at + k) 0 ≡ 0) → beAt w s at ≡ 0
+pub zeros-beAt : (w : ℕ) (s : List ℕ) (at : ℕ) → ((k : ℕ) → k < w → getD s (at + k) 0 ≡ 0) → beAt w s at ≡ 0
 zeros-beAt zero s at z = refl
 zeros-beAt (suc w) s at z = rw (beAt-suc, zeros-beAt w s at (λ k l. z k (omega arith)), z w (omega arith))
 
-beAt-zeros : (w : ℕ) (s : List ℕ) (at : ℕ) → beAt w s at ≡ 0 → (k : ℕ) → k < w → getD s (at + k) 0 ≡ 0
+pub beAt-zeros : (w : ℕ) (s : List ℕ) (at : ℕ) → beAt w s at ≡ 0 → (k : ℕ) → k < w → getD s (at + k) 0 ≡ 0
 beAt-zeros zero s at e k l = absurd (omega arith)
 beAt-zeros (suc w) s at e k l =
     let sum : beAt w s at * 256 + getD s (at + w) 0 ≡ 0 = sym (beAt-suc w s at) ∙ e in

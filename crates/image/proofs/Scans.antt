@@ -10,17 +10,19 @@ use Rattle.block.specs.Check.{sound}
 use Rattle.block0.specs.declared.Header.{Header}
 use Rattle.block0.specs.Layout.{slotCount, headerOf}
 use Rattle.block0.specs.Fields.{fieldsOk}
-use Rattle.slot.specs.Fields.{slotOk}
+use Rattle.slot.specs.declared.SlotVerdict.{SlotVerdict}
+use Rattle.slot.specs.declared.SlotVerdict.the-variants.{Good, BadCheck, BadFields}
+use Rattle.slot.specs.Fields.{slotVerdict}
 use Rattle.image.specs.declared.Verdict.{Verdict}
 use Rattle.image.specs.declared.Verdict.the-variants.{Sound, WrongSize, BadBlock, BadField}
 use Rattle.image.specs.Sizes.{imageSize, block, blockOf}
-use Rattle.image.specs.Verdict.{slotVerdict, scan, verdict}
+use Rattle.image.specs.Verdict.{slotThen, slotFirst, scan, verdict}
 
 pub scan-none : (s : List ℕ) (f : ℕ) → scan s f 0 ≡ Sound
 unfolding scan
 scan-none s f = refl
 
-pub scan-one : (s : List ℕ) (f n : ℕ) → scan s f (suc n) ≡ slotVerdict s (blockOf (f % slotCount)) (scan s (f + 1) n)
+pub scan-one : (s : List ℕ) (f n : ℕ) → scan s f (suc n) ≡ slotFirst s (blockOf (f % slotCount)) (scan s (f + 1) n)
 unfolding scan
 scan-one s f n = refl
 
@@ -32,7 +34,7 @@ scan-start s f n =
     rw (e, g)
 
 -- slot i of the ring, and then the rest
-scan-turn : (s : List ℕ) (f n i : ℕ) → i < n → scan s (f + i) (n - i) ≡ slotVerdict s (blockOf ((f + i) % slotCount)) (scan s (f + (i + 1)) (n - (i + 1)))
+scan-turn : (s : List ℕ) (f n i : ℕ) → i < n → scan s (f + i) (n - i) ≡ slotFirst s (blockOf ((f + i) % slotCount)) (scan s (f + (i + 1)) (n - (i + 1)))
 scan-turn s f n i h =
     let left : n - i ≡ suc (n - (i + 1)) = omega arith in
     let next : f + i + 1 ≡ f + (i + 1) = omega arith in
@@ -44,19 +46,18 @@ scan-end s f n i all l inv =
     sym (scan-none s (f + i)) ∙ (rw none at inv)
 
 module _ (s : List ℕ) (f n i : ℕ) (all : Verdict) (left : i < n) (inv : scan s (f + i) (n - i) ≡ all)
-    {b : List ℕ} (eb : b ≡ block s ((f + i) % slotCount + 1)) {t : Bool} (et : t ≡ sound b) where
-  turned : slotVerdict s ((f + i) % slotCount + 1) (scan s (f + (i + 1)) (n - (i + 1))) ≡ all
-  turned = sym (scan-turn s f n i left) ∙ inv
+    {b : List ℕ} (eb : b ≡ block s ((f + i) % slotCount + 1)) {v : SlotVerdict} (ev : v ≡ slotVerdict b) where
+  turned : slotThen v ((f + i) % slotCount + 1) (scan s (f + (i + 1)) (n - (i + 1))) ≡ all
+  turned = rw (ev, eb) (sym (scan-turn s f n i left) ∙ inv)
 
-  pub scan-check : not t ≡ true → BadBlock ((f + i) % slotCount + 1) ≡ all
-  scan-check h = simp (← eb, ← et, not-true t h) at turned
+  pub scan-check : v ≡ BadCheck → BadBlock ((f + i) % slotCount + 1) ≡ all
+  scan-check h = rw h at turned
 
-  module _ (fine : not t ≡ false) {u : Bool} (eu : u ≡ slotOk b) where
-    pub scan-fields : not u ≡ true → BadField ((f + i) % slotCount + 1) ≡ all
-    scan-fields h = simp (← eb, ← et, not-false t fine, ← eu, not-true u h) at turned
+  pub scan-fields : v ≡ BadFields → BadField ((f + i) % slotCount + 1) ≡ all
+  scan-fields h = rw h at turned
 
-    pub scan-next : not u ≡ false → scan s (f + (i + 1)) (n - (i + 1)) ≡ all
-    scan-next h = simp (← eb, ← et, not-false t fine, ← eu, not-false u h) at turned
+  pub scan-next : v ≡ Good → scan s (f + (i + 1)) (n - (i + 1)) ≡ all
+  scan-next h = rw h at turned
 
 pub ruleset scans = (scan-start, scan-end, scan-check, scan-fields, scan-next)
 

@@ -13,20 +13,22 @@ use Rattle.octets.specs.Pick.{pick}
 use Rattle.label_list.specs.Word.{wordCount}
 use Rattle.block.specs.Check.{blockSize, sound}
 use Rattle.block.specs.Run.{Words}
-use Rattle.block.proofs.Tests.{passed}
+use Rattle.block.proofs.Tests.{no, passed}
 use Rattle.block0.specs.declared.Header.{Header}
 use Rattle.block0.specs.Layout.{slotCount, headerOf, labelsOf, block0}
 use Rattle.block0.specs.Fields.{fieldsOk, Fits, Valid}
 use Rattle.block0.proofs.Written.{header-block0, block0-sound}
 use Rattle.block0.proofs.Rules.{fields-valid, valid-fields}
-use Rattle.slot.specs.Fields.{slotOk}
+use Rattle.slot.specs.declared.SlotVerdict.{SlotVerdict}
+use Rattle.slot.specs.declared.SlotVerdict.the-variants.{Good, BadCheck, BadFields}
+use Rattle.slot.specs.Fields.{slotVerdict}
 use Rattle.slot.specs.Held.{Storable, slotFor}
-use Rattle.slot.proofs.Holding.{slotFor-sound, slotFor-ok}
+use Rattle.slot.proofs.Holding.{slotFor-sound, slotFor-ok, good-parts, parts-good}
 use Rattle.image.specs.declared.Verdict.{Verdict}
 use Rattle.image.specs.declared.Verdict.the-variants.{Sound, WrongSize, BadBlock, BadField}
 use Rattle.image.specs.Sizes.{block, blockOf, slotAt, imageSize}
 use Rattle.image.specs.State.{decode, storeSlot, store0}
-use Rattle.image.specs.Verdict.{scan, verdict, slotVerdict, IsSound, SlotGood}
+use Rattle.image.specs.Verdict.{scan, verdict, slotThen, slotFirst, IsSound, SlotGood}
 use Rattle.image.proofs.Blocks.{length-block}
 use Rattle.image.proofs.Scans.{scan-one, scan-none}
 use Rattle.image.proofs.Stored.{Idle, length-storeSlot, slot-put, slot-other, length-store0, zeroth-put, zeroth-other}
@@ -37,14 +39,16 @@ scan-good image f zero good = scan-none image f
 scan-good image f (suc n) good =
     let e : f + 0 ≡ f = omega arith in
     let g : SlotGood (block image (blockOf (f % slotCount))) = rw e at (good 0 (omega arith)) in
-    rw (scan-one, g .check, g .fields)
+    rw (scan-one, parts-good (block image (blockOf (f % slotCount))) (g .check) (g .fields))
     (scan-good image (f + 1) n (λ i l. let e : f + suc i ≡ f + 1 + i = omega arith in rw e at (good (suc i) (omega arith))))
 
-slot-parts : (image : List ℕ) (b : ℕ) (rest : Verdict) → slotVerdict image b rest ≡ Sound → SlotGood (block image b) × (rest ≡ Sound)
-slot-parts image b rest h =
-    let p = passed (sound (block image b)) (pick (slotOk (block image b)) rest (BadField b)) (BadBlock b) Sound (λ e. cc) h in
-    let q = passed (slotOk (block image b)) rest (BadField b) Sound (λ e. cc) (p .1) in
-    (record { check = p .0; fields = q .0 }, q .1)
+slot-parts : (image : List ℕ) (b : ℕ) (rest : Verdict) → slotFirst image b rest ≡ Sound → SlotGood (block image b) × (rest ≡ Sound)
+slot-parts image b rest h = by (slotVerdict (block image b)) refl h
+  where
+    by : (v : SlotVerdict) → slotVerdict (block image b) ≡ v → slotThen v b rest ≡ Sound → SlotGood (block image b) × (rest ≡ Sound)
+    by Good e q = let g = good-parts (block image b) e in (record { check = g .0; fields = g .1 }, q)
+    by BadCheck e q = let z : _≡_ {A = ℕ} 0 1 = cc in no z
+    by BadFields e q = let z : _≡_ {A = ℕ} 0 1 = cc in no z
 
 pub good-scan : (image : List ℕ) (f n : ℕ) → scan image f n ≡ Sound → (i : ℕ) → i < n → SlotGood (block image (blockOf (slotAt f i)))
 good-scan image f zero h i l = absurd (omega arith)

@@ -9,19 +9,26 @@ use Rattle.octets.specs.Pick.{pick}
 use Rattle.block.specs.Check.{sound}
 use Rattle.block0.specs.Layout.{slotCount, headerOf}
 use Rattle.block0.specs.Fields.{fieldsOk}
-use Rattle.slot.specs.Fields.{slotOk}
+use Rattle.slot.specs.declared.SlotVerdict.{SlotVerdict}
+use Rattle.slot.specs.declared.SlotVerdict.the-variants.{Good, BadCheck, BadFields}
+use Rattle.slot.specs.Fields.{slotOk, slotVerdict}
 use Rattle.image.specs.declared.Verdict.{Verdict}
 use Rattle.image.specs.declared.Verdict.the-variants.{Sound, WrongSize, BadBlock, BadField}
 use Rattle.image.specs.Sizes.{imageSize, slotAt, block, blockOf}
 
--- block b as a slot: its check, its fields, and then the rest
-abbrev pub slotVerdict : List ℕ → ℕ → Verdict → Verdict
-slotVerdict image b rest = pick (sound (block image b)) (pick (slotOk (block image b)) rest (BadField b)) (BadBlock b)
+-- what is said of block b as a slot, and then of the rest
+abbrev pub slotThen : SlotVerdict → ℕ → Verdict → Verdict
+slotThen Good b rest = rest
+slotThen BadCheck b rest = BadBlock b
+slotThen BadFields b rest = BadField b
+
+abbrev pub slotFirst : List ℕ → ℕ → Verdict → Verdict
+slotFirst image b rest = slotThen (slotVerdict (block image b)) b rest
 
 -- the n slots from slot f on, round the ring
 unfoldable pub scan : List ℕ → ℕ → ℕ → Verdict
 scan image f zero = Sound
-scan image f (suc n) = slotVerdict image (blockOf (f % slotCount)) (scan image (f + 1) n)
+scan image f (suc n) = slotFirst image (blockOf (f % slotCount)) (scan image (f + 1) n)
 
 unfoldable pub verdict : List ℕ → Verdict
 verdict image =

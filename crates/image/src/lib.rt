@@ -15,6 +15,7 @@ ghost use Rattle.image.specs.State.{decode, storeSlot, store0};
 ghost use Rattle.image.specs.Verdict.{scan, verdict, verdictNumber, verdictBlock};
 use block0::Header;
 use message::Kind;
+use slot::SlotVerdict;
 
 mod events;
 mod held;
@@ -88,12 +89,14 @@ fn scan_slots(image: &[u8], first: usize, held: usize) -> Verdict
     let mut i: usize = 0;
     while i < held {
         let b = (first + i) % SLOT_COUNT + 1;
-        let slot = block_at(image, b);
-        if !block::is_sound(slot) {
-            return Verdict::BadBlock(b);
-        }
-        if !slot::slot_is_valid(slot) {
-            return Verdict::BadField(b);
+        match slot::judge_slot(block_at(image, b)) {
+            SlotVerdict::Good => {}
+            SlotVerdict::BadCheck => {
+                return Verdict::BadBlock(b);
+            }
+            SlotVerdict::BadFields => {
+                return Verdict::BadField(b);
+            }
         }
         i += 1;
     }

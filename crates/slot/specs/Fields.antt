@@ -1,16 +1,20 @@
 -- A slot's fields: "length 8 to 480 (0-1), kind 1 to 6 (2), zero (3), .. zeros"; "a slot's message passes Submit's 4 and 5 and has the slot's kind and label".
-use Prim.Native.Nat.{ℕ}
+use Prim.Native.Nat.{ℕ, _+_, _≤_}
+use mathlib.Core.Path.{_≡_}
 use mathlib.Core.Bool.{Bool, true, false}
 use mathlib.Core.List.{List}
 use lib.Dec.{leb, eqb}
 use Rattle.octets.specs.Be.{beAt}
-use Rattle.octets.specs.Pick.{both}
+use Rattle.octets.specs.Pick.{pick, both}
 use Rattle.message.specs.Kinds.{kindNumber}
 use Rattle.message.specs.Submission.{submissionOf}
 use Rattle.message.specs.declared.Submission.{Submission}
 use Rattle.message.specs.declared.Submission.the-variants.{Malformed, Refused, Accepted}
+use Rattle.block.specs.Check.{sound}
 use Rattle.block.specs.Zeros.{allZero}
-use Rattle.slot.specs.Layout.{shortest, longest, lengthOf, kindOf, labelOf, messageOf, paddingOf}
+use Rattle.slot.specs.declared.SlotVerdict.{SlotVerdict}
+use Rattle.slot.specs.declared.SlotVerdict.the-variants.{Good, BadCheck, BadFields}
+use Rattle.slot.specs.Layout.{shortest, longest, lengthOf, kindOf, labelOf, messageAt, messageOf, paddingOf}
 
 -- the message was accepted, with that kind and that label
 abbrev pub bears : Submission → ℕ → ℕ → Bool
@@ -25,3 +29,14 @@ slotOk b =
     (both (leb 1 (kindOf b))
     (both (leb (kindOf b) 6)
     (both (eqb (beAt 1 b 3) 0) (both (allZero (paddingOf b)) (bears (submissionOf (messageOf b)) (kindOf b) (labelOf b)))))))
+
+-- the message ends at `end`, its length is in range, and zeros follow it
+pub record Padded (b : List ℕ) (end : ℕ) : Type 0 where
+  pub low : shortest ≤ lengthOf b
+  pub high : lengthOf b ≤ longest
+  pub ends : end ≡ messageAt + lengthOf b
+  pub zeros : allZero (paddingOf b) ≡ true
+
+-- "check, then fields"
+unfoldable pub slotVerdict : List ℕ → SlotVerdict
+slotVerdict b = pick (sound b) (pick (slotOk b) Good BadFields) BadCheck

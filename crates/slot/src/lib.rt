@@ -1,6 +1,6 @@
 // A slot of the stored image: one held message with its length, kind and label.
 ghost use mathlib.Core.Path.{_≡_};
-ghost use mathlib.Core.Bool.{true};
+ghost use mathlib.Core.Bool.{true, false};
 ghost use mathlib.Core.List.{[], _∷_};
 ghost use Prim.Native.Nat.{_+_, _*_, _≤_, _<_};
 ghost use lib.ListN.{length};
@@ -8,9 +8,16 @@ ghost use Rattle.message.specs.Kinds.{kindNumber};
 ghost use Rattle.block.specs.Check.{blockSize};
 ghost use Rattle.block.specs.Run.{putRun};
 ghost use Rattle.slot.specs.Layout.{shortest, longest, headWidths, lengthOf, kindOf, labelOf, messageAt, messageOf, slotBlock};
-ghost use Rattle.slot.specs.Fields.{bears, slotOk};
+ghost use Rattle.slot.specs.Fields.{bears, slotOk, Padded, slotVerdict};
 use message::Kind;
 use message::Submission;
+
+// What restore says of a slot.
+pub enum SlotVerdict {
+    Good,
+    BadCheck,
+    BadFields,
+}
 
 // The lengths that a held message may have.
 const SHORTEST: usize = 8;
@@ -79,18 +86,11 @@ fn bears_both(judged: Submission, kind: u8, label: u32) -> bool
     }
 }
 
-// Whether the slot's fields are right. Its check is not looked at.
-pub fn slot_is_valid(block: &[u8]) -> bool
-    requires { ⌜ length (now block) ≡ blockSize ⌝ }
+// Whether the fields are right of a slot whose length and padding are; the message ends at `end`.
+fn message_is_right(block: &[u8], end: usize) -> bool
+    requires { ⌜ (length (now block) ≡ blockSize) × Padded (now block) end ⌝ }
     ensures { λ r. ⌜ r ≡ slotOk (now (block .entry)) ⌝ }
 {
-    let n = message_length(block);
-    if n < SHORTEST {
-        return false;
-    }
-    if n > LONGEST {
-        return false;
-    }
     let kind = kind_of(block);
     if kind < 1 {
         return false;
@@ -101,15 +101,47 @@ pub fn slot_is_valid(block: &[u8]) -> bool
     if octets::get_u8(block, 3) != 0 {
         return false;
     }
-    let end = MESSAGE_AT + n;
-    if !block::zeros::all_zero(&block[end..block::CHECK_AT]) {
-        return false;
-    }
     bears_both(
         message::judge_submission(&block[MESSAGE_AT..end]),
         kind,
         label_of(block),
     )
+}
+
+// A slot whose fields are wrong: its check comes first all the same.
+fn judge_wrong(block: &[u8]) -> SlotVerdict
+    requires { ⌜ (length (now block) ≡ blockSize) × (false ≡ slotOk (now block)) ⌝ }
+    ensures { λ r. ⌜ r ≡ slotVerdict (now (block .entry)) ⌝ }
+{
+    if block::is_sound(block) {
+        return SlotVerdict::BadFields;
+    }
+    SlotVerdict::BadCheck
+}
+
+// The slot's check, and then its fields. Zeros behind the message are looked at once, for both.
+pub fn judge_slot(block: &[u8]) -> SlotVerdict
+    requires { ⌜ length (now block) ≡ blockSize ⌝ }
+    ensures { λ r. ⌜ r ≡ slotVerdict (now (block .entry)) ⌝ }
+{
+    let n = message_length(block);
+    if n < SHORTEST {
+        return judge_wrong(block);
+    }
+    if n > LONGEST {
+        return judge_wrong(block);
+    }
+    let end = MESSAGE_AT + n;
+    if !block::zeros::all_zero(&block[end..block::CHECK_AT]) {
+        return judge_wrong(block);
+    }
+    if !block::is_sound_before(block, end) {
+        return SlotVerdict::BadCheck;
+    }
+    if !message_is_right(block, end) {
+        return SlotVerdict::BadFields;
+    }
+    SlotVerdict::Good
 }
 
 // The message that a slot with right fields holds, as that very part of the block.
