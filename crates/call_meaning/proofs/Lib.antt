@@ -1,2 +1,5 @@
 pub mod Refusals
+pub mod Calling
 pub mod Stands
+pub mod Released
+pub mod Widths

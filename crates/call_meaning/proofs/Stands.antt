@@ -123,3 +123,15 @@ module _ (im : List ℕ) (ph : Phase) (st : Standing im ph) (a : Answer) (o : Li
       by-test (isDone a)
       (λ t. rw (settle-does a ph im o done t) (d t))
       (λ n. rw (settle-other a ph im o done (unchanged a ph im o) n) (other-stands (effectOf a)))
+
+-- the answer that is left is that of the call's tests, or of what is done
+pub settled-answer : (P : Answer → Type 0) (a : Answer) (ph : Phase) (im o : List ℕ) (done : After) → (P (done .outcome .answer) → P a)
+    → P (settleOf a ph im o done .outcome .answer) → P a
+unfolding settleOf failedWith releasedWith
+settled-answer P a ph im o done d = by (effectOf a)
+  where
+    by : (f : Effect) → P (settledBy f a ph im o done .outcome .answer) → P a
+    by Effect.Nothing q = q
+    by Effect.Fail q = q
+    by Effect.Release q = q
+    by Effect.Act q = d q

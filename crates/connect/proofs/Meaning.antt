@@ -38,11 +38,11 @@ use Rattle.calls.specs.Phases.{phaseFits, restingPhase}
 use Rattle.calls.specs.Outcomes.{After, checked, admitted, roomFor, wrote, unchanged, failedWith, settleOf}
 use Rattle.calls.proofs.Ends.{settle-done, settle-refusal}
 use Rattle.calls.proofs.Phasing.{resting-failed, resting-idle}
-use Rattle.connect.specs.Standing.{Standing, Stands}
+use Rattle.call_meaning.specs.Standing.{Standing, Stands}
 use Rattle.connect.specs.Start.{formatted, formatOf, restoreOf}
 use Rattle.connect.specs.Writers.{writerOf, opens, keptAck, openBytes, openOf, isUp, aliveBytes, keepaliveOf}
 use Rattle.connect.proofs.Written.{kept-set, kept-clear}
-use Rattle.connect.proofs.Stands.{break-decodes, break-sound, break-range, resting-fits, settled-stands}
+use Rattle.call_meaning.proofs.Stands.{break-decodes, break-sound, break-range, resting-fits, settled-stands}
 
 -- ---- Format
 module _ (im : List ℕ) where
@@ -131,7 +131,7 @@ module _ (im : List ℕ) (ph : Phase) (may : Bool) (next : Phase) (out bytes : L
   unfolding writerOf
   writer-stands st fits =
       settled-stands im ph st (admitted im ph (pick may (roomFor bytes (length out)) Answer.WrongPhase)) out (wrote next im im out bytes)
-      (record { sound = st .sound; range = st .range; fits = fits })
+      (λ d. record { sound = st .sound; range = st .range; fits = fits })
 
 module _ (im : List ℕ) (ph : Phase) (id : MessageId) (p : OwnParameters) (t : Proposal) (out : List ℕ) where
   pub open-leaves : Leaves im (openOf im ph id p t out)

@@ -22,7 +22,7 @@ use Rattle.calls.specs.Outcomes.{After, after, isDone, refusal, checked, failed
 use Rattle.calls.proofs.Ends.{settle-done}
 use Rattle.calls.proofs.Settled.{checks-sound}
 use Rattle.connect.specs.Start.{formatted, formatOf, restoreOf}
-use Rattle.connect.proofs.Calling.{checks-refused, own-refused}
+use Rattle.call_meaning.proofs.Calling.{checks-refused, own-refused}
 
 -- ---- Format
 -- by the size, what Format and the image's own format say

@@ -34,7 +34,7 @@ use Rattle.calls.specs.Answers.{effectOf}
 use Rattle.calls.specs.Outcomes.{After, after, isDone, refusal, admitted, roomFor, wrote, settleOf}
 use Rattle.calls.proofs.Ends.{settle-done}
 use Rattle.connect.specs.Writers.{writerOf, writtenAs, opens, keptAck, openBytes, openOf, isUp, aliveAck, aliveBytes, keepaliveOf}
-use Rattle.connect.proofs.Calling.{call-refused, call-own, own-refused}
+use Rattle.call_meaning.proofs.Calling.{call-refused, call-own, own-refused}
 
 -- the ACK of our Init
 pub kept-set : (h : Header) → h .kept ≡ 1 → FtField.Number (h .secured) ≡ keptAck h

@@ -29,6 +29,8 @@ use Rattle.calls.specs.declared.Phase
 use Rattle.calls.specs.declared.Phase.{Phase}
 use Rattle.calls.specs.Acked.{releasedLabels, withReleased, acked}
 use Rattle.calls.specs.Phases.{phaseFits, issuedCount}
+use Rattle.call_meaning.specs.Standing.{Stored}
+use Rattle.call_meaning.proofs.Released.{ack-window, released-valid, released-words}
 use Rattle.init.specs.declared.Start
 use Rattle.init.specs.declared.Start.{Start}
 use Rattle.init.specs.declared.Terms.{Terms}
@@ -36,14 +38,6 @@ use Rattle.init.specs.Begun.{freshHeader, fresh, withTimeout, resumed, s
 use Rattle.init.specs.Cases.{Case, malformed, another, without-parameters, without-ack, plain, peer-clear, ours-clear, changed, wrong-ack, resumes}
 use Rattle.init.specs.Meaning.{TermsFit, InWidth}
 use Rattle.init.proofs.Cases.{ack-held}
-use Rattle.init.proofs.Released.{ack-window, released-valid, released-words}
-
--- a state stored in an image: it is read back, the image is sound, its numbers are in range, and it allows the phase
-pub record Stored (im : List ℕ) (s : State) (ph : Phase) : Type 0 where
-  pub decodes : decode im ≡ s
-  pub sound : IsSound im
-  pub range : InRange s
-  pub fits : phaseFits ph (s .header) ≡ true
 
 -- kept state allows UpFT with nothing sent
 kept-fits : (h : Header) → h .kept ≡ 1 → phaseFits (Phase.UpFT 0) h ≡ true

@@ -2,6 +2,5 @@ pub mod Starts
 pub mod Cases
 pub mod Widths
 pub mod Received
-pub mod Released
 pub mod Begun
 pub mod Meaning

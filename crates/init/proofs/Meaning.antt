@@ -24,9 +24,9 @@ use Rattle.calls.specs.Answers.{answerNumber}
 use Rattle.calls.specs.Phases.{phaseFits}
 use Rattle.calls.specs.Outcomes.{After, isDone, checked, admitted, settleOf}
 use Rattle.calls.proofs.Settled.{Admitted, admitted-is}
-use Rattle.connect.specs.Standing.{Standing, Stands}
-use Rattle.connect.proofs.Calling.{own-done}
-use Rattle.connect.proofs.Stands.{settled-stands, settled-answer}
+use Rattle.call_meaning.specs.Standing.{Standing, Stands, Stored}
+use Rattle.call_meaning.proofs.Calling.{own-done}
+use Rattle.call_meaning.proofs.Stands.{settled-stands, settled-answer}
 use Rattle.init.specs.declared.Start
 use Rattle.init.specs.declared.Start.{Start}
 use Rattle.init.specs.declared.Terms.{Terms}
@@ -35,7 +35,7 @@ use Rattle.init.specs.Begun.{fresh, freshHeader, resumed, startState, st
 use Rattle.init.specs.Meaning.{TermsFit, BothR, BegunFrom}
 use Rattle.init.proofs.Cases.{cases, both-needed}
 use Rattle.init.proofs.Widths.{start-width}
-use Rattle.init.proofs.Begun.{Stored, start-stored, fresh-stored}
+use Rattle.init.proofs.Begun.{start-stored, fresh-stored}
 
 -- ---- the states
 -- "fresh UpFT, kept 1, peer's parameters stored": exactly that, whatever was there
@@ -81,7 +81,7 @@ module _ (im : List ℕ) (ph : Phase) (m : List ℕ) (st : Standing im ph) (byte
   pub init-stands : Stands (initReceivedOf im ph m)
   unfolding initReceivedOf
   init-stands =
-      settled-stands im ph st (admitted im ph (pick (awaits ph) (startAnswer (initStart im ph m)) Answer.WrongPhase)) [] (begunAs im ph (initStart im ph m)) begun-stands
+      settled-stands im ph st (admitted im ph (pick (awaits ph) (startAnswer (initStart im ph m)) Answer.WrongPhase)) [] (begunAs im ph (initStart im ph m)) (λ d. begun-stands)
 
   admitted-here : Admitted im ph
   admitted-here = record { passes = parts-sound im (st .sound); fits = st .fits }

@@ -23,7 +23,7 @@ use Rattle.calls.specs.Answers.{effectOf}
 use Rattle.calls.specs.Acked.{releasedLabels, withReleased, acked}
 use Rattle.calls.specs.Outcomes.{After, after, isDone, refusal, unchanged, admitted, settleOf}
 use Rattle.calls.proofs.Ends.{settle-other}
-use Rattle.connect.proofs.Calling.{call-refused, call-own, own-done, own-refused}
+use Rattle.call_meaning.proofs.Calling.{call-refused, call-own, own-done, own-refused}
 use Rattle.init.specs.declared.Start
 use Rattle.init.specs.declared.Start.{Start}
 use Rattle.init.specs.declared.Terms.{Terms}

@@ -1,6 +1,6 @@
 -- `connect::writing::keepalive` meets its contract. Assumes nothing.
 use borrow.Author.Needs.{needs}
-use Rattle.connect.proofs.Calling.{denied, granted}
+use Rattle.call_meaning.proofs.Refusals.{denied, granted}
 use Rattle.calls.proofs.Settled.{admit-passed, admitted-sound}
 use Rattle.connect.proofs.Written.{alive-refused, alive-barred, alive-wrote}
 use Rattle.connect.proofs.writing.keepalive.Statement.{statement}

@@ -1,12 +1,9 @@
 -- The ways in which a call returns: by its first tests, and by its own. Assumes nothing.
 use mathlib.Core.Path.{_≡_, refl, sym, ap, _∙_}
-use mathlib.Core.Bool.{Bool, true, false, not}
+use mathlib.Core.Bool.{true, false, true≢false}
 use mathlib.Core.List.{List}
 use Prim.Native.Nat.{ℕ}
 use native.Mathlib.Omega.{arith}
-use borrow.Author.Tests.{not-true, not-false}
-use Rattle.octets.specs.Pick.{pick}
-use Rattle.image.specs.State.{decode}
 use Rattle.image.specs.Verdict.{verdict, IsSound}
 use Rattle.image.specs.declared.Verdict
 use Rattle.image.specs.declared.Verdict.{Verdict}
@@ -18,17 +15,10 @@ use Rattle.calls.specs.declared.Effect.{Effect}
 use Rattle.calls.specs.declared.Outcome.{Outcome}
 use Rattle.calls.specs.declared.Phase.{Phase}
 use Rattle.calls.specs.Answers.{effectOf}
-use Rattle.calls.specs.Phases.{phaseFits}
 use Rattle.calls.specs.Outcomes.{After, after, isDone, refusal, unchanged, checked, admitted, settleOf}
 use Rattle.calls.proofs.Settled.{Admitted, admit-refused, admit-passed, admitted-is, checks-sound}
 use Rattle.calls.proofs.Ends.{settle-refusal, unchanged-is}
-
--- what a function answered that the code then asked `if !`
-pub denied : {b d : Bool} → b ≡ d → not b ≡ true → d ≡ false
-denied {b} e t = sym e ∙ not-true b t
-
-pub granted : {b d : Bool} → b ≡ d → not b ≡ false → d ≡ true
-granted {b} e t = sym e ∙ not-false b t
+use Rattle.call_meaning.proofs.Refusals.{admitted-harmless}
 
 -- ---- restore's checks alone
 checks-nothing : (v : Verdict) → isDone (checked v Answer.Done) ≡ false → effectOf (checked v Answer.Done) ≡ Effect.Nothing
@@ -50,25 +40,12 @@ module _ (im : List ℕ) {r : Answer} (e : r ≡ checked (verdict im) Answer.Don
   checks-passed t = sound-parts im (checks-sound im e t)
 
 -- ---- restore's checks and the phase
-admit-nothing : (v : Verdict) (b : Bool) → isDone (checked v (pick b Answer.Done Answer.WrongPhase)) ≡ false
-    → effectOf (checked v (pick b Answer.Done Answer.WrongPhase)) ≡ Effect.Nothing
-unfolding effectOf
-admit-nothing Verdict.Sound true e = let z : _≡_ {A = ℕ} 0 1 = cc in absurd (omega arith)
-admit-nothing Verdict.Sound false e = refl
-admit-nothing Verdict.WrongSize b e = refl
-admit-nothing (Verdict.BadBlock k) b e = refl
-admit-nothing (Verdict.BadField k) b e = refl
-
-refused-nothing : (im : List ℕ) (ph : Phase) → isDone (admitted im ph Answer.Done) ≡ false → effectOf (admitted im ph Answer.Done) ≡ Effect.Nothing
-unfolding admitted
-refused-nothing im ph n = admit-nothing (verdict im) (phaseFits ph (decode im .header)) n
-
 module _ (im : List ℕ) (ph : Phase) {r : Answer} (e : r ≡ admitted im ph Answer.Done) (o : List ℕ) (a : Answer) (d : After) where
   -- a call that the first tests refuse changes nothing
   pub call-refused : {x : Outcome} → isDone r ≡ false → x ≡ refusal r ph → after x im o ≡ settleOf (admitted im ph a) ph im o d
   call-refused n p =
       rw (← admit-refused im ph e a n)
-      (unchanged-is r ph im o p ∙ sym (settle-refusal r ph im o d (ap effectOf e ∙ refused-nothing im ph (ap isDone (sym e) ∙ n))))
+      (unchanged-is r ph im o p ∙ sym (settle-refusal r ph im o d (ap effectOf e ∙ admitted-harmless im ph Answer.Done (λ z. absurd (true≢false z)) (ap isDone (sym e) ∙ n))))
 
   -- one that they pass is settled by its own answer
   pub call-own : {x : After} → isDone r ≡ true → x ≡ settleOf a ph im o d → x ≡ settleOf (admitted im ph a) ph im o d
