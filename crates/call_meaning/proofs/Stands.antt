@@ -23,7 +23,7 @@ use Rattle.block.specs.Run.{Words}
 use Rattle.block0.specs.declared.Header.{Header}
 use Rattle.block0.specs.Layout.{noLabels}
 use Rattle.block0.specs.Fields.{Valid}
-use Rattle.image.specs.State.{decode, InRange}
+use Rattle.image.specs.State.{State, decode, InRange}
 use Rattle.image.specs.Verdict.{IsSound}
 use Rattle.image.specs.Events.{broken, breakOf}
 use Rattle.image.proofs.Changes.{in-range-released, release-decodes, release-sound}
@@ -39,7 +39,7 @@ use Rattle.calls.specs.Phases.{issuedCount, phaseFits, restingPhase}
 use Rattle.calls.specs.Outcomes.{After, isDone, unchanged, failedWith, releasedWith, settledBy, settleOf}
 use Rattle.calls.proofs.Ends.{settle-other}
 use Rattle.calls.proofs.Phasing.{resting-failed, resting-idle}
-use Rattle.call_meaning.specs.Standing.{Standing, Stands}
+use Rattle.call_meaning.specs.Standing.{Standing, Stands, Stored}
 use Rattle.call_meaning.proofs.Refusals.{settle-does}
 
 -- ---- as connection failed
@@ -104,6 +104,10 @@ unfolding phaseFits
 up-fits h sent f =
     let p = both-true (eqb (h .kept) 1) (leb sent (issuedCount h)) f in
     (eqb-true (h .kept) 1 (p .0), leb-true sent (issuedCount h) (p .1))
+
+-- a state that is stored stands
+pub stored-stands : {im : List ℕ} {s : State} {ph : Phase} → Stored im s ph → Standing im ph
+stored-stands d = record { sound = d .sound; range = rw (d .decodes) (d .range); fits = rw (d .decodes) (d .fits) }
 
 -- ---- the three ends of a call that is not done
 module _ (im : List ℕ) (ph : Phase) (st : Standing im ph) (a : Answer) (o : List ℕ) where

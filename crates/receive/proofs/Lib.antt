@@ -2,3 +2,5 @@ pub mod Messages
 pub mod Judged
 pub mod Taken
 pub mod Cases
+pub mod Stored
+pub mod Meaning
