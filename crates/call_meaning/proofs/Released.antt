@@ -1,6 +1,6 @@
 -- What an acknowledgement leaves: the numbers in their window, and label words that are valid. Assumes nothing.
 use mathlib.Core.Path.{_≡_, refl, sym, ap, _∙_}
-use mathlib.Core.Bool.{true}
+use mathlib.Core.Bool.{true, false≢true}
 use mathlib.Core.List.{List, [], _∷_}
 use Prim.Native.Nat.{ℕ, zero, suc, _+_, _-_, _≤_, _<_}
 use native.Mathlib.Omega.{arith}
@@ -8,10 +8,11 @@ use borrow.Author.Tests.{leb-true, le-leb}
 use lib.Dec.{eqb}
 use lib.ListN.{length}
 use Rattle.ft_number.specs.Circle.{circle, next, after, stepsOf}
-use Rattle.ft_number.specs.Ack.{ackOf}
+use Rattle.ft_number.specs.Ack.{within, ackOf}
 use Rattle.ft_number.specs.declared.Ack
 use Rattle.ft_number.specs.declared.Ack.{Ack}
-use Rattle.ft_number.specs.declared.Steps.the-variants.{Count}
+use Rattle.ft_number.specs.declared.Steps.{Steps}
+use Rattle.ft_number.specs.declared.Steps.the-variants.{Count, Unreachable}
 use Rattle.ft_number.proofs.Circle.{after-none, after-suc, steps-reach, steps-after, Acknowledged, ack-releases}
 use Rattle.message.specs.Submission.{submissionOf}
 use Rattle.label_list.specs.Word.{wordCount}
@@ -24,9 +25,12 @@ use Rattle.label_meaning.proofs.Meaning.{valid-means, valid-range}
 use Rattle.label_meaning.proofs.Step.{step-valid}
 use Rattle.block.specs.Run.{Words}
 use Rattle.block0.specs.declared.Header.{Header}
+use Rattle.block0.specs.Layout.{slotCount}
 use Rattle.block0.specs.Fields.{atMost}
+use Rattle.image.specs.Sizes.{slotAt}
+use Rattle.image.specs.State.{State}
 use Rattle.slot.specs.Held.{kindIn, labelIn}
-use Rattle.calls.specs.Acked.{releasedKind, releasedLabels, withReleased}
+use Rattle.calls.specs.Acked.{releasedKind, releasedLabels, withReleased, acked}
 use Rattle.calls.specs.Phases.{issuedCount}
 
 -- ---- the numbers
@@ -68,6 +72,26 @@ module _ (h : Header) (a k : ℕ) (lr : h .released .0 < 4294967296) (li : h .is
   pub ack-issued : issuedCount (withReleased h k a) ≡ issuedCount h - k
   unfolding issuedCount
   ack-issued = rw (rest, acks .window)
+
+-- to acknowledge R again releases nothing
+pub ack-again : (h : Header) → h .released .0 < 4294967296 → atMost (h .held) (stepsOf (h .released .0) (h .issued .0)) ≡ true
+    → ackOf (h .released .0) (h .issued .0) (h .released .0) ≡ Ack.Releases 0
+unfolding ackOf
+ack-again h lr window =
+    let none : stepsOf (h .released .0) (h .released .0) ≡ Count 0 = rw (after-none (h .released .0)) at (steps-after (h .released .0) 0 (omega arith) (omega arith)) in
+    rw none (by (stepsOf (h .released .0) (h .issued .0)) window)
+  where
+    by : (n : Steps) → atMost (h .held) n ≡ true → within (Count 0) n ≡ Ack.Releases 0
+    by (Count n) e = rw (le-leb 0 n (omega arith))
+    by Unreachable e = absurd (false≢true e)
+
+-- and changes nothing
+pub acked-none : (s : State) → s .header .first < slotCount → acked s 0 (s .header .released .0) ≡ s
+unfolding acked releasedLabels
+acked-none s l =
+    let first : slotAt (s .header .first) 0 ≡ s .header .first = omega arith in
+    let held : s .header .held - 0 ≡ s .header .held = omega arith in
+    rw (first, held)
 
 -- ---- the labels
 kind-valid : (kind label : ℕ) (ls : List ℕ) → validOf ls ≡ true → validOf (releasedKind kind label ls) ≡ true

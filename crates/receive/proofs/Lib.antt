@@ -3,4 +3,5 @@ pub mod Judged
 pub mod Taken
 pub mod Cases
 pub mod Stored
+pub mod Acting
 pub mod Meaning
