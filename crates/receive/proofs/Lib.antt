@@ -5,3 +5,4 @@ pub mod Cases
 pub mod Stored
 pub mod Acting
 pub mod Meaning
+pub mod Ended

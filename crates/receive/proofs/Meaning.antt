@@ -1,4 +1,4 @@
--- What a received message leaves. Assumes nothing.
+-- What a received message leaves: the answer, the state where it is taken, and that it stands. Assumes nothing.
 use mathlib.Core.Path.{_≡_, refl, sym, ap, _∙_}
 use mathlib.Core.Bool.{Bool, true, true≢false}
 use mathlib.Core.List.{List, []}
@@ -15,24 +15,22 @@ use Rattle.calls.specs.declared.Answer
 use Rattle.calls.specs.declared.Answer.{Answer}
 use Rattle.calls.specs.declared.Phase
 use Rattle.calls.specs.declared.Phase.{Phase}
-use Rattle.calls.specs.Answers.{answerNumber}
-use Rattle.calls.specs.Outcomes.{After, isDone, unchanged, failedWith, releasedWith, settleOf}
+use Rattle.calls.specs.Outcomes.{settleOf}
 use Rattle.calls.proofs.Settled.{Admitted, admitted-is}
 use Rattle.calls.proofs.Ends.{settle-done}
 use Rattle.call_meaning.specs.Standing.{Standing, Stands, Stored}
-use Rattle.call_meaning.specs.Ended.{Unapplied, ReleasedIdle}
-use Rattle.call_meaning.proofs.Answered.{done-is, settled-says, answered-nothing, answered-failed, answered-released, failed-unapplied, released-idle}
+use Rattle.call_meaning.proofs.Answered.{done-is, settled-says}
 use Rattle.call_meaning.proofs.Stands.{stored-stands, settled-stands}
 use Rattle.call_meaning.proofs.Widths.{Widths, read-widths}
 use Rattle.receive.specs.Rule.{ackOn, ackCount, ftRule, readRule, receiveRule, receiveAnswer, receivedState, receivedPhase, takenFt, takenAs, receiveOf}
-use Rattle.receive.specs.Cases.{Case, Takes, wrong-phase, malformed, an-init, fatal, ft-tlv, passed-on}
-use Rattle.receive.specs.Meaning.{ReceivedFrom, AckThenMessage, SecuresFrom, PlainAnswer, plain-malformed, plain-fatal, plain-ft-tlv, plain-done}
-use Rattle.receive.proofs.Cases.{cases, done-takes}
+use Rattle.receive.specs.Cases.{Case, Takes}
+use Rattle.receive.specs.Meaning.{ReceivedFrom, AckThenMessage, SecuresFrom}
+use Rattle.receive.proofs.Cases.{cases, case-answer, done-takes}
 use Rattle.receive.proofs.Stored.{received-stored}
 use Rattle.receive.proofs.Acting.{received-acts, taken-secures}
 
 -- what is taken is answered Done
-taken-says : (im : List ℕ) (ph : Phase) (rd : Reading) → takenAs im ph rd .outcome .answer ≡ Answer.Done
+pub taken-says : (im : List ℕ) (ph : Phase) (rd : Reading) → takenAs im ph rd .outcome .answer ≡ Answer.Done
 taken-says im Phase.Idle rd = refl
 taken-says im (Phase.InitWait t) rd = refl
 taken-says im (Phase.UpFT sent) rd = by rd
@@ -58,7 +56,20 @@ module _ (im : List ℕ) (ph : Phase) (m : List ℕ) (st : Standing im ph) where
   pub receive-case : Case (decode im) ph (readingOf m) (receiveOf im ph m .outcome .answer)
   receive-case = rw (receive-answered im ph m, receive-judged) (cases (decode im) ph (readingOf m))
 
+  -- and that of no other
+  pub receive-says : {a : Answer} → Case (decode im) ph (readingOf m) a → receiveOf im ph m .outcome .answer ≡ a
+  receive-says c = receive-answered im ph m ∙ receive-judged ∙ case-answer c
+
 -- ---- a message taken in UpFT
+-- it was read whole
+pub receive-read : (im : List ℕ) (sent : ℕ) (m : List ℕ) → Standing im (Phase.UpFT sent) → receiveOf im (Phase.UpFT sent) m .outcome .answer ≡ Answer.Done
+    → (g : Message) × (readingOf m ≡ Reading.Whole g)
+receive-read im sent m st done = by (readingOf m) (rw done at (receive-case im (Phase.UpFT sent) m st))
+  where
+    by : (rd : Reading) → Case (decode im) (Phase.UpFT sent) rd Answer.Done → (g : Message) × (rd ≡ Reading.Whole g)
+    by Reading.Malformed c = let z : Answer.MalformedReceived ≡ Answer.Done = case-answer c in let y : _≡_ {A = ℕ} 0 1 = cc in absurd (omega arith)
+    by (Reading.Whole g) c = (g, refl)
+
 module _ (im : List ℕ) (sent : ℕ) (m : List ℕ) (st : Standing im (Phase.UpFT sent)) (byte : Bytes m) (g : Message) (read : readingOf m ≡ Reading.Whole g) where
   stored : Takes (decode im) g (ackCount (ackOn (decode im .header) g)) → Stored (store im (receivedState (decode im) g)) (receivedState (decode im) g) (receivedPhase (decode im) sent g)
   stored t = received-stored im sent st g (read-widths m byte g read) (ackCount (ackOn (decode im .header) g)) (t .turn .protection .ack .acks)
@@ -101,46 +112,3 @@ unfolding receiveOf
 receive-stands im ph m st byte =
     settled-stands im ph st (receiveAnswer im ph m) [] (takenAs im ph (readingOf m))
     (λ t. taken-stands im ph m st byte (receive-answered im ph m ∙ done-is (receiveAnswer im ph m) t))
-
--- ---- every other answer
-module _ (im : List ℕ) (ph : Phase) (m : List ℕ) where
-  abbrev said : Answer
-  said = receiveOf im ph m .outcome .answer
-
-  settled-said : receiveOf im ph m ≡ settleOf said ph im [] (takenAs im ph (readingOf m))
-  unfolding receiveOf
-  settled-said = ap (λ (a : Answer). settleOf a ph im [] (takenAs im ph (readingOf m))) (sym (receive-answered im ph m))
-
-  -- 1 to 13: nothing changed
-  pub receive-unchanged : 0 < answerNumber said → answerNumber said < 20 → receiveOf im ph m ≡ unchanged said ph im []
-  receive-unchanged l h = settled-said ∙ answered-nothing said ph im [] (takenAs im ph (readingOf m)) l h
-
-  module _ (st : Standing im ph) where
-    -- 20 to 23: "as connection failed, ACK unapplied"
-    pub receive-unapplied : 20 ≤ answerNumber said → answerNumber said < 30 → Unapplied im (receiveOf im ph m)
-    receive-unapplied l h =
-        let e : receiveOf im ph m ≡ failedWith said im [] = settled-said ∙ answered-failed said ph im [] (takenAs im ph (readingOf m)) l h in
-        rw e (failed-unapplied im ph st said [])
-
-    -- 30 to 36: "released, Idle"
-    pub receive-released : 30 ≤ answerNumber said → ReleasedIdle im (receiveOf im ph m)
-    receive-released l =
-        let e : receiveOf im ph m ≡ releasedWith said im [] = settled-said ∙ answered-released said ph im [] (takenAs im ph (readingOf m)) l in
-        rw e (released-idle im ph st said [])
-
--- ---- "In UpPlain messages are passed on."
-module _ (im : List ℕ) (m : List ℕ) where
-  pub plain-passed : receiveOf im Phase.UpPlain m .outcome .answer ≡ Answer.Done → receiveOf im Phase.UpPlain m ≡ unchanged Answer.Done Phase.UpPlain im []
-  unfolding receiveOf
-  plain-passed done = rw (sym (receive-answered im Phase.UpPlain m) ∙ done, settle-done)
-
-  pub plain-answers : Standing im Phase.UpPlain → PlainAnswer (receiveOf im Phase.UpPlain m .outcome .answer)
-  plain-answers st = by (receive-case im Phase.UpPlain m st)
-    where
-      by : {s : State} {rd : Reading} {a : Answer} → Case s Phase.UpPlain rd a → PlainAnswer a
-      by (wrong-phase e) = absurd (true≢false e)
-      by (malformed e) = plain-malformed
-      by (an-init e i) = plain-malformed
-      by (fatal e i f) = plain-fatal
-      by (ft-tlv h b) = plain-ft-tlv
-      by (passed-on h b) = plain-done
