@@ -1,22 +1,20 @@
 -- The state that the ACK and then the message make, by its parts. Assumes nothing.
-use mathlib.Core.Path.{_≡_, refl, sym, ap, _∙_}
+use mathlib.Core.Path.{_≡_, refl, ap, _∙_}
 use mathlib.Core.Bool.{true}
-use Prim.Native.Nat.{ℕ, _<_}
-use native.Mathlib.Omega.{arith}
+use Prim.Native.Nat.{ℕ}
 use borrow.Author.Tests.{eqb-true}
-use Rattle.ft_number.specs.Circle.{next, stepsOf}
+use Rattle.ft_number.specs.Circle.{next}
 use Rattle.ft_number.specs.declared.Ack
 use Rattle.ft_number.specs.declared.Ack.{Ack}
 use Rattle.ft_number.specs.declared.FtNumber.{FtNumber}
 use Rattle.tlv.specs.declared.FtField
 use Rattle.tlv.specs.declared.FtField.{FtField}
 use Rattle.message.specs.declared.Message.{Message}
-use Rattle.block0.specs.Layout.{slotCount}
 use Rattle.block0.specs.Fields.{Fits, Valid}
 use Rattle.image.specs.State.{State}
 use Rattle.calls.specs.Acked.{ackBorne, acked}
 use Rattle.call_meaning.proofs.Released.{ack-again, acked-none}
-use Rattle.receive.specs.Rule.{inTurn, ackOn, securedBy, taken, receivedState, receivedPhase}
+use Rattle.receive.specs.Rule.{inTurn, ackOn, securedBy, taken, receivedState}
 use Rattle.receive.specs.Cases.{Takes}
 use Rattle.receive.specs.Meaning.{AckThenMessage, SecuresFrom}
 

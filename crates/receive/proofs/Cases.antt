@@ -1,9 +1,7 @@
 -- The judgement of a message is the list of its cases. Assumes nothing.
-use mathlib.Core.Path.{_≡_, refl, sym, ap, _∙_}
+use mathlib.Core.Path.{_≡_, refl}
 use mathlib.Core.Bool.{Bool, true, false, true≢false, false≢true}
-use mathlib.Core.List.{List}
 use Prim.Native.Nat.{ℕ}
-use native.Mathlib.Omega.{arith}
 use Rattle.octets.specs.Pick.{pick}
 use Rattle.ft_number.specs.declared.Ack
 use Rattle.ft_number.specs.declared.Ack.{Ack}
@@ -93,7 +91,7 @@ cases s Phase.UpPlain rd = plain-case s rd
 cases s Phase.Failed rd = wrong-phase refl
 
 -- ---- and each case has its answer
-wrong-by : (s : State) (ph : Phase) (rd : Reading) → receives ph ≡ false → receiveRule s ph rd ≡ Answer.WrongPhase
+pub wrong-by : (s : State) (ph : Phase) (rd : Reading) → receives ph ≡ false → receiveRule s ph rd ≡ Answer.WrongPhase
 wrong-by s Phase.Idle rd e = refl
 wrong-by s (Phase.InitWait t) rd e = refl
 wrong-by s (Phase.UpFT sent) rd e = absurd (true≢false e)

@@ -3,25 +3,23 @@ use mathlib.Core.Path.{_≡_, refl, sym, ap, _∙_}
 use mathlib.Core.Bool.{true≢false}
 use mathlib.Core.List.{List, []}
 use Prim.Native.Nat.{ℕ, _≤_, _<_}
-use native.Mathlib.Omega.{arith}
 use borrow.Author.Tests.{ltb-true, ltb-false}
 use lib.Dec.{ltb}
 use Rattle.label_list.proofs.Choice.{by-test}
 use Rattle.message.specs.Reading.{readingOf}
 use Rattle.message.specs.declared.Reading.{Reading}
 use Rattle.image.specs.State.{State, decode}
-use Rattle.image.specs.Events.{broken}
 use Rattle.calls.specs.declared.Answer
 use Rattle.calls.specs.declared.Answer.{Answer}
 use Rattle.calls.specs.declared.Phase
 use Rattle.calls.specs.declared.Phase.{Phase}
 use Rattle.calls.specs.Answers.{answerNumber}
-use Rattle.calls.specs.Outcomes.{After, unchanged, failedWith, releasedWith, settleOf}
+use Rattle.calls.specs.Outcomes.{unchanged, failedWith, releasedWith, settleOf}
 use Rattle.calls.proofs.Ends.{settle-done}
 use Rattle.call_meaning.specs.Standing.{Standing}
 use Rattle.call_meaning.specs.Ended.{Unapplied, ReleasedIdle}
 use Rattle.call_meaning.proofs.Answered.{answered-nothing, answered-failed, answered-released, failed-unapplied, released-idle}
-use Rattle.receive.specs.Rule.{receiveAnswer, takenAs, receiveOf}
+use Rattle.receive.specs.Rule.{takenAs, receiveOf}
 use Rattle.receive.specs.Cases.{Case, wrong-phase, malformed, an-init, fatal, ft-tlv, passed-on}
 use Rattle.receive.specs.Meaning.{PlainAnswer, plain-malformed, plain-fatal, plain-ft-tlv, plain-done}
 use Rattle.receive.proofs.Meaning.{receive-answered, receive-case}

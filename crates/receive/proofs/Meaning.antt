@@ -1,28 +1,26 @@
 -- What a received message leaves: the answer, the state where it is taken, and that it stands. Assumes nothing.
-use mathlib.Core.Path.{_≡_, refl, sym, ap, _∙_}
-use mathlib.Core.Bool.{Bool, true, true≢false}
+use mathlib.Core.Path.{_≡_, refl, sym, _∙_}
 use mathlib.Core.List.{List, []}
-use Prim.Native.Nat.{ℕ, _≤_, _<_}
+use Prim.Native.Nat.{ℕ}
 use native.Mathlib.Omega.{arith}
 use Rattle.message.specs.Reading.{readingOf}
 use Rattle.message.specs.declared.Message.{Message}
 use Rattle.message.specs.declared.Reading
 use Rattle.message.specs.declared.Reading.{Reading}
-use Rattle.image.specs.State.{State, decode, store}
+use Rattle.image.specs.State.{decode, store}
 use Rattle.image.proofs.Ranges.{Bytes}
 use Rattle.image.proofs.Sound.{parts-sound}
 use Rattle.calls.specs.declared.Answer
 use Rattle.calls.specs.declared.Answer.{Answer}
 use Rattle.calls.specs.declared.Phase
 use Rattle.calls.specs.declared.Phase.{Phase}
-use Rattle.calls.specs.Outcomes.{settleOf}
-use Rattle.calls.proofs.Settled.{Admitted, admitted-is}
+use Rattle.calls.proofs.Settled.{admitted-is}
 use Rattle.calls.proofs.Ends.{settle-done}
 use Rattle.call_meaning.specs.Standing.{Standing, Stands, Stored}
 use Rattle.call_meaning.proofs.Answered.{done-is, settled-says}
 use Rattle.call_meaning.proofs.Stands.{stored-stands, settled-stands}
-use Rattle.call_meaning.proofs.Widths.{Widths, read-widths}
-use Rattle.receive.specs.Rule.{ackOn, ackCount, ftRule, readRule, receiveRule, receiveAnswer, receivedState, receivedPhase, takenFt, takenAs, receiveOf}
+use Rattle.call_meaning.proofs.Widths.{read-widths}
+use Rattle.receive.specs.Rule.{ackOn, ackCount, receiveRule, receiveAnswer, receivedState, receivedPhase, takenFt, takenAs, receiveOf}
 use Rattle.receive.specs.Cases.{Case, Takes}
 use Rattle.receive.specs.Meaning.{ReceivedFrom, AckThenMessage, SecuresFrom}
 use Rattle.receive.proofs.Cases.{cases, case-answer, done-takes}

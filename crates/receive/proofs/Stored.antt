@@ -1,5 +1,5 @@
 -- The state that a message leaves which is taken: stored, it is read back, sound and in range, and allows the phase. Assumes nothing.
-use mathlib.Core.Path.{_≡_, refl, sym, ap, _∙_}
+use mathlib.Core.Path.{_≡_, refl, _∙_}
 use mathlib.Core.Bool.{Bool, true}
 use mathlib.Core.List.{List}
 use Prim.Native.Nat.{ℕ, _-_, _≤_, _<_}
@@ -83,7 +83,7 @@ module _ (im : List ℕ) (sent : ℕ) (st : Standing im (Phase.UpFT sent)) (g : 
   borne : ackBorne h (g .ack) < 4294967296
   borne = borne-width h (fit .released) (g .ack) (w .ack)
 
-  pub few : k ≤ h .held
+  few : k ≤ h .held
   few = ack-held h (ackBorne h (g .ack)) k (valid .window) releases
 
   next-fits : Fits next

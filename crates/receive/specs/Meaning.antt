@@ -10,8 +10,6 @@ use Rattle.message.specs.declared.Message.{Message}
 use Rattle.image.specs.State.{State, decode}
 use Rattle.calls.specs.declared.Answer
 use Rattle.calls.specs.declared.Answer.{Answer}
-use Rattle.calls.specs.declared.Phase
-use Rattle.calls.specs.declared.Phase.{Phase}
 use Rattle.calls.specs.Acked.{ackBorne}
 use Rattle.calls.specs.Outcomes.{After}
 use Rattle.receive.specs.Labels.{labelEffect, isProtected, effectLabels}
