@@ -26,7 +26,7 @@ use Rattle.calls.specs.Outcomes.{After, isDone, checked, admitted, settleOf}
 use Rattle.calls.proofs.Settled.{Admitted, admitted-is}
 use Rattle.call_meaning.specs.Standing.{Standing, Stands, Stored}
 use Rattle.call_meaning.proofs.Calling.{own-done}
-use Rattle.call_meaning.proofs.Stands.{settled-stands, settled-answer}
+use Rattle.call_meaning.proofs.Stands.{stored-stands, settled-stands, settled-answer}
 use Rattle.init.specs.declared.Start
 use Rattle.init.specs.declared.Start.{Start}
 use Rattle.init.specs.declared.Terms.{Terms}
@@ -75,7 +75,7 @@ module _ (im : List ℕ) (ph : Phase) (m : List ℕ) (st : Standing im ph) (byte
 
   begun-stands : Stands (begunAs im ph (initStart im ph m))
   unfolding begunAs
-  begun-stands = record { sound = stored .sound; range = rw (stored .decodes) (stored .range); fits = rw (stored .decodes) (stored .fits) }
+  begun-stands = stored-stands stored
 
   -- whatever the answer is
   pub init-stands : Stands (initReceivedOf im ph m)
