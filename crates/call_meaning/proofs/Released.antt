@@ -7,7 +7,8 @@ use native.Mathlib.Omega.{arith}
 use borrow.Author.Tests.{leb-true, le-leb}
 use lib.Dec.{eqb}
 use lib.ListN.{length}
-use Rattle.ft_number.specs.Circle.{circle, next, after, stepsOf}
+use Rattle.octets.proofs.Choice.{pick-all}
+use Rattle.ft_number.specs.Circle.{circle, after, stepsOf}
 use Rattle.ft_number.specs.Ack.{ackOf}
 use Rattle.ft_number.specs.declared.Ack
 use Rattle.ft_number.specs.declared.Ack.{Ack}
@@ -17,8 +18,7 @@ use Rattle.message.specs.Submission.{submissionOf}
 use Rattle.label_list.specs.Word.{wordCount}
 use Rattle.label_list.specs.Valid.{validOf}
 use Rattle.label_list.specs.declared.LabelMessage.the-variants.{Withdraw, Release}
-use Rattle.label_list.proofs.Choice.{pick-all}
-use Rattle.label_meaning.specs.Event.{Event, Acked, step}
+use Rattle.label_meaning.specs.Event.{Acked, step}
 use Rattle.label_meaning.proofs.Kept.{step-length}
 use Rattle.label_meaning.proofs.Meaning.{valid-means, valid-range}
 use Rattle.label_meaning.proofs.Step.{step-valid}

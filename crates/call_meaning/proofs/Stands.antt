@@ -8,12 +8,12 @@ use native.Mathlib.Nat.{eq-or-lt-of-le}
 use mathlib.Core.Logic.{⊎-elim}
 use borrow.Author.Tests.{eq-eqb}
 use lib.ListN.{length}
+use Rattle.octets.proofs.Choice.{by-test}
 use Rattle.label_list.specs.Word.{wordCount, wordOf}
 use Rattle.label_list.specs.Rules.{codeSwept}
 use Rattle.label_list.specs.Sweep.{wordSwept, sweptOf}
 use Rattle.label_list.specs.Valid.{validOf}
 use Rattle.label_list.specs.declared.SweepRule.the-variants.{AfterBreak}
-use Rattle.label_list.proofs.Choice.{by-test}
 use Rattle.label_meaning.specs.Event.{Broken, step}
 use Rattle.label_meaning.proofs.Kept.{step-length}
 use Rattle.label_meaning.proofs.Meaning.{valid-means, valid-range}

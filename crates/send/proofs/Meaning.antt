@@ -7,7 +7,7 @@ use native.Mathlib.Omega.{arith}
 use borrow.Author.Tests.{eq-eqb, eqb-true, lt-ltb, le-ltb, le-leb, leb-true, ltb-true}
 use lib.Dec.{eqb, leb, ltb}
 use lib.ListN.{length}
-use Rattle.label_list.proofs.Choice.{by-test, both-true}
+use Rattle.octets.proofs.Choice.{by-test, both-true}
 use Rattle.block0.specs.declared.Header.{Header}
 use Rattle.block0.specs.Fields.{Fits, Valid}
 use Rattle.image.specs.State.{decode, store, InRange}

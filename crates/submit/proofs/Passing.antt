@@ -9,14 +9,13 @@ use borrow.Author.Tests.{eqb-true, leb-true, ltb-true, ltb-false}
 use lib.Dec.{eqb, leb, ltb}
 use lib.ListN.{length}
 use Rattle.octets.specs.Pick.{pick, both}
+use Rattle.octets.proofs.Choice.{pick-all, no, passed, both-true}
 use Rattle.message.specs.Submission.{submissionOf}
 use Rattle.message.specs.declared.Kind.{Kind}
 use Rattle.message.specs.declared.Submission
 use Rattle.message.specs.declared.Submission.{Submission}
 use Rattle.label_events.specs.declared.Acceptance
 use Rattle.label_events.specs.declared.Acceptance.{Acceptance}
-use Rattle.label_list.proofs.Choice.{pick-all}
-use Rattle.block.proofs.Tests.{no, passed, both-true}
 use Rattle.block0.specs.Layout.{slotCount}
 use Rattle.slot.specs.Layout.{shortest, longest}
 use Rattle.slot.specs.Held.{Storable}

@@ -1,9 +1,9 @@
 -- Answers that change nothing: a refusal, an image or a phase that is refused. Of no call alone. Assumes nothing.
 use mathlib.Core.Path.{_≡_, refl, sym, ap, _∙_}
-use mathlib.Core.Bool.{true, false, true≢false}
+use mathlib.Core.Bool.{false, true≢false}
 use mathlib.Core.List.{List, []}
 use mathlib.Core.Logic.{_⊎_, inl, inr, ⊎-elim}
-use Rattle.label_list.proofs.Choice.{pick-all}
+use Rattle.octets.proofs.Choice.{pick-all}
 use Rattle.image.specs.State.{decode}
 use Rattle.image.specs.Verdict.{verdict}
 use Rattle.image.specs.declared.Verdict

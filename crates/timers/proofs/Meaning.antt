@@ -10,11 +10,11 @@ use lib.Dec.{eqb}
 use lib.ListN.{getD, length-map, List·getD-map}
 use lib.Seq.{ext-getD}
 use Rattle.octets.specs.Pick.{pick}
+use Rattle.octets.proofs.Choice.{by-test, pick-all}
 use Rattle.label_list.specs.Word.{codeOf, wordOf}
 use Rattle.label_list.specs.Rules.{codeSwept}
 use Rattle.label_list.specs.Sweep.{wordSwept, sweptOf}
 use Rattle.label_list.specs.declared.SweepRule.the-variants.{AfterBreak}
-use Rattle.label_list.proofs.Choice.{by-test, pick-all}
 use Rattle.label_meaning.specs.Valid.{InRange, IsValid}
 use Rattle.label_meaning.proofs.Meaning.{valid-means}
 use Rattle.image.specs.State.{decode}
