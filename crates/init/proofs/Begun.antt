@@ -1,10 +1,9 @@
 -- The state that each start leads to: stored, it is read back, sound and in range, and allows the phase. Assumes nothing.
-use mathlib.Core.Path.{_≡_, refl, sym, ap, _∙_}
+use mathlib.Core.Path.{_≡_, refl}
 use mathlib.Core.Bool.{true}
 use mathlib.Core.List.{List}
-use Prim.Native.Nat.{ℕ, _+_, _-_, _%_, _≤_, _<_}
+use Prim.Native.Nat.{ℕ, _-_, _≤_, _<_}
 use native.Mathlib.Omega.{arith}
-use borrow.Author.Tests.{eq-eqb, le-leb}
 use lib.ListN.{length, take}
 use Rattle.ft_number.specs.Circle.{stepsOf}
 use Rattle.ft_number.specs.Ack.{ackOf}
@@ -17,9 +16,9 @@ use Rattle.block0.specs.declared.Header.{Header}
 use Rattle.block0.specs.Layout.{noLabels}
 use Rattle.block0.specs.Fields.{Fits, Valid}
 use Rattle.block0.proofs.Rules.{none-valid}
-use Rattle.image.specs.Sizes.{imageSize, slotAt}
+use Rattle.image.specs.Sizes.{imageSize}
 use Rattle.image.specs.Ring.{ring}
-use Rattle.image.specs.State.{State, decode, store, InRange}
+use Rattle.image.specs.State.{decode, store, InRange}
 use Rattle.image.specs.Verdict.{IsSound}
 use Rattle.image.specs.Events.{released}
 use Rattle.image.proofs.Changes.{in-range-released, release-decodes, release-sound}
@@ -28,10 +27,10 @@ use Rattle.image.proofs.Stored.{decode-store0, decode-release}
 use Rattle.calls.specs.declared.Phase
 use Rattle.calls.specs.declared.Phase.{Phase}
 use Rattle.calls.specs.Acked.{releasedLabels, withReleased, acked}
-use Rattle.calls.specs.Phases.{phaseFits, issuedCount}
+use Rattle.calls.specs.Phases.{phaseFits}
+use Rattle.calls.proofs.Phasing.{fits-up}
 use Rattle.call_meaning.specs.Standing.{Stored}
 use Rattle.call_meaning.proofs.Released.{ack-held, ack-window, released-valid, released-words}
-use Rattle.call_meaning.proofs.Stands.{fits-up}
 use Rattle.init.specs.declared.Start
 use Rattle.init.specs.declared.Start.{Start}
 use Rattle.init.specs.declared.Terms.{Terms}

@@ -8,7 +8,7 @@ use Rattle.message.specs.declared.Message.{Message}
 use Rattle.message.specs.declared.Reading
 use Rattle.message.specs.declared.Reading.{Reading}
 use Rattle.image.specs.State.{decode, store}
-use Rattle.image.proofs.Ranges.{Bytes}
+use Rattle.octets.specs.Bytes.{Bytes}
 use Rattle.image.proofs.Sound.{parts-sound}
 use Rattle.calls.specs.declared.Answer
 use Rattle.calls.specs.declared.Answer.{Answer}
@@ -17,9 +17,10 @@ use Rattle.calls.specs.declared.Phase.{Phase}
 use Rattle.calls.proofs.Settled.{admitted-is}
 use Rattle.calls.proofs.Ends.{settle-done}
 use Rattle.call_meaning.specs.Standing.{Standing, Stands, Stored}
-use Rattle.call_meaning.proofs.Answered.{done-is, settled-says}
+use Rattle.calls.proofs.Effects.{done-is}
+use Rattle.call_meaning.proofs.Answered.{settled-says}
 use Rattle.call_meaning.proofs.Stands.{stored-stands, settled-stands}
-use Rattle.call_meaning.proofs.Widths.{read-widths}
+use Rattle.message.proofs.Widths.{read-widths}
 use Rattle.receive.specs.Rule.{ackOn, ackCount, receiveRule, receiveAnswer, receivedState, receivedPhase, takenFt, takenAs, receiveOf}
 use Rattle.receive.specs.Cases.{Case, Takes}
 use Rattle.receive.specs.Meaning.{ReceivedFrom, AckThenMessage, SecuresFrom}

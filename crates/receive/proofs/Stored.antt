@@ -28,9 +28,10 @@ use Rattle.calls.specs.declared.Phase.{Phase}
 use Rattle.calls.specs.Acked.{ackBorne, withReleased, acked}
 use Rattle.calls.specs.Phases.{issuedCount}
 use Rattle.call_meaning.specs.Standing.{Standing, Stored}
-use Rattle.call_meaning.proofs.Released.{ack-held, ack-window, ack-issued, released-valid, released-words, valid-words}
-use Rattle.call_meaning.proofs.Stands.{fits-up, up-fits}
-use Rattle.call_meaning.proofs.Widths.{Widths}
+use Rattle.call_meaning.proofs.Released.{ack-held, ack-window, ack-issued, released-valid, released-words}
+use Rattle.image.proofs.Ranges.{valid-words}
+use Rattle.calls.proofs.Phasing.{fits-up, up-fits}
+use Rattle.message.proofs.Widths.{Widths}
 use Rattle.receive.specs.declared.LabelEffect
 use Rattle.receive.specs.declared.LabelEffect.{LabelEffect}
 use Rattle.receive.specs.Labels.{labelEffect, isProtected, effectLabels}

@@ -2,17 +2,16 @@
 use mathlib.Core.Path.{_≡_, refl, ap, _∙_}
 use mathlib.Core.Bool.{Bool, true, false}
 use mathlib.Core.List.{List, []}
-use Prim.Native.Nat.{ℕ, _+_, _-_, _%_, _≤_}
+use Prim.Native.Nat.{ℕ, _-_, _≤_}
 use native.Mathlib.Omega.{arith}
 use Rattle.octets.specs.Differ.{differ}
 use Rattle.ft_number.specs.declared.Ack
 use Rattle.ft_number.specs.declared.Ack.{Ack}
-use Rattle.ft_number.specs.declared.FtNumber.{FtNumber}
 use Rattle.message.specs.Reading.{readingOf}
 use Rattle.message.specs.declared.Message.{Message}
 use Rattle.message.specs.declared.Reading
 use Rattle.message.specs.declared.Reading.{Reading}
-use Rattle.label_list.proofs.Choice.{by-test}
+use Rattle.octets.proofs.Choice.{by-test}
 use Rattle.block0.specs.declared.Header.{Header}
 use Rattle.image.specs.Sizes.{block}
 use Rattle.image.specs.State.{decode, store0, store}
@@ -26,7 +25,7 @@ use Rattle.calls.specs.Answers.{effectOf}
 use Rattle.calls.specs.Acked.{ackBorne, withReleased, acked}
 use Rattle.calls.specs.Outcomes.{After, after, isDone, refusal, unchanged, admitted, settleOf}
 use Rattle.calls.proofs.Ends.{settle-other}
-use Rattle.call_meaning.proofs.Answered.{done-is}
+use Rattle.calls.proofs.Effects.{done-is}
 use Rattle.call_meaning.proofs.Calling.{call-refused, call-own, own-done, own-refused}
 use Rattle.receive.specs.declared.LabelEffect.{LabelEffect}
 use Rattle.receive.specs.Labels.{labelEffect, isProtected, effectLabels}
@@ -34,21 +33,6 @@ use Rattle.receive.specs.Rule.{ackOn, ackCount, securedBy, withSecured, 
 use Rattle.receive.specs.Cases.{receives}
 use Rattle.receive.proofs.Judged.{ack-within}
 use Rattle.receive.proofs.Cases.{wrong-by}
-
-pub header-is : (h : Header) (k : ℕ) (g : Message) {a s : FtNumber} → a .0 ≡ ackBorne h (g .ack) → s ≡ securedBy (h .secured) (g .protection)
-    → record {
-      released = a;
-      issued = h .issued;
-      secured = s;
-      first = (h .first + k) % 64;
-      held = h .held - k;
-      timeout = h .timeout;
-      kept = h .kept;
-      keepalive = h .keepalive;
-      maxpdu = h .maxpdu;
-    }
-    ≡ withSecured (withReleased h k (ackBorne h (g .ack))) (securedBy (h .secured) (g .protection))
-header-is h k g e q = rw (← e, q)
 
 -- what is stored is the state that the message makes
 stored : (im : List ℕ) (g : Message) {h h′ : Header} {k : ℕ} {p : Bool} {f : LabelEffect} {ws ws′ : List ℕ}
@@ -123,7 +107,3 @@ module _ (im : List ℕ) (ph : Phase) (m : List ℕ) {a : Answer} (e : a ≡ adm
     -- those in which the message is judged
     pub receive-judges : (up : Phase) {x : After} → ph ≡ up → x ≡ settleOf (receiveRule (decode im) up (readingOf m)) up im [] (takenAs im up (readingOf m)) → x ≡ receiveOf im ph m
     receive-judges up q p = own (rw q p)
-
--- what was compared is block 0 as it was
-pub compared : (old x y : List ℕ) {b : Bool} → b ≡ differ old y → old ≡ x → b ≡ differ x y
-compared old x y e p = e ∙ ap (λ (k : List ℕ). differ k y) p

@@ -1,7 +1,7 @@
 use borrow.Author.Needs.{needs}
 use mathlib.Core.Path.{ap}
 use Rattle.calls.proofs.Settled.{admit-passed, admitted-sound}
-use Rattle.call_meaning.proofs.Refusals.{denied, granted}
+use Rattle.octets.proofs.Choice.{denied, granted}
 use Rattle.receive.specs.Cases.{receives}
 use Rattle.receive.proofs.Taken.{receive-refused, receive-barred, receive-judges}
 use Rattle.receive.proofs.taking.receive.Statement.{statement}

@@ -1,7 +1,7 @@
 use borrow.Author.Needs.{needs}
 use mathlib.Core.Path.{refl}
-use Rattle.call_meaning.proofs.Answered.{done-is}
-use Rattle.call_meaning.proofs.Refusals.{denied, granted}
+use Rattle.calls.proofs.Effects.{done-is}
+use Rattle.octets.proofs.Choice.{denied, granted}
 use Rattle.receive.proofs.Taken.{ft-settled, ft-taken, count-within}
 use Rattle.receive.proofs.taking.receive_ft.Statement.{statement}
 use Rattle.receive.proofs.taking.receive_ft.Tie as tie
