@@ -1,0 +1,4 @@
+pub mod Settles
+pub mod Answers
+pub mod Told
+pub mod Slots
