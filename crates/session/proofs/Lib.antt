@@ -2,3 +2,4 @@ pub mod Settles
 pub mod Answers
 pub mod Told
 pub mod Slots
+pub mod Cut

@@ -64,7 +64,7 @@ module _ (im : List ℕ) (size : length im ≡ imageSize) (h : Header) (ls : Lis
       ∙ length-putRun widths (values h) (block im 0) 0
       ∙ length-block im 0 (omega arith)
 
-  store-other : (k : ℕ) → k ≢ 0 → block (store0 im h ls) k ≡ block im k
+  pub store-other : (k : ℕ) → k ≢ 0 → block (store0 im h ls) k ≡ block im k
   unfolding store0
   store-other k apart = block-other im 0 (block0 (block im 0) h ls) (omega arith) long k apart
 
