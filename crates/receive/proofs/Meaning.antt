@@ -29,7 +29,7 @@ use Rattle.receive.proofs.Cases.{cases, done-takes}
 use Rattle.receive.proofs.Stored.{received-stored}
 
 -- what is taken is answered Done
-taken-says : (im : List ℕ) (ph : Phase) (rd : Reading) → takenAs im ph rd .outcome .answer ≡ Answer.Done
+pub taken-says : (im : List ℕ) (ph : Phase) (rd : Reading) → takenAs im ph rd .outcome .answer ≡ Answer.Done
 taken-says im Phase.Idle rd = refl
 taken-says im (Phase.InitWait t) rd = refl
 taken-says im (Phase.UpFT sent) rd = by rd

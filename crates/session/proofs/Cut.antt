@@ -36,7 +36,6 @@ use Rattle.receive.specs.Rule.{takenAs}
 use Rattle.session.specs.Call.{Call, format, restore, connection-failed, open-session, init-received, time-passed, submit, send-next, keepalive, receive, leaves, judged, done, makesImage}
 use Rattle.session.specs.Store.{slotAlone}
 use Rattle.session.proofs.Settles.{ends}
-use Rattle.session.proofs.Answers.{act-done}
 use Rattle.session.proofs.Slots.{store-other}
 
 -- ---- which calls write a slot: Submit where it is Done
@@ -53,7 +52,7 @@ every : (P : After → Type 0) (c : Call) (im : List ℕ) (ph : Phase) → makes
     → ((m : List ℕ) → submitAnswer im ph m ≡ Answer.Done → P (queued im ph m)) → P (leaves c im ph)
 unfolding done judged failedWith releasedWith begunAs submitAnswer
 every P c im ph other none some =
-    ends c im ph P (λ e. none _ refl) (λ e. none _ refl) (λ e. none _ refl) (λ e. by c other (act-done (judged c im ph) e))
+    ends c im ph P (λ e. none _ refl) (λ e. none _ refl) (λ e. none _ refl) (λ d. by c other d)
   where
     by : (c : Call) → makesImage c ≡ false → judged c im ph ≡ Answer.Done → P (done c im ph)
     by format other e = absurd (true≢false other)

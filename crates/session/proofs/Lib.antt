@@ -3,3 +3,4 @@ pub mod Answers
 pub mod Told
 pub mod Slots
 pub mod Cut
+pub mod Stands

@@ -1,15 +1,21 @@
 -- Every call is its tests' answer, settled: so what holds of the four ways to end holds of every call. Assumes nothing.
 use mathlib.Core.Path.{_≡_, refl, _∙_}
+use mathlib.Core.Bool.{Bool, true, false}
 use mathlib.Core.List.{List}
 use Prim.Native.Nat.{ℕ}
+use native.Mathlib.Omega.{arith}
+use lib.Dec.{eqb, ltb}
+use Rattle.octets.specs.Pick.{pick}
+use Rattle.label_list.proofs.Choice.{by-test}
 use Rattle.calls.specs.declared.Answer
 use Rattle.calls.specs.declared.Answer.{Answer}
 use Rattle.calls.specs.declared.Effect
 use Rattle.calls.specs.declared.Effect.{Effect}
 use Rattle.calls.specs.declared.Phase
 use Rattle.calls.specs.declared.Phase.{Phase}
-use Rattle.calls.specs.Answers.{effectOf}
+use Rattle.calls.specs.Answers.{answerNumber, effectOf}
 use Rattle.calls.specs.Outcomes.{After, unchanged, failedWith, releasedWith, settledBy, settleOf}
+use Rattle.call_meaning.proofs.Answered.{done-is}
 use Rattle.connect.specs.Start.{formatOf, restoreOf}
 use Rattle.connect.specs.Writers.{writerOf, openOf, keepaliveOf}
 use Rattle.init.specs.Begun.{initReceivedOf}
@@ -33,8 +39,21 @@ settles (send-next ask out) im ph = refl
 settles (keepalive id out) im ph = refl
 settles (receive m) im ph = refl
 
+-- only Done acts
+act-done : (a : Answer) → effectOf a ≡ Effect.Act → a ≡ Answer.Done
+unfolding effectOf
+act-done a e =
+    by-test (eqb (answerNumber a) 0)
+    (λ z. done-is a z)
+    (λ n. no (ltb (answerNumber a) 20) (ltb (answerNumber a) 30) (rw n at e))
+  where
+    no : (b c : Bool) → pick b Effect.Nothing (pick c Effect.Fail Effect.Release) ≡ Effect.Act → a ≡ Answer.Done
+    no true c q = let z : _≡_ {A = ℕ} 0 1 = cc in absurd (omega arith)
+    no false true q = let z : _≡_ {A = ℕ} 0 1 = cc in absurd (omega arith)
+    no false false q = let z : _≡_ {A = ℕ} 0 1 = cc in absurd (omega arith)
+
 module _ (c : Call) (im : List ℕ) (ph : Phase) where
-  pub by-effect : (f : Effect) → effectOf (judged c im ph) ≡ f → leaves c im ph ≡ settledBy f (judged c im ph) (given c ph) im (lent c) (done c im ph)
+  by-effect : (f : Effect) → effectOf (judged c im ph) ≡ f → leaves c im ph ≡ settledBy f (judged c im ph) (given c ph) im (lent c) (done c im ph)
   unfolding settleOf
   by-effect f e = settles c im ph ∙ rw e
 
@@ -43,7 +62,7 @@ module _ (c : Call) (im : List ℕ) (ph : Phase) where
       → (effectOf (judged c im ph) ≡ Effect.Nothing → P (unchanged (judged c im ph) (given c ph) im (lent c)))
       → (effectOf (judged c im ph) ≡ Effect.Fail → P (failedWith (judged c im ph) im (lent c)))
       → (effectOf (judged c im ph) ≡ Effect.Release → P (releasedWith (judged c im ph) im (lent c)))
-      → (effectOf (judged c im ph) ≡ Effect.Act → P (done c im ph))
+      → (judged c im ph ≡ Answer.Done → P (done c im ph))
       → P (leaves c im ph)
   ends P nothing fails releases acts = by (effectOf (judged c im ph)) refl
     where
@@ -51,4 +70,4 @@ module _ (c : Call) (im : List ℕ) (ph : Phase) where
       by Effect.Nothing e = rw (by-effect Effect.Nothing e) (nothing e)
       by Effect.Fail e = rw (by-effect Effect.Fail e) (fails e)
       by Effect.Release e = rw (by-effect Effect.Release e) (releases e)
-      by Effect.Act e = rw (by-effect Effect.Act e) (acts e)
+      by Effect.Act e = rw (by-effect Effect.Act e) (acts (act-done (judged c im ph) e))

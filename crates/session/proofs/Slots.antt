@@ -48,7 +48,6 @@ use Rattle.send.specs.Rule.{sentOf, sendImage}
 use Rattle.receive.specs.Rule.{takenAs}
 use Rattle.session.specs.Call.{Call, format, restore, connection-failed, open-session, init-received, time-passed, submit, send-next, keepalive, receive, leaves, judged, done, makesImage}
 use Rattle.session.proofs.Settles.{ends}
-use Rattle.session.proofs.Answers.{act-done}
 
 -- every block but block 0 and the slot that the outcome names keeps its bytes
 abbrev pub Kept : List ℕ → After → Type 0
@@ -154,9 +153,10 @@ module _ (c : Call) (im : List ℕ) (ph : Phase) (other : makesImage c ≡ false
 
   -- "A call stores at most one slot": every block but that and block 0 keeps its bytes
   pub others-kept : Kept im (leaves c im ph)
+  unfolding effectOf
   others-kept =
       ends c im ph (Kept im)
       (λ e k zero slot. refl)
       (λ e. failed-kept im (sized (λ z. cc) e) (judged c im ph) _)
       (λ e. released-kept im (sized (λ z. cc) e) (judged c im ph) _)
-      (λ e. done-kept im (sized (λ z. cc) e) c ph other (act-done (judged c im ph) e))
+      (λ d. done-kept im (sized (λ z. cc) (ap effectOf d)) c ph other d)
