@@ -1,5 +1,5 @@
 -- The slot that a call stores is not live: with only the slot stored, restore gives the state before the call. Assumes nothing.
-use mathlib.Core.Path.{_≡_, refl, sym, ap, _∙_}
+use mathlib.Core.Path.{_≡_, refl, ap, _∙_}
 use mathlib.Core.Bool.{false, true≢false}
 use mathlib.Core.List.{List}
 use Prim.Native.Nat.{ℕ, _<_}
@@ -12,7 +12,7 @@ use Rattle.message.specs.declared.Reading
 use Rattle.message.specs.declared.Reading.{Reading}
 use Rattle.block0.specs.Layout.{slotCount}
 use Rattle.slot.specs.Held.{Storable}
-use Rattle.image.specs.Sizes.{imageSize, block, withBlock, blockOf}
+use Rattle.image.specs.Sizes.{imageSize, withBlock, blockOf}
 use Rattle.image.specs.State.{decode, storeSlot, InRange}
 use Rattle.image.specs.Events.{broken}
 use Rattle.image.specs.Verdict.{verdict, IsSound}
@@ -23,13 +23,13 @@ use Rattle.calls.specs.declared.Answer.{Answer}
 use Rattle.calls.specs.declared.Phase
 use Rattle.calls.specs.declared.Phase.{Phase}
 use Rattle.calls.specs.Phases.{restingPhase}
-use Rattle.calls.specs.Outcomes.{After, unchanged, failedWith, releasedWith}
+use Rattle.calls.specs.Outcomes.{After, failedWith, releasedWith}
 use Rattle.timers.specs.Events.{expired}
 use Rattle.connect.specs.Start.{restoreOf}
-use Rattle.connect.proofs.Meaning.{restore-passes, restore-phase, restore-decodes}
+use Rattle.connect.proofs.Meaning.{restore-phase, restore-decodes}
 use Rattle.init.specs.Begun.{begunAs}
 use Rattle.submit.specs.Rule.{submitAnswer}
-use Rattle.submit.specs.Act.{submitted, submitSlot, submitImage, queued}
+use Rattle.submit.specs.Act.{submitSlot, submitImage, queued}
 use Rattle.submit.proofs.Passing.{done-passes, passes-storable}
 use Rattle.submit.proofs.Meaning.{cut-decodes, cut-verdict}
 use Rattle.receive.specs.Rule.{takenAs}

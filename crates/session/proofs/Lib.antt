@@ -4,3 +4,6 @@ pub mod Told
 pub mod Slots
 pub mod Cut
 pub mod Stands
+pub mod Sample
+pub mod Second
+pub mod Keepers

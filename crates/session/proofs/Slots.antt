@@ -1,9 +1,9 @@
 -- The slots that a call stores: at most one, one that is not live; every other keeps its bytes. Assumes nothing.
 use mathlib.Core.Path.{_≡_, refl, sym, ap, _∙_}
-use mathlib.Core.Bool.{Bool, true, false, true≢false}
+use mathlib.Core.Bool.{true, false, true≢false}
 use mathlib.Core.List.{List, []}
 use mathlib.Core.Logic.{_≢_}
-use Prim.Native.Nat.{ℕ, _+_, _<_}
+use Prim.Native.Nat.{ℕ, _<_}
 use native.Mathlib.Omega.{arith}
 use lib.Dec.{ltb}
 use lib.ListN.{length}
@@ -19,7 +19,7 @@ use Rattle.block.proofs.Run.{length-putRun}
 use Rattle.block.proofs.WordRun.{length-withWords}
 use Rattle.block0.specs.declared.Header.{Header}
 use Rattle.block0.specs.Layout.{widths, labelsAt, values, block0, slotCount}
-use Rattle.image.specs.Sizes.{imageSize, block, blockOf}
+use Rattle.image.specs.Sizes.{imageSize, block}
 use Rattle.image.specs.State.{decode, storeSlot, store0}
 use Rattle.image.specs.Events.{releaseOf, breakOf}
 use Rattle.image.specs.Verdict.{verdict, IsSound}
@@ -27,7 +27,7 @@ use Rattle.image.specs.declared.Verdict
 use Rattle.image.specs.declared.Verdict.{Verdict}
 use Rattle.image.proofs.Blocks.{length-block, block-other}
 use Rattle.image.proofs.Stored.{Idle, length-storeSlot, slot-other}
-use Rattle.image.proofs.Sound.{sound-parts, idle-last}
+use Rattle.image.proofs.Sound.{sound-parts}
 use Rattle.calls.specs.declared.Answer
 use Rattle.calls.specs.declared.Answer.{Answer}
 use Rattle.calls.specs.declared.Effect
@@ -42,7 +42,7 @@ use Rattle.init.specs.declared.Start
 use Rattle.init.specs.declared.Start.{Start}
 use Rattle.init.specs.Begun.{startImage, initStart, begunAs}
 use Rattle.submit.specs.Rule.{submitAnswer}
-use Rattle.submit.specs.Act.{submitted, submitSlot, submitImage, queued}
+use Rattle.submit.specs.Act.{submitSlot, submitImage, queued}
 use Rattle.submit.proofs.Passing.{done-passes, passes-storable}
 use Rattle.send.specs.Rule.{sentOf, sendImage}
 use Rattle.receive.specs.Rule.{takenAs}

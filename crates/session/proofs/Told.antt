@@ -41,7 +41,7 @@ done-told restore im ph other = refl
 done-told connection-failed im ph other = refl
 done-told (open-session id own proposal out) im ph other = refl
 done-told (init-received m) im ph other = refl
-done-told (time-passed elapsed) im ph other = 
+done-told (time-passed elapsed) im ph other =
     pick-all (Told im) (expired (decode im .header) elapsed) {x = releasedWith Answer.Done im []} {y = unchanged Answer.Done ph im []} refl (sym (differ-self (block im 0)))
 done-told (submit m) im ph other = refl
 done-told (send-next ask out) im ph other = refl

@@ -1,5 +1,5 @@
 -- What the code's types say of a call's input: a message is bytes, and a proposed timeout has 16 bits.
-use Prim.Native.Nat.{ℕ, _<_}
+use Prim.Native.Nat.{_<_}
 use Rattle.image.proofs.Ranges.{Bytes}
 use Rattle.calls.specs.declared.Phase.{Phase}
 use Rattle.init.specs.Begun.{proposalOf}
