@@ -122,7 +122,7 @@ module _ (im : List ℕ) (sent : ℕ) (st : Standing im (Phase.UpFT sent)) where
       let d : Sendable im (Phase.UpFT sent) = record { admitted = standing-admitted st; up = refl; some = l } in
       let done : sendAnswer im (Phase.UpFT sent) ask (length out) ≡ Answer.Done = sendable-answer d ask (length out) ∙ (rw (le-ltb (length out) (length (sendBytes (decode im) sent ask)) room)) in
       rw (done, settle-done)
-      (record { answer = refl; phase = refl; state = image-decodes im (st .sound) (st .range) sent l (up .0); output = refl })
+      (record { answer = refl; phase = refl; state = image-decodes im (st .sound) (st .range) sent l (up .0); output = refl; written = refl })
 
   -- "it numbers it if it has no number"
   pub send-numbers : NumberedFrom (decode im) sent
