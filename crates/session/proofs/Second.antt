@@ -5,7 +5,7 @@ use mathlib.Core.List.{List}
 use Prim.Native.Nat.{ℕ, _+_, _≤_, _<_}
 use native.Mathlib.Omega.{arith}
 use lib.Dec.{ltb}
-use Rattle.label_list.proofs.Choice.{pick-all}
+use Rattle.octets.proofs.Choice.{pick-all}
 use Rattle.message_writer.specs.Forms.{ftTlvs}
 use Rattle.message_writer.proofs.Puts.{length-raised}
 use Rattle.block0.specs.Layout.{slotCount}

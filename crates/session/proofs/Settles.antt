@@ -6,7 +6,7 @@ use Prim.Native.Nat.{ℕ}
 use native.Mathlib.Omega.{arith}
 use lib.Dec.{eqb, ltb}
 use Rattle.octets.specs.Pick.{pick}
-use Rattle.label_list.proofs.Choice.{by-test}
+use Rattle.octets.proofs.Choice.{by-test}
 use Rattle.calls.specs.declared.Answer
 use Rattle.calls.specs.declared.Answer.{Answer}
 use Rattle.calls.specs.declared.Effect
@@ -15,7 +15,7 @@ use Rattle.calls.specs.declared.Phase
 use Rattle.calls.specs.declared.Phase.{Phase}
 use Rattle.calls.specs.Answers.{answerNumber, effectOf}
 use Rattle.calls.specs.Outcomes.{After, unchanged, failedWith, releasedWith, settledBy, settleOf}
-use Rattle.call_meaning.proofs.Answered.{done-is}
+use Rattle.calls.proofs.Effects.{done-is}
 use Rattle.connect.specs.Start.{formatOf, restoreOf}
 use Rattle.connect.specs.Writers.{writerOf, openOf, keepaliveOf}
 use Rattle.init.specs.Begun.{initReceivedOf}

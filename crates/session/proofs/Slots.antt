@@ -8,7 +8,7 @@ use native.Mathlib.Omega.{arith}
 use lib.Dec.{ltb}
 use lib.ListN.{length}
 use Rattle.label_list.specs.Word.{wordCount}
-use Rattle.label_list.proofs.Choice.{pick-all}
+use Rattle.octets.proofs.Choice.{pick-all}
 use Rattle.message.specs.Reading.{readingOf}
 use Rattle.message.specs.declared.Reading
 use Rattle.message.specs.declared.Reading.{Reading}

@@ -5,7 +5,7 @@ use mathlib.Core.List.{List, []}
 use Prim.Native.Nat.{ℕ}
 use Rattle.octets.specs.Differ.{differ}
 use Rattle.octets.proofs.Differ.{differ-self}
-use Rattle.label_list.proofs.Choice.{pick-all}
+use Rattle.octets.proofs.Choice.{pick-all}
 use Rattle.message.specs.Reading.{readingOf}
 use Rattle.message.specs.declared.Reading
 use Rattle.message.specs.declared.Reading.{Reading}
