@@ -1,8 +1,8 @@
 -- The returns of the session's calls: the premises are what the callees ensure. Assumes nothing.
-use mathlib.Core.Path.{_≡_, refl, sym, ap, _∙_}
+use mathlib.Core.Path.{_≡_, sym, ap, _∙_}
 use mathlib.Core.Bool.{true, false}
 use mathlib.Core.List.{List}
-use Prim.Native.Nat.{ℕ, _≤_}
+use Prim.Native.Nat.{ℕ}
 use native.Mathlib.Omega.{arith}
 use Rattle.image.specs.Verdict.{verdict}
 use Rattle.calls.specs.declared.Answer
@@ -18,7 +18,7 @@ use Rattle.ldp_ft.specs.declared.OutcomeNumbers.{OutcomeNumbers}
 use Rattle.ldp_ft.specs.declared.SessionNumbers.{SessionNumbers}
 use Rattle.ldp_ft.specs.Session.{givenOf}
 use Rattle.ldp_ft.specs.Outcome.{Narrow, numbersOf, shown, shownFrom, unknownPhase, called}
-use Rattle.ldp_ft.proofs.Answers.{Named, checked-named}
+use Rattle.ldp_ft.proofs.Named.{none, checked-named}
 use Rattle.ldp_ft.proofs.Narrow.{unchanged-narrow}
 
 -- a call's outcome has 32 bits in each number where what it leaves has
@@ -50,7 +50,7 @@ module _ (s : SessionNumbers) (im : List ℕ) {a : Answer} (e : a ≡ checked (v
   unknown-sound t p q = q ∙ (rw (p, checks-sound im e t))
 
 pub unknown-narrow : (im : List ℕ) {a : Answer} {x : Outcome} → a ≡ checked (verdict im) Answer.Done → x ≡ refusal a Phase.Idle → Narrow x
-unknown-narrow im e p = rw (p, e) (unchanged-narrow (checked (verdict im) Answer.Done) Phase.Idle im im (checked-named im Answer.Done (omega arith)))
+unknown-narrow im e p = rw (p, e) (unchanged-narrow (checked (verdict im) Answer.Done) Phase.Idle im im (checked-named im Answer.Done none))
 
 pub barred-narrow : {x : Outcome} → x ≡ refusal Answer.WrongPhase Phase.Idle → Narrow x
-barred-narrow p = rw p (record { block = omega arith; written = omega arith; slot = omega arith })
+barred-narrow p = rw p (record { block = none; written = omega arith; slot = omega arith })

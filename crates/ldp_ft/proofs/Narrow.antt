@@ -1,23 +1,19 @@
 -- The numbers of every call's outcome have 32 bits: what is written is a message, what is stored and named a block of the image. Assumes nothing.
-use mathlib.Core.Path.{_≡_, refl, sym, ap, _∙_}
-use mathlib.Core.Bool.{Bool, true, false}
+use mathlib.Core.Path.{_≡_}
+use mathlib.Core.Bool.{Bool, true}
 use mathlib.Core.List.{List, []}
-use Prim.Native.Nat.{ℕ, _+_, _≤_}
+use Prim.Native.Nat.{ℕ, _≤_}
 use native.Mathlib.Omega.{arith}
 use lib.Dec.{eqb}
-use lib.ListN.{length, getD}
+use lib.ListN.{length}
 use Rattle.octets.specs.Pick.{pick}
 use Rattle.ft_number.specs.declared.MessageId.{MessageId}
 use Rattle.ft_number.specs.declared.Proposal.{Proposal}
 use Rattle.ft_number.specs.Timeout.{proposedOf}
-use Rattle.tlv.specs.declared.FtField
-use Rattle.tlv.specs.declared.FtField.{FtField}
 use Rattle.message.specs.Reading.{readingOf}
 use Rattle.message.specs.declared.Reading
 use Rattle.message.specs.declared.Reading.{Reading}
-use Rattle.message_writer.specs.Forms.{ackTlv, ftTlvs, initBytes, keepaliveBytes}
 use Rattle.message_writer.specs.declared.OwnParameters.{OwnParameters}
-use Rattle.message_writer.proofs.Puts.{length-raised}
 use Rattle.label_list.proofs.Choice.{by-test, pick-all}
 use Rattle.image.specs.Sizes.{imageSize}
 use Rattle.image.specs.State.{decode}
@@ -29,7 +25,7 @@ use Rattle.calls.specs.declared.Effect.{Effect}
 use Rattle.calls.specs.declared.Phase
 use Rattle.calls.specs.declared.Phase.{Phase}
 use Rattle.calls.specs.Answers.{effectOf}
-use Rattle.calls.specs.Outcomes.{After, isDone, unchanged, failedWith, releasedWith, settledBy, settleOf, checked, admitted, roomFor, wrote}
+use Rattle.calls.specs.Outcomes.{After, isDone, unchanged, failedWith, releasedWith, settledBy, settleOf, checked, wrote}
 use Rattle.calls.proofs.Ends.{settle-other}
 use Rattle.call_meaning.proofs.Refusals.{settle-does}
 use Rattle.connect.specs.Start.{formatted, formatOf, restoreOf}
@@ -38,25 +34,30 @@ use Rattle.init.specs.Begun.{proposalOf, awaits, initStart, begunAs, initReceiv
 use Rattle.timers.specs.Events.{connected, waiting, eventAnswer, connectionFailedOf, expired, timePassedOf}
 use Rattle.submit.specs.Rule.{submitRule, submitAnswer}
 use Rattle.submit.specs.Act.{queued, submitOf}
-use Rattle.send.specs.Rule.{sentOf, nextMessage, numberAt, ackAsked, sendBytes, sendRule, sendAnswer, sendImage, sendOf}
-use Rattle.send.proofs.Judged.{Sendable, sendable-sound, answered-sendable}
-use Rattle.send.proofs.Acts.{next-fits}
+use Rattle.send.specs.Rule.{sentOf, sendBytes, sendAnswer, sendOf}
+use Rattle.send.proofs.Judged.{answered-sendable}
 use Rattle.receive.specs.Rule.{receiveAnswer, takenAs, receiveOf}
 use Rattle.ldp_ft.specs.Outcome.{Narrow}
-use Rattle.ldp_ft.proofs.Answers.{Named, checked-named, admitted-named, room-named, submit-named, send-named, start-named, receive-named}
+use Rattle.ldp_ft.proofs.Named.{Named, none, checked-named, admitted-named}
+use Rattle.ldp_ft.proofs.Rules.{room-named, submit-named, send-named, start-named, receive-named}
+use Rattle.ldp_ft.proofs.Lengths.{init-short, alive-short, sent-short}
 
 -- ---- how calls end
+-- nothing written, and no slot
+quiet : (a : Answer) (ph : Phase) (b : Bool) → Named a → Narrow (record { answer = a; phase = ph; written = 0; slot = 0; block0 = b })
+quiet a ph b n = record { block = n; written = omega arith; slot = omega arith }
+
 module _ (a : Answer) (ph : Phase) (im o : List ℕ) (n : Named a) where
   pub unchanged-narrow : Narrow (unchanged a ph im o .outcome)
-  unchanged-narrow = record { block = n; written = omega arith; slot = omega arith }
+  unchanged-narrow = quiet a ph _ n
 
   failed-narrow : Narrow (failedWith a im o .outcome)
   unfolding failedWith
-  failed-narrow = record { block = n; written = omega arith; slot = omega arith }
+  failed-narrow = quiet a _ _ n
 
   released-narrow : Narrow (releasedWith a im o .outcome)
   unfolding releasedWith
-  released-narrow = record { block = n; written = omega arith; slot = omega arith }
+  released-narrow = quiet a _ _ n
 
   other-narrow : (f : Effect) → Narrow (settledBy f a ph im o (unchanged a ph im o) .outcome)
   other-narrow Effect.Nothing = unchanged-narrow
@@ -71,56 +72,26 @@ module _ (a : Answer) (ph : Phase) (im o : List ℕ) (n : Named a) where
       (λ t. rw (settle-does a ph im o d t) (w t))
       (λ f. rw (settle-other a ph im o d (unchanged a ph im o) f) (other-narrow (effectOf a)))
 
-done : Named Answer.Done
-done = omega arith
-
-barred : Named Answer.WrongPhase
-barred = omega arith
-
-missized : Named Answer.WrongSize
-missized = omega arith
-
--- ---- what is written
-ack-short : (ack : FtField) → length (ackTlv ack) ≤ 8
-ack-short FtField.Absent = omega arith
-ack-short (FtField.Number a) = omega arith
-
-init-short : (id : MessageId) (p : OwnParameters) (seconds : ℕ) (ack : FtField) → length (initBytes id p seconds ack) ≤ 504
-init-short id p seconds FtField.Absent = omega arith
-init-short id p seconds (FtField.Number a) = omega arith
-
-alive-short : (id : MessageId) (ack : FtField) → length (keepaliveBytes id ack) ≤ 504
-alive-short id FtField.Absent = omega arith
-alive-short id (FtField.Number a) = omega arith
-
--- a held message has 480 bytes at most, and two TLVs of 8 are added
-sent-short : (im : List ℕ) (ph : Phase) (ask : Bool) → Sendable im ph → length (sendBytes (decode im) (sentOf ph) ask) ≤ 504
-unfolding sendBytes
-sent-short im ph ask d =
-    let f = next-fits im (sentOf ph) (sendable-sound d) (d .some) refl in
-    let t : List ℕ = ftTlvs (numberAt (decode im .header) (sentOf ph)) (ackAsked ask (decode im .header)) in
-    omega (arith, f, length-raised (nextMessage (decode im) (sentOf ph)) (f .0) t, ack-short (ackAsked ask (decode im .header)))
-
 -- ---- each call
 pub format-narrow : (im : List ℕ) → Narrow (formatOf im .outcome)
 unfolding formatOf
 format-narrow im =
-    settled-narrow _ Phase.Idle im [] (pick-all Named (eqb (length im) imageSize) done missized) formatted
-    (λ t. record { block = done; written = omega arith; slot = omega arith })
+    settled-narrow _ Phase.Idle im [] (pick-all Named (eqb (length im) imageSize) none none) formatted
+    (λ t. quiet Answer.Done _ _ none)
 
 pub restore-narrow : (im : List ℕ) → Narrow (restoreOf im .outcome)
 unfolding restoreOf
 restore-narrow im =
-    settled-narrow (checked (verdict im) Answer.Done) Phase.Idle im [] (checked-named im Answer.Done done) (failedWith Answer.Done im [])
-    (λ t. failed-narrow Answer.Done Phase.Idle im [] done)
+    settled-narrow (checked (verdict im) Answer.Done) Phase.Idle im [] (checked-named im Answer.Done none) (failedWith Answer.Done im [])
+    (λ t. failed-narrow Answer.Done Phase.Idle im [] none)
 
 writer-narrow : (im : List ℕ) (ph : Phase) (may : Bool) (next : Phase) (out bytes : List ℕ) → length bytes ≤ 504 → Narrow (writerOf im ph may next out bytes .outcome)
 unfolding writerOf
 writer-narrow im ph may next out bytes short =
     settled-narrow _ ph im out
-    (admitted-named im ph _ (pick-all Named may (room-named bytes (length out)) barred))
+    (admitted-named im ph _ (pick-all Named may (room-named bytes (length out)) none))
     (wrote next im im out bytes)
-    (λ t. record { block = done; written = short; slot = omega arith })
+    (λ t. record { block = none; written = short; slot = omega arith })
 
 pub open-narrow : (im : List ℕ) (ph : Phase) (id : MessageId) (p : OwnParameters) (t : Proposal) (out : List ℕ) → Narrow (openOf im ph id p t out .outcome)
 unfolding openOf
@@ -136,33 +107,33 @@ pub init-narrow : (im : List ℕ) (ph : Phase) (m : List ℕ) → Narrow (initRe
 unfolding initReceivedOf begunAs
 init-narrow im ph m =
     settled-narrow _ ph im []
-    (admitted-named im ph _ (pick-all Named (awaits ph) (start-named (decode im .header) (proposalOf ph) (readingOf m)) barred))
+    (admitted-named im ph _ (pick-all Named (awaits ph) (start-named (decode im .header) (proposalOf ph) (readingOf m)) none))
     (begunAs im ph (initStart im ph m))
-    (λ t. record { block = done; written = omega arith; slot = omega arith })
+    (λ t. quiet Answer.Done _ _ none)
 
 event-named : (im : List ℕ) (ph : Phase) (may : Bool) → Named (eventAnswer im ph may)
 unfolding eventAnswer
-event-named im ph may = admitted-named im ph (pick may Answer.Done Answer.WrongPhase) (pick-all Named may done barred)
+event-named im ph may = admitted-named im ph (pick may Answer.Done Answer.WrongPhase) (pick-all Named may none none)
 
 pub connection-failed-narrow : (im : List ℕ) (ph : Phase) → Narrow (connectionFailedOf im ph .outcome)
 unfolding connectionFailedOf
 connection-failed-narrow im ph =
     settled-narrow (eventAnswer im ph (connected ph)) ph im [] (event-named im ph (connected ph)) (failedWith Answer.Done im [])
-    (λ t. failed-narrow Answer.Done ph im [] done)
+    (λ t. failed-narrow Answer.Done ph im [] none)
 
 pub time-passed-narrow : (im : List ℕ) (ph : Phase) (elapsed : ℕ) → Narrow (timePassedOf im ph elapsed .outcome)
 unfolding timePassedOf
 time-passed-narrow im ph elapsed =
     settled-narrow (eventAnswer im ph (waiting ph)) ph im [] (event-named im ph (waiting ph)) _
     (λ t. pick-all (λ (x : After). Narrow (x .outcome)) (expired (decode im .header) elapsed)
-    (released-narrow Answer.Done ph im [] done)
-    (unchanged-narrow Answer.Done ph im [] done))
+    (released-narrow Answer.Done ph im [] none)
+    (unchanged-narrow Answer.Done ph im [] none))
 
 pub submit-narrow : (im : List ℕ) (ph : Phase) (m : List ℕ) → Narrow (submitOf im ph m .outcome)
 unfolding submitOf submitAnswer queued
 submit-narrow im ph m =
     settled-narrow _ ph im [] (admitted-named im ph (submitRule (decode im) m) (submit-named (decode im) m)) (queued im ph m)
-    (λ t. record { block = done; written = omega arith; slot = omega arith })
+    (λ t. record { block = none; written = omega arith; slot = omega arith })
 
 sent-named : (im : List ℕ) (ph : Phase) (ask : Bool) (room : ℕ) → Named (sendAnswer im ph ask room)
 unfolding sendAnswer
@@ -172,15 +143,15 @@ pub send-narrow : (im : List ℕ) (ph : Phase) (ask : Bool) (out : List ℕ) →
 unfolding sendOf
 send-narrow im ph ask out =
     settled-narrow (sendAnswer im ph ask (length out)) ph im out (sent-named im ph ask (length out)) _
-    (λ t. record { block = done; written = sent-short im ph ask (answered-sendable im ph ask (length out) t); slot = omega arith })
+    (λ t. record { block = none; written = sent-short im ph ask (answered-sendable im ph ask (length out) t); slot = omega arith })
 
 taken-narrow : (im : List ℕ) (ph : Phase) (rd : Reading) → Narrow (takenAs im ph rd .outcome)
-taken-narrow im Phase.Idle rd = record { block = done; written = omega arith; slot = omega arith }
-taken-narrow im (Phase.InitWait t) rd = record { block = done; written = omega arith; slot = omega arith }
-taken-narrow im (Phase.UpFT sent) Reading.Malformed = record { block = done; written = omega arith; slot = omega arith }
-taken-narrow im (Phase.UpFT sent) (Reading.Whole g) = record { block = done; written = omega arith; slot = omega arith }
-taken-narrow im Phase.UpPlain rd = record { block = done; written = omega arith; slot = omega arith }
-taken-narrow im Phase.Failed rd = record { block = done; written = omega arith; slot = omega arith }
+taken-narrow im Phase.Idle rd = quiet Answer.Done _ _ none
+taken-narrow im (Phase.InitWait t) rd = quiet Answer.Done _ _ none
+taken-narrow im (Phase.UpFT sent) Reading.Malformed = quiet Answer.Done _ _ none
+taken-narrow im (Phase.UpFT sent) (Reading.Whole g) = quiet Answer.Done _ _ none
+taken-narrow im Phase.UpPlain rd = quiet Answer.Done _ _ none
+taken-narrow im Phase.Failed rd = quiet Answer.Done _ _ none
 
 pub receive-narrow : (im : List ℕ) (ph : Phase) (m : List ℕ) → Narrow (receiveOf im ph m .outcome)
 unfolding receiveOf receiveAnswer

@@ -1,7 +1,7 @@
 -- A message's parts, and those of a PDU, as numbers. Assumes nothing.
-use mathlib.Core.Path.{_≡_, refl, sym, ap, _∙_}
+use mathlib.Core.Path.{_≡_}
 use mathlib.Core.List.{List}
-use Prim.Native.Nat.{ℕ, _≤_, _<_}
+use Prim.Native.Nat.{ℕ, _≤_}
 use native.Mathlib.Omega.{arith}
 use Rattle.octets.proofs.Be.{beAt-lt}
 use Rattle.pdu.specs.Pdu.{placeOf}

@@ -1,6 +1,6 @@
 -- A PDU and a message as numbers.
 use Prim.Native.Nat.{ℕ, _+_, _≤_}
-use mathlib.Core.Bool.{Bool, true, false}
+use mathlib.Core.Bool.{true, false}
 use lib.Dec.{eqb, ltb}
 use Rattle.octets.specs.Pick.{pick}
 use Rattle.pdu.specs.declared.Opened

@@ -4,7 +4,8 @@ mod messages;
 mod numbers;
 mod outcome;
 mod phases;
-mod session_calls;
+mod running;
+mod starting;
 mod stored;
 
 // The phase and its value: InitWait's proposed timeout, UpFT's count sent, else 0.

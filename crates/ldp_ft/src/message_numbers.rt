@@ -3,7 +3,6 @@ ghost use mathlib.Core.Path.{_≡_};
 ghost use Prim.Native.Nat.{_≤_};
 ghost use Rattle.ldp_ft.specs.Reading.{borne, hasOf, fieldNumber, ftNumber, reconnectOf, secondsOf, keepaliveOf, maxpduOf, NarrowMessage, noMessage, wholeMessage};
 use crate::MessageNumbers;
-use ft_number::FtNumber;
 use message::Field;
 use message::Found;
 use message::FtField;
@@ -80,7 +79,10 @@ fn keepalive_of(parameters: Parameters) -> u32
 {
     match parameters {
         Parameters::Absent => 0,
-        Parameters::Given { keepalive, pdulength } => keepalive as u32,
+        Parameters::Given {
+            keepalive,
+            pdulength,
+        } => keepalive as u32,
     }
 }
 
@@ -89,7 +91,10 @@ fn maxpdu_of(parameters: Parameters) -> u32
 {
     match parameters {
         Parameters::Absent => 0,
-        Parameters::Given { keepalive, pdulength } => pdulength as u32,
+        Parameters::Given {
+            keepalive,
+            pdulength,
+        } => pdulength as u32,
     }
 }
 

@@ -19,8 +19,14 @@ pub extern "C" fn ldp_ft_pdu_open(pdu: &[u8]) -> PduNumbers
     ensures { λ r. ⌜ r ≡ pduNumbers (openedOf (now (pdu .entry))) ⌝ }
 {
     match pdu::open_pdu(pdu) {
-        Opened::Whole(count) => PduNumbers { answer: 0, count: count },
-        Opened::Malformed => PduNumbers { answer: 4, count: 0 },
+        Opened::Whole(count) => PduNumbers {
+            answer: 0,
+            count: count,
+        },
+        Opened::Malformed => PduNumbers {
+            answer: 4,
+            count: 0,
+        },
     }
 }
 
@@ -30,9 +36,17 @@ fn part_numbers(start: usize, end: usize) -> PartNumbers
     ensures { λ r. ⌜ r ≡ partOf start end ⌝ }
 {
     if 4294967295 < end {
-        return PartNumbers { answer: 4, start: 0, end: 0 };
+        return PartNumbers {
+            answer: 4,
+            start: 0,
+            end: 0,
+        };
     }
-    PartNumbers { answer: 0, start: start as u32, end: end as u32 }
+    PartNumbers {
+        answer: 0,
+        start: start as u32,
+        end: end as u32,
+    }
 }
 
 // Where the message lies that starts at `at`.
@@ -42,7 +56,11 @@ pub extern "C" fn ldp_ft_pdu_message(pdu: &[u8], at: usize) -> PartNumbers
 {
     match pdu::message_at(pdu, at) {
         Place::Message(start, end) => part_numbers(start, end),
-        Place::None => PartNumbers { answer: 4, start: 0, end: 0 },
+        Place::None => PartNumbers {
+            answer: 4,
+            start: 0,
+            end: 0,
+        },
     }
 }
 

@@ -14,8 +14,14 @@ pub extern "C" fn ldp_ft_distance(from: u32, to: u32) -> DistanceNumbers
     ensures { λ r. ⌜ r ≡ distanceNumbers (distanceOf from to) ⌝ }
 {
     match ft_number::signed_distance(FtNumber(from), FtNumber(to)) {
-        Distance::Steps(n) => DistanceNumbers { answer: 0, steps: n },
-        Distance::Refused => DistanceNumbers { answer: 2, steps: 0 },
+        Distance::Steps(n) => DistanceNumbers {
+            answer: 0,
+            steps: n,
+        },
+        Distance::Refused => DistanceNumbers {
+            answer: 2,
+            steps: 0,
+        },
     }
 }
 

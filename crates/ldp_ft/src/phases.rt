@@ -12,8 +12,14 @@ pub fn session_of(phase: Phase) -> SessionNumbers
 {
     match phase {
         Phase::Idle => SessionNumbers { phase: 0, value: 0 },
-        Phase::InitWait(seconds) => SessionNumbers { phase: 1, value: seconds as u32 },
-        Phase::UpFT(sent) => SessionNumbers { phase: 2, value: sent },
+        Phase::InitWait(seconds) => SessionNumbers {
+            phase: 1,
+            value: seconds as u32,
+        },
+        Phase::UpFT(sent) => SessionNumbers {
+            phase: 2,
+            value: sent,
+        },
         Phase::UpPlain => SessionNumbers { phase: 3, value: 0 },
         Phase::Failed => SessionNumbers { phase: 4, value: 0 },
     }

@@ -1,9 +1,9 @@
--- `ldp_ft::session_calls::ldp_ft_send_next` meets its contract. Assumes nothing.
+-- `ldp_ft::running::ldp_ft_send_next` meets its contract. Assumes nothing.
 use borrow.Author.Needs.{needs}
 use Rattle.ldp_ft.proofs.Narrow.{send-narrow}
 use Rattle.ldp_ft.proofs.Called.{narrow-is, called-known, called-unknown}
-use Rattle.ldp_ft.proofs.session_calls.ldp_ft_send_next.Statement.{statement}
-use Rattle.ldp_ft.proofs.session_calls.ldp_ft_send_next.Tie as tie
+use Rattle.ldp_ft.proofs.running.ldp_ft_send_next.Statement.{statement}
+use Rattle.ldp_ft.proofs.running.ldp_ft_send_next.Tie as tie
 
 pub ldp-ft-send-next-spec : {M : Type 1} → statement M
 ldp-ft-send-next-spec =

@@ -1,10 +1,10 @@
--- `ldp_ft::session_calls::ldp_ft_format` meets its contract. Assumes nothing.
+-- `ldp_ft::starting::ldp_ft_format` meets its contract. Assumes nothing.
 use borrow.Author.Needs.{needs}
 use mathlib.Core.Path.{_∙_}
 use Rattle.ldp_ft.proofs.Narrow.{format-narrow}
 use Rattle.ldp_ft.proofs.Called.{narrow-is, shown-is}
-use Rattle.ldp_ft.proofs.session_calls.ldp_ft_format.Statement.{statement}
-use Rattle.ldp_ft.proofs.session_calls.ldp_ft_format.Tie as tie
+use Rattle.ldp_ft.proofs.starting.ldp_ft_format.Statement.{statement}
+use Rattle.ldp_ft.proofs.starting.ldp_ft_format.Tie as tie
 
 pub ldp-ft-format-spec : {M : Type 1} → statement M
 ldp-ft-format-spec =

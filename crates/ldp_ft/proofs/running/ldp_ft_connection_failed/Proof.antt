@@ -1,9 +1,9 @@
--- `ldp_ft::session_calls::ldp_ft_connection_failed` meets its contract. Assumes nothing.
+-- `ldp_ft::running::ldp_ft_connection_failed` meets its contract. Assumes nothing.
 use borrow.Author.Needs.{needs}
 use Rattle.ldp_ft.proofs.Narrow.{connection-failed-narrow}
 use Rattle.ldp_ft.proofs.Called.{narrow-is, called-known, called-unknown}
-use Rattle.ldp_ft.proofs.session_calls.ldp_ft_connection_failed.Statement.{statement}
-use Rattle.ldp_ft.proofs.session_calls.ldp_ft_connection_failed.Tie as tie
+use Rattle.ldp_ft.proofs.running.ldp_ft_connection_failed.Statement.{statement}
+use Rattle.ldp_ft.proofs.running.ldp_ft_connection_failed.Tie as tie
 
 pub ldp-ft-connection-failed-spec : {M : Type 1} → statement M
 ldp-ft-connection-failed-spec =

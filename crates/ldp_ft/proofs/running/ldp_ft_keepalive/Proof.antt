@@ -1,9 +1,9 @@
--- `ldp_ft::session_calls::ldp_ft_keepalive` meets its contract. Assumes nothing.
+-- `ldp_ft::running::ldp_ft_keepalive` meets its contract. Assumes nothing.
 use borrow.Author.Needs.{needs}
 use Rattle.ldp_ft.proofs.Narrow.{keepalive-narrow}
 use Rattle.ldp_ft.proofs.Called.{narrow-is, called-known, called-unknown}
-use Rattle.ldp_ft.proofs.session_calls.ldp_ft_keepalive.Statement.{statement}
-use Rattle.ldp_ft.proofs.session_calls.ldp_ft_keepalive.Tie as tie
+use Rattle.ldp_ft.proofs.running.ldp_ft_keepalive.Statement.{statement}
+use Rattle.ldp_ft.proofs.running.ldp_ft_keepalive.Tie as tie
 
 pub ldp-ft-keepalive-spec : {M : Type 1} → statement M
 ldp-ft-keepalive-spec =
