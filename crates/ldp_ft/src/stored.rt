@@ -7,9 +7,6 @@ use block::BlockCheck;
 // What stands for no number: no check and no label word is so large.
 const NONE: u32 = 4294967295;
 
-// How many label words an image has.
-const PLACES: u32 = 120;
-
 // The check of a block's first 508 bytes.
 #[no_mangle]
 pub extern "C" fn ldp_ft_block_check(block: &[u8]) -> u32
@@ -29,10 +26,10 @@ pub extern "C" fn ldp_ft_label(image: &[u8], place: u32) -> u32
     if image::verdict_number(image::check_image(image)) != 0 {
         return NONE;
     }
-    if PLACES <= place {
+    if label_list::WORD_COUNT <= place as usize {
         return NONE;
     }
-    let mut words = [0u32; 120];
+    let mut words = [0u32; label_list::WORD_COUNT];
     image::labels_of(image, &mut words);
     words[place as usize]
 }
