@@ -23,7 +23,7 @@ pub extern "C" fn ldp_ft_connection_failed(image: &mut [u8], s: SessionNumbers) 
 {
     match phase_given(s) {
         Given::Known(phase) => {
-            let o = timers::connection_failed(image, phase);
+            let o = session::connection_failed(image, phase);
             outcome_numbers(s, o)
         }
         Given::Unknown => refuse_unknown(image, s),
@@ -41,7 +41,7 @@ pub extern "C" fn ldp_ft_time_passed(
 {
     match phase_given(s) {
         Given::Known(phase) => {
-            let o = timers::time_passed(image, phase, elapsed);
+            let o = session::time_passed(image, phase, elapsed);
             outcome_numbers(s, o)
         }
         Given::Unknown => refuse_unknown(image, s),
@@ -55,7 +55,7 @@ pub extern "C" fn ldp_ft_submit(image: &mut [u8], s: SessionNumbers, msg: &[u8])
 {
     match phase_given(s) {
         Given::Known(phase) => {
-            let o = submit::submit(image, phase, msg);
+            let o = session::submit(image, phase, msg);
             outcome_numbers(s, o)
         }
         Given::Unknown => refuse_unknown(image, s),
@@ -74,7 +74,7 @@ pub extern "C" fn ldp_ft_send_next(
 {
     match phase_given(s) {
         Given::Known(phase) => {
-            let o = send::send_next(image, phase, ack, out);
+            let o = session::send_next(image, phase, ack, out);
             outcome_numbers(s, o)
         }
         Given::Unknown => refuse_unknown(image, s),
@@ -93,7 +93,7 @@ pub extern "C" fn ldp_ft_keepalive(
 {
     match phase_given(s) {
         Given::Known(phase) => {
-            let o = connect::keepalive(image, phase, MessageId(id), out);
+            let o = session::keepalive(image, phase, MessageId(id), out);
             outcome_numbers(s, o)
         }
         Given::Unknown => refuse_unknown(image, s),
@@ -107,7 +107,7 @@ pub extern "C" fn ldp_ft_receive(image: &mut [u8], s: SessionNumbers, msg: &[u8]
 {
     match phase_given(s) {
         Given::Known(phase) => {
-            let o = receive::receive(image, phase, msg);
+            let o = session::receive(image, phase, msg);
             outcome_numbers(s, o)
         }
         Given::Unknown => refuse_unknown(image, s),
