@@ -102,12 +102,12 @@ class Pair:
     def alive(self, end):
         self.take(OTHER[end], self.step(end, "keepalive", c.keepalive, 2, 16))
 
-    def unprotected(self, i):
-        self.take("P1", label_message(MAPPING, 1000 + i), "receive Mapping, unprotected")
+    def unprotected(self, label):
+        self.take("P1", label_message(MAPPING, label), f"receive Mapping {label}, unprotected")
 
     def wait(self, elapsed):
         self.step("P1", f"time passed {elapsed}", c.time_passed, elapsed)
-        counts("P1", self.image["P1"])
+        self.counts()
 
     def counts(self):
         for end in ("P1", "P2"):
@@ -120,44 +120,58 @@ def example(p):
     for _ in range(26):
         p.address("P1")
         p.pass_on("P1")
-    p.alive("P2")
     for _ in range(2):
         for _ in range(46):
             p.address("P2")
             p.pass_on("P2")
         p.alive("P1")
+    p.alive("P2")
     p.counts()
-    say("# notes 1 to 4")
+    say("# the example")
+    say("# note 1")
     p.mapping("P1", 101)
     p.mapping("P1", 102)
     p.pass_on("P1")
+    say("# note 2")
     p.mapping("P2", 203)
     late = p.send("P1")
     p.pass_on("P2", ack=True)
     p.take("P2", late)
+    say("# note 4")
     p.mapping("P2", 201)
     p.pass_on("P2", ack=True)
-    p.counts()
-    say("# notes 5 to 9")
+    say("# note 5")
     p.mapping("P2", 202)
     p.send("P2", lost=True)
+    say("# note 6")
     p.address("P1")
     p.pass_on("P1")
+    say("# note 7")
     p.mapping("P1", 104)
     p.send("P1", lost=True)
+    say("# note 8")
     p.step("P1", "keepalive, lost", c.keepalive, 2, 16)
+    say("# note 9")
     p.withdraw("P2", 203)
     p.send("P2", lost=True)
     p.counts()
-    say("# notes 10 to 12")
+
+
+def recovery(p):
+    say("# its recovery")
+    say("# note 10")
     p.lose()
+    say("# note 11")
     p.withdraw("P2", 201)
     p.counts()
+    say("# note 12")
     p.connect()
-    say("# notes 13 to 15")
+    say("# note 13")
     p.pass_on("P1")
+    say("# note 14")
     p.pass_on("P2")
     p.pass_on("P2", ack=True)
+    say("# note 15")
     p.pass_on("P2")
     p.send("P2", lost=True)
     p.alive("P1")
@@ -171,8 +185,8 @@ def example(p):
 
 
 def restart(p):
-    say("# power cut")
-    p.unprotected(0)
+    say("# a power cut")
+    p.unprotected(300)
     p.mapping("P1", 105)
     p.pass_on("P1")
     p.address("P1")
@@ -185,6 +199,7 @@ def restart(p):
     p.image["P1"] = stored
     p.step("P1", "restore", lambda image, phase: c.restore(image))
     p.lose("P2")
+    say("# after the power cut")
     p.counts()
     p.connect()
     p.pass_on("P1", ack=True)
@@ -267,20 +282,19 @@ def status(code):
     return c.message(0x0001, ID, c.tlv(c.STATUS, c.field(code, 4) + bytes(6)))
 
 
-def init(*tlvs):
-    return c.message(0x0200, ID, *tlvs)
+def init(*tlvs, ident=0):
+    return c.message(0x0200, ident, *tlvs)
 
 
 def own(seconds=15, size=1500):
-    return c.tlv(c.PARAMETERS, c.field(1, 2) + c.field(seconds, 2) + bytes(2) + c.field(size, 2) + c.field(0x0A000002, 4) + bytes(2))
+    return c.tlv(c.PARAMETERS, c.field(1, 2) + c.field(seconds, 2) + bytes(2) + c.field(size, 2) + bytes(6))
 
 
 def session(again, seconds):
     return c.tlv(0x8503, c.field(0x8000 * again, 2) + c.field(seconds, 2))
 
 
-SHORT = bytes.fromhex("0201000500000009")  # says a byte more than it has
-EVERY = c.tlv(c.FEC, b"\x01")
+NO_LABEL = c.message(MAPPING, ID, c.tlv(c.FEC, b""))
 RECEIVED = (
     ("KeepAlive, ACK 1", keepalive(ack(1))),
     ("KeepAlive, ACK 2", keepalive(ack(2))),
@@ -295,14 +309,12 @@ RECEIVED = (
     ("Address, unprotected", bare_address()),
     ("Mapping 201, unprotected", with_label(MAPPING, 201)),
     ("Mapping 1000, protected", with_label(MAPPING, 1000, protection(2))),
-    ("Withdraw of every label, unprotected", c.message(WITHDRAW, ID, EVERY)),
-    ("Withdraw of every label, protected", c.message(WITHDRAW, ID, EVERY, protection(2))),
-    ("Release 101, protected, ACK 1", with_label(RELEASE, 101, protection(2), ack(1))),
-    ("KeepAlive, ACK of 3 bytes", keepalive(c.tlv(c.ACK, b"\0\0\1"))),
-    ("KeepAlive, a byte short", SHORT),
-    ("KeepAlive, ACK twice", keepalive(ack(2), ack(2))),
-    ("Mapping of label 1048576", with_label(MAPPING, 1048576)),
-    ("Init", init()),
+    ("Withdraw 201, protected", with_label(WITHDRAW, 201, protection(2))),
+    ("Release 101, protected", with_label(RELEASE, 101, protection(2))),
+    ("20 bytes of 24", keepalive(protection(2), ack(2))[:20]),
+    ("Mapping 1048576", with_label(MAPPING, 1048576)),
+    ("Mapping, no label", NO_LABEL),
+    ("Init", init(ident=ID)),
     ("Notification, E set", status(0x8000000A)),
 )
 PLAIN = (
@@ -310,14 +322,14 @@ PLAIN = (
     ("Mapping 300", with_label(MAPPING, 300)),
     ("KeepAlive, ACK 0", keepalive(ack(0))),
     ("Address 1", bare_address(protection(1))),
-    ("KeepAlive, a byte short", SHORT),
+    ("Mapping, no label", NO_LABEL),
     ("Notification, E set", status(0x8000000A)),
 )
 SUBMITTED = (
-    ("Mapping without a label", c.message(MAPPING, ID, c.tlv(c.FEC, b""))),
-    ("Mapping with FT Protection", with_label(MAPPING, 102, protection(3))),
+    ("Mapping, no label", NO_LABEL),
+    ("Mapping, protected", with_label(MAPPING, 102, protection(3))),
     ("Request", c.message(0x0401, ID, c.tlv(c.FEC, b""))),
-    ("Withdraw without a label", c.message(WITHDRAW, ID, c.tlv(c.FEC, b""))),
+    ("Withdraw, no label", c.message(WITHDRAW, ID, c.tlv(c.FEC, b""))),
     ("No Label Resources", status(0xE)),
     ("Label Resources Available", status(0xF)),
     ("Mapping 15", with_label(MAPPING, 15)),
@@ -330,10 +342,10 @@ INITS = (
     ("R, ACK 3", init(own(), session(1, 5), ack(3))),
     ("R, KeepAlive time 16", init(own(seconds=16), session(1, 5), ack(2))),
     ("R, PDU length 1501", init(own(size=1501), session(1, 5), ack(2))),
+    ("no R", init(own(), session(0, 3), ack(9))),
     ("R, no ACK", init(own(), session(1, 5))),
-    ("no parameters", init(session(0, 5))),
-    ("no R", init(own(), session(0, 3))),
     ("no FT Session", init(own())),
+    ("no parameters", init(session(0, 5), ident=ID)),
     ("another type", keepalive()),
 )
 
@@ -349,11 +361,11 @@ def full_labels(p):
     say("# the full label list")
     p.fresh()
     for i in range(120):
-        p.unprotected(i)
+        p.unprotected(1001 + i)
     p.mapping("P1", 101)
-    counts("P1", p.image["P1"])
-    p.unprotected(120)
-    counts("P1", p.image["P1"])
+    p.counts()
+    p.unprotected(1123)
+    p.counts()
 
 
 def messages(p):
@@ -365,8 +377,8 @@ def messages(p):
     p.pass_on("P2", ack=True)
     p.mapping("P1", 101)
     p.send("P1", lost=True)
-    p.unprotected(0)
-    counts("P1", p.image["P1"])
+    p.unprotected(1000)
+    p.counts()
     on_copies(p.image["P1"], p.phase["P1"], "receive ", c.receive, RECEIVED)
     say("# messages submitted")
     on_copies(p.image["P1"], p.phase["P1"], "submit ", c.submit, SUBMITTED)
@@ -427,12 +439,12 @@ def plain_session(p):
     p.step("P1", "open", c.open_session, 1, PARAMETERS["P1"], None, 64)
     p.step("P1", "init, no FT Session", c.init_received, init(own()))
     on_copies(p.image["P1"], p.phase["P1"], "receive ", c.receive, PLAIN)
-    p.step("P1", "keepalive", c.keepalive, 2, 64)
 
 
 def main():
     p = Pair()
     example(p)
+    recovery(p)
     restart(p)
     p = Pair()
     timeouts(p)

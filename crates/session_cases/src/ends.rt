@@ -104,16 +104,6 @@ pub fn p2_offer(p2: &mut [u8], e: Ends, what: Offer) -> Ends {
     }
 }
 
-// A message of P1's is given to P2.
-pub fn p2_take(p2: &mut [u8], e: Ends, msg: &[u8]) -> Ends {
-    let one = e.one;
-    let two = e.two;
-    Ends {
-        one: one,
-        two: steps::take(b"P2 receive", p2, two, msg),
-    }
-}
-
 // P1 sends its next message, and P2 receives it.
 pub fn to_p2(p1: &mut [u8], p2: &mut [u8], e: Ends, ack: bool) -> Ends {
     let mut wire = [0u8; 512];
@@ -137,6 +127,30 @@ pub fn to_p1(p1: &mut [u8], p2: &mut [u8], e: Ends, ack: bool) -> Ends {
     Ends {
         one: steps::take(b"P1 receive", p1, one, first(&wire, o.written)),
         two: sent,
+    }
+}
+
+// P1's message is still under way when P2 sends, with an ACK.
+pub fn crossing(p1: &mut [u8], p2: &mut [u8], e: Ends) -> Ends {
+    let mut wire = [0u8; 512];
+    let one = e.one;
+    let two = e.two;
+    let o = steps::issue(b"P1 send", p1, one, false, &mut wire);
+    let sent = o.phase;
+    let e = to_p1(
+        p1,
+        p2,
+        Ends {
+            one: sent,
+            two: two,
+        },
+        true,
+    );
+    let one = e.one;
+    let two = e.two;
+    Ends {
+        one: one,
+        two: steps::take(b"P2 receive", p2, two, first(&wire, o.written)),
     }
 }
 
@@ -165,6 +179,14 @@ pub fn p2_send_lost(p2: &mut [u8], e: Ends) -> Ends {
     }
 }
 
+// P1's KeepAlive, lost.
+pub fn p1_alive_lost(p1: &[u8], e: Ends) -> Ends {
+    let mut wire = [0u8; 16];
+    let one = e.one;
+    steps::keepalive(b"P1 keepalive, lost", p1, one, &mut wire);
+    e
+}
+
 // P1's KeepAlive, and P2 receives it.
 pub fn alive_to_p2(p1: &[u8], p2: &mut [u8], e: Ends) -> Ends {
     let mut wire = [0u8; 16];
@@ -189,7 +211,30 @@ pub fn alive_to_p1(p1: &mut [u8], p2: &[u8], e: Ends) -> Ends {
     }
 }
 
-pub fn show_both(p1: &[u8], p2: &[u8]) {
+// P1 receives a Mapping without protection.
+pub fn p1_unprotected(p1: &mut [u8], e: Ends, label: u32) -> Ends {
+    let one = e.one;
+    let two = e.two;
+    number(b"P1 receive Mapping ", label as u64);
+    Ends {
+        one: steps::take(b", unprotected", p1, one, &label_message(MAPPING, label)),
+        two: two,
+    }
+}
+
+// So many seconds pass at P1.
+pub fn p1_wait(p1: &mut [u8], e: Ends, elapsed: u32) -> Ends {
+    let one = e.one;
+    let two = e.two;
+    number(b"P1 time passed ", elapsed as u64);
+    Ends {
+        one: steps::wait(b"", p1, one, elapsed),
+        two: two,
+    }
+}
+
+pub fn show_both(p1: &[u8], p2: &[u8], e: Ends) -> Ends {
     show_counts(b"P1", p1);
     show_counts(b"P2", p2);
+    e
 }

@@ -33,11 +33,11 @@ pub fn label_message(number: u16, label: u32) -> [u8; 28]
 }
 
 // An Address message with the address 192.0.2.1.
-pub fn address() -> [u8; 22]
-    ensures { λ r. ⌜ 22 ≡ length r ⌝ }
+pub fn address() -> [u8; 18]
+    ensures { λ r. ⌜ 18 ≡ length r ⌝ }
 {
-    let mut m = [0u8; 22];
-    octets::put_u32(&mut m, 0, 0x03000012);
+    let mut m = [0u8; 18];
+    octets::put_u32(&mut m, 0, 0x0300000e);
     octets::put_u32(&mut m, 4, 3);
     octets::put_u32(&mut m, 8, 0x01010006);
     octets::put_u32(&mut m, 12, 0x0001c000);

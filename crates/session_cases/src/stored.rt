@@ -1,16 +1,11 @@
 // The owner's store, and a restart from it.
 use crate::ends::Ends;
-use crate::ends::alive_to_p1;
-use crate::ends::connect;
-use crate::ends::p1_offer;
-use crate::ends::p1_send_lost;
-use crate::ends::show_both;
-use crate::ends::to_p2;
 use crate::messages::MAPPING;
 use crate::messages::Offer;
 use crate::messages::label_message;
-use crate::rounds::take_unprotected;
-use crate::show::say;
+use crate::playing::play;
+use crate::scripts::Script;
+use crate::scripts::Step;
 use crate::show::show_counts;
 use crate::show::show_step;
 use crate::steps;
@@ -46,12 +41,29 @@ pub fn store_all(stored: &mut [u8], image: &[u8]) {
 }
 
 // What is held as the power goes: a message that P2 has, and one that it has not; and a label used without protection.
-fn before_cut(p1: &mut [u8], p2: &mut [u8], e: Ends) -> Ends {
-    say(b"# power cut\n");
-    let e = take_unprotected(p1, e, 0);
-    let e = p1_offer(p1, e, Offer::Mapping(105));
-    let e = to_p2(p1, p2, e, false);
-    p1_offer(p1, e, Offer::Address)
+pub fn before_cut(i: u32) -> Step {
+    match i {
+        0 => Step::Unprotected(300),
+        1 => Step::SubmitOne(Offer::Mapping(105)),
+        2 => Step::PassOne(false),
+        3 => Step::SubmitOne(Offer::Address),
+        4 => Step::LostOne,
+        _ => Step::Rest,
+    }
+}
+
+// What was lost goes out again, and the message that was cut off is submitted anew.
+pub fn after_cut(i: u32) -> Step {
+    match i {
+        0 => Step::Counts,
+        1 => Step::Connect(Proposal::NotGiven, Proposal::NotGiven),
+        2 => Step::PassOne(true),
+        3 => Step::SubmitOne(Offer::Mapping(106)),
+        4 => Step::PassOne(false),
+        5 => Step::AliveTwo,
+        6 => Step::Counts,
+        _ => Step::Rest,
+    }
 }
 
 // Of the last call only the slot is stored.
@@ -68,30 +80,17 @@ fn cut(p1: &mut [u8], stored: &mut [u8], e: Ends) {
 // P1 is restored, and P2 notices.
 fn restored(p1: &mut [u8], p2: &mut [u8], e: Ends) -> Ends {
     let two = e.two;
-    let e = Ends {
+    Ends {
         one: steps::restore(b"P1 restore", p1),
         two: steps::lose(b"P2 connection failed", p2, two),
-    };
-    show_both(p1, p2);
-    connect(p1, p2, e, Proposal::NotGiven, Proposal::NotGiven)
-}
-
-// What was lost goes out again, and the message that was cut off is submitted anew.
-fn resumed(p1: &mut [u8], p2: &mut [u8], e: Ends) -> Ends {
-    let e = to_p2(p1, p2, e, true);
-    let e = p1_offer(p1, e, Offer::Mapping(106));
-    let e = to_p2(p1, p2, e, false);
-    let e = alive_to_p1(p1, p2, e);
-    show_both(p1, p2);
-    e
+    }
 }
 
 // A restart in the middle of the session.
 pub fn restart(p1: &mut [u8], p2: &mut [u8], e: Ends) {
     let mut stored = [0u8; 33280];
-    let e = before_cut(p1, p2, e);
-    let e = p1_send_lost(p1, e);
+    let e = play(p1, p2, e, Script::BeforeCut);
     cut(p1, &mut stored, e);
     let e = restored(&mut stored, p2, e);
-    resumed(&mut stored, p2, e);
+    play(&mut stored, p2, e, Script::AfterCut);
 }
