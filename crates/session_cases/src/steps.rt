@@ -7,13 +7,13 @@ use ft_number::Proposal;
 use message_writer::OwnParameters;
 
 pub fn format(name: &[u8], image: &mut [u8]) -> Phase {
-    let o = connect::format(image);
+    let o = session::format(image);
     show_step(name, o, image, b"");
     o.phase
 }
 
 pub fn restore(name: &[u8], image: &mut [u8]) -> Phase {
-    let o = connect::restore(image);
+    let o = session::restore(image);
     show_step(name, o, image, b"");
     o.phase
 }
@@ -26,49 +26,49 @@ pub fn open(
     proposal: Proposal,
     out: &mut [u8],
 ) -> Outcome {
-    let o = connect::open_session(image, phase, MessageId(1), parameters, proposal, out);
+    let o = session::open_session(image, phase, MessageId(1), parameters, proposal, out);
     show_step(name, o, image, out);
     o
 }
 
 pub fn keepalive(name: &[u8], image: &[u8], phase: Phase, out: &mut [u8]) -> Outcome {
-    let o = connect::keepalive(image, phase, MessageId(2), out);
+    let o = session::keepalive(image, phase, MessageId(2), out);
     show_step(name, o, image, out);
     o
 }
 
 pub fn begin(name: &[u8], image: &mut [u8], phase: Phase, msg: &[u8]) -> Phase {
-    let o = init::init_received(image, phase, msg);
+    let o = session::init_received(image, phase, msg);
     show_step(name, o, image, b"");
     o.phase
 }
 
 pub fn offer(name: &[u8], image: &mut [u8], phase: Phase, msg: &[u8]) -> Phase {
-    let o = submit::submit(image, phase, msg);
+    let o = session::submit(image, phase, msg);
     show_step(name, o, image, b"");
     o.phase
 }
 
 pub fn issue(name: &[u8], image: &mut [u8], phase: Phase, ack: bool, out: &mut [u8]) -> Outcome {
-    let o = send::send_next(image, phase, ack, out);
+    let o = session::send_next(image, phase, ack, out);
     show_step(name, o, image, out);
     o
 }
 
 pub fn take(name: &[u8], image: &mut [u8], phase: Phase, msg: &[u8]) -> Phase {
-    let o = receive::receive(image, phase, msg);
+    let o = session::receive(image, phase, msg);
     show_step(name, o, image, b"");
     o.phase
 }
 
 pub fn lose(name: &[u8], image: &mut [u8], phase: Phase) -> Phase {
-    let o = timers::connection_failed(image, phase);
+    let o = session::connection_failed(image, phase);
     show_step(name, o, image, b"");
     o.phase
 }
 
 pub fn wait(name: &[u8], image: &mut [u8], phase: Phase, elapsed: u32) -> Phase {
-    let o = timers::time_passed(image, phase, elapsed);
+    let o = session::time_passed(image, phase, elapsed);
     show_step(name, o, image, b"");
     o.phase
 }

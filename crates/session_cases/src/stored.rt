@@ -70,7 +70,7 @@ pub fn after_cut(i: u32) -> Step {
 fn cut(p1: &mut [u8], stored: &mut [u8], e: Ends) {
     let one = e.one;
     store_all(stored, p1);
-    let o = submit::submit(p1, one, &label_message(MAPPING, 106));
+    let o = session::submit(p1, one, &label_message(MAPPING, 106));
     show_step(b"P1 submit Mapping 106, power cut", o, p1, b"");
     store(stored, o.slot, p1, o.slot);
     show_counts(b"P1 in memory", p1);
