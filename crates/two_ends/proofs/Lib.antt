@@ -1,0 +1,4 @@
+pub mod Positions
+pub mod Half
+pub mod Books
+pub mod Direction

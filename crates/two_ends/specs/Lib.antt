@@ -1,0 +1,5 @@
+pub mod World
+pub mod Calls
+pub mod Runs
+pub mod Start
+pub mod Demand
