@@ -3,3 +3,4 @@ pub mod Calling
 pub mod Stands
 pub mod Released
 pub mod Widths
+pub mod Answered

@@ -26,7 +26,8 @@ use Rattle.block.specs.Run.{Words}
 use Rattle.block0.specs.declared.Header.{Header}
 use Rattle.block0.specs.Fields.{atMost}
 use Rattle.slot.specs.Held.{kindIn, labelIn}
-use Rattle.calls.specs.Acked.{releasedKind, releasedLabels}
+use Rattle.calls.specs.Acked.{releasedKind, releasedLabels, withReleased}
+use Rattle.calls.specs.Phases.{issuedCount}
 
 -- ---- the numbers
 after-add : (j k n : ℕ) → after (j + k) n ≡ after j (after k n)
@@ -41,14 +42,32 @@ steps-rest r i a k n lr li la ln ea ei few =
     ap (after (n - k)) (sym (steps-reach r a k lr la ea)) ∙ sym (after-add (n - k) k r) ∙ ap (λ (x : ℕ). after x r) sum ∙ steps-reach r i n lr li ei in
     rw there at (steps-after a (n - k) la (omega arith))
 
-pub ack-window : (h : Header) (a k : ℕ) → h .released .0 < 4294967296 → h .issued .0 < 4294967296 → a < 4294967296 → h .held < circle
-    → atMost (h .held) (stepsOf (h .released .0) (h .issued .0)) ≡ true → ackOf (h .released .0) (h .issued .0) a ≡ Ack.Releases k
-    → atMost (h .held - k) (stepsOf a (h .issued .0)) ≡ true
-ack-window h a k lr li la lh window e =
+-- an ACK that releases names no more than are held
+pub ack-held : (h : Header) (a k : ℕ) → atMost (h .held) (stepsOf (h .released .0) (h .issued .0)) ≡ true
+    → ackOf (h .released .0) (h .issued .0) a ≡ Ack.Releases k → k ≤ h .held
+ack-held h a k window e =
     let c : Acknowledged (h .released .0) (h .issued .0) a k = ack-releases (h .released .0) (h .issued .0) a k e in
-    let low : c .issued ≤ h .held = leb-true (c .issued) (h .held) (rw (c .window) at window) in
-    rw (steps-rest (h .released .0) (h .issued .0) a k (c .issued) (omega arith) (omega arith) (omega arith) (omega arith) (c .names) (c .window) (c .few))
-    (le-leb (c .issued - k) (h .held - k) (omega arith))
+    omega (arith, c .few, leb-true (c .issued) (h .held) (rw (c .window) at window))
+
+module _ (h : Header) (a k : ℕ) (lr : h .released .0 < 4294967296) (li : h .issued .0 < 4294967296) (la : a < 4294967296) (lh : h .held < circle)
+    (window : atMost (h .held) (stepsOf (h .released .0) (h .issued .0)) ≡ true) (e : ackOf (h .released .0) (h .issued .0) a ≡ Ack.Releases k) where
+  acks : Acknowledged (h .released .0) (h .issued .0) a k
+  acks = ack-releases (h .released .0) (h .issued .0) a k e
+
+  low : acks .issued ≤ h .held
+  low = leb-true (acks .issued) (h .held) (rw (acks .window) at window)
+
+  rest : stepsOf a (h .issued .0) ≡ Count (acks .issued - k)
+  rest =
+      steps-rest (h .released .0) (h .issued .0) a k (acks .issued) (omega arith) (omega arith) (omega arith) (omega (arith, low)) (acks .names) (acks .window) (acks .few)
+
+  pub ack-window : atMost (h .held - k) (stepsOf a (h .issued .0)) ≡ true
+  ack-window = rw rest (le-leb (acks .issued - k) (h .held - k) (omega (arith, low)))
+
+  -- as many fewer have a number
+  pub ack-issued : issuedCount (withReleased h k a) ≡ issuedCount h - k
+  unfolding issuedCount
+  ack-issued = rw (rest, acks .window)
 
 -- ---- the labels
 kind-valid : (kind label : ℕ) (ls : List ℕ) → validOf ls ≡ true → validOf (releasedKind kind label ls) ≡ true
@@ -76,7 +95,7 @@ released-length (m ∷ ms) ls =
     released-length ms (releasedKind (kindIn (submissionOf m)) (labelIn (submissionOf m)) ls) ∙ kind-length (kindIn (submissionOf m)) (labelIn (submissionOf m)) ls
 
 -- valid words are words of 32 bits
-valid-words : (ls : List ℕ) → length ls ≡ wordCount → validOf ls ≡ true → Words wordCount ls
+pub valid-words : (ls : List ℕ) → length ls ≡ wordCount → validOf ls ≡ true → Words wordCount ls
 valid-words ls n v = record { count = n; each = λ i. omega (arith, valid-range (valid-means ls v) i) }
 
 pub released-words : (ms : List (List ℕ)) (ls : List ℕ) → length ls ≡ wordCount → validOf ls ≡ true → Words wordCount (releasedLabels ms ls)

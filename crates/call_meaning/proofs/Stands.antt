@@ -6,14 +6,15 @@ use Prim.Native.Nat.{ℕ, _≤_, _<_}
 use native.Mathlib.Omega.{arith}
 use native.Mathlib.Nat.{eq-or-lt-of-le}
 use mathlib.Core.Logic.{⊎-elim}
-use borrow.Author.Tests.{eq-eqb}
+use borrow.Author.Tests.{eq-eqb, eqb-true, le-leb, leb-true}
+use lib.Dec.{eqb, leb}
 use lib.ListN.{length}
 use Rattle.label_list.specs.Word.{wordCount, wordOf}
 use Rattle.label_list.specs.Rules.{codeSwept}
 use Rattle.label_list.specs.Sweep.{wordSwept, sweptOf}
 use Rattle.label_list.specs.Valid.{validOf}
 use Rattle.label_list.specs.declared.SweepRule.the-variants.{AfterBreak}
-use Rattle.label_list.proofs.Choice.{by-test}
+use Rattle.label_list.proofs.Choice.{by-test, both-true}
 use Rattle.label_meaning.specs.Event.{Broken, step}
 use Rattle.label_meaning.proofs.Kept.{step-length}
 use Rattle.label_meaning.proofs.Meaning.{valid-means, valid-range}
@@ -22,7 +23,7 @@ use Rattle.block.specs.Run.{Words}
 use Rattle.block0.specs.declared.Header.{Header}
 use Rattle.block0.specs.Layout.{noLabels}
 use Rattle.block0.specs.Fields.{Valid}
-use Rattle.image.specs.State.{decode, InRange}
+use Rattle.image.specs.State.{State, decode, InRange}
 use Rattle.image.specs.Verdict.{IsSound}
 use Rattle.image.specs.Events.{broken, breakOf}
 use Rattle.image.proofs.Changes.{in-range-released, release-decodes, release-sound}
@@ -31,13 +32,14 @@ use Rattle.image.proofs.Stored.{decode-keep}
 use Rattle.calls.specs.declared.Answer.{Answer}
 use Rattle.calls.specs.declared.Effect
 use Rattle.calls.specs.declared.Effect.{Effect}
+use Rattle.calls.specs.declared.Phase
 use Rattle.calls.specs.declared.Phase.{Phase}
 use Rattle.calls.specs.Answers.{effectOf}
-use Rattle.calls.specs.Phases.{phaseFits, restingPhase}
+use Rattle.calls.specs.Phases.{issuedCount, phaseFits, restingPhase}
 use Rattle.calls.specs.Outcomes.{After, isDone, unchanged, failedWith, releasedWith, settledBy, settleOf}
 use Rattle.calls.proofs.Ends.{settle-other}
 use Rattle.calls.proofs.Phasing.{resting-failed, resting-idle}
-use Rattle.call_meaning.specs.Standing.{Standing, Stands}
+use Rattle.call_meaning.specs.Standing.{Standing, Stands, Stored}
 use Rattle.call_meaning.proofs.Refusals.{settle-does}
 
 -- ---- as connection failed
@@ -91,6 +93,21 @@ resting-fits h l =
     (λ (e : h .kept ≡ 1). rw (← resting-failed h e) (eq-eqb (h .kept) 1 e))
     (λ (z : h .kept < 1). rw (← resting-idle h (λ (e : h .kept ≡ 1). omega arith)) (eq-eqb (h .kept) 0 (omega arith)))
     (eq-or-lt-of-le l)
+
+-- UpFT: the state is kept, and no more is counted sent than has a number
+pub fits-up : (h : Header) (sent : ℕ) → h .kept ≡ 1 → sent ≤ issuedCount h → phaseFits (Phase.UpFT sent) h ≡ true
+unfolding phaseFits
+fits-up h sent k l = rw (eq-eqb (h .kept) 1 k, le-leb sent (issuedCount h) l)
+
+pub up-fits : (h : Header) (sent : ℕ) → phaseFits (Phase.UpFT sent) h ≡ true → (h .kept ≡ 1) × (sent ≤ issuedCount h)
+unfolding phaseFits
+up-fits h sent f =
+    let p = both-true (eqb (h .kept) 1) (leb sent (issuedCount h)) f in
+    (eqb-true (h .kept) 1 (p .0), leb-true sent (issuedCount h) (p .1))
+
+-- a state that is stored stands
+pub stored-stands : {im : List ℕ} {s : State} {ph : Phase} → Stored im s ph → Standing im ph
+stored-stands d = record { sound = d .sound; range = rw (d .decodes) (d .range); fits = rw (d .decodes) (d .fits) }
 
 -- ---- the three ends of a call that is not done
 module _ (im : List ℕ) (ph : Phase) (st : Standing im ph) (a : Answer) (o : List ℕ) where

@@ -1,3 +1,6 @@
 pub mod Messages
 pub mod Judged
 pub mod Taken
+pub mod Cases
+pub mod Stored
+pub mod Meaning

@@ -1,2 +1,4 @@
 pub mod Labels
 pub mod Rule
+pub mod Cases
+pub mod Meaning

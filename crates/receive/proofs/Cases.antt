@@ -1,0 +1,97 @@
+-- The judgement of a message is the list of its cases. Assumes nothing.
+use mathlib.Core.Path.{_≡_, refl, sym, ap, _∙_}
+use mathlib.Core.Bool.{Bool, true, false}
+use mathlib.Core.List.{List}
+use Prim.Native.Nat.{ℕ}
+use native.Mathlib.Omega.{arith}
+use Rattle.octets.specs.Pick.{pick}
+use Rattle.ft_number.specs.declared.Ack
+use Rattle.ft_number.specs.declared.Ack.{Ack}
+use Rattle.message.specs.Submission.{bearsFt}
+use Rattle.message.specs.declared.Message.{Message}
+use Rattle.message.specs.declared.Reading
+use Rattle.message.specs.declared.Reading.{Reading}
+use Rattle.label_list.specs.declared.Protection
+use Rattle.label_list.specs.declared.Protection.{Protection}
+use Rattle.label_events.specs.declared.Reception
+use Rattle.label_events.specs.declared.Reception.{Reception}
+use Rattle.image.specs.State.{State}
+use Rattle.calls.specs.declared.Answer
+use Rattle.calls.specs.declared.Answer.{Answer}
+use Rattle.calls.specs.declared.Phase
+use Rattle.calls.specs.declared.Phase.{Phase}
+use Rattle.calls.specs.Acked.{acked}
+use Rattle.calls.specs.Received.{isInit}
+use Rattle.receive.specs.Labels.{labelEffect, isProtected, protectionRule, effectReception}
+use Rattle.receive.specs.Rule.{isFatal, messageRule, plainRule, isZero, inTurn, receptionRule, protectedRule, labelsRule, ackRule, ackOn, ftRule, readRule, receiveRule, ackCount}
+use Rattle.receive.specs.Cases.{receives, wordsAfter, Heard, AckRight, ProtectionRight, TurnRight, Takes, Case, wrong-phase, malformed, an-init, fatal, ft-tlv, passed-on, zero-number, wrong-ack, missing, wrong, out-of-turn, no-word, taken}
+
+-- 22 and 36, then the tests of the phase
+heard-case : (P : Answer → Type 0) (g : Message) (a : Answer) → (isInit (g .typename) ≡ true → P Answer.MalformedReceived)
+    → (isInit (g .typename) ≡ false → isFatal (g .status) ≡ true → P Answer.StatusFatal) → (Heard g → P a) → P (messageRule g a)
+unfolding messageRule
+heard-case P g a i f h = by (isInit (g .typename)) refl (isFatal (g .status)) refl
+  where
+    by : (x : Bool) → isInit (g .typename) ≡ x → (y : Bool) → isFatal (g .status) ≡ y → P (pick x Answer.MalformedReceived (pick y Answer.StatusFatal a))
+    by true p y q = i p
+    by false p true q = f p q
+    by false p false q = h (record { another = p; mild = q })
+
+-- ---- UpFT
+module _ (s : State) (sent : ℕ) (g : Message) where
+  abbrev Here : Answer → Type 0
+  Here a = Case s (Phase.UpFT sent) (Reading.Whole g) a
+
+  room-case : {k : ℕ} → TurnRight s g k → (r : Reception) → effectReception (wordsAfter s k) (isProtected (g .protection)) (labelEffect g) ≡ r → Here (receptionRule r)
+  room-case t Reception.Taken e = taken (record { turn = t; room = e })
+  room-case t Reception.NoRoom e = no-word t e
+
+  turn-case : {k : ℕ} → ProtectionRight s g k → (b : Bool) → inTurn (s .header .secured .0) (g .protection) ≡ b
+      → Here (pick b (receptionRule (effectReception (wordsAfter s k) (isProtected (g .protection)) (labelEffect g))) Answer.OutOfTurn)
+  turn-case {k} p true e = room-case (record { protection = p; turn = e }) (effectReception (wordsAfter s k) (isProtected (g .protection)) (labelEffect g)) refl
+  turn-case p false e = out-of-turn p e
+
+  protection-case : {k : ℕ} → AckRight s g k → (p : Protection) → protectionRule (wordsAfter s k) g ≡ p → Here (protectedRule (wordsAfter s k) (s .header .secured .0) g p)
+  protection-case a Protection.Missing e = missing a e
+  protection-case a Protection.Wrong e = wrong a e
+  protection-case a Protection.Right e = turn-case (record { ack = a; right = e }) (inTurn (s .header .secured .0) (g .protection)) refl
+
+  ack-case : Heard g → isZero (g .protection) ≡ false → (x : Ack) → ackOn (s .header) g ≡ x → Here (ackRule s g x)
+  unfolding acked labelsRule
+  ack-case h z (Ack.Releases k) e = protection-case (record { heard = h; nonzero = z; acks = e }) (protectionRule (wordsAfter s k) g) refl
+  ack-case h z Ack.SequenceError e = wrong-ack h z e
+
+  zero-case : Heard g → (b : Bool) → isZero (g .protection) ≡ b → Here (pick b Answer.ZeroNumber (ackRule s g (ackOn (s .header) g)))
+  zero-case h true e = zero-number h e
+  zero-case h false e = ack-case h e (ackOn (s .header) g) refl
+
+  ft-case : Here (ftRule s g)
+  unfolding ftRule
+  ft-case = heard-case Here g (pick (isZero (g .protection)) Answer.ZeroNumber (ackRule s g (ackOn (s .header) g))) (an-init refl) (fatal refl) (λ h. zero-case h (isZero (g .protection)) refl)
+
+up-case : (s : State) (sent : ℕ) (rd : Reading) → Case s (Phase.UpFT sent) rd (readRule rd (ftRule s))
+up-case s sent Reading.Malformed = malformed refl
+up-case s sent (Reading.Whole g) = ft-case s sent g
+
+-- ---- UpPlain
+plain-case : (s : State) (rd : Reading) → Case s Phase.UpPlain rd (readRule rd plainRule)
+plain-case s Reading.Malformed = malformed refl
+plain-case s (Reading.Whole g) =
+    heard-case (Case s Phase.UpPlain (Reading.Whole g)) g (pick (bearsFt (g .found)) Answer.FtTlvInPlain Answer.Done) (an-init refl) (fatal refl)
+    (λ h. by h (bearsFt (g .found)) refl)
+  where
+    by : Heard g → (b : Bool) → bearsFt (g .found) ≡ b → Case s Phase.UpPlain (Reading.Whole g) (pick b Answer.FtTlvInPlain Answer.Done)
+    by h true e = ft-tlv h e
+    by h false e = passed-on h e
+
+-- ---- every phase
+pub cases : (s : State) (ph : Phase) (rd : Reading) → Case s ph rd (receiveRule s ph rd)
+cases s Phase.Idle rd = wrong-phase refl
+cases s (Phase.InitWait t) rd = wrong-phase refl
+cases s (Phase.UpFT sent) rd = up-case s sent rd
+cases s Phase.UpPlain rd = plain-case s rd
+cases s Phase.Failed rd = wrong-phase refl
+
+-- ---- done in UpFT: every test is passed
+pub done-takes : {s : State} {sent : ℕ} {g : Message} → Case s (Phase.UpFT sent) (Reading.Whole g) Answer.Done → Takes s g (ackCount (ackOn (s .header) g))
+done-takes (taken t) = let e = t .turn .protection .ack .acks in rw e t
