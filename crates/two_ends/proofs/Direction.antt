@@ -3,7 +3,7 @@ use Prim.Native.Nat.{ℕ, zero, suc, _+_, _-_, _≤_, _<_}
 use native.Mathlib.Omega.{arith}
 use mathlib.Core.Path.{_≡_, refl, sym, ap, _∙_, subst}
 use mathlib.Core.Bool.{Bool, true, false}
-use mathlib.Core.List.{List, [], _∷_, _++_}
+use mathlib.Core.List.{List, [], _∷_, _++_, append-nil}
 use lib.ListN.{length, drop, length-append}
 use lib.Seq.{drop-append-le}
 use Rattle.ft_number.specs.Circle.{circle, next, after}
@@ -12,7 +12,7 @@ use Rattle.ft_number.specs.declared.Ack
 use Rattle.ft_number.specs.declared.Ack.{Ack}
 use Rattle.two_ends.proofs.Positions.{num, num-next, num-le}
 use Rattle.two_ends.proofs.Half.{Snd, Rcv, Flow, Asc, Line, Books, Half}
-use Rattle.two_ends.proofs.Books.{accepts, issues, frees, secures, numbered, unsent, place, issued, ack-right, books-accept, books-issue, books-free, books-secure}
+use Rattle.two_ends.proofs.Books.{accepts, issues, frees, secures, held-length, numbered, unsent, place, issued, ack-right, books-accept, books-issue, books-free, books-secure}
 
 -- ---- acknowledgements under way
 asc-le : (r : ℕ) (xs : List ℕ) (s : ℕ) → Asc r xs s → r ≤ s
@@ -95,6 +95,12 @@ module _ {A : Type 0} where
     pub half-secured : y .S ≤ circle
     half-secured = rw (p .books .isS) (num-le (p .s))
 
+    -- to acknowledge what was acknowledged before releases nothing
+    pub half-same : ackOf (x .R) (x .I) (x .R) ≡ Ack.Releases 0
+    half-same =
+        let none : p .r - p .r ≡ 0 = omega arith in
+        ack-right (p .books) (x .R) (p .r) (p .books .isR) (omega arith) (p .books .rs) ∙ ap Ack.Releases none
+
     pub half-place : (m : A) (ms : List A) → drop sent (x .queue) ≡ m ∷ ms → drop (p .r + sent) (x .accepted) ≡ m ∷ drop (suc (p .r + sent)) (x .accepted)
     half-place m ms e = place (p .books) sent m ms e
 
@@ -149,11 +155,17 @@ module _ {A : Type 0} where
           line = (omega (arith, ld, p .line .0), p .line .1);
         }
 
-  -- ---- an acknowledgement arrives
+  -- ---- an acknowledgement arrives, or a message that bears none
   -- it is right, and this is what it leaves
   pub record Freed (x : Snd A) (sent : ℕ) (y : Rcv A) (dat : List (ℕ × A)) (acks : List ℕ) (n k : ℕ) : Type 0 where
     pub right : ackOf (x .R) (x .I) n ≡ Ack.Releases k
+    pub few : k ≤ length (x .queue)
     pub half : Half (frees k n x) (sent - k) true y dat acks
+
+  pub half-none : {x : Snd A} {sent : ℕ} {y : Rcv A} {dat : List (ℕ × A)} {acks : List ℕ} → Half x sent true y dat acks → Freed x sent y dat acks (x .R) 0
+  half-none {x} {sent} p =
+      let all : sent - 0 ≡ sent = omega arith in
+      record { right = half-same p; few = omega arith; half = rw (append-nil (x .letgo), all) p }
 
   module _ {x : Snd A} {y : Rcv A} {dat : List (ℕ × A)} {acks : List ℕ} {n : ℕ} where
     pub half-ack : {sent : ℕ} → Half x sent true y dat (n ∷ acks) → (k : ℕ) × Freed x sent y dat acks n k
@@ -162,6 +174,7 @@ module _ {A : Type 0} where
         let ks : c .0 ≤ p .s = asc-le (c .0) acks (p .s) (c .3) in
         (c .0 - p .r, record {
           right = ack-right (p .books) n (c .0) (c .1) (c .2) ks;
+          few = omega (arith, held-length (p .books), p .books .si, p .books .ia, ks);
           half = record {
             r = c .0;
             i = p .i;
@@ -181,6 +194,7 @@ module _ {A : Type 0} where
         let rk : p .r ≤ c .0 = omega (arith, p .books .rs, c .2) in
         (c .0 - p .r, record {
           right = ack-right (p .books) n (c .0) (c .1) rk ks;
+          few = omega (arith, held-length (p .books), p .books .si, p .books .ia, ks);
           half = record {
             r = c .0;
             i = p .i;

@@ -2,3 +2,9 @@ pub mod Positions
 pub mod Half
 pub mod Books
 pub mod Direction
+pub mod Octets
+pub mod Packets
+pub mod Invariant
+pub mod Sides
+pub mod Sends
+pub mod Takes
