@@ -8,3 +8,9 @@ pub mod Invariant
 pub mod Sides
 pub mod Sends
 pub mod Takes
+pub mod Worlds
+pub mod Failing
+pub mod Quiet
+pub mod Resting
+pub mod Submitting
+pub mod Cutting
