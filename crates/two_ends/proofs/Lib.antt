@@ -14,3 +14,8 @@ pub mod Quiet
 pub mod Resting
 pub mod Submitting
 pub mod Cutting
+pub mod Writing
+pub mod Opening
+pub mod Sending
+pub mod Delivering
+pub mod Starting

@@ -10,6 +10,7 @@ use Rattle.ft_number.specs.Circle.{after}
 use Rattle.ft_number.specs.declared.FtNumber.{FtNumber}
 use Rattle.tlv.specs.declared.FtField
 use Rattle.tlv.specs.declared.FtField.{FtField}
+use Rattle.label_list.proofs.Choice.{pick-all}
 use Rattle.image.specs.State.{State}
 use Rattle.calls.specs.declared.Phase
 use Rattle.calls.specs.declared.Phase.{Phase}
@@ -47,10 +48,20 @@ sent-secured s sent h = by (ltb sent (issuedCount (s .header)))
     by true = refl
     by false = refl
 
+pub sent-kept : (s : State) (sent : ℕ) → sentState s sent .header .kept ≡ s .header .kept
+unfolding sentState numbered
+sent-kept s sent = pick-all (λ (t : State). t .header .kept ≡ s .header .kept) (ltb sent (issuedCount (s .header))) refl refl
+
+abbrev before-sending : State → ℕ → Bool → Bool → History → Side
+before-sending s sent jo bg h = side s (s .header .kept) (Phase.UpFT sent) jo bg h
+
+abbrev after-sending : State → ℕ → Bool → Bool → History → Side
+after-sending s sent jo bg h = side (sentState s sent) (sentState s sent .header .kept) (Phase.UpFT (sent + 1)) jo bg h
+
 -- ---- the sender
-module _ (s : State) (k sent : ℕ) (bg : Bool) (h : History) (m : List ℕ) (ms : List (List ℕ)) (e : drop sent (s .queue) ≡ m ∷ ms) {y : Side} {to fro : List Packet} where
-  pub dir-send : (ack : FtField) → Fine (carried m (numberAt (s .header) sent) ack) → Dir (side s k (Phase.UpFT sent) true bg h) y to fro
-      → Dir (side (sentState s sent) k (Phase.UpFT (sent + 1)) true bg h) y (to ++ (carried m (numberAt (s .header) sent) ack ∷ [])) fro
+module _ (s : State) (sent : ℕ) (bg : Bool) (h : History) (m : List ℕ) (ms : List (List ℕ)) (e : drop sent (s .queue) ≡ m ∷ ms) {y : Side} {to fro : List Packet} where
+  pub dir-send : (ack : FtField) → Fine (carried m (numberAt (s .header) sent) ack) → Dir (before-sending s sent true bg h) y to fro
+      → Dir (after-sending s sent true bg h) y (to ++ (carried m (numberAt (s .header) sent) ack ∷ [])) fro
   unfolding numberAt
   dir-send ack f d = record {
     half = rw (sent-view s sent h, datas-append to (carried m (numberAt (s .header) sent) ack ∷ [])) (half-send m ms e (d .half));
@@ -59,24 +70,24 @@ module _ (s : State) (k sent : ℕ) (bg : Bool) (h : History) (m : List ℕ) (ms
   }
 
   -- into a connection that is lost
-  pub dir-send-lost : Dir (side s k (Phase.UpFT sent) false bg h) y to fro → Dir (side (sentState s sent) k (Phase.UpFT (sent + 1)) false bg h) y to fro
+  pub dir-send-lost : Dir (before-sending s sent false bg h) y to fro → Dir (after-sending s sent false bg h) y to fro
   dir-send-lost d = record { half = rw (sent-view s sent h) (half-send-lost m ms e (d .half)); shape = d .shape; fines = d .fines }
 
 -- ---- its peer
-module _ (s : State) (k sent : ℕ) (bg : Bool) (h : History) {y : Side} {to fro : List Packet} where
-  pub dir-send-peer : (ask : Bool) (m : List ℕ) (n : FtNumber) → Dir y (side s k (Phase.UpFT sent) true bg h) fro to
-      → Dir y (side (sentState s sent) k (Phase.UpFT (sent + 1)) true bg h) fro (to ++ (carried m n (ackAsked ask (s .header)) ∷ []))
+module _ (s : State) (sent : ℕ) (bg : Bool) (h : History) {y : Side} {to fro : List Packet} where
+  pub dir-send-peer : (ask : Bool) (m : List ℕ) (n : FtNumber) → Dir y (before-sending s sent true bg h) fro to
+      → Dir y (after-sending s sent true bg h) fro (to ++ (carried m n (ackAsked ask (s .header)) ∷ []))
   unfolding ackAsked
   dir-send-peer true m n d = record {
     half = rw (sent-secured s sent h, acks-append to (carried m n (FtField.Number (s .header .secured)) ∷ [])) (half-ack-out (d .half));
-    shape = d .shape;
+    shape = rw (sent-kept s sent) (d .shape);
     fines = d .fines;
   }
   dir-send-peer false m n d = record {
     half = rw (sent-secured s sent h, acks-append to (carried m n FtField.Absent ∷ []), append-nil (acksOf to)) (d .half);
-    shape = d .shape;
+    shape = rw (sent-kept s sent) (d .shape);
     fines = d .fines;
   }
 
-  pub dir-send-lost-peer : Dir y (side s k (Phase.UpFT sent) false bg h) fro to → Dir y (side (sentState s sent) k (Phase.UpFT (sent + 1)) false bg h) fro to
-  dir-send-lost-peer d = record { half = rw (sent-secured s sent h) (d .half); shape = d .shape; fines = d .fines }
+  pub dir-send-lost-peer : Dir y (before-sending s sent false bg h) fro to → Dir y (after-sending s sent false bg h) fro to
+  dir-send-lost-peer d = record { half = rw (sent-secured s sent h) (d .half); shape = rw (sent-kept s sent) (d .shape); fines = d .fines }

@@ -5,24 +5,17 @@ use mathlib.Core.List.{List, [], _∷_, _++_}
 use lib.Dec.{eqb}
 use lib.ListN.{length, take}
 use Rattle.octets.specs.Pick.{pick, both}
-use Rattle.ft_number.specs.declared.MessageId.{MessageId}
-use Rattle.ft_number.specs.declared.Proposal.{Proposal}
 use Rattle.message.specs.Reading.{readingOf}
 use Rattle.message.specs.declared.Reading
 use Rattle.message.specs.declared.Reading.{Reading}
 use Rattle.message_writer.specs.Payload.{payloadOf}
-use Rattle.message_writer.specs.declared.OwnParameters.{OwnParameters}
 use Rattle.image.specs.Sizes.{block, withBlock}
 use Rattle.image.specs.State.{decode}
 use Rattle.calls.specs.Outcomes.{After, isDone}
-use Rattle.submit.specs.Act.{submitOf}
-use Rattle.send.specs.Rule.{sendOf}
-use Rattle.connect.specs.Start.{restoreOf}
-use Rattle.connect.specs.Writers.{openOf, keepaliveOf}
 use Rattle.init.specs.declared.Start
 use Rattle.init.specs.declared.Start.{Start}
 use Rattle.init.specs.Begun.{awaits, initStart, initReceivedOf}
-use Rattle.timers.specs.Events.{connected, connectionFailedOf, timePassedOf}
+use Rattle.timers.specs.Events.{connected}
 use Rattle.receive.specs.Labels.{isProtected}
 use Rattle.receive.specs.Rule.{receiveOf}
 use Rattle.two_ends.specs.World.{History, End, World}
@@ -105,32 +98,38 @@ isFresh Start.Plain = false
 isFresh (Start.Fresh t) = true
 isFresh (Start.Resumed t k a) = false
 
-abbrev pub anew : World → After → Start → Bool
-anew w x st = both (isDone (x .outcome .answer)) (isFresh st)
+abbrev pub anew : Start → After → Bool
+anew st x = both (isDone (x .outcome .answer)) (isFresh st)
 
-abbrev pub greeted : World → List (List ℕ) → Start → After → World
-greeted w rest st x =
+abbrev pub greeted : End → Start → After → End
+greeted e st x = record {
+  image = x .image;
+  phase = x .outcome .phase;
+  joined = e .joined;
+  begun = pick (e .begun) true (anew st x);
+  history = counts e x (takes (letGo (e .image) x) [] (e .history));
+}
+
+abbrev pub greets : World → List (List ℕ) → Start → After → World
+greets w rest st x =
     replaced
-    (record { a = w .a; b = w .b; ab = w .ab; ba = w .ba; kept = both (w .kept) (not (both (w .a .begun) (anew w x st))) })
-    (record {
-      image = x .image;
-      phase = x .outcome .phase;
-      joined = w .a .joined;
-      begun = pick (w .a .begun) true (anew w x st);
-      history = counts (w .a) x (takes (letGo (w .a .image) x) [] (w .a .history));
-    })
+    (record { a = w .a; b = w .b; ab = w .ab; ba = w .ba; kept = both (w .kept) (not (both (w .a .begun) (anew st x))) })
+    (greeted (w .a) st x)
     (w .ab)
     rest
 
-abbrev pub received : World → List ℕ → List (List ℕ) → After → World
-received w m rest x =
-    replaced w (called (w .a) x (counts (w .a) x (takes (letGo (w .a .image) x) (securing m) (w .a .history)))) (w .ab) rest
+-- any other message
+abbrev pub took : End → List ℕ → After → End
+took e m x = called e x (counts e x (takes (letGo (e .image) x) (securing m) (e .history)))
+
+abbrev pub receives : World → List ℕ → List (List ℕ) → After → World
+receives w m rest x = replaced w (took (w .a) m x) (w .ab) rest
 
 abbrev pub delivered : World → List ℕ → List (List ℕ) → World
 delivered w m rest =
     pick (awaits (w .a .phase))
-    (greeted w rest (initStart (w .a .image) (w .a .phase) m) (initReceivedOf (w .a .image) (w .a .phase) m))
-    (received w m rest (receiveOf (w .a .image) (w .a .phase) m))
+    (greets w rest (initStart (w .a .image) (w .a .phase) m) (initReceivedOf (w .a .image) (w .a .phase) m))
+    (receives w m rest (receiveOf (w .a .image) (w .a .phase) m))
 
 -- an end that is not on the connection reads nothing of it
 abbrev pub delivery : Bool → List (List ℕ) → World → World
