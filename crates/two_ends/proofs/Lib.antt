@@ -19,3 +19,4 @@ pub mod Opening
 pub mod Sending
 pub mod Delivering
 pub mod Starting
+pub mod Greeting

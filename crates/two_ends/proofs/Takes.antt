@@ -28,18 +28,17 @@ use Rattle.two_ends.specs.Calls.{takes}
 use Rattle.two_ends.proofs.Half.{Half}
 use Rattle.two_ends.proofs.Direction.{Freed, half-none, half-ack, half-init, half-secure}
 use Rattle.two_ends.proofs.Packets.{Packet, first, again, alive, carried, NoInit, datas, acksOf}
-use Rattle.two_ends.proofs.Invariant.{Side, sndOf, rcvOf, live, Leads, Shape, Dir}
+use Rattle.two_ends.proofs.Invariant.{Side, sndOf, rcvOf, live, Headed, Shape, Dir}
 use Rattle.two_ends.proofs.Sides.{side}
 
 nil-cons : {P : Type 0} {p : Packet} {ps : List Packet} → p ∷ ps ≡ [] → P
 nil-cons e = let z : _≡_ {A = ℕ} 0 1 = cc in absurd (omega arith)
 
 -- ---- the peer's first Init
--- it leads to a fresh session
-pub first-leads : (jo bg : Bool) (k : ℕ) (id : MessageId) (p : OwnParameters) (seconds : ℕ) (ack : FtField) (ps : List Packet)
-    → Shape jo false bg k (first id p seconds ack ∷ ps) → (bg ≡ false) × Leads k ack
-first-leads true bg k id p seconds ack ps h = (h .0, h .1)
-first-leads false bg k id p seconds ack ps h = nil-cons (h .0)
+-- a reader that is not up: the sender's Init comes first
+pub headed : (jo bg : Bool) (k : ℕ) (p : Packet) (ps : List Packet) → Shape jo false bg k (p ∷ ps) → Headed bg k (p ∷ ps)
+headed true bg k p ps h = h
+headed false bg k p ps h = nil-cons (h .0)
 
 module _ (k t : ℕ) (terms : Terms) (k′ : ℕ) where
   abbrev unbegun : Side
@@ -69,12 +68,12 @@ module _ (k t : ℕ) (terms : Terms) (k′ : ℕ) where
         by false h = nil-cons (h .0)
 
 -- ---- a later Init
-module _ (s : State) (k t : ℕ) (h : History) (a : FtNumber) (terms : Terms) (j : ℕ) where
+module _ (s : State) (t : ℕ) (h : History) (a : FtNumber) (terms : Terms) (j : ℕ) where
   abbrev greeting : Side
-  greeting = side s k (Phase.InitWait t) true true h
+  greeting = side s (s .header .kept) (Phase.InitWait t) true true h
 
   abbrev greeted : Side
-  greeted = side (resumed s terms j (a .0)) k (Phase.UpFT 0) true true (takes (take j (s .queue)) [] h)
+  greeted = side (resumed s terms j (a .0)) (resumed s terms j (a .0) .header .kept) (Phase.UpFT 0) true true (takes (take j (s .queue)) [] h)
 
   module _ (id : MessageId) (p : OwnParameters) (seconds : ℕ) {y : Side} {to rest : List Packet} where
     pub dir-resume : Freed (sndOf s h) 0 (rcvOf (y .state) (y .history)) (datas to) (acksOf rest) (a .0) j
@@ -86,7 +85,7 @@ module _ (s : State) (k t : ℕ) (h : History) (a : FtNumber) (terms : Terms) (j
     unfolding resumed acked
     dir-resume-peer d = record { half = rw (append-nil (h .secured)) (d .half); shape = by (y .joined) (d .shape); fines = d .fines .1 }
       where
-        by : (jo : Bool) → Shape jo false true k (again id p seconds a ∷ rest) → Shape jo true true k rest
+        by : (jo : Bool) → Shape jo false true (s .header .kept) (again id p seconds a ∷ rest) → Shape jo true true (s .header .kept) rest
         by true q = q .1
         by false q = nil-cons (q .0)
 
@@ -98,31 +97,34 @@ pub arrives : (s : State) (h : History) (sent : ℕ) (y : Side) (to rest : List 
 arrives s h sent y to rest m n FtField.Absent p = (0, half-none p)
 arrives s h sent y to rest m n (FtField.Number a) p = half-ack p
 
-module _ (s : State) (k sent : ℕ) (h : History) (g : Message) (j : ℕ) (acks : ackOn (s .header) g ≡ Ack.Releases j) where
+module _ (s : State) (sent : ℕ) (h : History) (g : Message) (j : ℕ) (acks : ackOn (s .header) g ≡ Ack.Releases j) where
+  abbrev taking : Side
+  taking = side s (s .header .kept) (Phase.UpFT sent) true true h
+
   abbrev took : List (List ℕ) → Side
-  took got = side (receivedState s g) k (Phase.UpFT (sent - j)) true true (takes (take j (s .queue)) got h)
+  took got = side (receivedState s g) (receivedState s g .header .kept) (Phase.UpFT (sent - j)) true true (takes (take j (s .queue)) got h)
 
   module _ {y : Side} {to : List Packet} where
     pub dir-took : (got : List (List ℕ)) (rest : List Packet) → Freed (sndOf s h) sent (rcvOf (y .state) (y .history)) (datas to) (acksOf rest) (ackBorne (s .header) (g .ack)) j
-        → {fro : List Packet} → Dir (side s k (Phase.UpFT sent) true true h) y to fro → Dir (took got) y to rest
+        → {fro : List Packet} → Dir taking y to fro → Dir (took got) y to rest
     unfolding receivedState taken acked
     dir-took got rest f d = record { half = rw acks (f .half); shape = d .shape; fines = d .fines }
 
     module _ {rest : List Packet} where
-      pub dir-took-alive : g .protection ≡ FtField.Absent → (id : MessageId) (n : FtNumber) → Dir y (side s k (Phase.UpFT sent) true true h) (alive id n ∷ rest) to
+      pub dir-took-alive : g .protection ≡ FtField.Absent → (id : MessageId) (n : FtNumber) → Dir y taking (alive id n ∷ rest) to
           → Dir y (took []) rest to
       unfolding receivedState taken acked
       dir-took-alive bare id n d = record { half = rw (acks, bare, append-nil (h .secured)) (d .half); shape = by (y .joined) (d .shape); fines = d .fines .1 }
         where
-          by : (jo : Bool) → Shape jo true true k (alive id n ∷ rest) → Shape jo true true k rest
+          by : (jo : Bool) → Shape jo true true (s .header .kept) (alive id n ∷ rest) → Shape jo true true (s .header .kept) rest
           by true q = q
           by false q = nil-cons (q .0)
 
       pub dir-took-carried : (m : List ℕ) (n : FtNumber) (ack : FtField) → g .protection ≡ FtField.Number n
-          → Dir y (side s k (Phase.UpFT sent) true true h) (carried m n ack ∷ rest) to → Dir y (took (m ∷ [])) rest to
+          → Dir y taking (carried m n ack ∷ rest) to → Dir y (took (m ∷ [])) rest to
       unfolding receivedState taken acked
       dir-took-carried m n ack borne d = record { half = rw (acks, borne) (half-secure (d .half)); shape = by (y .joined) (d .shape); fines = d .fines .1 }
         where
-          by : (jo : Bool) → Shape jo true true k (carried m n ack ∷ rest) → Shape jo true true k rest
+          by : (jo : Bool) → Shape jo true true (s .header .kept) (carried m n ack ∷ rest) → Shape jo true true (s .header .kept) rest
           by true q = q
           by false q = nil-cons (q .0)
