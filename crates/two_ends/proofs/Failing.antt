@@ -55,10 +55,10 @@ module _ (im : List ℕ) (ph : Phase) (jo : Bool) (h : History) (r : Ready (ende
     linked = λ q. absurd (true≢false (sym q));
   }
 
--- ---- the connection that it was on breaks; one that was on none is only off
-pub failing : (im : List ℕ) (ph : Phase) (jo bg : Bool) (h : History) {b : End} {ab ba : List (List ℕ)} → Some (ended im ph jo bg h) b ab ba
-    → Settled (ended (breakOf im) (restingPhase (decode im .header)) jo bg h) b ab ba
-failing im ph true true h {b} s =
+-- ---- the connection that it was on breaks
+pub failing-on : (im : List ℕ) (ph : Phase) (bg : Bool) (h : History) {b : End} {ab ba : List (List ℕ)} → Some (ended im ph true bg h) b ab ba
+    → (rest more : List (List ℕ)) → Settled (ended (breakOf im) (restingPhase (decode im .header)) true bg h) b rest more
+failing-on im ph true h {b} s rest more =
     let i = s .2 in
     let st = i .own .stand in
     inr (rw (resting-off (decode im .header)), λ ga gb.
@@ -70,6 +70,12 @@ failing im ph true true h {b} s =
       out = rw (break-decodes im (st .sound) (st .range), resting im ph true h (i .own)) (dir-failed (i .out) gb);
       back = rw (break-decodes im (st .sound) (st .range), resting im ph true h (i .own)) (dir-failed-peer (i .back) ga);
     }))
+failing-on im ph false h s rest more = inr (rw (resting-off (decode im .header)), λ ga gb. absurd (true≢false (sym ga)))
+
+-- one that was on none is only off
+pub failing : (im : List ℕ) (ph : Phase) (jo bg : Bool) (h : History) {b : End} {ab ba : List (List ℕ)} → Some (ended im ph jo bg h) b ab ba
+    → Settled (ended (breakOf im) (restingPhase (decode im .header)) jo bg h) b ab ba
+failing im ph true bg h {ab = ab} {ba = ba} s = failing-on im ph bg h s ab ba
 failing im ph false true h s =
     let i = s .2 in
     let st = i .own .stand in
@@ -81,5 +87,4 @@ failing im ph false true h s =
       out = rw (break-decodes im (st .sound) (st .range), resting im ph false h (i .own)) (dir-rest (decode im) (decode im .header .kept) ph true h (i .out));
       back = rw (break-decodes im (st .sound) (st .range), resting im ph false h (i .own)) (dir-rest-peer (decode im) (decode im .header .kept) ph true h (i .back));
     }))
-failing im ph true false h s = inr (rw (resting-off (decode im .header)), λ ga gb. absurd (true≢false (sym ga)))
 failing im ph false false h s = absurd (true≢false (sym (s .2 .own .waiting refl .on)))

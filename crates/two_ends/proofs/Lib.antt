@@ -20,3 +20,5 @@ pub mod Sending
 pub mod Delivering
 pub mod Starting
 pub mod Greeting
+pub mod Judging
+pub mod Receiving
