@@ -22,3 +22,4 @@ pub mod Starting
 pub mod Greeting
 pub mod Judging
 pub mod Receiving
+pub mod Arriving

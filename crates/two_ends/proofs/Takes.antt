@@ -31,7 +31,7 @@ use Rattle.two_ends.proofs.Packets.{Packet, first, again, alive, carrie
 use Rattle.two_ends.proofs.Invariant.{Side, sndOf, rcvOf, live, Headed, Shape, Dir}
 use Rattle.two_ends.proofs.Sides.{side}
 
-nil-cons : {P : Type 0} {p : Packet} {ps : List Packet} → p ∷ ps ≡ [] → P
+pub nil-cons : {P : Type 0} {p : Packet} {ps : List Packet} → p ∷ ps ≡ [] → P
 nil-cons e = let z : _≡_ {A = ℕ} 0 1 = cc in absurd (omega arith)
 
 -- ---- the peer's first Init
