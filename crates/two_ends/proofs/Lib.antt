@@ -23,3 +23,5 @@ pub mod Greeting
 pub mod Judging
 pub mod Receiving
 pub mod Arriving
+pub mod Begun
+pub mod Theorem
