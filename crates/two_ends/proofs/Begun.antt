@@ -2,7 +2,7 @@
 use Prim.Native.Nat.{ℕ, _+_, _^_, _≤_, _<_}
 use native.Mathlib.Omega.{arith}
 use mathlib.Core.Path.{_≡_, refl, sym}
-use mathlib.Core.Bool.{Bool, true, false}
+use mathlib.Core.Bool.{Bool, true, false, true≢false}
 use mathlib.Core.List.{List, [], _∷_}
 use mathlib.Core.Logic.{_⊎_, inl, inr, ⊎-elim}
 use lib.Dec.{eqb}
@@ -47,6 +47,7 @@ ready o s = record {
   proposal = seconds-small (o .proposal) (s .seconds);
   keeping = refl;
   okays = tt;
+  sixless = λ q. absurd (true≢false (sym q));
   waiting = λ q. record { on = refl; waits = refl; nothing = refl };
   linked = λ q. refl;
 }

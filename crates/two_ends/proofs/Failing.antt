@@ -10,6 +10,7 @@ use Rattle.octets.specs.Pick.{pick}
 use Rattle.block0.specs.declared.Header.{Header}
 use Rattle.image.specs.State.{decode}
 use Rattle.image.specs.Events.{breakOf}
+use Rattle.image.proofs.Sound.{sound-valid}
 use Rattle.calls.specs.declared.Answer
 use Rattle.calls.specs.declared.Answer.{Answer}
 use Rattle.calls.specs.declared.Phase
@@ -25,6 +26,7 @@ use Rattle.two_ends.specs.World.{History, End}
 use Rattle.two_ends.specs.Calls.{off, keeps}
 use Rattle.two_ends.proofs.Invariant.{Ready, Inv, Some}
 use Rattle.two_ends.proofs.Sides.{dir-failed, dir-failed-peer, dir-rest, dir-rest-peer}
+use Rattle.two_ends.proofs.Sixless.{broken-sixless}
 use Rattle.two_ends.proofs.Worlds.{ended, kept-one, ready-off, closes, Settled}
 
 resting-off : (h : Header) → connected (restingPhase h) ≡ false
@@ -51,6 +53,7 @@ module _ (im : List ℕ) (ph : Phase) (jo : Bool) (h : History) (r : Ready (ende
     proposal = rw resting (omega arith);
     keeping = rw (break-decodes im (st .sound) (st .range)) (r .keeping);
     okays = r .okays;
+    sixless = λ q. rw (break-decodes im (st .sound) (st .range)) (broken-sixless (decode im .labels) (sound-valid im (st .sound) .labels) (r .sixless refl));
     waiting = λ q. absurd (true≢false q);
     linked = λ q. absurd (true≢false (sym q));
   }

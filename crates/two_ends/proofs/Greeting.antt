@@ -12,7 +12,10 @@ use Rattle.tlv.specs.declared.FtField
 use Rattle.tlv.specs.declared.FtField.{FtField}
 use Rattle.message_writer.specs.declared.OwnParameters.{OwnParameters}
 use Rattle.image.specs.State.{State, decode}
+use Rattle.image.specs.Verdict.{IsSound}
 use Rattle.image.proofs.Ranges.{Bytes}
+use Rattle.image.proofs.Sound.{sound-valid}
+use Rattle.calls.specs.Acked.{acked}
 use Rattle.calls.specs.declared.Answer
 use Rattle.calls.specs.declared.Answer.{Answer}
 use Rattle.calls.specs.declared.Phase
@@ -34,6 +37,7 @@ use Rattle.two_ends.proofs.Direction.{Freed, half-init}
 use Rattle.two_ends.proofs.Packets.{Packet, first, again, alive, carried, bytesOf, Fine, fine-bytes}
 use Rattle.two_ends.proofs.Invariant.{Leads, Headed, Ready, Inv}
 use Rattle.two_ends.proofs.Takes.{headed, dir-fresh, dir-fresh-peer, dir-resume, dir-resume-peer}
+use Rattle.two_ends.proofs.Sixless.{NoSix, none-sixless, released-sixless}
 use Rattle.two_ends.proofs.Worlds.{ended, kept-one, Settled}
 use Rattle.two_ends.proofs.Quiet.{standing-admitted}
 use Rattle.two_ends.proofs.Resting.{released-ends}
@@ -70,6 +74,15 @@ module _ (im : List ℕ) (t : ℕ) (m : List ℕ) where
     unfolding initReceivedOf
     changed e = rw (admitted-is (standing-admitted stand) (startAnswer st), e) (answered-released Answer.ParametersChanged ph im [] (begunAs im ph (Start.Refused Answer.ParametersChanged)) (omega arith))
 
+-- a fresh session has no label; a resumed one those that the ACK leaves
+fresh-sixless : (ts : Terms) → NoSix (fresh ts .labels)
+unfolding fresh
+fresh-sixless ts = none-sixless
+
+resumed-sixless : (im : List ℕ) (ts : Terms) (k a : ℕ) → IsSound im → NoSix (decode im .labels) → NoSix (resumed (decode im) ts k a .labels)
+unfolding resumed acked
+resumed-sixless im ts k a s n = released-sixless (take k (decode im .queue)) (decode im .labels) (sound-valid im s .labels) n
+
 -- the end after it
 abbrev pub greetedBy : List ℕ → ℕ → Bool → History → Packet → End
 greetedBy im t bg h q =
@@ -103,6 +116,7 @@ module _ (im : List ℕ) (t : ℕ) (h : History) (id : MessageId) (p : OwnParame
           proposal = omega arith;
           keeping = rw (e, d .answer) at k;
           okays = i .own .okays;
+          sixless = λ q. rw (d .state) (fresh-sixless ts);
           waiting = λ q. absurd (true≢false q);
           linked = λ q. refl;
         } in
@@ -142,6 +156,7 @@ module _ (im : List ℕ) (t : ℕ) (h : History) (id : MessageId) (p : OwnParame
           proposal = omega arith;
           keeping = k;
           okays = i .own .okays;
+          sixless = λ q. rw (d .state) (resumed-sixless im ts j (a .0) (stand .sound) (i .own .sixless refl));
           waiting = λ q. absurd (true≢false q);
           linked = λ q. refl;
         } in

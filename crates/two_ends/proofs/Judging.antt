@@ -5,7 +5,6 @@ use mathlib.Core.Path.{_≡_, refl, sym, ap, _∙_}
 use mathlib.Core.Bool.{Bool, true, false, true≢false}
 use mathlib.Core.List.{List}
 use borrow.Author.Tests.{eq-eqb, ne-eqb}
-use Rattle.octets.specs.Pick.{pick}
 use Rattle.ft_number.specs.Circle.{next}
 use Rattle.ft_number.specs.declared.Ack
 use Rattle.ft_number.specs.declared.Ack.{Ack}
@@ -20,17 +19,10 @@ use Rattle.message.specs.declared.MessageType
 use Rattle.message.specs.declared.MessageType.{MessageType}
 use Rattle.message.specs.declared.Reading
 use Rattle.message.specs.declared.Reading.{Reading}
-use Rattle.label_list.specs.Protection.{barsProtection, codeProtection}
-use Rattle.label_list.specs.Rules.{receivedSide}
-use Rattle.label_list.specs.declared.LabelMessage.{LabelMessage}
 use Rattle.label_list.specs.declared.Protection
 use Rattle.label_list.specs.declared.Protection.{Protection}
-use Rattle.label_events.specs.Change.{codeAt}
-use Rattle.label_events.specs.Protect.{protectionOf}
 use Rattle.label_events.specs.declared.Reception
 use Rattle.label_events.specs.declared.Reception.{Reception}
-use Rattle.label_events.specs.declared.Touched
-use Rattle.label_events.specs.declared.Touched.{Touched}
 use Rattle.image.specs.State.{State}
 use Rattle.calls.specs.declared.Answer
 use Rattle.calls.specs.declared.Answer.{Answer}
@@ -39,9 +31,10 @@ use Rattle.calls.specs.declared.Phase.{Phase}
 use Rattle.calls.specs.Received.{isInit}
 use Rattle.receive.specs.declared.LabelEffect
 use Rattle.receive.specs.declared.LabelEffect.{LabelEffect}
-use Rattle.receive.specs.Labels.{labelEffect, isProtected, effectProtection, protectionRule, effectReception}
+use Rattle.receive.specs.Labels.{labelEffect, isProtected, protectionRule, effectReception}
 use Rattle.receive.specs.Rule.{isFatal, isZero, inTurn, ackOn}
 use Rattle.receive.specs.Cases.{wordsAfter, Case, wrong-phase, malformed, an-init, fatal, zero-number, wrong-ack, missing, wrong, out-of-turn, no-word, taken}
+use Rattle.two_ends.proofs.Sixless.{NoSix, protected-right}
 
 never : {P : Type 0} → true ≡ false → P
 never e = absurd (true≢false e)
@@ -54,29 +47,18 @@ pub data Fair : Answer → Type 0 where
   fair-done : Fair Answer.Done
   fair-full : Fair Answer.NoWordForMapping
   fair-fatal : Fair Answer.StatusFatal
-  fair-wrong : Fair Answer.ProtectionWrong
 
 -- ---- a protected message in turn, with an ACK that is right
-protects : (ls : List ℕ) (e : LabelEffect) → effectProtection ls true e ≡ Protection.Missing → ⊥
-unfolding protectionOf codeProtection
-protects ls LabelEffect.Nothing e = let z : _≡_ {A = ℕ} 0 1 = cc in omega arith
-protects ls (LabelEffect.Change m (Touched.Label l)) e = by (barsProtection m (codeAt ls (receivedSide m) l)) e
-  where
-    by : (b : Bool) → pick b Protection.Wrong Protection.Right ≡ Protection.Missing → ⊥
-    by true e = let z : _≡_ {A = ℕ} 0 1 = cc in omega arith
-    by false e = let z : _≡_ {A = ℕ} 0 1 = cc in omega arith
-protects ls (LabelEffect.Change m Touched.Every) e = let z : _≡_ {A = ℕ} 0 1 = cc in omega arith
-protects ls (LabelEffect.Change m Touched.Nothing) e = let z : _≡_ {A = ℕ} 0 1 = cc in omega arith
-
-pub not-missing : (ls : List ℕ) (g : Message) (n : FtNumber) → g .protection ≡ FtField.Number n → protectionRule ls g ≡ Protection.Missing → ⊥
+protection-is : (ls : List ℕ) (g : Message) (n : FtNumber) → NoSix ls → g .protection ≡ FtField.Number n → protectionRule ls g ≡ Protection.Right
 unfolding protectionRule labelEffect
-not-missing ls g n p e = protects ls (labelEffect g) (rw p at e)
+protection-is ls g n none p = rw p (protected-right ls (labelEffect g) none)
 
 pub record InOrder (s : State) (g : Message) (j : ℕ) (n : FtNumber) : Type 0 where
   pub another : isInit (g .typename) ≡ false
   pub protected : g .protection ≡ FtField.Number n
   pub acks : ackOn (s .header) g ≡ Ack.Releases j
   pub turn : n .0 ≡ next (s .header .secured .0)
+  pub sixless : (k : ℕ) → NoSix (wordsAfter s k)
 
 pub order-fair : {s : State} {sent : ℕ} {g : Message} {a : Answer} (j : ℕ) (n : FtNumber) → InOrder s g j n → Case s (Phase.UpFT sent) (Reading.Whole g) a → Fair a
 order-fair j n p (wrong-phase e) = never e
@@ -86,8 +68,14 @@ order-fair {g = g} j n p (zero-number h z) =
     let e : isZero (FtField.Number n) ≡ true = rw (p .protected) at z in
     never (sym e ∙ ne-eqb (n .0) 0 (λ (q : n .0 ≡ 0). omega (arith, p .turn)))
 order-fair j n p (wrong-ack h z e) = errs (sym (p .acks) ∙ e)
-order-fair {s = s} {g = g} j n p (missing {k = k} a e) = absurd (not-missing (wordsAfter s k) g n (p .protected) e)
-order-fair j n p (wrong a e) = fair-wrong
+order-fair {s = s} {g = g} j n p (missing {k = k} a e) =
+    let q : Protection.Right ≡ Protection.Missing = sym (protection-is (wordsAfter s k) g n (p .sixless k) (p .protected)) ∙ e in
+    let z : _≡_ {A = ℕ} 0 1 = cc in
+    absurd (omega arith)
+order-fair {s = s} {g = g} j n p (wrong {k = k} a e) =
+    let q : Protection.Right ≡ Protection.Wrong = sym (protection-is (wordsAfter s k) g n (p .sixless k) (p .protected)) ∙ e in
+    let z : _≡_ {A = ℕ} 0 1 = cc in
+    absurd (omega arith)
 order-fair {s = s} j n p (out-of-turn a e) =
     let f : inTurn (s .header .secured .0) (FtField.Number n) ≡ false = rw (p .protected) at e in
     never (sym (eq-eqb (n .0) (next (s .header .secured .0)) (p .turn)) ∙ f)

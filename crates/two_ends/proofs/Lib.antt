@@ -4,6 +4,7 @@ pub mod Books
 pub mod Direction
 pub mod Octets
 pub mod Packets
+pub mod Sixless
 pub mod Invariant
 pub mod Sides
 pub mod Sends

@@ -1,17 +1,19 @@
 -- A message submitted. Assumes nothing.
 use Prim.Native.Nat.{ℕ, _<_}
 use native.Mathlib.Omega.{arith}
-use mathlib.Core.Path.{_≡_, refl}
+use mathlib.Core.Path.{_≡_, refl, sym}
 use mathlib.Core.Bool.{Bool, true, false, true≢false}
 use mathlib.Core.List.{List, []}
 use mathlib.Core.Logic.{_⊎_, inl, inr, ⊎-elim}
 use lib.ListN.{length}
 use Rattle.octets.specs.Pick.{pick, both}
 use Rattle.block0.specs.Layout.{slotCount}
+use Rattle.message.specs.Submission.{submissionOf}
 use Rattle.slot.specs.Held.{Storable}
 use Rattle.image.specs.State.{decode}
 use Rattle.image.proofs.Queue.{queue-length}
 use Rattle.image.proofs.Ranges.{Bytes}
+use Rattle.image.proofs.Sound.{sound-valid}
 use Rattle.calls.specs.declared.Answer
 use Rattle.calls.specs.declared.Answer.{Answer}
 use Rattle.calls.specs.declared.Effect
@@ -29,6 +31,7 @@ use Rattle.two_ends.specs.Calls.{keeps, called, counts, accepts, submitt
 use Rattle.two_ends.proofs.Packets.{okays-snoc}
 use Rattle.two_ends.proofs.Invariant.{Ready, Some, Good}
 use Rattle.two_ends.proofs.Sides.{dir-accept, dir-accept-peer}
+use Rattle.two_ends.proofs.Sixless.{accepted-sixless}
 use Rattle.two_ends.proofs.Worlds.{ended, ready-open, at-replaced, Settled}
 use Rattle.two_ends.proofs.Quiet.{Quiet, nothing-still, settled-quiet, quietly-counts}
 
@@ -67,6 +70,7 @@ module _ (im : List ℕ) (ph : Phase) (m : List ℕ) (st : Standing im ph) (done
           proposal = i .own .proposal;
           keeping = k;
           okays = okays-snoc (h .accepted) m (i .own .okays) (record { storable = storable; bytes = bytes });
+          sixless = λ q. rw decodes (accepted-sixless (decode im .labels) (sound-valid im (st .sound) .labels) (i .own .sixless refl) (submissionOf m));
           waiting = λ q. absurd (true≢false q);
           linked = i .own .linked;
         } in
@@ -87,6 +91,7 @@ module _ (im : List ℕ) (ph : Phase) (m : List ℕ) (st : Standing im ph) (done
           proposal = i .own .proposal;
           keeping = k;
           okays = i .own .okays;
+          sixless = λ q. absurd (true≢false (sym q));
           waiting = λ q. record { on = v .on; waits = v .waits; nothing = v .nothing };
           linked = i .own .linked;
         } in
