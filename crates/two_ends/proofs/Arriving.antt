@@ -146,7 +146,7 @@ module _ (im : List ℕ) (sent : ℕ) (h : History) (m : List ℕ) (n : FtNumber
         by Answer.StatusFatal e fair-fatal = takes-end im sent m₂ (i .own .stand) g₂ carried-read h i Answer.StatusFatal e (omega arith) k
 
 -- ---- a reader that is up reads no Init
-up-reads : (jo bg : Bool) (k : ℕ) (ps : List Packet) (q : Packet) → Shape jo true bg k (q ∷ ps) → NoInit (q ∷ ps)
+pub up-reads : (jo bg : Bool) (k : ℕ) (ps : List Packet) (q : Packet) → Shape jo true bg k (q ∷ ps) → NoInit (q ∷ ps)
 up-reads true bg k ps q s = s
 up-reads false bg k ps q s = nil-cons (s .0)
 

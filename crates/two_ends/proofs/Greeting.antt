@@ -4,7 +4,7 @@ use native.Mathlib.Omega.{arith}
 use mathlib.Core.Path.{_≡_, refl, sym, ap, _∙_}
 use mathlib.Core.Bool.{Bool, true, false, true≢false}
 use mathlib.Core.List.{List, [], _∷_, map}
-use mathlib.Core.Logic.{inl, ⊎-elim}
+use mathlib.Core.Logic.{_⊎_, inl, ⊎-elim}
 use lib.ListN.{take, drop}
 use Rattle.ft_number.specs.declared.FtNumber.{FtNumber}
 use Rattle.ft_number.specs.declared.MessageId.{MessageId}
@@ -34,8 +34,8 @@ use Rattle.init.proofs.Meaning.{init-decodes, init-stands, resumed-queue}
 use Rattle.two_ends.specs.World.{History, End, none}
 use Rattle.two_ends.specs.Calls.{keeps, greeted, takes}
 use Rattle.two_ends.proofs.Direction.{Freed, half-init}
-use Rattle.two_ends.proofs.Packets.{Packet, first, again, alive, carried, bytesOf, Fine, fine-bytes}
-use Rattle.two_ends.proofs.Invariant.{Leads, Headed, Ready, Inv}
+use Rattle.two_ends.proofs.Packets.{Packet, first, again, alive, carried, bytesOf, Fine, datas, acksOf, fine-bytes}
+use Rattle.two_ends.proofs.Invariant.{sideOf, sndOf, rcvOf, Leads, Headed, Ready, Inv}
 use Rattle.two_ends.proofs.Takes.{headed, dir-fresh, dir-fresh-peer, dir-resume, dir-resume-peer}
 use Rattle.two_ends.proofs.Sixless.{NoSix, none-sixless, released-sixless}
 use Rattle.two_ends.proofs.Worlds.{ended, kept-one, Settled}
@@ -135,22 +135,38 @@ module _ (im : List ℕ) (t : ℕ) (h : History) (id : MessageId) (p : OwnParame
   abbrev m₂ : List ℕ
   m₂ = bytesOf (again id p seconds a)
 
-  module _ {b : End} {ab ba : List (List ℕ)} {pa qs : List Packet} where
-    greet-again : Inv (ended im (Phase.InitWait t) true true h) b ab ba pa (again id p seconds a ∷ qs)
-        → keeps (greetedBy im t true h (again id p seconds a)) ≡ true → Settled (greetedBy im t true h (again id p seconds a)) b ab (map bytesOf qs)
-    unfolding releasedWith
-    greet-again i k =
-        let ts : Terms = terms (decode im .header) t id p seconds in
-        let stand = i .own .stand in
-        let f : Fine (again id p seconds a) = i .back .fines .0 in
-        let byte : Bytes m₂ = fine-bytes (again id p seconds a) f in
+  module _ {b : End} {ab ba : List (List ℕ)} {pa qs : List Packet} (i : Inv (ended im (Phase.InitWait t) true true h) b ab ba pa (again id p seconds a ∷ qs)) where
+    abbrev ts : Terms
+    ts = terms (decode im .header) t id p seconds
+
+    abbrev stand : Standing im (Phase.InitWait t)
+    stand = i .own .stand
+
+    fine-again : Fine (again id p seconds a)
+    fine-again = i .back .fines .0
+
+    byte : Bytes m₂
+    byte = fine-bytes (again id p seconds a) fine-again
+
+    -- its ACK is right; the session is resumed, or its parameters are others
+    pub again-start : (j : ℕ) × Freed (sndOf (decode im) h) 0 (rcvOf (sideOf b .state) (b .history)) (datas pa) (acksOf qs) (a .0) j
+        × ((initStart im (Phase.InitWait t) m₂ ≡ Start.Resumed ts j a) ⊎ (initStart im (Phase.InitWait t) m₂ ≡ Start.Refused Answer.ParametersChanged))
+    again-start =
         let free = half-init (i .out .half) in
-        let j : ℕ = free .0 in
-        ⊎-elim
-        (λ (e : initStart im (Phase.InitWait t) m₂ ≡ Start.Resumed ts j a).
-        let s : State = resumed (decode im) ts j (a .0) in
-        let d : Begins im t m₂ s = begins im t m₂ stand byte (i .own .proposal) s (rw e) (rw e) (rw e) in
-        let gone = let-go im (initReceivedOf im (Phase.InitWait t) m₂) j (free .1 .few) (ap (λ (q : State). q .queue) (d .state) ∙ resumed-queue (decode im) ts j (a .0)) in
+        (free .0, free .1, starts-again (decode im .header) t id p seconds a (free .0) fine-again (kept-one (i .own)) (free .1 .right))
+
+    pub again-begins : (j : ℕ) → initStart im (Phase.InitWait t) m₂ ≡ Start.Resumed ts j a → Begins im t m₂ (resumed (decode im) ts j (a .0))
+    again-begins j e = begins im t m₂ stand byte (i .own .proposal) (resumed (decode im) ts j (a .0)) (rw e) (rw e) (rw e)
+
+    pub again-changed : initStart im (Phase.InitWait t) m₂ ≡ Start.Refused Answer.ParametersChanged
+        → initReceivedOf im (Phase.InitWait t) m₂ ≡ releasedWith Answer.ParametersChanged im []
+    again-changed e = changed im t m₂ stand byte (i .own .proposal) e
+
+    resumes : (j : ℕ) → Freed (sndOf (decode im) h) 0 (rcvOf (sideOf b .state) (b .history)) (datas pa) (acksOf qs) (a .0) j → initStart im (Phase.InitWait t) m₂ ≡ Start.Resumed ts j a
+        → keeps (greetedBy im t true h (again id p seconds a)) ≡ true → Settled (greetedBy im t true h (again id p seconds a)) b ab (map bytesOf qs)
+    resumes j free e k =
+        let d = again-begins j e in
+        let gone = let-go im (initReceivedOf im (Phase.InitWait t) m₂) j (free .few) (ap (λ (q : State). q .queue) (d .state) ∙ resumed-queue (decode im) ts j (a .0)) in
         let own : Ready (ended (initReceivedOf im (Phase.InitWait t) m₂ .image) (Phase.UpFT 0) true true (takes (take j (decode im .queue)) [] h)) = record {
           stand = d .stands;
           proposal = omega arith;
@@ -166,12 +182,19 @@ module _ (im : List ℕ) (t : ℕ) (h : History) (id : MessageId) (p : OwnParame
           lineB = refl;
           own = own;
           peer = i .peer;
-          out = rw (d .state) (dir-resume (decode im) t h a ts j id p seconds (free .1) (i .out));
+          out = rw (d .state) (dir-resume (decode im) t h a ts j id p seconds free (i .out));
           back = rw (d .state) (dir-resume-peer (decode im) t h a ts j id p seconds (i .back));
-        }))))
+        })))
+
+    greet-again : keeps (greetedBy im t true h (again id p seconds a)) ≡ true → Settled (greetedBy im t true h (again id p seconds a)) b ab (map bytesOf qs)
+    unfolding releasedWith
+    greet-again k =
+        let st = again-start in
+        ⊎-elim
+        (λ (e : initStart im (Phase.InitWait t) m₂ ≡ Start.Resumed ts (st .0) a). resumes (st .0) (st .1) e k)
         (λ (e : initStart im (Phase.InitWait t) m₂ ≡ Start.Refused Answer.ParametersChanged).
-        released-ends im Phase.Idle true true h (stand .sound .size) refl (rw (changed im t m₂ stand byte (i .own .proposal) e) at k))
-        (starts-again (decode im .header) t id p seconds a j f (kept-one (i .own)) (free .1 .right))
+        released-ends im Phase.Idle true true h (stand .sound .size) refl (rw (again-changed e) at k))
+        (st .2)
 
 -- ---- whichever it is, it is the first on the line
 module _ (im : List ℕ) (t : ℕ) (h : History) {b : End} {ab ba : List (List ℕ)} {pa qs : List Packet} where

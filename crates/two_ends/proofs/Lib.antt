@@ -26,3 +26,4 @@ pub mod Receiving
 pub mod Arriving
 pub mod Begun
 pub mod Theorem
+pub mod Answering

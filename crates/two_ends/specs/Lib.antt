@@ -3,3 +3,4 @@ pub mod Calls
 pub mod Runs
 pub mod Start
 pub mod Demand
+pub mod Answers
