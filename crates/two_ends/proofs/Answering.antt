@@ -16,14 +16,14 @@ use Rattle.init.specs.declared.Start.{Start}
 use Rattle.init.specs.Begun.{initStart, initReceivedOf}
 use Rattle.receive.specs.Rule.{receiveAnswer, receiveOf}
 use Rattle.receive.proofs.Meaning.{receive-answered}
-use Rattle.two_ends.specs.World.{History, End, World}
+use Rattle.two_ends.specs.World.{History, End, World, swap}
 use Rattle.two_ends.specs.Runs.{Event, run, AllProper}
 use Rattle.two_ends.specs.Start.{Opener, start, Sound, Afresh}
-use Rattle.two_ends.specs.Answers.{answerTo, Comes, taken, no-word, changed, fatal}
+use Rattle.two_ends.specs.Answers.{answerTo, AllCome, Comes, taken, no-word, changed, fatal}
 use Rattle.two_ends.proofs.Packets.{Packet, first, again, alive, carried, bytesOf, NoInit}
-use Rattle.two_ends.proofs.Invariant.{Headed, Inv, Some}
+use Rattle.two_ends.proofs.Invariant.{Headed, Inv, Some, Good}
 use Rattle.two_ends.proofs.Takes.{headed}
-use Rattle.two_ends.proofs.Worlds.{ended}
+use Rattle.two_ends.proofs.Worlds.{ended, at-swap}
 use Rattle.two_ends.proofs.Delivering.{Oldest, oldest}
 use Rattle.two_ends.proofs.Greeting.{first-begins, again-start, again-begins, again-changed}
 use Rattle.two_ends.proofs.Judging.{Fair, fair-done, fair-full, fair-fatal}
@@ -84,5 +84,14 @@ some-comes : (im : List ℕ) (ph : Phase) (jo bg : Bool) (h : History) (b : End)
 some-comes im ph true bg h b ab m rest on s = oldest-comes im h (oldest m rest (s .1) (s .2 .lineB) .2) ph bg (s .2)
 some-comes im ph false bg h b ab m rest on s = absurd (true≢false (sym on))
 
-pub end-comes : (a b : End) (ab ba : List (List ℕ)) (m : List ℕ) (rest : List (List ℕ)) → a .joined ≡ true → ba ≡ m ∷ rest → Some a b ab ba → Comes (answerTo a m)
-end-comes a b ab ba m rest on line s = some-comes (a .image) (a .phase) (a .joined) (a .begun) (a .history) b ab m rest on (rw line at s)
+pub good-comes : (w : World) → w .kept ≡ true → Good w → AllCome w
+good-comes w k g m rest on line =
+    some-comes (w .a .image) (w .a .phase) (w .a .joined) (w .a .begun) (w .a .history) (w .b) (w .ab) m rest on (rw line at (g k))
+
+-- ---- over every run, at both ends
+pub no-error : (x y : Opener) → Sound x → Sound y → Afresh x y → (vs : List (Bool × Event)) → AllProper vs → run (start x y) vs .kept ≡ true
+    → AllCome (run (start x y) vs) × AllCome (swap (run (start x y) vs))
+no-error x y sx sy f vs p k =
+    let w = run (start x y) vs in
+    let g = at-run (start x y) vs p (at-start x y sx sy f) in
+    (good-comes w k g, good-comes (swap w) k (at-swap w g))

@@ -27,3 +27,4 @@ pub mod Arriving
 pub mod Begun
 pub mod Theorem
 pub mod Answering
+pub mod Room

@@ -96,7 +96,7 @@ at-swap w g k =
 abbrev pub Settled : End → End → List (List ℕ) → List (List ℕ) → Type 0
 Settled e b ab ba = ((closes e ≡ false) × Some e b ab ba) ⊎ ((closes e ≡ true) × (e .begun ≡ true → b .begun ≡ true → Some (off e) (off b) [] []))
 
-abbrev next : World → End → List (List ℕ) → List (List ℕ) → World
+abbrev pub next : World → End → List (List ℕ) → List (List ℕ) → World
 next w e ab ba = record { a = e; b = w .b; ab = ab; ba = ba; kept = both (w .kept) (keeps e) }
 
 pub at-replaced : (w : World) (e : End) (ab ba : List (List ℕ)) → (w .kept ≡ true → keeps e ≡ true → Settled e (w .b) ab ba) → Good (replaced w e ab ba)

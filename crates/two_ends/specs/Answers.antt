@@ -1,12 +1,14 @@
 -- The answers to what is delivered between the two ends.
 use Prim.Native.Nat.{ℕ}
-use mathlib.Core.List.{List}
+use mathlib.Core.Path.{_≡_}
+use mathlib.Core.Bool.{true}
+use mathlib.Core.List.{List, _∷_}
 use Rattle.octets.specs.Pick.{pick}
 use Rattle.calls.specs.declared.Answer
 use Rattle.calls.specs.declared.Answer.{Answer}
 use Rattle.init.specs.Begun.{awaits, initReceivedOf}
 use Rattle.receive.specs.Rule.{receiveOf}
-use Rattle.two_ends.specs.World.{End}
+use Rattle.two_ends.specs.World.{End, World}
 
 -- what the end answers to the message m, through the call that its phase asks for
 abbrev pub answerTo : End → List ℕ → Answer
@@ -22,3 +24,7 @@ pub data Comes : Answer → Type 0 where
   changed : Comes Answer.ParametersChanged
   -- 36: the peer's owner submitted a message that bears a Status with E set
   fatal : Comes Answer.StatusFatal
+
+-- whatever is delivered to the end a
+abbrev pub AllCome : World → Type 0
+AllCome w = (m : List ℕ) (rest : List (List ℕ)) → w .a .joined ≡ true → w .ba ≡ m ∷ rest → Comes (answerTo (w .a) m)
