@@ -51,7 +51,7 @@ module _ (im : List ℕ) (sent : ℕ) (h : History) (id : MessageId) (n : FtNumb
   abbrev m₁ : List ℕ
   m₁ = bytesOf (alive id n)
 
-  abbrev g₁ : Message
+  abbrev pub g₁ : Message
   g₁ = keepaliveMessage id (FtField.Number n)
 
   plain : (j : ℕ) → ackOn (decode im .header) g₁ ≡ Ack.Releases j → Plain (decode im) g₁ j
@@ -59,7 +59,7 @@ module _ (im : List ℕ) (sent : ℕ) (h : History) (id : MessageId) (n : FtNumb
   plain j acks = record { another = refl; mild = refl; bare = refl; acks = acks; effect = refl; free = λ ls. refl }
 
   module _ {b : End} {ab ba : List (List ℕ)} {pa qs : List Packet} (i : Inv (ended im (Phase.UpFT sent) true true h) b ab ba pa (alive id n ∷ qs)) where
-    alive-read : readingOf m₁ ≡ Reading.Whole g₁
+    pub alive-read : readingOf m₁ ≡ Reading.Whole g₁
     alive-read = keepalive-reads id (FtField.Number n) (i .back .fines .0 .0) (i .back .fines .0 .1)
 
     alive-sixless : (j : ℕ) → ackOn (decode im .header) g₁ ≡ Ack.Releases j → NoSix (receivedState (decode im) g₁ .labels)
@@ -86,16 +86,16 @@ module _ (im : List ℕ) (sent : ℕ) (h : History) (m : List ℕ) (n : FtNumber
   m₂ = bytesOf (carried m n ack)
 
   module _ {b : End} {ab ba : List (List ℕ)} {pa qs : List Packet} (i : Inv (ended im (Phase.UpFT sent) true true h) b ab ba pa (carried m n ack ∷ qs)) where
-    abbrev f : Fine (carried m n ack)
+    abbrev pub f : Fine (carried m n ack)
     f = i .back .fines .0
 
-    short : length m + 12 < 256 ^ 2
+    pub short : length m + 12 < 256 ^ 2
     short = omega (arith, f .0 .storable .short)
 
-    abbrev g₂ : Message
+    abbrev pub g₂ : Message
     g₂ = protectedMessage (submitted m (f .0 .storable .kind) (f .0 .storable .label) (f .0 .storable .accepted) n ack short) (length m) n ack
 
-    carried-read : readingOf m₂ ≡ Reading.Whole g₂
+    pub carried-read : readingOf m₂ ≡ Reading.Whole g₂
     carried-read = sent-reads m (f .0 .storable .kind) (f .0 .storable .label) (f .0 .storable .accepted) n ack short (f .1) (f .2)
 
     in-order : (j : ℕ) → ackOn (decode im .header) g₂ ≡ Ack.Releases j → InOrder (decode im) g₂ j n

@@ -28,3 +28,6 @@ pub mod Begun
 pub mod Theorem
 pub mod Answering
 pub mod Room
+pub mod Unreleased
+pub mod Staying
+pub mod Kept

@@ -52,7 +52,7 @@ module _ (im : List ℕ) (sent : ℕ) (m : List ℕ) (stand : Standing im (Phase
   pub judged : Case (decode im) ph (Reading.Whole g) (receiveAnswer im ph m)
   judged = rw (receive-judged im ph m stand, read) (cases (decode im) ph (Reading.Whole g))
 
-  broke : receiveAnswer im ph m ≡ Answer.NoWordForMapping → x ≡ failedWith Answer.NoWordForMapping im []
+  pub broke : receiveAnswer im ph m ≡ Answer.NoWordForMapping → x ≡ failedWith Answer.NoWordForMapping im []
   unfolding receiveOf
   broke e = rw e (answered-failed Answer.NoWordForMapping ph im [] (takenAs im ph (readingOf m)) (omega arith) (omega arith))
 

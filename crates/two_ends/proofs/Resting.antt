@@ -26,7 +26,7 @@ use Rattle.two_ends.specs.Calls.{keeps, called, plainly}
 use Rattle.two_ends.proofs.Invariant.{Waiting, Some, Good}
 use Rattle.two_ends.proofs.Worlds.{ended, begun-else, at-replaced, settled-same, Settled}
 use Rattle.two_ends.proofs.Failing.{failing}
-use Rattle.two_ends.proofs.Quiet.{settled-quiet, standing-admitted, quietly}
+use Rattle.two_ends.proofs.Quiet.{Quiet, settled-quiet, standing-admitted, quietly}
 
 -- a call that touches no line
 pub at-plain : (w : World) (x : After) → Good w
@@ -38,10 +38,15 @@ pub released-ends : {P : Type 0} (im : List ℕ) (ph : Phase) (jo bg : Bool) (h 
 released-ends im ph jo true h size g k = absurd (true≢false (sym (rw (release-decodes im size) at k)))
 released-ends im ph jo false h size g k = absurd (true≢false (sym g))
 
--- ---- the connection is noticed to have failed
+-- ---- the connection is noticed to have failed; in a phase without one nothing changes
+pub unnoticed : (im : List ℕ) (ph : Phase) → Standing im ph → connected ph ≡ false → Quiet im ph (connectionFailedOf im ph)
+unfolding connectionFailedOf eventAnswer effectOf
+unnoticed im ph st f =
+    rw (f, admitted-is (standing-admitted st) Answer.WrongPhase) (settled-quiet Answer.WrongPhase ph im [] (failedWith Answer.Done im []) refl refl)
+
 module _ (w : World) (g : Good w) where
   pub at-notices : Good (plainly w (connectionFailedOf (w .a .image) (w .a .phase)))
-  unfolding failedWith connectionFailedOf eventAnswer effectOf
+  unfolding failedWith
   at-notices =
       let im = w .a .image in
       let ph = w .a .phase in
@@ -49,8 +54,7 @@ module _ (w : World) (g : Good w) where
       let st = s .2 .own .stand in
       by-test (connected ph)
       (λ t. rw (failed-is im ph st t) (failing im ph (w .a .joined) (w .a .begun) (w .a .history) s))
-      (λ f. quietly (w .a) (connectionFailedOf im ph)
-      (rw (f, admitted-is (standing-admitted st) Answer.WrongPhase) (settled-quiet Answer.WrongPhase ph im [] (failedWith Answer.Done im []) refl refl)) s))
+      (λ f. quietly (w .a) (connectionFailedOf im ph) (unnoticed im ph st f) s))
 
   -- ---- a restart
   pub at-restarts : Good (plainly w (restoreOf (w .a .image)))
@@ -60,17 +64,17 @@ module _ (w : World) (g : Good w) where
       at-plain w (restoreOf im) g (λ s k.
       rw (restore-passes im (s .2 .own .stand .sound)) (failing im (w .a .phase) (w .a .joined) (w .a .begun) (w .a .history) s))
 
--- ---- time passes
+-- ---- time passes; only in Failed does it matter
+pub untimed : (im : List ℕ) (ph : Phase) (elapsed : ℕ) → Standing im ph → waiting ph ≡ false → Quiet im ph (timePassedOf im ph elapsed)
+unfolding timePassedOf eventAnswer effectOf
+untimed im ph elapsed st f = rw (f, admitted-is (standing-admitted st) Answer.WrongPhase) (settled-quiet Answer.WrongPhase ph im [] _ refl refl)
+
 module _ (im : List ℕ) (jo bg : Bool) (h : History) (elapsed : ℕ) (b : End) (ab ba : List (List ℕ)) where
   abbrev passing : Phase → End
   passing ph = called (ended im ph jo bg h) (timePassedOf im ph elapsed) h
 
-  -- only in Failed does it matter
   elsewhere : (ph : Phase) → waiting ph ≡ false → Some (ended im ph jo bg h) b ab ba → Settled (passing ph) b ab ba
-  unfolding timePassedOf eventAnswer effectOf
-  elsewhere ph f s =
-      quietly (ended im ph jo bg h) (timePassedOf im ph elapsed)
-      (rw (f, admitted-is (standing-admitted (s .2 .own .stand)) Answer.WrongPhase) (settled-quiet Answer.WrongPhase ph im [] _ refl refl)) s
+  elsewhere ph f s = quietly (ended im ph jo bg h) (timePassedOf im ph elapsed) (untimed im ph elapsed (s .2 .own .stand) f) s
 
   passes : (ph : Phase) → Some (ended im ph jo bg h) b ab ba → keeps (passing ph) ≡ true → Settled (passing ph) b ab ba
   unfolding releasedWith

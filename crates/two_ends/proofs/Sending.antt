@@ -47,13 +47,13 @@ rule-harmless true true false = λ n. cc
 rule-harmless true false c = λ n. refl
 rule-harmless false l c = λ n. refl
 
-unsent : (im : List ℕ) (ph : Phase) (ask : Bool) (out : List ℕ) → isDone (sendAnswer im ph ask (length out)) ≡ false → Quiet im ph (sendOf im ph ask out)
+pub unsent : (im : List ℕ) (ph : Phase) (ask : Bool) (out : List ℕ) → isDone (sendAnswer im ph ask (length out)) ≡ false → Quiet im ph (sendOf im ph ask out)
 unfolding sendOf sendAnswer sendRule
 unsent im ph ask out n =
     settled-quiet (sendAnswer im ph ask (length out)) ph im out _
     (admitted-harmless im ph _ (rule-harmless (isUp ph) (ltb (sentOf ph) (decode im .header .held)) (ltb (length out) (length (sendBytes (decode im) (sentOf ph) ask)))) n) n
 
-sent-is : (im : List ℕ) (ph : Phase) (ask : Bool) (out : List ℕ) → isDone (sendAnswer im ph ask (length out)) ≡ true
+pub sent-is : (im : List ℕ) (ph : Phase) (ask : Bool) (out : List ℕ) → isDone (sendAnswer im ph ask (length out)) ≡ true
     → sendOf im ph ask out ≡ wrote (Phase.UpFT (sentOf ph + 1)) im (sendImage im (sentOf ph)) out (sendBytes (decode im) (sentOf ph) ask)
 unfolding sendOf
 sent-is im ph ask out t = settle-does (sendAnswer im ph ask (length out)) ph im out _ t

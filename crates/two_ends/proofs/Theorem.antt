@@ -38,7 +38,7 @@ at-act w notices p g = at-notices w g
 at-act w restarts p g = at-restarts w g
 at-act w (halts m) p g = at-halts w m g
 
-at-step : (w : World) (s : Bool) (v : Event) → Proper v → Good w → Good (step w s v)
+pub at-step : (w : World) (s : Bool) (v : Event) → Proper v → Good w → Good (step w s v)
 at-step w true v p g = at-act w v p g
 at-step w false v p g = at-swap (act (swap w) v) (at-act (swap w) v p (at-swap w g))
 

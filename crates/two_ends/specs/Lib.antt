@@ -4,3 +4,4 @@ pub mod Runs
 pub mod Start
 pub mod Demand
 pub mod Answers
+pub mod Staying
