@@ -32,7 +32,7 @@ module _ (P : List ℕ → Type 0) (words : List ℕ) (here : P words) (each : (
   kept-as Kind.ResourcesAvailable label = here
   kept-as Kind.NoKind label = here
 
-  kept : (j : Submission) → P (acceptedLabels words j)
+  pub kept : (j : Submission) → P (acceptedLabels words j)
   kept Submission.Malformed = here
   kept Submission.Refused = here
   kept (Submission.Accepted kind label) = kept-as kind label

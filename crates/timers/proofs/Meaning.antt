@@ -62,7 +62,7 @@ module _ (im : List ℕ) (ph : Phase) (st : Standing im ph) where
   unfolding eventAnswer
   event-comes e = rw e (admitted-is (standing-admitted st) Answer.Done)
 
-  failed-is : connected ph ≡ true → connectionFailedOf im ph ≡ failedWith Answer.Done im []
+  pub failed-is : connected ph ≡ true → connectionFailedOf im ph ≡ failedWith Answer.Done im []
   unfolding connectionFailedOf
   failed-is e = settle-does (eventAnswer im ph (connected ph)) ph im [] (failedWith Answer.Done im []) (rw (event-comes e))
 
@@ -93,7 +93,7 @@ module _ (im : List ℕ) (ph : Phase) (st : Standing im ph) where
 
 -- ---- passed time
 module _ (im : List ℕ) (st : Standing im Phase.Failed) (elapsed : ℕ) where
-  passed-is : {b : Bool} → b ≡ expired (decode im .header) elapsed
+  pub passed-is : {b : Bool} → b ≡ expired (decode im .header) elapsed
       → timePassedOf im Phase.Failed elapsed ≡ pick b (releasedWith Answer.Done im []) (unchanged Answer.Done Phase.Failed im [])
   unfolding timePassedOf
   passed-is e = rw e (settle-does (eventAnswer im Phase.Failed true) Phase.Failed im [] _ (rw (event-comes im Phase.Failed st refl)))

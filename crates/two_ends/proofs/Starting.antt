@@ -1,0 +1,62 @@
+-- How the Inits of the two ends are judged. Assumes nothing.
+use Prim.Native.Nat.{ℕ, _<_}
+use native.Mathlib.Omega.{arith}
+use mathlib.Core.Path.{_≡_, refl, sym, ap, _∙_}
+use mathlib.Core.Bool.{Bool, true, false}
+use mathlib.Core.List.{List}
+use mathlib.Core.Logic.{_⊎_, inl, inr, ⊎-elim}
+use borrow.Author.Tests.{eq-eqb, ne-eqb}
+use lib.Dec.{eqb}
+use Rattle.octets.specs.Pick.{pick, both}
+use Rattle.ft_number.specs.Ack.{ackOf}
+use Rattle.ft_number.specs.declared.Ack
+use Rattle.ft_number.specs.declared.Ack.{Ack}
+use Rattle.ft_number.specs.declared.FtNumber.{FtNumber}
+use Rattle.ft_number.specs.declared.MessageId.{MessageId}
+use Rattle.tlv.specs.declared.FtField
+use Rattle.tlv.specs.declared.FtField.{FtField}
+use Rattle.message.specs.Reading.{readingOf}
+use Rattle.message.specs.declared.Reading
+use Rattle.message.specs.declared.Reading.{Reading}
+use Rattle.message_writer.specs.Forms.{initBytes}
+use Rattle.message_writer.specs.ReadBack.{InitFits, initMessage}
+use Rattle.message_writer.specs.declared.OwnParameters.{OwnParameters}
+use Rattle.message_writer.proofs.Own.{init-reads}
+use Rattle.block0.specs.declared.Header.{Header}
+use Rattle.calls.specs.declared.Answer
+use Rattle.calls.specs.declared.Answer.{Answer}
+use Rattle.init.specs.declared.Start
+use Rattle.init.specs.declared.Start.{Start}
+use Rattle.init.specs.declared.Terms.{Terms}
+use Rattle.init.specs.Judged.{termsOf, resumedBy, bothSet, startOf}
+use Rattle.two_ends.proofs.Invariant.{Leads}
+
+module _ (h : Header) (t : ℕ) (id : MessageId) (p : OwnParameters) (seconds : ℕ) where
+  -- what both keep of the two Inits
+  abbrev pub terms : Terms
+  terms = termsOf t seconds (p .keepalive) (p .pdulength)
+
+  -- R is zero on one side: a fresh session
+  fresh-by : (ack : FtField) → Leads (h .kept) ack → startOf h t (Reading.Whole (initMessage id p seconds ack)) ≡ Start.Fresh terms
+  unfolding startOf
+  fresh-by FtField.Absent l = refl
+  fresh-by (FtField.Number a) l =
+      ⊎-elim
+      (λ (none : FtField.Number a ≡ FtField.Absent). let z : _≡_ {A = ℕ} 0 1 = cc in absurd (omega arith))
+      (λ (zero : h .kept ≡ 0). rw (ne-eqb (h .kept) 1 (λ (one : h .kept ≡ 1). omega arith)))
+      l
+
+  pub starts-fresh : (ack : FtField) → InitFits id p seconds ack → Leads (h .kept) ack → startOf h t (readingOf (initBytes id p seconds ack)) ≡ Start.Fresh terms
+  starts-fresh ack f l = rw (init-reads id p seconds ack f) (fresh-by ack l)
+
+  -- R is set on both: the session is resumed, or the parameters are others
+  pub starts-again : (a : FtNumber) (k : ℕ) → InitFits id p seconds (FtField.Number a) → h .kept ≡ 1 → ackOf (h .released .0) (h .issued .0) (a .0) ≡ Ack.Releases k
+      → (startOf h t (readingOf (initBytes id p seconds (FtField.Number a))) ≡ Start.Resumed terms k a)
+      ⊎ (startOf h t (readingOf (initBytes id p seconds (FtField.Number a))) ≡ Start.Refused Answer.ParametersChanged)
+  unfolding startOf bothSet
+  starts-again a k f kept acks = rw (init-reads id p seconds (FtField.Number a) f, eq-eqb (h .kept) 1 kept, acks) (by (both (eqb (h .keepalive) (p .keepalive)) (eqb (h .maxpdu) (p .pdulength))))
+    where
+      by : (b : Bool) → (pick b (Start.Resumed terms k a) (Start.Refused Answer.ParametersChanged) ≡ Start.Resumed terms k a)
+          ⊎ (pick b (Start.Resumed terms k a) (Start.Refused Answer.ParametersChanged) ≡ Start.Refused Answer.ParametersChanged)
+      by true = inl refl
+      by false = inr refl

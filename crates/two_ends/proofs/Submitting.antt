@@ -1,0 +1,124 @@
+-- A message submitted. Assumes nothing.
+use Prim.Native.Nat.{ℕ, _<_}
+use native.Mathlib.Omega.{arith}
+use mathlib.Core.Path.{_≡_, refl, sym}
+use mathlib.Core.Bool.{Bool, true, false, true≢false}
+use mathlib.Core.List.{List, []}
+use mathlib.Core.Logic.{_⊎_, inl, inr, ⊎-elim}
+use lib.ListN.{length}
+use Rattle.octets.specs.Pick.{pick, both}
+use Rattle.block0.specs.Layout.{slotCount}
+use Rattle.message.specs.Submission.{submissionOf}
+use Rattle.slot.specs.Held.{Storable}
+use Rattle.image.specs.State.{decode}
+use Rattle.image.proofs.Queue.{queue-length}
+use Rattle.image.proofs.Ranges.{Bytes}
+use Rattle.image.proofs.Sound.{sound-valid}
+use Rattle.calls.specs.declared.Answer
+use Rattle.calls.specs.declared.Answer.{Answer}
+use Rattle.calls.specs.declared.Effect
+use Rattle.calls.specs.declared.Effect.{Effect}
+use Rattle.calls.specs.declared.Phase.{Phase}
+use Rattle.calls.specs.Answers.{effectOf}
+use Rattle.call_meaning.specs.Standing.{Standing}
+use Rattle.submit.specs.Rule.{submitAnswer}
+use Rattle.submit.specs.Act.{submitted, submitImage, queued, submitOf}
+use Rattle.submit.proofs.Passing.{done-passes, passes-storable, done-or-nothing}
+use Rattle.submit.proofs.Queueing.{in-range-submitted, image-decodes, image-sound}
+use Rattle.submit.proofs.Meaning.{submit-fits, submit-done}
+use Rattle.two_ends.specs.World.{History, End, World}
+use Rattle.two_ends.specs.Calls.{keeps, called, counts, accepts, submitted as submits}
+use Rattle.two_ends.proofs.Packets.{okays-snoc}
+use Rattle.two_ends.proofs.Invariant.{Ready, Some, Good}
+use Rattle.two_ends.proofs.Sides.{dir-accept, dir-accept-peer}
+use Rattle.two_ends.proofs.Sixless.{accepted-sixless}
+use Rattle.two_ends.proofs.Worlds.{ended, ready-open, at-replaced, Settled}
+use Rattle.two_ends.proofs.Quiet.{Quiet, nothing-still, settled-quiet, quietly-counts}
+
+both-same : (b : Bool) → both b true ≡ b
+both-same true = refl
+both-same false = refl
+
+-- ---- the answer is Done
+module _ (im : List ℕ) (ph : Phase) (m : List ℕ) (st : Standing im ph) (done : submitAnswer im ph m ≡ Answer.Done) where
+  pub storable : Storable m
+  storable = passes-storable (done-passes im ph m done .0)
+
+  pub room : decode im .header .held < slotCount
+  room = done-passes im ph m done .1
+
+  decodes : decode (submitImage im m) ≡ submitted (decode im) m
+  decodes = image-decodes im m (st .sound) (st .range) storable room
+
+  stands : Standing (submitImage im m) ph
+  unfolding queued
+  stands = record {
+    sound = image-sound im m (st .sound) (st .range) storable room (done-passes im ph m done .0 .fitting .kept);
+    range = rw decodes (in-range-submitted im m (st .sound) (st .range) storable room);
+    fits = rw (submit-done im ph m done) at (submit-fits im ph m (st .sound) (st .range) (st .fits));
+  }
+
+  module _ (bytes : Bytes m) (jo : Bool) (h : History) {b : End} {ab ba : List (List ℕ)} where
+    -- an end that has begun counts the message; one that has not does not
+    accepted : (bg : Bool) → Some (ended im ph jo bg h) b ab ba → keeps (ended (submitImage im m) ph jo bg (pick bg (accepts m h) h)) ≡ true
+        → Settled (ended (submitImage im m) ph jo bg (pick bg (accepts m h) h)) b ab ba
+    unfolding submitted
+    accepted true s k =
+        let i = s .2 in
+        let own : Ready (ended (submitImage im m) ph jo true (accepts m h)) = record {
+          stand = stands;
+          proposal = i .own .proposal;
+          keeping = k;
+          okays = okays-snoc (h .accepted) m (i .own .okays) (record { storable = storable; bytes = bytes });
+          sixless = λ q. rw decodes (accepted-sixless (decode im .labels) (sound-valid im (st .sound) .labels) (i .own .sixless refl) (submissionOf m));
+          waiting = λ q. absurd (true≢false q);
+          linked = i .own .linked;
+        } in
+        let few : length (decode im .queue) < 64 = omega (arith, room, queue-length im) in
+        inl (ready-open own, (s .0, s .1, record {
+          lineA = i .lineA;
+          lineB = i .lineB;
+          own = own;
+          peer = i .peer;
+          out = rw decodes (dir-accept (decode im) (decode im .header .kept) ph jo true h m few (i .out));
+          back = rw decodes (dir-accept-peer (decode im) (decode im .header .kept) ph jo true h m (i .back));
+        }))
+    accepted false s k =
+        let i = s .2 in
+        let v = i .own .waiting refl in
+        let own : Ready (ended (submitImage im m) ph jo false h) = record {
+          stand = stands;
+          proposal = i .own .proposal;
+          keeping = k;
+          okays = i .own .okays;
+          sixless = λ q. absurd (true≢false (sym q));
+          waiting = λ q. record { on = v .on; waits = v .waits; nothing = v .nothing };
+          linked = i .own .linked;
+        } in
+        inl (ready-open own, (s .0, s .1, record {
+          lineA = i .lineA;
+          lineB = i .lineB;
+          own = own;
+          peer = i .peer;
+          out = rw decodes (i .out);
+          back = rw decodes (i .back);
+        }))
+
+-- any other answer changes nothing
+refused : (im : List ℕ) (ph : Phase) (m : List ℕ) → effectOf (submitAnswer im ph m) ≡ Effect.Nothing → Quiet im ph (submitOf im ph m)
+unfolding submitOf
+refused im ph m e = settled-quiet (submitAnswer im ph m) ph im [] (queued im ph m) e (nothing-still (submitAnswer im ph m) e)
+
+pub at-submits : (w : World) (m : List ℕ) → Bytes m → Good w → Good (submits w m (submitOf (w .a .image) (w .a .phase) m))
+unfolding queued
+at-submits w m bytes g =
+    let im = w .a .image in
+    let ph = w .a .phase in
+    at-replaced w (called (w .a) (submitOf im ph m) (counts (w .a) (submitOf im ph m) (accepts m (w .a .history)))) (w .ab) (w .ba) (λ kp k.
+    let s = g kp in
+    ⊎-elim
+    (λ (d : submitAnswer im ph m ≡ Answer.Done).
+    rw (submit-done im ph m d, both-same (w .a .begun))
+    (accepted im ph m (s .2 .own .stand) d bytes (w .a .joined) (w .a .history) (w .a .begun) s (rw (submit-done im ph m d, both-same (w .a .begun)) at k)))
+    (λ (e : effectOf (submitAnswer im ph m) ≡ Effect.Nothing). quietly-counts (w .a) (submitOf im ph m) (refused im ph m e) s (accepts m (w .a .history)))
+    (done-or-nothing im ph m))

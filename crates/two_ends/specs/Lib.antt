@@ -1,0 +1,7 @@
+pub mod World
+pub mod Calls
+pub mod Runs
+pub mod Start
+pub mod Demand
+pub mod Answers
+pub mod Staying

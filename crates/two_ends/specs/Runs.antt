@@ -1,0 +1,80 @@
+-- The events of a run, and what a run is.
+use Prim.Native.Nat.{ℕ, _<_}
+use mathlib.Core.Bool.{Bool, true, false}
+use mathlib.Core.List.{List, [], _∷_}
+use Rattle.ft_number.specs.declared.MessageId.{MessageId}
+use Rattle.ft_number.specs.declared.Proposal
+use Rattle.ft_number.specs.declared.Proposal.{Proposal}
+use Rattle.message_writer.specs.declared.OwnParameters.{OwnParameters}
+use Rattle.image.proofs.Ranges.{Bytes}
+use Rattle.submit.specs.Act.{submitOf}
+use Rattle.send.specs.Rule.{sendOf}
+use Rattle.connect.specs.Start.{restoreOf}
+use Rattle.connect.specs.Writers.{openOf, keepaliveOf}
+use Rattle.timers.specs.Events.{connectionFailedOf, timePassedOf}
+use Rattle.two_ends.specs.World.{World, swap}
+use Rattle.two_ends.specs.Calls.{broken, plainly, submitted, wrote, opened, delivery, slotStored}
+
+-- at one end: every public call with whatever its owner gives, the oldest message delivered, the connection broken, and power lost
+pub data Event : Type 0 where
+  submits : List ℕ → Event
+  -- with or without an ACK, and the output lent
+  sends : Bool → List ℕ → Event
+  keepalives : MessageId → List ℕ → Event
+  opens : MessageId → OwnParameters → Proposal → List ℕ → Event
+  passes : ℕ → Event
+  delivers : Event
+  -- the connection is broken; each end notices it in its own time
+  breaks notices : Event
+  -- "restarts from the stored image"; a call cut with nothing stored is this too
+  restarts : Event
+  -- power is lost in a Submit that has stored its slot, and not yet block 0
+  halts : List ℕ → Event
+
+-- what the types of the calls say of their inputs: bytes, and numbers of their width
+pub record Widths (n : MessageId) (p : OwnParameters) : Type 0 where
+  pub id : n .0 < 4294967296
+  pub keepalive : p .keepalive < 65536
+  pub pdulength : p .pdulength < 65536
+
+abbrev pub Seconds : Proposal → Type 0
+Seconds (Proposal.Seconds n) = n < 65536
+Seconds Proposal.NotGiven = Unit {0}
+
+abbrev pub Proper : Event → Type 0
+Proper (submits m) = Bytes m
+Proper (sends ask out) = Unit {0}
+Proper (keepalives id out) = id .0 < 4294967296
+Proper (opens id p t out) = Widths id p × Seconds t
+Proper (passes elapsed) = Unit {0}
+Proper delivers = Unit {0}
+Proper breaks = Unit {0}
+Proper notices = Unit {0}
+Proper restarts = Unit {0}
+Proper (halts m) = Bytes m
+
+-- an event at the end a
+abbrev pub act : World → Event → World
+act w (submits m) = submitted w m (submitOf (w .a .image) (w .a .phase) m)
+act w (sends ask out) = wrote w (sendOf (w .a .image) (w .a .phase) ask out)
+act w (keepalives id out) = wrote w (keepaliveOf (w .a .image) (w .a .phase) id out)
+act w (opens id p t out) = opened w (openOf (w .a .image) (w .a .phase) id p t out)
+act w (passes elapsed) = plainly w (timePassedOf (w .a .image) (w .a .phase) elapsed)
+act w delivers = delivery (w .a .joined) (w .ba) w
+act w breaks = broken w
+act w notices = plainly w (connectionFailedOf (w .a .image) (w .a .phase))
+act w restarts = plainly w (restoreOf (w .a .image))
+act w (halts m) = plainly w (restoreOf (slotStored (w .a .image) (submitOf (w .a .image) (w .a .phase) m)))
+
+-- at a, or at b
+abbrev pub step : World → Bool → Event → World
+step w true v = act w v
+step w false v = swap (act (swap w) v)
+
+abbrev pub run : World → List (Bool × Event) → World
+run w [] = w
+run w (v ∷ vs) = run (step w (v .0) (v .1)) vs
+
+abbrev pub AllProper : List (Bool × Event) → Type 0
+AllProper [] = Unit {0}
+AllProper (v ∷ vs) = Proper (v .1) × AllProper vs
