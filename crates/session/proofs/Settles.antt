@@ -11,7 +11,6 @@ use Rattle.calls.specs.declared.Answer
 use Rattle.calls.specs.declared.Answer.{Answer}
 use Rattle.calls.specs.declared.Effect
 use Rattle.calls.specs.declared.Effect.{Effect}
-use Rattle.calls.specs.declared.Phase
 use Rattle.calls.specs.declared.Phase.{Phase}
 use Rattle.calls.specs.Answers.{answerNumber, effectOf}
 use Rattle.calls.specs.Outcomes.{After, unchanged, failedWith, releasedWith, settledBy, settleOf}

@@ -1,9 +1,8 @@
 -- Between the two ends no answer comes but 0, 21, 35 and 36. Assumes nothing.
 use Prim.Native.Nat.{ℕ}
-use native.Mathlib.Omega.{arith}
-use mathlib.Core.Path.{_≡_, refl, sym, ap, _∙_}
+use mathlib.Core.Path.{_≡_, refl, sym}
 use mathlib.Core.Bool.{Bool, true, false, true≢false}
-use mathlib.Core.List.{List, [], _∷_, map}
+use mathlib.Core.List.{List, _∷_}
 use mathlib.Core.Logic.{⊎-elim}
 use Rattle.image.specs.State.{decode}
 use Rattle.calls.specs.declared.Answer
@@ -14,7 +13,7 @@ use Rattle.calls.specs.Outcomes.{releasedWith}
 use Rattle.init.specs.declared.Start
 use Rattle.init.specs.declared.Start.{Start}
 use Rattle.init.specs.Begun.{initStart, initReceivedOf}
-use Rattle.receive.specs.Rule.{receiveAnswer, receiveOf}
+use Rattle.receive.specs.Rule.{receiveAnswer}
 use Rattle.receive.proofs.Meaning.{receive-answered}
 use Rattle.two_ends.specs.World.{History, End, World, swap}
 use Rattle.two_ends.specs.Runs.{Event, run, AllProper}

@@ -1,5 +1,5 @@
 -- The oldest message of a line is delivered. Assumes nothing.
-use Prim.Native.Nat.{ℕ, _+_, _-_, _^_, _≤_, _<_}
+use Prim.Native.Nat.{ℕ, _+_, _-_, _^_, _<_}
 use native.Mathlib.Omega.{arith}
 use mathlib.Core.Path.{_≡_, refl, sym, ap, _∙_}
 use mathlib.Core.Bool.{Bool, true, false, not, true≢false}
@@ -21,7 +21,7 @@ use Rattle.message.proofs.Laws.{accepted}
 use Rattle.message_writer.specs.ReadBack.{keepaliveMessage, protectedMessage}
 use Rattle.message_writer.proofs.Own.{keepalive-reads}
 use Rattle.message_writer.proofs.RoundTrip.{submitted, sent-reads, sent-kind, sent-payload}
-use Rattle.label_list.proofs.Choice.{both-true}
+use Rattle.octets.proofs.Choice.{both-true}
 use Rattle.image.specs.State.{decode}
 use Rattle.image.proofs.Sound.{sound-valid}
 use Rattle.calls.specs.Acked.{releasedLabels, acked}

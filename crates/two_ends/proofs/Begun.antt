@@ -1,15 +1,15 @@
 -- The start of a run. Assumes nothing.
-use Prim.Native.Nat.{ℕ, _+_, _^_, _≤_, _<_}
+use Prim.Native.Nat.{_<_}
 use native.Mathlib.Omega.{arith}
 use mathlib.Core.Path.{_≡_, refl, sym}
-use mathlib.Core.Bool.{Bool, true, false, true≢false}
-use mathlib.Core.List.{List, [], _∷_}
+use mathlib.Core.Bool.{true, false, true≢false}
+use mathlib.Core.List.{[], _∷_}
 use mathlib.Core.Logic.{_⊎_, inl, inr, ⊎-elim}
 use lib.Dec.{eqb}
 use Rattle.ft_number.specs.Timeout.{proposedOf}
 use Rattle.ft_number.proofs.Circle.{after-none}
-use Rattle.message_writer.specs.ReadBack.{AckFits, InitFits}
-use Rattle.label_list.proofs.Choice.{pick-all}
+use Rattle.message_writer.specs.ReadBack.{AckFits}
+use Rattle.octets.proofs.Choice.{pick-all}
 use Rattle.block0.specs.declared.Header.{Header}
 use Rattle.image.specs.State.{decode}
 use Rattle.image.specs.Events.{released}

@@ -1,5 +1,5 @@
 -- One direction, event by event. Assumes nothing.
-use Prim.Native.Nat.{ℕ, zero, suc, _+_, _-_, _≤_, _<_}
+use Prim.Native.Nat.{ℕ, suc, _+_, _-_, _≤_, _<_}
 use native.Mathlib.Omega.{arith}
 use mathlib.Core.Path.{_≡_, refl, sym, ap, _∙_, subst}
 use mathlib.Core.Bool.{Bool, true, false}
@@ -11,7 +11,7 @@ use Rattle.ft_number.specs.Ack.{ackOf}
 use Rattle.ft_number.specs.declared.Ack
 use Rattle.ft_number.specs.declared.Ack.{Ack}
 use Rattle.two_ends.proofs.Positions.{num, num-next, num-le}
-use Rattle.two_ends.proofs.Half.{Snd, Rcv, Flow, Asc, Line, Books, Half}
+use Rattle.two_ends.proofs.Half.{Snd, Rcv, Flow, Asc, Line, Half}
 use Rattle.two_ends.proofs.Books.{accepts, issues, frees, secures, held-length, numbered, unsent, place, issued, ack-right, books-accept, books-issue, books-free, books-secure}
 
 -- ---- acknowledgements under way

@@ -1,10 +1,10 @@
 -- An end whose connection has failed. Assumes nothing.
-use Prim.Native.Nat.{ℕ, _<_}
+use Prim.Native.Nat.{ℕ}
 use native.Mathlib.Omega.{arith}
-use mathlib.Core.Path.{_≡_, refl, sym, ap, _∙_}
-use mathlib.Core.Bool.{Bool, true, false, not, true≢false}
+use mathlib.Core.Path.{_≡_, refl, sym}
+use mathlib.Core.Bool.{Bool, true, false, true≢false}
 use mathlib.Core.List.{List, []}
-use mathlib.Core.Logic.{_⊎_, inl, inr}
+use mathlib.Core.Logic.{inl, inr}
 use lib.Dec.{eqb}
 use Rattle.octets.specs.Pick.{pick}
 use Rattle.block0.specs.declared.Header.{Header}
@@ -19,15 +19,14 @@ use Rattle.calls.specs.Phases.{restingPhase}
 use Rattle.calls.specs.Outcomes.{failedWith}
 use Rattle.calls.proofs.Phasing.{resting-failed}
 use Rattle.call_meaning.specs.Standing.{Standing}
-use Rattle.call_meaning.proofs.Stands.{break-decodes, failed-stands}
-use Rattle.init.specs.Begun.{proposalOf}
+use Rattle.image.proofs.Changes.{break-decodes}
+use Rattle.call_meaning.proofs.Stands.{failed-stands}
 use Rattle.timers.specs.Events.{connected}
 use Rattle.two_ends.specs.World.{History, End}
-use Rattle.two_ends.specs.Calls.{off, keeps}
-use Rattle.two_ends.proofs.Invariant.{Ready, Inv, Some}
+use Rattle.two_ends.proofs.Invariant.{Ready, Some}
 use Rattle.two_ends.proofs.Sides.{dir-failed, dir-failed-peer, dir-rest, dir-rest-peer}
 use Rattle.two_ends.proofs.Sixless.{broken-sixless}
-use Rattle.two_ends.proofs.Worlds.{ended, kept-one, ready-off, closes, Settled}
+use Rattle.two_ends.proofs.Worlds.{ended, kept-one, ready-off, Settled}
 
 resting-off : (h : Header) → connected (restingPhase h) ≡ false
 unfolding restingPhase

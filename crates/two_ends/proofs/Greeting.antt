@@ -1,19 +1,18 @@
 -- The peer's Init is delivered. Assumes nothing.
-use Prim.Native.Nat.{ℕ, _+_, _<_}
+use Prim.Native.Nat.{ℕ, _<_}
 use native.Mathlib.Omega.{arith}
 use mathlib.Core.Path.{_≡_, refl, sym, ap, _∙_}
 use mathlib.Core.Bool.{Bool, true, false, true≢false}
 use mathlib.Core.List.{List, [], _∷_, map}
 use mathlib.Core.Logic.{_⊎_, inl, ⊎-elim}
-use lib.ListN.{take, drop}
+use lib.ListN.{take}
 use Rattle.ft_number.specs.declared.FtNumber.{FtNumber}
 use Rattle.ft_number.specs.declared.MessageId.{MessageId}
-use Rattle.tlv.specs.declared.FtField
 use Rattle.tlv.specs.declared.FtField.{FtField}
 use Rattle.message_writer.specs.declared.OwnParameters.{OwnParameters}
 use Rattle.image.specs.State.{State, decode}
 use Rattle.image.specs.Verdict.{IsSound}
-use Rattle.image.proofs.Ranges.{Bytes}
+use Rattle.octets.specs.Bytes.{Bytes}
 use Rattle.image.proofs.Sound.{sound-valid}
 use Rattle.calls.specs.Acked.{acked}
 use Rattle.calls.specs.declared.Answer
@@ -22,7 +21,7 @@ use Rattle.calls.specs.declared.Phase
 use Rattle.calls.specs.declared.Phase.{Phase}
 use Rattle.calls.specs.Outcomes.{After, isDone, releasedWith}
 use Rattle.calls.proofs.Settled.{admitted-is}
-use Rattle.call_meaning.specs.Standing.{Standing, Stands}
+use Rattle.call_meaning.specs.Standing.{Standing}
 use Rattle.call_meaning.proofs.Answered.{answered-released}
 use Rattle.init.specs.declared.Start
 use Rattle.init.specs.declared.Start.{Start}
@@ -31,6 +30,7 @@ use Rattle.init.specs.Judged.{startAnswer}
 use Rattle.init.specs.Begun.{fresh, resumed, startState, startPhase, begunAs, initStart, initReceivedOf}
 use Rattle.init.specs.Meaning.{BegunFrom}
 use Rattle.init.proofs.Meaning.{init-decodes, init-stands, resumed-queue}
+use Rattle.call_meaning.proofs.Stands.{standing-admitted}
 use Rattle.two_ends.specs.World.{History, End, none}
 use Rattle.two_ends.specs.Calls.{keeps, greeted, takes}
 use Rattle.two_ends.proofs.Direction.{Freed, half-init}
@@ -39,7 +39,6 @@ use Rattle.two_ends.proofs.Invariant.{sideOf, sndOf, rcvOf, Leads, Head
 use Rattle.two_ends.proofs.Takes.{headed, dir-fresh, dir-fresh-peer, dir-resume, dir-resume-peer}
 use Rattle.two_ends.proofs.Sixless.{NoSix, none-sixless, released-sixless}
 use Rattle.two_ends.proofs.Worlds.{ended, kept-one, Settled}
-use Rattle.two_ends.proofs.Quiet.{standing-admitted}
 use Rattle.two_ends.proofs.Resting.{released-ends}
 use Rattle.two_ends.proofs.Delivering.{let-go}
 use Rattle.two_ends.proofs.Starting.{terms, starts-fresh, starts-again}

@@ -1,12 +1,10 @@
 -- Over every run: with no event that releases, neither end releases its state. Assumes nothing.
 use Prim.Native.Nat.{ℕ}
-use mathlib.Core.Path.{_≡_, refl, sym, ap, _∙_}
+use mathlib.Core.Path.{_≡_, refl, sym, _∙_}
 use mathlib.Core.Bool.{Bool, true, false}
 use mathlib.Core.List.{List, [], _∷_}
 use borrow.Author.Tests.{eqb-true}
-use lib.Dec.{eqb}
-use Rattle.octets.specs.Pick.{pick}
-use Rattle.label_list.proofs.Choice.{by-test, pick-all}
+use Rattle.octets.proofs.Choice.{by-test, pick-all}
 use Rattle.image.specs.State.{decode}
 use Rattle.calls.specs.declared.Answer
 use Rattle.calls.specs.declared.Answer.{Answer}
@@ -19,15 +17,16 @@ use Rattle.connect.proofs.Meaning.{restore-passes}
 use Rattle.connect.specs.Writers.{openOf, keepaliveOf}
 use Rattle.send.specs.Rule.{sendOf}
 use Rattle.submit.specs.Act.{submitOf}
-use Rattle.timers.specs.Events.{connected, waiting, eventAnswer, connectionFailedOf, expired, timePassedOf}
+use Rattle.timers.specs.Events.{connected, waiting, connectionFailedOf, expired, timePassedOf}
 use Rattle.timers.proofs.Meaning.{failed-is, passed-is}
-use Rattle.two_ends.specs.World.{History, End, World, swap}
-use Rattle.two_ends.specs.Calls.{called, replaced, plainly, put, counts, accepts, submitted, wrote, on, opened, slotStored}
-use Rattle.two_ends.specs.Runs.{Event, submits, sends, keepalives, opens, passes, delivers, breaks, notices, restarts, halts, Proper, act, step, run, AllProper}
+use Rattle.session.specs.Store.{slotAlone}
+use Rattle.two_ends.specs.World.{History, World, swap}
+use Rattle.two_ends.specs.Calls.{called, replaced, plainly, put, counts, accepts, submitted, wrote, on, opened}
+use Rattle.two_ends.specs.Runs.{Event, submits, sends, keepalives, opens, passes, delivers, breaks, notices, restarts, halts, act, step, run, AllProper}
 use Rattle.two_ends.specs.Start.{Opener, start, Sound, Afresh}
 use Rattle.two_ends.specs.Staying.{Releasing, ReleasingAt, NoneReleases}
-use Rattle.two_ends.proofs.Invariant.{Some, Good}
-use Rattle.two_ends.proofs.Worlds.{ended, at-swap}
+use Rattle.two_ends.proofs.Invariant.{Good}
+use Rattle.two_ends.proofs.Worlds.{at-swap}
 use Rattle.two_ends.proofs.Resting.{unnoticed, untimed}
 use Rattle.two_ends.proofs.Cutting.{uncut}
 use Rattle.two_ends.proofs.Begun.{at-start}
@@ -45,9 +44,9 @@ notice-kept im ph st =
 restore-kept : (im : List ℕ) (ph : Phase) → Standing im ph → Kept im (restoreOf im)
 restore-kept im ph st = rw (restore-passes im (st .sound)) (failed-kept im ph st Answer.Done [])
 
-halt-kept : (im : List ℕ) (ph : Phase) (m : List ℕ) → Standing im ph → Kept im (restoreOf (slotStored im (submitOf im ph m)))
+halt-kept : (im : List ℕ) (ph : Phase) (m : List ℕ) → Standing im ph → Kept im (restoreOf (slotAlone im (submitOf im ph m)))
 halt-kept im ph m st =
-    let im′ = slotStored im (submitOf im ph m) in
+    let im′ = slotAlone im (submitOf im ph m) in
     let u = uncut im ph m st in
     let st′ : Standing im′ ph = record { sound = u .sound; range = rw (u .state) (st .range); fits = rw (u .state) (st .fits) } in
     restore-kept im′ ph st′ ∙ rw (u .state)
@@ -106,7 +105,7 @@ module _ (w : World) (g : Good w) (s : Stays w) where
   act-stays breaks n = broken-stays w s
   act-stays notices n = plain-stays (connectionFailedOf im ph) (notice-kept im ph stand)
   act-stays restarts n = plain-stays (restoreOf im) (restore-kept im ph stand)
-  act-stays (halts m) n = plain-stays (restoreOf (slotStored im (submitOf im ph m))) (halt-kept im ph m stand)
+  act-stays (halts m) n = plain-stays (restoreOf (slotAlone im (submitOf im ph m))) (halt-kept im ph m stand)
 
 -- ---- over a run
 swap-stays : (w : World) → Stays w → Stays (swap w)

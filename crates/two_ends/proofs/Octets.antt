@@ -1,5 +1,5 @@
 -- What is put together from bytes is bytes. Assumes nothing.
-use Prim.Native.Nat.{ℕ, zero, suc, _+_, _/_, _%_, _<_}
+use Prim.Native.Nat.{ℕ, zero, suc, _+_, _/_, _<_}
 use native.Mathlib.Omega.{arith}
 use mathlib.Core.List.{List, [], _∷_, _++_}
 use lib.ListN.{length, take, drop}
@@ -13,7 +13,7 @@ use Rattle.message_writer.specs.Forms.{tlvBytes, messageBytes, ackTlv, paramete
 use Rattle.message_writer.specs.declared.OwnParameters.{OwnParameters}
 use Rattle.ft_number.specs.declared.FtNumber.{FtNumber}
 use Rattle.ft_number.specs.declared.MessageId.{MessageId}
-use Rattle.image.proofs.Ranges.{Bytes}
+use Rattle.octets.specs.Bytes.{Bytes}
 
 pub record Octets (s : List ℕ) : Type 0 where
   pub each : Bytes s

@@ -1,19 +1,16 @@
 -- A message is sent. Assumes nothing.
-use Prim.Native.Nat.{ℕ, zero, suc, _+_, _^_, _≤_, _<_}
+use Prim.Native.Nat.{ℕ, zero, suc, _+_, _<_}
 use native.Mathlib.Omega.{arith}
-use mathlib.Core.Path.{_≡_, refl, sym, ap, _∙_}
+use mathlib.Core.Path.{_≡_, refl, sym, _∙_}
 use mathlib.Core.Bool.{Bool, true, false, true≢false}
 use mathlib.Core.List.{List, [], _∷_, _++_}
 use mathlib.Core.Logic.{inl}
 use lib.Dec.{ltb}
-use lib.ListN.{length, getD, drop}
+use lib.ListN.{length, drop}
 use lib.Seq.{drop-cons}
 use Rattle.octets.specs.Pick.{pick}
-use Rattle.ft_number.specs.declared.FtNumber.{FtNumber}
-use Rattle.tlv.specs.declared.FtField
-use Rattle.tlv.specs.declared.FtField.{FtField}
 use Rattle.message_writer.specs.ReadBack.{AckFits}
-use Rattle.label_list.proofs.Choice.{by-test}
+use Rattle.octets.proofs.Choice.{by-test}
 use Rattle.block0.specs.declared.Header.{Header}
 use Rattle.image.specs.State.{State, decode}
 use Rattle.image.proofs.Queue.{queue-length}
@@ -22,10 +19,10 @@ use Rattle.calls.specs.declared.Answer.{Answer}
 use Rattle.calls.specs.declared.Phase
 use Rattle.calls.specs.declared.Phase.{Phase}
 use Rattle.calls.specs.Answers.{effectOf}
-use Rattle.calls.specs.Outcomes.{After, isDone, admitted, roomFor, wrote}
+use Rattle.calls.specs.Outcomes.{isDone, wrote}
 use Rattle.call_meaning.specs.Standing.{Standing}
 use Rattle.call_meaning.proofs.Refusals.{Harmless, admitted-harmless, settle-does}
-use Rattle.send.specs.Rule.{isUp, sentOf, nextMessage, numberAt, ackAsked, sendBytes, sendRule, sendAnswer, sentState, sendImage, sendOf}
+use Rattle.send.specs.Rule.{isUpFT, sentOf, nextMessage, numberAt, ackAsked, sendBytes, sendRule, sendAnswer, sentState, sendImage, sendOf}
 use Rattle.send.proofs.Judged.{Sendable, answered-sendable}
 use Rattle.send.proofs.Meaning.{image-decodes, image-stands}
 use Rattle.send.proofs.Numbers.{number-fits}
@@ -33,7 +30,7 @@ use Rattle.two_ends.specs.World.{History, End, World}
 use Rattle.two_ends.specs.Calls.{keeps, called, put, wrote as writes}
 use Rattle.two_ends.proofs.Direction.{half-place}
 use Rattle.two_ends.proofs.Packets.{Packet, carried, bytesOf, Okay, Okays, Fine}
-use Rattle.two_ends.proofs.Invariant.{Ready, Inv, Some, Good}
+use Rattle.two_ends.proofs.Invariant.{Ready, Some, Good}
 use Rattle.two_ends.proofs.Sends.{sent-labels, dir-send, dir-send-lost, dir-send-peer, dir-send-lost-peer}
 use Rattle.two_ends.proofs.Worlds.{ended, kept-one, ready-open, at-replaced, Settled}
 use Rattle.two_ends.proofs.Quiet.{Quiet, settled-quiet, quietly-puts}
@@ -51,7 +48,7 @@ pub unsent : (im : List ℕ) (ph : Phase) (ask : Bool) (out : List ℕ) → isDo
 unfolding sendOf sendAnswer sendRule
 unsent im ph ask out n =
     settled-quiet (sendAnswer im ph ask (length out)) ph im out _
-    (admitted-harmless im ph _ (rule-harmless (isUp ph) (ltb (sentOf ph) (decode im .header .held)) (ltb (length out) (length (sendBytes (decode im) (sentOf ph) ask)))) n) n
+    (admitted-harmless im ph _ (rule-harmless (isUpFT ph) (ltb (sentOf ph) (decode im .header .held)) (ltb (length out) (length (sendBytes (decode im) (sentOf ph) ask)))) n) n
 
 pub sent-is : (im : List ℕ) (ph : Phase) (ask : Bool) (out : List ℕ) → isDone (sendAnswer im ph ask (length out)) ≡ true
     → sendOf im ph ask out ≡ wrote (Phase.UpFT (sentOf ph + 1)) im (sendImage im (sentOf ph)) out (sendBytes (decode im) (sentOf ph) ask)

@@ -10,17 +10,16 @@ use Rattle.ft_number.specs.Circle.{after}
 use Rattle.ft_number.specs.declared.FtNumber.{FtNumber}
 use Rattle.tlv.specs.declared.FtField
 use Rattle.tlv.specs.declared.FtField.{FtField}
-use Rattle.label_list.proofs.Choice.{pick-all}
+use Rattle.octets.proofs.Choice.{pick-all}
 use Rattle.image.specs.State.{State}
 use Rattle.calls.specs.declared.Phase
 use Rattle.calls.specs.declared.Phase.{Phase}
 use Rattle.calls.specs.Phases.{issuedCount}
 use Rattle.send.specs.Rule.{numberAt, ackAsked, numbered, sentState}
 use Rattle.two_ends.specs.World.{History}
-use Rattle.two_ends.proofs.Half.{Snd}
 use Rattle.two_ends.proofs.Books.{issues}
 use Rattle.two_ends.proofs.Direction.{half-ack-out, half-send, half-send-lost}
-use Rattle.two_ends.proofs.Packets.{Packet, carried, Fine, datas, acksOf, datas-append, acks-append, fines-snoc}
+use Rattle.two_ends.proofs.Packets.{Packet, carried, Fine, acksOf, datas-append, acks-append, fines-snoc}
 use Rattle.two_ends.proofs.Invariant.{Side, sndOf, rcvOf, live, Dir}
 use Rattle.two_ends.proofs.Sides.{side, shape-snoc}
 

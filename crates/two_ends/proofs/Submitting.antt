@@ -4,7 +4,7 @@ use native.Mathlib.Omega.{arith}
 use mathlib.Core.Path.{_≡_, refl, sym}
 use mathlib.Core.Bool.{Bool, true, false, true≢false}
 use mathlib.Core.List.{List, []}
-use mathlib.Core.Logic.{_⊎_, inl, inr, ⊎-elim}
+use mathlib.Core.Logic.{_⊎_, inl, ⊎-elim}
 use lib.ListN.{length}
 use Rattle.octets.specs.Pick.{pick, both}
 use Rattle.block0.specs.Layout.{slotCount}
@@ -12,7 +12,7 @@ use Rattle.message.specs.Submission.{submissionOf}
 use Rattle.slot.specs.Held.{Storable}
 use Rattle.image.specs.State.{decode}
 use Rattle.image.proofs.Queue.{queue-length}
-use Rattle.image.proofs.Ranges.{Bytes}
+use Rattle.octets.specs.Bytes.{Bytes}
 use Rattle.image.proofs.Sound.{sound-valid}
 use Rattle.calls.specs.declared.Answer
 use Rattle.calls.specs.declared.Answer.{Answer}
@@ -23,7 +23,7 @@ use Rattle.calls.specs.Answers.{effectOf}
 use Rattle.call_meaning.specs.Standing.{Standing}
 use Rattle.submit.specs.Rule.{submitAnswer}
 use Rattle.submit.specs.Act.{submitted, submitImage, queued, submitOf}
-use Rattle.submit.proofs.Passing.{done-passes, passes-storable, done-or-nothing}
+use Rattle.submit.proofs.Passing.{done-passes, passes-storable}
 use Rattle.submit.proofs.Queueing.{in-range-submitted, image-decodes, image-sound}
 use Rattle.submit.proofs.Meaning.{submit-fits, submit-done}
 use Rattle.two_ends.specs.World.{History, End, World}
@@ -33,7 +33,7 @@ use Rattle.two_ends.proofs.Invariant.{Ready, Some, Good}
 use Rattle.two_ends.proofs.Sides.{dir-accept, dir-accept-peer}
 use Rattle.two_ends.proofs.Sixless.{accepted-sixless}
 use Rattle.two_ends.proofs.Worlds.{ended, ready-open, at-replaced, Settled}
-use Rattle.two_ends.proofs.Quiet.{Quiet, nothing-still, settled-quiet, quietly-counts}
+use Rattle.two_ends.proofs.Quiet.{Quiet, nothing-still, settled-quiet, quietly-counts, done-or-nothing}
 
 both-same : (b : Bool) → both b true ≡ b
 both-same true = refl

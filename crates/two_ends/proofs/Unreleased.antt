@@ -12,9 +12,9 @@ use Rattle.message.specs.declared.Message.{Message}
 use Rattle.message.specs.declared.Reading
 use Rattle.message.specs.declared.Reading.{Reading}
 use Rattle.message_writer.specs.declared.OwnParameters.{OwnParameters}
-use Rattle.label_list.proofs.Choice.{by-test}
+use Rattle.octets.proofs.Choice.{by-test}
 use Rattle.image.specs.State.{decode}
-use Rattle.image.proofs.Ranges.{Bytes}
+use Rattle.octets.specs.Bytes.{Bytes}
 use Rattle.calls.specs.declared.Answer
 use Rattle.calls.specs.declared.Answer.{Answer}
 use Rattle.calls.specs.declared.Effect
@@ -25,10 +25,9 @@ use Rattle.calls.specs.Answers.{effectOf}
 use Rattle.calls.specs.Acked.{acked}
 use Rattle.calls.specs.Outcomes.{After, isDone, failedWith}
 use Rattle.call_meaning.specs.Standing.{Standing}
-use Rattle.call_meaning.proofs.Stands.{break-decodes}
+use Rattle.image.proofs.Changes.{break-decodes}
 use Rattle.submit.specs.Rule.{submitAnswer}
 use Rattle.submit.specs.Act.{submitted, submitOf}
-use Rattle.submit.proofs.Passing.{done-or-nothing}
 use Rattle.submit.proofs.Meaning.{submit-decodes, submit-refusal}
 use Rattle.send.specs.Rule.{sentOf, sendAnswer, sendOf}
 use Rattle.send.proofs.Judged.{Sendable, answered-sendable}
@@ -37,6 +36,7 @@ use Rattle.connect.specs.Writers.{openOf, keepaliveOf}
 use Rattle.connect.proofs.Meaning.{open-leaves, alive-leaves}
 use Rattle.receive.specs.Rule.{taken, receivedState, receiveAnswer, receiveOf}
 use Rattle.receive.proofs.Meaning.{receive-answered, receive-decodes}
+use Rattle.two_ends.proofs.Quiet.{done-or-nothing}
 use Rattle.two_ends.proofs.Sends.{sent-kept}
 use Rattle.two_ends.proofs.Sending.{unsent, sent-is}
 use Rattle.two_ends.proofs.Receiving.{broke}

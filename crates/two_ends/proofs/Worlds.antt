@@ -1,22 +1,20 @@
 -- A world after a call at the end a, whatever the call is. Assumes nothing.
 use Prim.Native.Nat.{ℕ}
-use native.Mathlib.Omega.{arith}
-use mathlib.Core.Path.{_≡_, refl, sym, ap, _∙_}
+use mathlib.Core.Path.{_≡_, refl, sym, _∙_}
 use mathlib.Core.Bool.{Bool, true, false, not, true≢false}
 use mathlib.Core.List.{List, []}
-use mathlib.Core.Logic.{_⊎_, inl, inr, ⊎-elim}
+use mathlib.Core.Logic.{_⊎_, inl, ⊎-elim}
 use borrow.Author.Tests.{eqb-true}
 use Rattle.octets.specs.Pick.{pick, both}
-use Rattle.label_list.proofs.Choice.{both-true}
+use Rattle.octets.proofs.Choice.{both-true}
 use Rattle.image.specs.State.{decode}
 use Rattle.calls.specs.declared.Phase
 use Rattle.calls.specs.declared.Phase.{Phase}
 use Rattle.calls.specs.Outcomes.{After}
 use Rattle.timers.specs.Events.{connected}
 use Rattle.two_ends.specs.World.{History, End, World, swap}
-use Rattle.two_ends.specs.Calls.{off, broken, keeps, called, replaced, plainly}
-use Rattle.two_ends.proofs.Packets.{Packet}
-use Rattle.two_ends.proofs.Invariant.{Waiting, linkable, Ready, Inv, Some, Good}
+use Rattle.two_ends.specs.Calls.{off, broken, keeps, called, replaced}
+use Rattle.two_ends.proofs.Invariant.{Waiting, linkable, Ready, Some, Good}
 use Rattle.two_ends.proofs.Sides.{dir-lost}
 
 -- an end by its parts
