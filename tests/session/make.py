@@ -296,64 +296,64 @@ def session(again, seconds):
 
 NO_LABEL = c.message(MAPPING, ID, c.tlv(c.FEC, b""))
 RECEIVED = (
-    ("KeepAlive, ACK 1", keepalive(ack(1))),
-    ("KeepAlive, ACK 2", keepalive(ack(2))),
-    ("KeepAlive, ACK 3", keepalive(ack(3))),
-    ("KeepAlive, ACK 0", keepalive(ack(0))),
-    ("Address 2, ACK 2", bare_address(protection(2), ack(2))),
-    ("Address 3, ACK 2", bare_address(protection(3), ack(2))),
-    ("Address 3, ACK 3", bare_address(protection(3), ack(3))),
-    ("Address 1", bare_address(protection(1))),
-    ("Address 0", bare_address(protection(0))),
-    ("KeepAlive 2", keepalive(protection(2))),
-    ("Address, unprotected", bare_address()),
-    ("Mapping 201, unprotected", with_label(MAPPING, 201)),
-    ("Mapping 1000, protected", with_label(MAPPING, 1000, protection(2))),
-    ("Withdraw 201, protected", with_label(WITHDRAW, 201, protection(2))),
-    ("Release 101, protected", with_label(RELEASE, 101, protection(2))),
-    ("20 bytes of 24", keepalive(protection(2), ack(2))[:20]),
-    ("Mapping 1048576", with_label(MAPPING, 1048576)),
-    ("Mapping, no label", NO_LABEL),
-    ("Init", init(ident=ID)),
-    ("Notification, E set", status(0x8000000A)),
+    keepalive(ack(1)),
+    keepalive(ack(2)),
+    keepalive(ack(3)),
+    keepalive(ack(0)),
+    bare_address(protection(2), ack(2)),
+    bare_address(protection(3), ack(2)),
+    bare_address(protection(3), ack(3)),
+    bare_address(protection(1)),
+    bare_address(protection(0)),
+    keepalive(protection(2)),
+    bare_address(),
+    with_label(MAPPING, 201),
+    with_label(MAPPING, 1000, protection(2)),
+    with_label(WITHDRAW, 201, protection(2)),
+    with_label(RELEASE, 101, protection(2)),
+    keepalive(protection(2), ack(2))[:20],
+    with_label(MAPPING, 1048576),
+    NO_LABEL,
+    init(ident=ID),
+    status(0x8000000A),
 )
 PLAIN = (
-    ("KeepAlive", keepalive()),
-    ("Mapping 300", with_label(MAPPING, 300)),
-    ("KeepAlive, ACK 0", keepalive(ack(0))),
-    ("Address 1", bare_address(protection(1))),
-    ("Mapping, no label", NO_LABEL),
-    ("Notification, E set", status(0x8000000A)),
+    keepalive(),
+    with_label(MAPPING, 300),
+    keepalive(ack(0)),
+    bare_address(protection(1)),
+    NO_LABEL,
+    status(0x8000000A),
 )
 SUBMITTED = (
-    ("Mapping, no label", NO_LABEL),
-    ("Mapping, protected", with_label(MAPPING, 102, protection(3))),
-    ("Request", c.message(0x0401, ID, c.tlv(c.FEC, b""))),
-    ("Withdraw, no label", c.message(WITHDRAW, ID, c.tlv(c.FEC, b""))),
-    ("No Label Resources", status(0xE)),
-    ("Label Resources Available", status(0xF)),
-    ("Mapping 15", with_label(MAPPING, 15)),
-    ("Withdraw 102", with_label(WITHDRAW, 102)),
-    ("Release 1000", with_label(RELEASE, 1000)),
-    ("Release 201", with_label(RELEASE, 201)),
+    NO_LABEL,
+    with_label(MAPPING, 102, protection(3)),
+    c.message(0x0401, ID, c.tlv(c.FEC, b"")),
+    c.message(WITHDRAW, ID, c.tlv(c.FEC, b"")),
+    status(0xE),
+    status(0xF),
+    with_label(MAPPING, 15),
+    with_label(WITHDRAW, 102),
+    with_label(RELEASE, 1000),
+    with_label(RELEASE, 201),
 )
 INITS = (
-    ("R, ACK 2", init(own(), session(1, 5), ack(2))),
-    ("R, ACK 3", init(own(), session(1, 5), ack(3))),
-    ("R, KeepAlive time 16", init(own(seconds=16), session(1, 5), ack(2))),
-    ("R, PDU length 1501", init(own(size=1501), session(1, 5), ack(2))),
-    ("no R", init(own(), session(0, 3), ack(9))),
-    ("R, no ACK", init(own(), session(1, 5))),
-    ("no FT Session", init(own())),
-    ("no parameters", init(session(0, 5), ident=ID)),
-    ("another type", keepalive()),
+    init(own(), session(1, 5), ack(2)),
+    init(own(), session(1, 5), ack(3)),
+    init(own(seconds=16), session(1, 5), ack(2)),
+    init(own(size=1501), session(1, 5), ack(2)),
+    init(own(), session(0, 3), ack(9)),
+    init(own(), session(1, 5)),
+    init(own()),
+    init(session(0, 5), ident=ID),
+    keepalive(),
 )
 
 
 def on_copies(image, phase, name, call, messages):
-    for what, m in messages:
+    for m in messages:
         copy = bytearray(image)
-        show(f"P1 {name}{what}", call(copy, phase, m), copy)
+        show(f"P1 {name} {m.hex()}", call(copy, phase, m), copy)
         counts("P1", copy)
 
 
@@ -379,9 +379,9 @@ def messages(p):
     p.send("P1", lost=True)
     p.unprotected(1000)
     p.counts()
-    on_copies(p.image["P1"], p.phase["P1"], "receive ", c.receive, RECEIVED)
+    on_copies(p.image["P1"], p.phase["P1"], "receive", c.receive, RECEIVED)
     say("# messages submitted")
-    on_copies(p.image["P1"], p.phase["P1"], "submit ", c.submit, SUBMITTED)
+    on_copies(p.image["P1"], p.phase["P1"], "submit", c.submit, SUBMITTED)
 
 
 CALLS = (
@@ -430,7 +430,7 @@ def beginnings(p):
     say("# Inits received")
     p.lose("P1")
     p.step("P1", "open", c.open_session, 1, PARAMETERS["P1"], None, 64)
-    on_copies(p.image["P1"], p.phase["P1"], "init, ", c.init_received, INITS)
+    on_copies(p.image["P1"], p.phase["P1"], "init", c.init_received, INITS)
 
 
 def plain_session(p):
@@ -438,7 +438,7 @@ def plain_session(p):
     p.step("P1", "format", lambda image, phase: c.format_image(image))
     p.step("P1", "open", c.open_session, 1, PARAMETERS["P1"], None, 64)
     p.step("P1", "init, no FT Session", c.init_received, init(own()))
-    on_copies(p.image["P1"], p.phase["P1"], "receive ", c.receive, PLAIN)
+    on_copies(p.image["P1"], p.phase["P1"], "receive", c.receive, PLAIN)
 
 
 def main():

@@ -1,4 +1,4 @@
-// Steps of two cabinets, P1 and P2: each takes the phases of both and gives those that it leads to.
+// Steps of two cabinets, P1 and P2.
 use crate::messages::MAPPING;
 use crate::messages::Offer;
 use crate::messages::RELEASE;
@@ -8,16 +8,27 @@ use crate::messages::label_message;
 use crate::show::first;
 use crate::show::number;
 use crate::show::say;
-use crate::show::show_counts;
 use crate::steps;
 use calls::Phase;
 use ft_number::Proposal;
 use message_writer::OwnParameters;
 
-// The phases of both.
+// The phases of the cabinet that acts and of the other one, and which of the two acts: 1 or 2.
 pub struct Ends {
-    pub one: Phase,
-    pub two: Phase,
+    pub own: Phase,
+    pub other: Phase,
+    pub actor: u32,
+}
+
+// The other cabinet acts.
+pub fn swapped(e: Ends) -> Ends {
+    let own = e.other;
+    let other = e.own;
+    Ends {
+        own: own,
+        other: other,
+        actor: if e.actor == 1 { 2 } else { 1 },
+    }
 }
 
 pub fn p1_parameters() -> OwnParameters {
@@ -29,7 +40,7 @@ pub fn p1_parameters() -> OwnParameters {
     }
 }
 
-pub fn p2_parameters() -> OwnParameters {
+fn p2_parameters() -> OwnParameters {
     OwnParameters {
         keepalive: 15,
         pdulength: 1500,
@@ -42,15 +53,16 @@ pub fn p2_parameters() -> OwnParameters {
 pub fn connect(p1: &mut [u8], p2: &mut [u8], e: Ends, ours: Proposal, theirs: Proposal) -> Ends {
     let mut init1 = [0u8; 64];
     let mut init2 = [0u8; 64];
-    let one = e.one;
-    let two = e.two;
+    let one = e.own;
+    let two = e.other;
     let o1 = steps::open(b"P1 open", p1, one, p1_parameters(), ours, &mut init1);
     let o2 = steps::open(b"P2 open", p2, two, p2_parameters(), theirs, &mut init2);
     let wait1 = o1.phase;
     let wait2 = o2.phase;
     Ends {
-        one: steps::begin(b"P1 init", p1, wait1, first(&init2, o2.written)),
-        two: steps::begin(b"P2 init", p2, wait2, first(&init1, o1.written)),
+        own: steps::begin(b"P1 init", p1, wait1, first(&init2, o2.written)),
+        other: steps::begin(b"P2 init", p2, wait2, first(&init1, o1.written)),
+        actor: 1,
     }
 }
 
@@ -58,26 +70,21 @@ pub fn connect(p1: &mut [u8], p2: &mut [u8], e: Ends, ours: Proposal, theirs: Pr
 pub fn fresh(p1: &mut [u8], p2: &mut [u8], ours: Proposal, theirs: Proposal) -> Ends {
     let one = steps::format(b"P1 format", p1);
     let two = steps::format(b"P2 format", p2);
-    connect(p1, p2, Ends { one: one, two: two }, ours, theirs)
+    let e = Ends {
+        own: one,
+        other: two,
+        actor: 1,
+    };
+    connect(p1, p2, e, ours, theirs)
 }
 
 pub fn lose(p1: &mut [u8], p2: &mut [u8], e: Ends) -> Ends {
-    let one = e.one;
-    let two = e.two;
+    let one = e.own;
+    let two = e.other;
     Ends {
-        one: steps::lose(b"P1 connection failed", p1, one),
-        two: steps::lose(b"P2 connection failed", p2, two),
-    }
-}
-
-// Submits a message; its name ends with the message's.
-fn offer(name: &[u8], image: &mut [u8], phase: Phase, what: Offer) -> Phase {
-    say(name);
-    match what {
-        Offer::Mapping(label) => offer_label(b" Mapping ", image, phase, MAPPING, label),
-        Offer::Withdraw(label) => offer_label(b" Withdraw ", image, phase, WITHDRAW, label),
-        Offer::Release(label) => offer_label(b" Release ", image, phase, RELEASE, label),
-        Offer::Address => steps::offer(b" Address", image, phase, &address()),
+        own: steps::lose(b"P1 connection failed", p1, one),
+        other: steps::lose(b"P2 connection failed", p2, two),
+        actor: 1,
     }
 }
 
@@ -86,155 +93,62 @@ fn offer_label(name: &[u8], image: &mut [u8], phase: Phase, kind: u16, label: u3
     steps::offer(b"", image, phase, &label_message(kind, label))
 }
 
-pub fn p1_offer(p1: &mut [u8], e: Ends, what: Offer) -> Ends {
-    let one = e.one;
-    let two = e.two;
-    Ends {
-        one: offer(b"P1 submit", p1, one, what),
-        two: two,
+pub fn offer(image: &mut [u8], phase: Phase, what: Offer) -> Phase {
+    match what {
+        Offer::Mapping(label) => offer_label(b" submit Mapping ", image, phase, MAPPING, label),
+        Offer::Withdraw(label) => offer_label(b" submit Withdraw ", image, phase, WITHDRAW, label),
+        Offer::Release(label) => offer_label(b" submit Release ", image, phase, RELEASE, label),
+        Offer::Address => steps::offer(b" submit Address", image, phase, &address()),
     }
 }
 
-pub fn p2_offer(p2: &mut [u8], e: Ends, what: Offer) -> Ends {
-    let one = e.one;
-    let two = e.two;
+// Says which cabinet the next step is of.
+pub fn say_actor(e: Ends) {
+    number(b"P", e.actor as u64);
+}
+
+// A message of the actor's comes to the other.
+fn arrive(image: &mut [u8], e: Ends, own: Phase, msg: &[u8]) -> Ends {
+    let other = e.other;
+    say_actor(swapped(e));
     Ends {
-        one: one,
-        two: offer(b"P2 submit", p2, two, what),
+        own: own,
+        other: steps::take(b" receive", image, other, msg),
+        actor: e.actor,
     }
 }
 
-// P1 sends its next message, and P2 receives it.
-pub fn to_p2(p1: &mut [u8], p2: &mut [u8], e: Ends, ack: bool) -> Ends {
+// Sends the next message, and the other receives it.
+pub fn pass(from: &mut [u8], to: &mut [u8], e: Ends, ack: bool) -> Ends {
     let mut wire = [0u8; 512];
-    let one = e.one;
-    let two = e.two;
-    let o = steps::issue(b"P1 send", p1, one, ack, &mut wire);
+    let own = e.own;
+    let o = steps::issue(b" send", from, own, ack, &mut wire);
     let sent = o.phase;
-    Ends {
-        one: sent,
-        two: steps::take(b"P2 receive", p2, two, first(&wire, o.written)),
-    }
+    arrive(to, e, sent, first(&wire, o.written))
 }
 
-// P2 sends its next message, and P1 receives it.
-pub fn to_p1(p1: &mut [u8], p2: &mut [u8], e: Ends, ack: bool) -> Ends {
+// Sends the next message, which the other receives only when a message of its own, with an ACK, has come the other way.
+pub fn cross(from: &mut [u8], to: &mut [u8], e: Ends) -> Ends {
     let mut wire = [0u8; 512];
-    let one = e.one;
-    let two = e.two;
-    let o = steps::issue(b"P2 send", p2, two, ack, &mut wire);
+    let own = e.own;
+    let other = e.other;
+    let o = steps::issue(b" send", from, own, false, &mut wire);
     let sent = o.phase;
-    Ends {
-        one: steps::take(b"P1 receive", p1, one, first(&wire, o.written)),
-        two: sent,
-    }
+    let late = Ends {
+        own: other,
+        other: sent,
+        actor: if e.actor == 1 { 2 } else { 1 },
+    };
+    say_actor(late);
+    let e = swapped(pass(to, from, late, true));
+    let own = e.own;
+    arrive(to, e, own, first(&wire, o.written))
 }
 
-// P1's message is still under way when P2 sends, with an ACK.
-pub fn crossing(p1: &mut [u8], p2: &mut [u8], e: Ends) -> Ends {
-    let mut wire = [0u8; 512];
-    let one = e.one;
-    let two = e.two;
-    let o = steps::issue(b"P1 send", p1, one, false, &mut wire);
-    let sent = o.phase;
-    let e = to_p1(
-        p1,
-        p2,
-        Ends {
-            one: sent,
-            two: two,
-        },
-        true,
-    );
-    let one = e.one;
-    let two = e.two;
-    Ends {
-        one: one,
-        two: steps::take(b"P2 receive", p2, two, first(&wire, o.written)),
-    }
-}
-
-// A message that is sent and lost.
-pub fn p1_send_lost(p1: &mut [u8], e: Ends) -> Ends {
-    let mut wire = [0u8; 512];
-    let one = e.one;
-    let two = e.two;
-    let o = steps::issue(b"P1 send, lost", p1, one, false, &mut wire);
-    let sent = o.phase;
-    Ends {
-        one: sent,
-        two: two,
-    }
-}
-
-pub fn p2_send_lost(p2: &mut [u8], e: Ends) -> Ends {
-    let mut wire = [0u8; 512];
-    let one = e.one;
-    let two = e.two;
-    let o = steps::issue(b"P2 send, lost", p2, two, false, &mut wire);
-    let sent = o.phase;
-    Ends {
-        one: one,
-        two: sent,
-    }
-}
-
-// P1's KeepAlive, lost.
-pub fn p1_alive_lost(p1: &[u8], e: Ends) -> Ends {
+// Writes a KeepAlive, and the other receives it.
+pub fn alive(from: &[u8], to: &mut [u8], e: Ends) -> Ends {
     let mut wire = [0u8; 16];
-    let one = e.one;
-    steps::keepalive(b"P1 keepalive, lost", p1, one, &mut wire);
-    e
-}
-
-// P1's KeepAlive, and P2 receives it.
-pub fn alive_to_p2(p1: &[u8], p2: &mut [u8], e: Ends) -> Ends {
-    let mut wire = [0u8; 16];
-    let one = e.one;
-    let two = e.two;
-    let o = steps::keepalive(b"P1 keepalive", p1, one, &mut wire);
-    Ends {
-        one: one,
-        two: steps::take(b"P2 receive", p2, two, first(&wire, o.written)),
-    }
-}
-
-// P2's KeepAlive, and P1 receives it.
-pub fn alive_to_p1(p1: &mut [u8], p2: &[u8], e: Ends) -> Ends {
-    let mut wire = [0u8; 16];
-    let one = e.one;
-    let two = e.two;
-    let o = steps::keepalive(b"P2 keepalive", p2, two, &mut wire);
-    Ends {
-        one: steps::take(b"P1 receive", p1, one, first(&wire, o.written)),
-        two: two,
-    }
-}
-
-// P1 receives a Mapping without protection.
-pub fn p1_unprotected(p1: &mut [u8], e: Ends, label: u32) -> Ends {
-    let one = e.one;
-    let two = e.two;
-    number(b"P1 receive Mapping ", label as u64);
-    Ends {
-        one: steps::take(b", unprotected", p1, one, &label_message(MAPPING, label)),
-        two: two,
-    }
-}
-
-// So many seconds pass at P1.
-pub fn p1_wait(p1: &mut [u8], e: Ends, elapsed: u32) -> Ends {
-    let one = e.one;
-    let two = e.two;
-    number(b"P1 time passed ", elapsed as u64);
-    Ends {
-        one: steps::wait(b"", p1, one, elapsed),
-        two: two,
-    }
-}
-
-pub fn show_both(p1: &[u8], p2: &[u8], e: Ends) -> Ends {
-    show_counts(b"P1", p1);
-    show_counts(b"P2", p2);
-    e
+    let own = e.own;
+    let o = steps::keepalive(b" keepalive", from, own, &mut wire);
+    arrive(to, e, own, first(&wire, o.written))
 }

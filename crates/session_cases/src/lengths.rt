@@ -45,7 +45,7 @@ fn room(p1: &mut [u8], phase: Phase) {
 pub fn lengths(p1: &mut [u8], p2: &mut [u8]) {
     say(b"# lengths\n");
     let e = fresh(p1, p2, Proposal::NotGiven, Proposal::NotGiven);
-    let one = e.one;
+    let one = e.own;
     let phase = submitted_lengths(p1, one);
     room(p1, phase);
     show_counts(b"P1", p1);

@@ -1,5 +1,6 @@
 // The build paper's Run cases: timeouts, the full store, and the full label list.
 use crate::messages::Offer;
+use crate::scripts::Deed;
 use crate::scripts::Step;
 use ft_number::Proposal;
 
@@ -7,27 +8,27 @@ use ft_number::Proposal;
 pub fn timeouts(i: u32) -> Step {
     match i {
         0 => Step::Fresh(Proposal::NotGiven, Proposal::NotGiven),
-        1 => Step::SubmitOne(Offer::Mapping(16)),
+        1 => Step::One(Deed::Submit(Offer::Mapping(16))),
         2 => Step::Fail,
-        3 => Step::Wait(4),
+        3 => Step::One(Deed::Wait(4)),
         4 => Step::Counts,
-        5 => Step::Wait(5),
+        5 => Step::One(Deed::Wait(5)),
         6 => Step::Counts,
         7 => Step::Fresh(Proposal::Seconds(0), Proposal::Seconds(0)),
         8 => Step::Fail,
-        9 => Step::Wait(4294967295),
+        9 => Step::One(Deed::Wait(4294967295)),
         10 => Step::Counts,
         11 => Step::Connect(Proposal::Seconds(0), Proposal::Seconds(5)),
         12 => Step::Fail,
-        13 => Step::Wait(4),
+        13 => Step::One(Deed::Wait(4)),
         14 => Step::Counts,
-        15 => Step::Wait(5),
+        15 => Step::One(Deed::Wait(5)),
         16 => Step::Counts,
         17 => Step::Connect(Proposal::Seconds(65535), Proposal::Seconds(0)),
         18 => Step::Fail,
-        19 => Step::Wait(65534),
+        19 => Step::One(Deed::Wait(65534)),
         20 => Step::Counts,
-        21 => Step::Wait(65535),
+        21 => Step::One(Deed::Wait(65535)),
         22 => Step::Counts,
         _ => Step::Rest,
     }
@@ -37,12 +38,12 @@ pub fn timeouts(i: u32) -> Step {
 pub fn full_store(i: u32) -> Step {
     match i {
         0 => Step::Fresh(Proposal::NotGiven, Proposal::NotGiven),
-        1..=65 => Step::SubmitOne(Offer::Address),
+        1..=65 => Step::One(Deed::Submit(Offer::Address)),
         66 => Step::Counts,
-        67..=130 => Step::PassOne(false),
-        131 => Step::LostOne,
-        132 => Step::AliveTwo,
-        133 => Step::SubmitOne(Offer::Address),
+        67..=130 => Step::One(Deed::Pass(false)),
+        131 => Step::One(Deed::Lost),
+        132 => Step::Two(Deed::Alive),
+        133 => Step::One(Deed::Submit(Offer::Address)),
         134 => Step::Counts,
         _ => Step::Rest,
     }
@@ -52,10 +53,10 @@ pub fn full_store(i: u32) -> Step {
 pub fn full_labels(i: u32) -> Step {
     match i {
         0 => Step::Fresh(Proposal::NotGiven, Proposal::NotGiven),
-        1..=120 => Step::Unprotected(1000 + i),
-        121 => Step::SubmitOne(Offer::Mapping(101)),
+        1..=120 => Step::One(Deed::Unprotected(1000 + i)),
+        121 => Step::One(Deed::Submit(Offer::Mapping(101))),
         122 => Step::Counts,
-        123 => Step::Unprotected(1000 + i),
+        123 => Step::One(Deed::Unprotected(1000 + i)),
         124 => Step::Counts,
         _ => Step::Rest,
     }

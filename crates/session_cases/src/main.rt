@@ -8,6 +8,7 @@ use scripts::Script;
 mod ends;
 mod example;
 mod faults;
+mod inits;
 mod lengths;
 mod limits;
 mod messages;
@@ -21,8 +22,9 @@ mod wire;
 
 fn idle() -> Ends {
     Ends {
-        one: Phase::Idle,
-        two: Phase::Idle,
+        own: Phase::Idle,
+        other: Phase::Idle,
+        actor: 1,
     }
 }
 
@@ -48,8 +50,10 @@ fn wrong_things() {
     let mut p1 = [0u8; 33280];
     let mut p2 = [0u8; 33280];
     let e = play(&mut p1, &mut p2, idle(), Script::Prepared);
-    let up = e.one;
-    faults::faults(&mut p1, up);
+    let up = e.own;
+    faults::faults(&p1, up);
+    inits::beginnings(&mut p1, up);
+    inits::plain_session();
 }
 
 fn main() {

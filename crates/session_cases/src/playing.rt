@@ -1,14 +1,82 @@
 // Plays the steps of a script.
 use crate::ends;
 use crate::ends::Ends;
+use crate::ends::say_actor;
+use crate::ends::swapped;
+use crate::messages::MAPPING;
+use crate::messages::label_message;
+use crate::scripts::Deed;
 use crate::scripts::Script;
 use crate::scripts::Step;
 use crate::scripts::step_at;
 use crate::show::number;
 use crate::show::say;
+use crate::show::show_counts;
+use crate::steps;
+use calls::Phase;
 
 // No script has more steps.
 const LONGEST_SCRIPT: u32 = 250;
+
+fn send_lost(image: &mut [u8], phase: Phase) -> Phase {
+    let mut wire = [0u8; 512];
+    let o = steps::issue(b" send, lost", image, phase, false, &mut wire);
+    o.phase
+}
+
+fn alive_lost(image: &[u8], phase: Phase) -> Phase {
+    let mut wire = [0u8; 16];
+    let o = steps::keepalive(b" keepalive, lost", image, phase, &mut wire);
+    o.phase
+}
+
+// A Mapping without protection is received.
+fn take_unprotected(image: &mut [u8], phase: Phase, label: u32) -> Phase {
+    number(b" receive Mapping ", label as u64);
+    steps::take(
+        b", unprotected",
+        image,
+        phase,
+        &label_message(MAPPING, label),
+    )
+}
+
+fn wait(image: &mut [u8], phase: Phase, elapsed: u32) -> Phase {
+    number(b" time passed ", elapsed as u64);
+    steps::wait(b"", image, phase, elapsed)
+}
+
+// What one cabinet does by itself.
+fn act_alone(image: &mut [u8], phase: Phase, deed: Deed) -> Phase {
+    match deed {
+        Deed::Submit(what) => ends::offer(image, phase, what),
+        Deed::Lost => send_lost(image, phase),
+        Deed::AliveLost => alive_lost(image, phase),
+        Deed::Unprotected(label) => take_unprotected(image, phase, label),
+        Deed::Wait(elapsed) => wait(image, phase, elapsed),
+        _ => phase,
+    }
+}
+
+fn with_own(e: Ends, own: Phase) -> Ends {
+    let other = e.other;
+    Ends {
+        own: own,
+        other: other,
+        actor: e.actor,
+    }
+}
+
+fn act(from: &mut [u8], to: &mut [u8], e: Ends, deed: Deed) -> Ends {
+    say_actor(e);
+    let own = e.own;
+    match deed {
+        Deed::Pass(ack) => ends::pass(from, to, e, ack),
+        Deed::Cross => ends::cross(from, to, e),
+        Deed::Alive => ends::alive(from, to, e),
+        _ => with_own(e, act_alone(from, own, deed)),
+    }
+}
 
 fn note(e: Ends, n: u32) -> Ends {
     number(b"# note ", n as u64);
@@ -16,33 +84,22 @@ fn note(e: Ends, n: u32) -> Ends {
     e
 }
 
-// The steps in which one end acts alone.
-fn play_alone(p1: &mut [u8], p2: &mut [u8], e: Ends, step: Step) -> Ends {
-    match step {
-        Step::Note(n) => note(e, n),
-        Step::SubmitOne(what) => ends::p1_offer(p1, e, what),
-        Step::SubmitTwo(what) => ends::p2_offer(p2, e, what),
-        Step::LostOne => ends::p1_send_lost(p1, e),
-        Step::LostTwo => ends::p2_send_lost(p2, e),
-        Step::AliveLost => ends::p1_alive_lost(p1, e),
-        Step::Unprotected(label) => ends::p1_unprotected(p1, e, label),
-        Step::Wait(elapsed) => ends::p1_wait(p1, e, elapsed),
-        _ => e,
-    }
+fn show_both(p1: &[u8], p2: &[u8], e: Ends) -> Ends {
+    show_counts(b"P1", p1);
+    show_counts(b"P2", p2);
+    e
 }
 
 fn play_step(p1: &mut [u8], p2: &mut [u8], e: Ends, step: Step) -> Ends {
     match step {
-        Step::Counts => ends::show_both(p1, p2, e),
+        Step::Rest => e,
+        Step::Note(n) => note(e, n),
+        Step::Counts => show_both(p1, p2, e),
         Step::Fresh(ours, theirs) => ends::fresh(p1, p2, ours, theirs),
         Step::Connect(ours, theirs) => ends::connect(p1, p2, e, ours, theirs),
         Step::Fail => ends::lose(p1, p2, e),
-        Step::PassOne(ack) => ends::to_p2(p1, p2, e, ack),
-        Step::PassTwo(ack) => ends::to_p1(p1, p2, e, ack),
-        Step::Cross => ends::crossing(p1, p2, e),
-        Step::AliveOne => ends::alive_to_p2(p1, p2, e),
-        Step::AliveTwo => ends::alive_to_p1(p1, p2, e),
-        _ => play_alone(p1, p2, e, step),
+        Step::One(deed) => act(p1, p2, e, deed),
+        Step::Two(deed) => swapped(act(p2, p1, swapped(e), deed)),
     }
 }
 

@@ -6,32 +6,36 @@ use crate::messages::Offer;
 use crate::stored;
 use ft_number::Proposal;
 
-// A step of P1 (One) or P2 (Two).
+// What one cabinet does.
+pub enum Deed {
+    Submit(Offer),
+    // Send next, with an ACK if asked, and the other receives it.
+    Pass(bool),
+    // Send next; the other receives it after its own next, which has an ACK.
+    Cross,
+    // Send next, lost.
+    Lost,
+    // A KeepAlive, received or lost.
+    Alive,
+    AliveLost,
+    // A Mapping of the label is received without protection.
+    Unprotected(u32),
+    // So many seconds pass.
+    Wait(u32),
+}
+
 pub enum Step {
     Rest,
-    // A note of the draft's example.
+    // A note of the draft's example begins.
     Note(u32),
     Counts,
     // New images and their first connection; a connection; its loss at both ends.
     Fresh(Proposal, Proposal),
     Connect(Proposal, Proposal),
     Fail,
-    SubmitOne(Offer),
-    SubmitTwo(Offer),
-    // Send next, with an ACK if asked, and the other receives it.
-    PassOne(bool),
-    PassTwo(bool),
-    // P1's message is received after P2's next, which has an ACK.
-    Cross,
-    LostOne,
-    LostTwo,
-    // A KeepAlive, received or lost.
-    AliveOne,
-    AliveTwo,
-    AliveLost,
-    // P1 receives a Mapping without protection.
-    Unprotected(u32),
-    Wait(u32),
+    // P1, or P2, acts.
+    One(Deed),
+    Two(Deed),
 }
 
 pub enum Script {

@@ -34,6 +34,12 @@ fn hex(bytes: &[u8]) {
     say(first(&line, end));
 }
 
+// A name, and bytes in hexadecimal.
+pub fn say_bytes(name: &[u8], bytes: &[u8]) {
+    say(name);
+    hex(bytes);
+}
+
 // The answer's number, and the block that a refused image names.
 fn show_answer(answer: Answer) {
     number(b": ", calls::answer_number(answer) as u64);

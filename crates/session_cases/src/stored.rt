@@ -4,6 +4,7 @@ use crate::messages::MAPPING;
 use crate::messages::Offer;
 use crate::messages::label_message;
 use crate::playing::play;
+use crate::scripts::Deed;
 use crate::scripts::Script;
 use crate::scripts::Step;
 use crate::show::show_counts;
@@ -43,11 +44,11 @@ pub fn store_all(stored: &mut [u8], image: &[u8]) {
 // What is held as the power goes: a message that P2 has, and one that it has not; and a label used without protection.
 pub fn before_cut(i: u32) -> Step {
     match i {
-        0 => Step::Unprotected(300),
-        1 => Step::SubmitOne(Offer::Mapping(105)),
-        2 => Step::PassOne(false),
-        3 => Step::SubmitOne(Offer::Address),
-        4 => Step::LostOne,
+        0 => Step::One(Deed::Unprotected(300)),
+        1 => Step::One(Deed::Submit(Offer::Mapping(105))),
+        2 => Step::One(Deed::Pass(false)),
+        3 => Step::One(Deed::Submit(Offer::Address)),
+        4 => Step::One(Deed::Lost),
         _ => Step::Rest,
     }
 }
@@ -57,10 +58,10 @@ pub fn after_cut(i: u32) -> Step {
     match i {
         0 => Step::Counts,
         1 => Step::Connect(Proposal::NotGiven, Proposal::NotGiven),
-        2 => Step::PassOne(true),
-        3 => Step::SubmitOne(Offer::Mapping(106)),
-        4 => Step::PassOne(false),
-        5 => Step::AliveTwo,
+        2 => Step::One(Deed::Pass(true)),
+        3 => Step::One(Deed::Submit(Offer::Mapping(106))),
+        4 => Step::One(Deed::Pass(false)),
+        5 => Step::Two(Deed::Alive),
         6 => Step::Counts,
         _ => Step::Rest,
     }
@@ -68,7 +69,7 @@ pub fn after_cut(i: u32) -> Step {
 
 // Of the last call only the slot is stored.
 fn cut(p1: &mut [u8], stored: &mut [u8], e: Ends) {
-    let one = e.one;
+    let one = e.own;
     store_all(stored, p1);
     let o = session::submit(p1, one, &label_message(MAPPING, 106));
     show_step(b"P1 submit Mapping 106, power cut", o, p1, b"");
@@ -79,10 +80,11 @@ fn cut(p1: &mut [u8], stored: &mut [u8], e: Ends) {
 
 // P1 is restored, and P2 notices.
 fn restored(p1: &mut [u8], p2: &mut [u8], e: Ends) -> Ends {
-    let two = e.two;
+    let two = e.other;
     Ends {
-        one: steps::restore(b"P1 restore", p1),
-        two: steps::lose(b"P2 connection failed", p2, two),
+        own: steps::restore(b"P1 restore", p1),
+        other: steps::lose(b"P2 connection failed", p2, two),
+        actor: 1,
     }
 }
 
