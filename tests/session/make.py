@@ -1,5 +1,5 @@
 #!/usr/bin/env python3
-"""The lines that session_cases prints: the same steps, played with a cabinet written from the build paper (paper/cabinet.py).
+"""The lines that session_cases prints: the same steps, played with a cabinet written from the build paper (paper/).
 
     tests/session/make.py            writes crates/session_cases/stdout
     tests/session/make.py --check    fails where the stored file is another
@@ -8,110 +8,10 @@ import pathlib
 import sys
 
 sys.dont_write_bytecode = True
-from paper import cabinet as c  # noqa: E402
-
-LINES = []
-PARAMETERS = {"P1": (30, 4096, 0x0A000002, 0), "P2": (15, 1500, 0x0A000001, 0)}
-OTHER = {"P1": "P2", "P2": "P1"}
-MAPPING, WITHDRAW, RELEASE = 0x0400, 0x0402, 0x0403
-
-
-def say(line):
-    LINES.append(line)
-
-
-def show(name, o, image):
-    block = f" block {o.block}" if o.answer in (10, 11) else ""
-    slot = f" {c.block_of(image, o.slot)[508:].hex()}" if o.slot else ""
-    block0 = f"true {bytes(image[508:512]).hex()}" if o.block0 else "false"
-    say(f"{name}: {o.answer}{block}, {' '.join(map(str, o.phase))}, written {len(o.out)}, slot {o.slot}{slot}, block0 {block0}")
-    if o.out:
-        say(f"  {o.out.hex()}")
-    return o
-
-
-def counts(name, image):
-    bad = c.refusal(image)
-    if bad:
-        say(f"{name} refused {bad[0]} block {bad[1]}")
-        return
-    st = c.State(c.block_of(image, 0))
-    pended = st.held - c.steps(st.released, st.issued)
-    labels = sum(w != 0 for w in st.words)
-    say(f"{name} released {st.released} issued {st.issued} secured {st.secured} held {st.held} pended {pended} labels {labels}")
-
-
-def label_message(kind, label):
-    return c.message(kind, label, c.tlv(c.FEC, bytes.fromhex("020001200a000001")), c.tlv(c.LABEL, c.field(label, 4)))
-
-
-ADDRESS = c.message(0x0300, 3, c.tlv(0x0101, bytes.fromhex("0001c0000201")))
-
-
-class Pair:
-    """Two cabinets: their images and phases. Every method is a step or a few, by the name of the end that acts."""
-
-    def __init__(self):
-        self.image = {"P1": bytearray(c.SIZE), "P2": bytearray(c.SIZE)}
-        self.phase = {}
-
-    def step(self, end, name, call, *rest):
-        o = show(f"{end} {name}", call(self.image[end], self.phase.get(end), *rest), self.image[end])
-        self.phase[end] = o.phase
-        return o.out
-
-    def fresh(self, ours=None, theirs=None):
-        for end in ("P1", "P2"):
-            self.step(end, "format", lambda image, phase: c.format_image(image))
-        self.connect(ours, theirs)
-
-    def connect(self, ours=None, theirs=None):
-        init1 = self.step("P1", "open", c.open_session, 1, PARAMETERS["P1"], ours, 64)
-        init2 = self.step("P2", "open", c.open_session, 1, PARAMETERS["P2"], theirs, 64)
-        self.step("P1", "init", c.init_received, init2)
-        self.step("P2", "init", c.init_received, init1)
-
-    def lose(self, *ends):
-        for end in ends or ("P1", "P2"):
-            self.step(end, "connection failed", c.connection_failed)
-
-    def submit(self, end, name, m):
-        self.step(end, f"submit {name}", c.submit, m)
-
-    def mapping(self, end, label):
-        self.submit(end, f"Mapping {label}", label_message(MAPPING, label))
-
-    def withdraw(self, end, label):
-        self.submit(end, f"Withdraw {label}", label_message(WITHDRAW, label))
-
-    def release(self, end, label):
-        self.submit(end, f"Release {label}", label_message(RELEASE, label))
-
-    def address(self, end):
-        self.submit(end, "Address", ADDRESS)
-
-    def send(self, end, ack=False, lost=False, name="send", room=512):
-        return self.step(end, name + (", lost" if lost else ""), c.send_next, ack, room)
-
-    def take(self, end, m, name="receive"):
-        self.step(end, name, c.receive, m)
-
-    def pass_on(self, end, ack=False):
-        self.take(OTHER[end], self.send(end, ack))
-
-    def alive(self, end):
-        self.take(OTHER[end], self.step(end, "keepalive", c.keepalive, 2, 16))
-
-    def unprotected(self, label):
-        self.take("P1", label_message(MAPPING, label), f"receive Mapping {label}, unprotected")
-
-    def wait(self, elapsed):
-        self.step("P1", f"time passed {elapsed}", c.time_passed, elapsed)
-        self.counts()
-
-    def counts(self):
-        for end in ("P1", "P2"):
-            counts(end, self.image[end])
+from paper import calls as c  # noqa: E402
+from paper import image as im  # noqa: E402
+from paper import reading as r  # noqa: E402
+from paper.pair import ADDRESS, LINES, MAPPING, PARAMETERS, RELEASE, WITHDRAW, Pair, counts, label_message, say, show  # noqa: E402
 
 
 def example(p):
@@ -193,7 +93,7 @@ def restart(p):
     p.send("P1", lost=True)
     stored = bytearray(p.image["P1"])
     o = show("P1 submit Mapping 106, power cut", c.submit(p.image["P1"], p.phase["P1"], label_message(MAPPING, 106)), p.image["P1"])
-    stored[512 * o.slot : 512 * o.slot + 512] = c.block_of(p.image["P1"], o.slot)
+    stored[512 * o.slot : 512 * o.slot + 512] = im.block_of(p.image["P1"], o.slot)
     counts("P1 in memory", p.image["P1"])
     counts("P1 in the store", stored)
     p.image["P1"] = stored
@@ -233,9 +133,9 @@ def lengths(p):
     say("# lengths")
     p.fresh()
     for size in (480, 481):
-        p.submit("P1", f"{size} bytes", c.message(0x0300, 4, c.tlv(0x0101, bytes(size - 12))))
-    p.submit("P1", "8 bytes", c.message(0x0300, 4))
-    p.submit("P1", "7 bytes", c.message(0x0300, 4)[:7])
+        p.submit("P1", f"{size} bytes", r.message(0x0300, 4, r.tlv(0x0101, bytes(size - 12))))
+    p.submit("P1", "8 bytes", r.message(0x0300, 4))
+    p.submit("P1", "7 bytes", r.message(0x0300, 4)[:7])
     for room in (495, 496):
         p.send("P1", True, name=f"send, room {room}", room=room)
     counts("P1", p.image["P1"])
@@ -259,42 +159,42 @@ ID = 9
 
 
 def protection(n):
-    return c.tlv(c.PROTECTION, c.field(n, 4))
+    return r.tlv(r.PROTECTION, r.field(n, 4))
 
 
 def ack(n):
-    return c.tlv(c.ACK, c.field(n, 4))
+    return r.tlv(r.ACK, r.field(n, 4))
 
 
 def keepalive(*tlvs):
-    return c.message(0x0201, ID, *tlvs)
+    return r.message(0x0201, ID, *tlvs)
 
 
 def bare_address(*tlvs):
-    return c.message(0x0300, ID, *tlvs)
+    return r.message(0x0300, ID, *tlvs)
 
 
 def with_label(kind, label, *tlvs):
-    return c.message(kind, ID, c.tlv(c.FEC, b""), c.tlv(c.LABEL, c.field(label, 4)), *tlvs)
+    return r.message(kind, ID, r.tlv(r.FEC, b""), r.tlv(r.LABEL, r.field(label, 4)), *tlvs)
 
 
 def status(code):
-    return c.message(0x0001, ID, c.tlv(c.STATUS, c.field(code, 4) + bytes(6)))
+    return r.message(0x0001, ID, r.tlv(r.STATUS, r.field(code, 4) + bytes(6)))
 
 
 def init(*tlvs, ident=0):
-    return c.message(0x0200, ident, *tlvs)
+    return r.message(0x0200, ident, *tlvs)
 
 
 def own(seconds=15, size=1500):
-    return c.tlv(c.PARAMETERS, c.field(1, 2) + c.field(seconds, 2) + bytes(2) + c.field(size, 2) + bytes(6))
+    return r.tlv(r.PARAMETERS, r.field(1, 2) + r.field(seconds, 2) + bytes(2) + r.field(size, 2) + bytes(6))
 
 
 def session(again, seconds):
-    return c.tlv(0x8503, c.field(0x8000 * again, 2) + c.field(seconds, 2))
+    return r.tlv(0x8503, r.field(0x8000 * again, 2) + r.field(seconds, 2))
 
 
-NO_LABEL = c.message(MAPPING, ID, c.tlv(c.FEC, b""))
+NO_LABEL = r.message(MAPPING, ID, r.tlv(r.FEC, b""))
 RECEIVED = (
     keepalive(ack(1)),
     keepalive(ack(2)),
@@ -328,8 +228,8 @@ PLAIN = (
 SUBMITTED = (
     NO_LABEL,
     with_label(MAPPING, 102, protection(3)),
-    c.message(0x0401, ID, c.tlv(c.FEC, b"")),
-    c.message(WITHDRAW, ID, c.tlv(c.FEC, b"")),
+    r.message(0x0401, ID, r.tlv(r.FEC, b"")),
+    r.message(WITHDRAW, ID, r.tlv(r.FEC, b"")),
     status(0xE),
     status(0xF),
     with_label(MAPPING, 15),
@@ -404,14 +304,14 @@ def every_call(title, image, phase):
 
 
 def refused_images(kept, phase):
-    new = bytearray(c.SIZE)
+    new = bytearray(im.SIZE)
     show("format", c.format_image(new), new)
     for ph in (("Idle",), ("Failed",), ("UpFT", 0), ("UpPlain",)):
         every_call(f"a new image, {' '.join(map(str, ph))}", new, ph)
     for ph in (("Idle",), ("InitWait", 5), ("UpFT", 1), ("UpFT", 2), ("UpPlain",), ("Failed",)):
         every_call(f"a kept session, {' '.join(map(str, ph))}", kept, ph)
     every_call("an image of 33279 bytes", kept[:-1], phase)
-    short = bytearray(c.SIZE - 1)
+    short = bytearray(im.SIZE - 1)
     show("format", c.format_image(short), short)
     show("restore", c.restore(short), short)
     copy = bytearray(kept)
@@ -421,7 +321,7 @@ def refused_images(kept, phase):
     copy = bytearray(kept)
     copy[1100] = 0xAA
     every_call("the live slot spoiled", copy, phase)
-    copy[1024:1536] = c.block_of(kept, 0)
+    copy[1024:1536] = im.block_of(kept, 0)
     every_call("the live slot another block", copy, phase)
     show("restore", c.restore(copy), copy)
 
