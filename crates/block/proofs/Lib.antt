@@ -1,5 +1,3 @@
-pub mod Tests
-pub mod Parts
 pub mod Sums
 pub mod Sealed
 pub mod ZeroBytes

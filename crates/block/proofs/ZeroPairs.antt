@@ -1,20 +1,19 @@
 -- Sixteen bytes looked at by one sum. Assumes nothing.
-use mathlib.Core.Path.{_≡_, refl, sym, ap, _∙_}
+use mathlib.Core.Path.{_≡_, refl, sym, _∙_}
 use mathlib.Core.Bool.{Bool, true, false}
 use mathlib.Core.List.{List}
 use mathlib.Core.Logic.{⊎-elim}
 use Prim.Native.Nat.{ℕ, zero, suc, _+_, _-_, _*_, _/_, _%_, _≤_, _<_}
-use native.Mathlib.Numerals.{add-one}
 use native.Mathlib.Omega.{arith}
 use borrow.Author.Tests.{eq-eqb}
 use lib.ListN.{length, getD, drop}
 use lib.Seq.{getD-drop}
 use Rattle.octets.specs.Be.{beAt}
-use Rattle.octets.proofs.Be.{beAt-lt}
+use Rattle.octets.specs.Bytes.{Bytes}
+use Rattle.octets.proofs.Be.{beAt-lt, zeros-beAt, beAt-zeros}
+use Rattle.octets.proofs.Choice.{below-or-not}
 use Rattle.block.specs.Zeros.{allZero, pairSum}
-use Rattle.block.proofs.Tests.{below-or-not}
-use Rattle.block.proofs.Run.{zeros-beAt, beAt-zeros}
-use Rattle.block.proofs.Lanes.{Bytes, apart-halves}
+use Rattle.block.proofs.Lanes.{apart-halves}
 use Rattle.block.proofs.ZeroBytes.{allZero-turn, zero-bytes}
 
 -- the code's sum of halves is that of the four numbers

@@ -24,10 +24,8 @@ pub struct Header {
     pub maxpdu: u16,
 }
 
-// The slots of the ring, and the label words.
+// The slots of the ring.
 pub const SLOT_COUNT: u16 = 64;
-
-pub const WORD_COUNT: usize = 120;
 
 // The layout's version.
 const VERSION: u32 = 1;
@@ -139,7 +137,7 @@ pub fn block0_is_valid(block: &[u8]) -> bool
     if h.kept == 0 {
         return block::zeros::all_zero(&block[4..block::CHECK_AT]);
     }
-    let mut words = [0u32; WORD_COUNT];
+    let mut words = [0u32; label_list::WORD_COUNT];
     read_labels(block, &mut words);
     label_list::valid(&words)
 }

@@ -2,4 +2,3 @@ pub mod Refusals
 pub mod Calling
 pub mod Stands
 pub mod Released
-pub mod Widths

@@ -1,7 +1,7 @@
 -- How a call ends, by its answer's effect. Assumes nothing.
-use mathlib.Core.Path.{_≡_, refl, sym, ap, _∙_}
+use mathlib.Core.Path.{_≡_, refl, ap, _∙_}
 use mathlib.Core.Bool.{Bool, true, false}
-use mathlib.Core.List.{List, []}
+use mathlib.Core.List.{List}
 use Prim.Native.Nat.{ℕ}
 use lib.Dec.{eqb, ltb}
 use Rattle.octets.specs.Pick.{pick}
@@ -77,3 +77,7 @@ settle-refusal a ph im o d e = rw e
 
 pub unchanged-is : (a : Answer) (ph : Phase) (im o : List ℕ) {r : Outcome} → r ≡ refusal a ph → after r im o ≡ unchanged a ph im o
 unchanged-is a ph im o e = rw e
+
+-- what was compared is block 0 as it was
+pub compared : (old x y : List ℕ) {b : Bool} → b ≡ differ old y → old ≡ x → b ≡ differ x y
+compared old x y e p = e ∙ ap (λ (k : List ℕ). differ k y) p

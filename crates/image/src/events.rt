@@ -24,7 +24,7 @@ pub fn release(image: &mut [u8])
         keepalive: 0,
         maxpdu: 0,
     };
-    let labels = [0u32; block0::WORD_COUNT];
+    let labels = [0u32; label_list::WORD_COUNT];
     crate::store_block0(image, h, &labels);
 }
 
@@ -46,7 +46,7 @@ pub fn free_unprotected(image: &mut [u8])
     ensures { λ _. ⌜ now (image .exit) ≡ breakOf (now (image .entry)) ⌝ }
 {
     let h = crate::header_of(image);
-    let mut words = [0u32; block0::WORD_COUNT];
+    let mut words = [0u32; label_list::WORD_COUNT];
     crate::labels_of(image, &mut words);
     label_list::sweep(&mut words, SweepRule::AfterBreak);
     crate::store_block0(image, h, &words);

@@ -36,9 +36,9 @@ pub enum Verdict {
 }
 
 // The slots of the ring, and the size of the image: they and block 0.
-const SLOT_COUNT: usize = block0::SLOT_COUNT as usize;
+pub const SLOT_COUNT: usize = block0::SLOT_COUNT as usize;
 
-const IMAGE_SIZE: usize = (SLOT_COUNT + 1) * block::BLOCK_SIZE;
+pub const IMAGE_SIZE: usize = (SLOT_COUNT + 1) * block::BLOCK_SIZE;
 
 // The paper's number of a verdict.
 pub fn verdict_number(v: Verdict) -> u32

@@ -2,14 +2,12 @@
 use mathlib.Core.Path.{_≡_, refl, sym, ap, _∙_}
 use mathlib.Core.Bool.{Bool, true, false}
 use mathlib.Core.List.{List, []}
-use Prim.Native.Nat.{ℕ, _+_, _-_, _%_, _≤_}
+use Prim.Native.Nat.{ℕ, _-_, _≤_}
 use native.Mathlib.Omega.{arith}
-use lib.ListN.{length}
 use Rattle.octets.specs.Pick.{pick}
 use Rattle.octets.specs.Differ.{differ}
 use Rattle.ft_number.specs.declared.Ack
 use Rattle.ft_number.specs.declared.Ack.{Ack}
-use Rattle.ft_number.specs.declared.FtNumber.{FtNumber}
 use Rattle.message.specs.Reading.{readingOf}
 use Rattle.message.specs.declared.Message.{Message}
 use Rattle.message.specs.declared.Reading
@@ -31,55 +29,13 @@ use Rattle.calls.specs.Answers.{effectOf}
 use Rattle.calls.specs.Phases.{phaseFits}
 use Rattle.calls.specs.Acked.{ackBorne, withReleased, acked}
 use Rattle.calls.specs.Outcomes.{After, after, isDone, refusal, unchanged, checked, admitted, settleOf}
+use Rattle.calls.proofs.Effects.{done-is}
 use Rattle.calls.proofs.Settled.{Admitted, admit-refused, admitted-is}
 use Rattle.calls.proofs.Ends.{settle-other, settle-done, settle-refusal}
 use Rattle.receive.specs.declared.LabelEffect.{LabelEffect}
 use Rattle.receive.specs.Labels.{labelEffect, isProtected, effectLabels}
 use Rattle.receive.specs.Rule.{ackOn, ackCount, securedBy, withSecured, taken, ackedLabels, receivedState, takenFt, takenAs, readRule, ftRule, plainRule, receiveRule, receiveAnswer, receiveOf}
 use Rattle.receive.proofs.Judged.{ack-within}
-
--- an answer whose number is 0 is Done
-pub done-is : (a : Answer) → isDone a ≡ true → a ≡ Answer.Done
-done-is Answer.Done e = refl
-done-is Answer.WrongPhase e = let z : _≡_ {A = ℕ} 0 1 = cc in absurd (omega arith)
-done-is Answer.ZeroDistance e = let z : _≡_ {A = ℕ} 0 1 = cc in absurd (omega arith)
-done-is Answer.LengthOutOfRange e = let z : _≡_ {A = ℕ} 0 1 = cc in absurd (omega arith)
-done-is Answer.Malformed e = let z : _≡_ {A = ℕ} 0 1 = cc in absurd (omega arith)
-done-is Answer.KindNotSent e = let z : _≡_ {A = ℕ} 0 1 = cc in absurd (omega arith)
-done-is Answer.LabelNotAllowed e = let z : _≡_ {A = ℕ} 0 1 = cc in absurd (omega arith)
-done-is Answer.StoreFull e = let z : _≡_ {A = ℕ} 0 1 = cc in absurd (omega arith)
-done-is Answer.NothingUnsent e = let z : _≡_ {A = ℕ} 0 1 = cc in absurd (omega arith)
-done-is Answer.OutputTooShort e = let z : _≡_ {A = ℕ} 0 1 = cc in absurd (omega arith)
-done-is (Answer.BadBlock b) e = let z : _≡_ {A = ℕ} 0 1 = cc in absurd (omega arith)
-done-is (Answer.BadField b) e = let z : _≡_ {A = ℕ} 0 1 = cc in absurd (omega arith)
-done-is Answer.WrongSize e = let z : _≡_ {A = ℕ} 0 1 = cc in absurd (omega arith)
-done-is Answer.NoLabelWord e = let z : _≡_ {A = ℕ} 0 1 = cc in absurd (omega arith)
-done-is Answer.OutOfTurn e = let z : _≡_ {A = ℕ} 0 1 = cc in absurd (omega arith)
-done-is Answer.NoWordForMapping e = let z : _≡_ {A = ℕ} 0 1 = cc in absurd (omega arith)
-done-is Answer.MalformedReceived e = let z : _≡_ {A = ℕ} 0 1 = cc in absurd (omega arith)
-done-is Answer.BadInit e = let z : _≡_ {A = ℕ} 0 1 = cc in absurd (omega arith)
-done-is Answer.ZeroNumber e = let z : _≡_ {A = ℕ} 0 1 = cc in absurd (omega arith)
-done-is Answer.FtTlvInPlain e = let z : _≡_ {A = ℕ} 0 1 = cc in absurd (omega arith)
-done-is Answer.ProtectionWrong e = let z : _≡_ {A = ℕ} 0 1 = cc in absurd (omega arith)
-done-is Answer.ProtectionMissing e = let z : _≡_ {A = ℕ} 0 1 = cc in absurd (omega arith)
-done-is Answer.AckSequenceError e = let z : _≡_ {A = ℕ} 0 1 = cc in absurd (omega arith)
-done-is Answer.ParametersChanged e = let z : _≡_ {A = ℕ} 0 1 = cc in absurd (omega arith)
-done-is Answer.StatusFatal e = let z : _≡_ {A = ℕ} 0 1 = cc in absurd (omega arith)
-
-pub header-is : (h : Header) (k : ℕ) (g : Message) {a s : FtNumber} → a .0 ≡ ackBorne h (g .ack) → s ≡ securedBy (h .secured) (g .protection)
-    → record {
-      released = a;
-      issued = h .issued;
-      secured = s;
-      first = (h .first + k) % 64;
-      held = h .held - k;
-      timeout = h .timeout;
-      kept = h .kept;
-      keepalive = h .keepalive;
-      maxpdu = h .maxpdu;
-    }
-    ≡ withSecured (withReleased h k (ackBorne h (g .ack))) (securedBy (h .secured) (g .protection))
-header-is h k g e q = rw (← e, q)
 
 -- what is stored is the state that the message makes
 stored : (im : List ℕ) (g : Message) {h h′ : Header} {k : ℕ} {p : Bool} {f : LabelEffect} {ws ws′ : List ℕ}
@@ -182,7 +138,3 @@ wrong-wait s ph r e = rw e
 
 pub wrong-failed : (s : State) (ph : Phase) (r : Reading) → ph ≡ Phase.Failed → receiveRule s ph r ≡ Answer.WrongPhase
 wrong-failed s ph r e = rw e
-
--- what was compared is block 0 as it was
-pub compared : (old x y : List ℕ) {b : Bool} → b ≡ differ old y → old ≡ x → b ≡ differ x y
-compared old x y e p = e ∙ ap (λ (k : List ℕ). differ k y) p

@@ -9,7 +9,7 @@ ghost use Rattle.image.specs.State.{decode};
 ghost use Rattle.image.specs.Verdict.{IsSound};
 ghost use Rattle.calls.specs.declared.Answer;
 ghost use Rattle.calls.specs.Outcomes.{after, admitted};
-ghost use Rattle.send.specs.Rule.{isUp, sentOf, numberAt, ackAsked, sendBytes, sendRule, sendImage, sendOf};
+ghost use Rattle.send.specs.Rule.{isUpFT, sentOf, numberAt, ackAsked, sendBytes, sendRule, sendImage, sendOf};
 use block0::Header;
 use calls::Answer;
 use calls::Outcome;
@@ -18,9 +18,9 @@ use ft_number::FtNumber;
 use message_writer::Written;
 use tlv::FtField;
 
-// Whether messages are sent in the phase.
-fn is_up(phase: Phase) -> bool
-    ensures { λ r. ⌜ r ≡ isUp phase ⌝ }
+// Whether the phase is UpFT: messages are sent in no other.
+fn is_up_ft(phase: Phase) -> bool
+    ensures { λ r. ⌜ r ≡ isUpFT phase ⌝ }
 {
     match phase {
         Phase::Idle => false,
@@ -52,7 +52,7 @@ fn judge_send(image: &[u8], phase: Phase) -> Answer
     if !calls::is_done(a) {
         return a;
     }
-    if !is_up(phase) {
+    if !is_up_ft(phase) {
         return Answer::WrongPhase;
     }
     let h = image::header_of(image);
@@ -100,24 +100,11 @@ fn issue(image: &mut [u8], sent: u32) -> bool
     if sent < calls::issued_count(h) {
         return false;
     }
-    let old = calls::copy_block0(image);
-    let mut words = [0u32; 120];
+    let mut words = [0u32; label_list::WORD_COUNT];
     image::labels_of(image, &mut words);
-    let released = h.released;
-    let secured = h.secured;
-    let next = Header {
-        released: released,
-        issued: number_at(h, sent),
-        secured: secured,
-        first: h.first,
-        held: h.held,
-        timeout: h.timeout,
-        kept: h.kept,
-        keepalive: h.keepalive,
-        maxpdu: h.maxpdu,
-    };
-    image::store_block0(image, next, &words);
-    calls::block0_changed(&old, image)
+    let mut next = h;
+    next.issued = number_at(h, sent);
+    calls::store_changed(image, next, &words)
 }
 
 // Sends the oldest message not sent on this connection; `ack` asks for FT ACK. Block 0 is stored before the output leaves.

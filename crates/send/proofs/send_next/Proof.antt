@@ -1,4 +1,4 @@
-use Rattle.call_meaning.proofs.Refusals.{denied, granted}
+use Rattle.octets.proofs.Choice.{denied, granted}
 use native.Mathlib.Omega.{arith}
 use borrow.Author.Needs.{needs}
 use Rattle.send.proofs.Judged.{Sendable, sendable-sound, sendable-few, judged-sendable, judged-refused}

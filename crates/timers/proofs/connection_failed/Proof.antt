@@ -1,4 +1,4 @@
-use Rattle.call_meaning.proofs.Refusals.{denied, granted}
+use Rattle.octets.proofs.Choice.{denied, granted}
 use borrow.Author.Needs.{needs}
 use Rattle.timers.specs.Events.{connectionFailedOf}
 use Rattle.timers.proofs.Judged.{event-refused, event-done, event-sound}

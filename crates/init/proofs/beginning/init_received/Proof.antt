@@ -1,6 +1,6 @@
 -- `init::beginning::init_received` meets its contract. Assumes nothing.
 use borrow.Author.Needs.{needs}
-use Rattle.call_meaning.proofs.Refusals.{denied, granted}
+use Rattle.octets.proofs.Choice.{denied, granted}
 use Rattle.calls.proofs.Settled.{admit-passed, admitted-sound}
 use Rattle.init.proofs.Received.{init-refused, init-barred, init-settled, init-fits, init-begun}
 use Rattle.init.proofs.beginning.init_received.Statement.{statement}

@@ -1,7 +1,8 @@
 use borrow.Author.Needs.{needs}
 use mathlib.Core.Path.{refl, sym, _∙_}
 use borrow.Author.Tests.{not-true, not-false}
-use Rattle.receive.proofs.Taken.{settled-other, settled-done, count-within, done-is}
+use Rattle.calls.proofs.Effects.{done-is}
+use Rattle.receive.proofs.Taken.{settled-other, settled-done, count-within}
 use Rattle.receive.proofs.taking.receive_ft.Statement.{statement}
 use Rattle.receive.proofs.taking.receive_ft.Tie as tie
 

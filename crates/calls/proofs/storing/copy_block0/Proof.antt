@@ -1,7 +1,7 @@
 use Rattle.calls.proofs.Settled.{copied-over}
 use borrow.Author.Needs.{needs}
-use Rattle.calls.proofs.ending.copy_block0.Statement.{statement}
-use Rattle.calls.proofs.ending.copy_block0.Tie as tie
+use Rattle.calls.proofs.storing.copy_block0.Statement.{statement}
+use Rattle.calls.proofs.storing.copy_block0.Tie as tie
 
 pub copy-block0-spec : {M : Type 1} → statement M
 copy-block0-spec =

@@ -1,10 +1,10 @@
 use borrow.Author.Needs.{needs}
-use Rattle.receive.proofs.Taken.{compared}
-use Rattle.receive.proofs.taking.store.Statement.{statement}
-use Rattle.receive.proofs.taking.store.Tie as tie
+use Rattle.calls.proofs.Ends.{compared}
+use Rattle.calls.proofs.storing.store_changed.Statement.{statement}
+use Rattle.calls.proofs.storing.store_changed.Tie as tie
 
-pub store-spec : {M : Type 1} → statement M
-store-spec =
+pub store-changed-spec : {M : Type 1} → statement M
+store-changed-spec =
     tie.close
     (tie.spec
     (λ c κs. search needs)

@@ -1,4 +1,4 @@
--- Laws of a loop that rewrites each word by one function. Assumes nothing.
+-- Laws of a loop that rewrites each element by one function. Assumes nothing.
 use mathlib.Core.Path.{_≡_, refl, ap, _∙_}
 use mathlib.Core.List.{List, [], _∷_, map}
 use Prim.Native.Nat.{ℕ, zero, suc, _+_, _≤_, _<_}
@@ -6,7 +6,7 @@ use native.Mathlib.Numerals.{add-one}
 use native.Mathlib.Omega.{arith}
 use lib.ListN.{length, getD, set, length-set}
 
--- the first i words are rewritten
+-- the first i elements are rewritten
 abbrev mapTo : (ℕ → ℕ) → ℕ → List ℕ → List ℕ
 mapTo f zero ws = ws
 mapTo f (suc i) [] = []

@@ -1,6 +1,6 @@
 use borrow.Author.Needs.{needs}
-use Rattle.calls.proofs.ending.block0_changed.Statement.{statement}
-use Rattle.calls.proofs.ending.block0_changed.Tie as tie
+use Rattle.calls.proofs.storing.block0_changed.Statement.{statement}
+use Rattle.calls.proofs.storing.block0_changed.Tie as tie
 
 pub block0-changed-spec : {M : Type 1} → statement M
 block0-changed-spec =

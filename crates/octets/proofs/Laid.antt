@@ -2,20 +2,17 @@
 use Prim.Native.Nat.{ℕ, zero, suc, _+_, _-_, _/_, _%_, _≤_, _<_}
 use mathlib.Core.Path.{_≡_, refl, sym, ap, _∙_}
 use mathlib.Core.List.{List, [], _∷_, _++_, append-assoc}
-use native.Mathlib.Nat.{add-zero, zero-add}
+use native.Mathlib.Nat.{add-zero}
 use native.Mathlib.Numerals.{add-one}
 use native.Mathlib.Omega.{arith}
-use borrow.Author.Tests.{lt-ltb, le-ltb}
 use lib.ListN.{length, getD, set, take, drop, length-append, length-drop, take-append-drop}
 use lib.Seq.{length-take-le, take-at, drop-at, drop-drop, set-split, take-suc, take-length}
 use Rattle.octets.specs.Be.{putBe, bytes}
 use Rattle.octets.specs.Fill.{filled, copied}
+use Rattle.octets.specs.Part.{laid}
 use Rattle.octets.proofs.Be.{putBe-suc}
 use Rattle.octets.proofs.Bytes.{length-bytes}
 use Rattle.octets.proofs.Fill.{filled-none, filled-one}
-use Rattle.message_writer.specs.Written.{laid, writtenOf}
-use Rattle.message_writer.specs.declared.Written
-use Rattle.message_writer.specs.declared.Written.{Written}
 
 pub laid-none : (s : List ℕ) (at : ℕ) → laid s at [] ≡ s
 unfolding laid
@@ -108,13 +105,3 @@ pub then-put : {s p x y : List ℕ} {at : ℕ} → Laid s at p x → (w v to : �
 then-put {s} {p} {x} {y} {at} l w v to e toq room =
     let long : length x ≡ length s = ap length (l .is) ∙ length-laid s at p (l .room) in
     then-part l (bytes w v) to (e ∙ laid-putBe w x to v (omega arith)) toq (omega (arith, length-bytes w v))
-
--- a message laid from the start is written
-pub written-whole : (out p y : List ℕ) → y ≡ laid out 0 p → length p ≤ length out → (n : ℕ) → n ≡ length p → (Written.Bytes n, y) ≡ writtenOf out p
-unfolding writtenOf laid
-written-whole out p y e room n nq =
-    simp (le-ltb (length out) (length p) room, nq) (ap (λ (x : List ℕ). (Written.Bytes (length p), x)) (e ∙ ap (λ (k : ℕ). p ++ drop k out) (zero-add (length p))))
-
-pub written-short : (out p : List ℕ) (n : ℕ) → n ≡ length p → length out < n → (Written.TooShort, out) ≡ writtenOf out p
-unfolding writtenOf
-written-short out p n nq h = simp (lt-ltb (length out) (length p) (omega arith))

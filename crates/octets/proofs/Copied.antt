@@ -1,4 +1,4 @@
--- The laws of `copied`: one text after the other, and what is read back. Assumes nothing.
+-- The laws of `copied`: one run after the other, and what is read back. Assumes nothing.
 use Prim.Native.Nat.{ℕ, zero, suc, _+_, _≤_, _<_}
 use mathlib.Core.Path.{_≡_, refl, sym, ap, _∙_}
 use mathlib.Core.List.{List, [], _∷_, _++_}
@@ -27,7 +27,7 @@ filled-add m (suc n) f s at =
 pub length-copied : (s : List ℕ) (at : ℕ) (t : List ℕ) → length (copied s at t) ≡ length s
 length-copied s at t = length-filled (length t) (λ i. getD t i 0) s at
 
--- one text and then the next are both of them joined
+-- one and then the next are both of them joined
 pub copied-append : (s : List ℕ) (at : ℕ) (t u : List ℕ) → copied (copied s at t) (at + length t) u ≡ copied s at (t ++ u)
 copied-append s at t u =
     let first : filled (length t) (λ i. getD (t ++ u) i 0) s at ≡ copied s at t =
@@ -41,7 +41,7 @@ pub copied-two : (s : List ℕ) (at x y : ℕ) → copied s at (x ∷ y ∷ []) 
 unfolding filled
 copied-two s at x y = rw add-zero refl
 
--- a text that is put at the start is found there
+-- what is copied to the start is found there
 pub take-copied : (s t : List ℕ) → length t ≤ length s → take (length t) (copied s 0 t) ≡ t
 take-copied s t room =
     let long : length (take (length t) (copied s 0 t)) ≡ length t = simp (length-take, length-copied) (omega arith) in
@@ -49,3 +49,12 @@ take-copied s t room =
     let inside : i < length t = omega arith in
     let start : 0 + i ≡ i = omega arith in
     rw (getD-take (length t) (copied s 0 t) i 0) (ap (λ (k : ℕ). getD (copied s 0 t) k 0) (sym start) ∙ filled-at (length t) (λ k. getD t k 0) s 0 i (omega arith) inside))
+
+-- a copy over the whole list
+pub copied-all : (s m : List ℕ) → length s ≡ length m → copied s 0 m ≡ m
+copied-all s m e =
+    ext-getD 0 (copied s 0 m) m (length-filled (length m) (λ i. getD m i 0) s 0 ∙ e) (λ i h.
+    let inside : i < length m = omega (arith, length-filled (length m) (λ k. getD m k 0) s 0) in
+    let at : getD (copied s 0 m) (0 + i) 0 ≡ getD m i 0 = filled-at (length m) (λ k. getD m k 0) s 0 i (omega arith) inside in
+    let same : 0 + i ≡ i = omega arith in
+    rw same at at)
