@@ -1,17 +1,19 @@
 -- The returns of the session's calls: the premises are what the callees ensure. Assumes nothing.
-use mathlib.Core.Path.{_≡_, sym, ap, _∙_}
+use mathlib.Core.Path.{_≡_, refl, sym, ap, _∙_}
 use mathlib.Core.Bool.{true, false}
 use mathlib.Core.List.{List}
 use Prim.Native.Nat.{ℕ}
 use native.Mathlib.Omega.{arith}
 use Rattle.image.specs.Verdict.{verdict}
+use Rattle.image.specs.declared.Verdict
+use Rattle.image.specs.declared.Verdict.{Verdict}
 use Rattle.calls.specs.declared.Answer
 use Rattle.calls.specs.declared.Answer.{Answer}
 use Rattle.calls.specs.declared.Outcome.{Outcome}
 use Rattle.calls.specs.declared.Phase
 use Rattle.calls.specs.declared.Phase.{Phase}
 use Rattle.calls.specs.Outcomes.{After, after, isDone, refusal, checked}
-use Rattle.calls.proofs.Settled.{checked-refused, checks-sound}
+use Rattle.calls.proofs.Settled.{checks-sound}
 use Rattle.ldp_ft.specs.declared.Given
 use Rattle.ldp_ft.specs.declared.Given.{Given}
 use Rattle.ldp_ft.specs.declared.OutcomeNumbers.{OutcomeNumbers}
@@ -42,9 +44,16 @@ unfolding called
 called-unknown s im o call eg k p = rw (p, ← eg, k)
 
 -- ---- no phase: restore's checks, and then 1
+-- an image that the checks refuse is answered so, whatever would come after
+refused-so : (v : Verdict) (a : Answer) → isDone (checked v Answer.Done) ≡ false → checked v Answer.Done ≡ checked v a
+refused-so Verdict.Sound a e = let z : _≡_ {A = ℕ} 0 1 = cc in absurd (omega arith)
+refused-so Verdict.WrongSize a e = refl
+refused-so (Verdict.BadBlock b) a e = refl
+refused-so (Verdict.BadField b) a e = refl
+
 module _ (s : SessionNumbers) (im : List ℕ) {a : Answer} (e : a ≡ checked (verdict im) Answer.Done) where
   pub unknown-refused : {x : Outcome} {r : OutcomeNumbers} → isDone a ≡ false → x ≡ refusal a Phase.Idle → r ≡ numbersOf s x → r ≡ numbersOf s (unknownPhase im)
-  unknown-refused n p q = q ∙ (rw (p, e, checked-refused (verdict im) Answer.WrongPhase (ap isDone (sym e) ∙ n)))
+  unknown-refused n p q = q ∙ (rw (p, e, refused-so (verdict im) Answer.WrongPhase (ap isDone (sym e) ∙ n)))
 
   pub unknown-sound : {x : Outcome} {r : OutcomeNumbers} → isDone a ≡ true → x ≡ refusal Answer.WrongPhase Phase.Idle → r ≡ numbersOf s x → r ≡ numbersOf s (unknownPhase im)
   unknown-sound t p q = q ∙ (rw (p, checks-sound im e t))

@@ -5,7 +5,7 @@ use native.Mathlib.Omega.{arith}
 use lib.Dec.{eqb}
 use lib.ListN.{length}
 use Rattle.octets.specs.Pick.{pick}
-use Rattle.label_list.proofs.Choice.{pick-all}
+use Rattle.octets.proofs.Choice.{pick-all}
 use Rattle.block.specs.Check.{sound}
 use Rattle.block0.specs.Layout.{slotCount, headerOf}
 use Rattle.block0.specs.Fields.{fieldsOk}

@@ -14,7 +14,7 @@ use Rattle.message.specs.Reading.{readingOf}
 use Rattle.message.specs.declared.Reading
 use Rattle.message.specs.declared.Reading.{Reading}
 use Rattle.message_writer.specs.declared.OwnParameters.{OwnParameters}
-use Rattle.label_list.proofs.Choice.{by-test, pick-all}
+use Rattle.octets.proofs.Choice.{by-test, pick-all}
 use Rattle.image.specs.Sizes.{imageSize}
 use Rattle.image.specs.State.{decode}
 use Rattle.image.specs.Verdict.{verdict}

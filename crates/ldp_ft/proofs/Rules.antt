@@ -14,7 +14,7 @@ use Rattle.message.specs.declared.Submission
 use Rattle.message.specs.declared.Submission.{Submission}
 use Rattle.label_list.specs.declared.Protection
 use Rattle.label_list.specs.declared.Protection.{Protection}
-use Rattle.label_list.proofs.Choice.{pick-all}
+use Rattle.octets.proofs.Choice.{pick-all}
 use Rattle.label_events.specs.declared.Acceptance
 use Rattle.label_events.specs.declared.Acceptance.{Acceptance}
 use Rattle.label_events.specs.declared.Reception
@@ -30,7 +30,7 @@ use Rattle.calls.specs.Outcomes.{roomFor}
 use Rattle.calls.specs.Received.{isInit}
 use Rattle.submit.specs.Labels.{isBarred, acceptedAs}
 use Rattle.submit.specs.Rule.{acceptanceRule, kindRule, submissionRule, submitRule}
-use Rattle.send.specs.Rule.{isUp, sentOf, sendRule}
+use Rattle.send.specs.Rule.{isUpFT, sentOf, sendRule}
 use Rattle.init.specs.declared.Start.{Start}
 use Rattle.init.specs.Judged.{startOf, startAnswer}
 use Rattle.init.specs.Cases.{Case, malformed, another, without-parameters, without-ack, plain, peer-clear, ours-clear, changed, wrong-ack, resumes}
@@ -61,7 +61,7 @@ submit-named s m =
 
 pub send-named : (s : State) (ph : Phase) (a : Answer) → Named a → Named (sendRule s ph a)
 unfolding sendRule
-send-named s ph a n = pick-all Named (isUp ph) (pick-all Named (ltb (sentOf ph) (s .header .held)) n none) none
+send-named s ph a n = pick-all Named (isUpFT ph) (pick-all Named (ltb (sentOf ph) (s .header .held)) n none) none
 
 case-named : {h : Header} {p : ℕ} {rd : Reading} {st : Start} → Case h p rd st → Named (startAnswer st)
 case-named malformed = none

@@ -1,6 +1,6 @@
 -- `ldp_ft::outcome::refuse_unknown` meets its contract. Assumes nothing.
 use borrow.Author.Needs.{needs}
-use Rattle.call_meaning.proofs.Refusals.{denied, granted}
+use Rattle.octets.proofs.Choice.{denied, granted}
 use Rattle.ldp_ft.proofs.Called.{unknown-refused, unknown-sound, unknown-narrow, barred-narrow}
 use Rattle.ldp_ft.proofs.outcome.refuse_unknown.Statement.{statement}
 use Rattle.ldp_ft.proofs.outcome.refuse_unknown.Tie as tie
