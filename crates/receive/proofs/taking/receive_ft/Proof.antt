@@ -14,7 +14,7 @@ receive-ft-spec =
     (λ c. search needs)
     (λ c κs. (c .before .before .before .before .pre, c .before .header-of .ensures, refl))
     (λ c κs. search needs)
-    (λ c κs. c .before .before .before .before .before .before .before .before .before .pre .size)
+    (λ c κs. c .before .before .before .before .before .before .before .before .before .pre)
     (λ c. search needs)
     (λ c. settled-other _ _ _ _ _ _ (c .before .before .before .before .before .before .before .judge-ft .ensures .0) (sym (c .before .before .before .before .before .is-done .ensures) ∙ not-true (c .before .before .before .before .before .is-done .result) (c .before .before .before .before .if1 .taken)) (c .before .before .settle .ensures))
     (λ c. search needs)
