@@ -6,3 +6,4 @@ pub mod WordRun
 pub mod Lanes
 pub mod Ends
 pub mod ZeroPairs
+pub mod Same

@@ -2,6 +2,7 @@
 ghost use mathlib.Core.Path.{_≡_};
 ghost use Prim.Native.Nat.{_+_, _*_, _≤_};
 ghost use lib.ListN.{length, take, drop};
+ghost use Rattle.label_list.specs.Valid.{validOf};
 ghost use Rattle.label_list.specs.Word.{wordCount};
 ghost use Rattle.block.specs.Check.{blockSize};
 ghost use Rattle.block.specs.Run.{putRun};
@@ -118,6 +119,19 @@ fn header_is_valid(h: Header) -> bool
     issued_are_held(h)
 }
 
+// Whether the label words are right. Where all are free they are not read one by one.
+fn labels_are_valid(block: &[u8]) -> bool
+    requires { ⌜ length (now block) ≡ blockSize ⌝ }
+    ensures { λ r. ⌜ r ≡ validOf (labelsOf (now (block .entry))) ⌝ }
+{
+    if block::zeros::all_zero(&block[LABELS_AT..block::CHECK_AT]) {
+        return true;
+    }
+    let mut words = [0u32; label_list::WORD_COUNT];
+    read_labels(block, &mut words);
+    label_list::valid(&words)
+}
+
 // Whether block 0's fields are right. Its check is not looked at.
 pub fn block0_is_valid(block: &[u8]) -> bool
     requires { ⌜ length (now block) ≡ blockSize ⌝ }
@@ -137,7 +151,5 @@ pub fn block0_is_valid(block: &[u8]) -> bool
     if h.kept == 0 {
         return block::zeros::all_zero(&block[4..block::CHECK_AT]);
     }
-    let mut words = [0u32; label_list::WORD_COUNT];
-    read_labels(block, &mut words);
-    label_list::valid(&words)
+    labels_are_valid(block)
 }

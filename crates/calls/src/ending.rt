@@ -3,6 +3,7 @@ ghost use mathlib.Core.Path.{_≡_};
 ghost use mathlib.Core.List.{[]};
 ghost use lib.ListN.{length};
 ghost use Rattle.image.specs.Sizes.{imageSize};
+ghost use Rattle.image.specs.Verdict.{IsSound};
 ghost use Rattle.calls.specs.Outcomes.{after, unchanged, failedWith, releasedWith, settleOf};
 use crate::Answer;
 use crate::Effect;
@@ -14,13 +15,16 @@ use crate::phases::resting_phase;
 use crate::storing::block0_changed;
 use crate::storing::copy_block0;
 
-// As connection failed: the labels used without protection are freed, and the session rests.
+// As connection failed: the labels used without protection are freed, and the session rests. Where there are none, nothing is stored.
 pub fn fail(image: &mut [u8], answer: Answer) -> Outcome
-    requires { ⌜ length (now image) ≡ imageSize ⌝ }
+    requires { ⌜ IsSound (now image) ⌝ }
     ensures { λ r. ⌜ after r (now (image .exit)) [] ≡ failedWith answer (now (image .entry)) [] ⌝ }
 {
-    let old = copy_block0(image);
     let phase = resting_phase(image::header_of(image));
+    if !image::has_unprotected(image) {
+        return refuse(answer, phase);
+    }
+    let old = copy_block0(image);
     image::free_unprotected(image);
     Outcome {
         answer: answer,
@@ -49,7 +53,7 @@ pub fn release(image: &mut [u8], answer: Answer) -> Outcome
 
 // What an answer leaves that is not Done; Done, which each call does itself, changes nothing here.
 pub fn settle(image: &mut [u8], answer: Answer, phase: Phase) -> Outcome
-    requires { ⌜ length (now image) ≡ imageSize ⌝ }
+    requires { ⌜ IsSound (now image) ⌝ }
     ensures { λ r. ⌜ after r (now (image .exit)) [] ≡ settleOf answer phase (now (image .entry)) [] (unchanged answer phase (now (image .entry)) []) ⌝ }
 {
     match effect_of(answer) {

@@ -21,7 +21,7 @@ use Rattle.block0.specs.Fields.{Fits}
 use Rattle.image.specs.Sizes.{block}
 use Rattle.image.specs.State.{decode, InRange}
 
-bytes-block : (image : List ℕ) (b : ℕ) → Bytes image → Bytes (block image b)
+pub bytes-block : (image : List ℕ) (b : ℕ) → Bytes image → Bytes (block image b)
 bytes-block image b byte i =
     ⊎-elim
     (λ (l : i < length (block image b)).

@@ -2,7 +2,8 @@
 ghost use mathlib.Core.Path.{_≡_};
 ghost use lib.ListN.{length};
 ghost use Rattle.image.specs.Sizes.{imageSize};
-ghost use Rattle.image.specs.Events.{sizeVerdict, formatOf, releaseOf, breakOf};
+ghost use Rattle.image.specs.Events.{sizeVerdict, formatOf, releaseOf, breakOf, unprotected};
+ghost use Rattle.image.specs.State.{decode};
 use crate::Verdict;
 use block0::Header;
 use ft_number::FtNumber;
@@ -38,6 +39,30 @@ pub fn format(image: &mut [u8]) -> Verdict
     octets::zero_to(image, 0, crate::IMAGE_SIZE);
     release(image);
     Verdict::Sound
+}
+
+// Whether a word has code 6.
+fn any_unprotected(words: &[u32]) -> bool
+    ensures { λ r. ⌜ r ≡ unprotected (now (words .entry)) ⌝ }
+{
+    let mut i: usize = 0;
+    while i < words.len() {
+        if words[i] / label_list::LABEL_COUNT == 6 {
+            return true;
+        }
+        i += 1;
+    }
+    false
+}
+
+// Whether a break frees a label word. Where none is freed the image stays as it is.
+pub fn has_unprotected(image: &[u8]) -> bool
+    requires { ⌜ length (now image) ≡ imageSize ⌝ }
+    ensures { λ r. ⌜ r ≡ unprotected (decode (now (image .entry)) .labels) ⌝ }
+{
+    let mut words = [0u32; label_list::WORD_COUNT];
+    crate::labels_of(image, &mut words);
+    any_unprotected(&words)
 }
 
 // As after a break: the label words of code 6 are freed.

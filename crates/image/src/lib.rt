@@ -22,6 +22,7 @@ mod held;
 
 pub use events::format;
 pub use events::free_unprotected;
+pub use events::has_unprotected;
 pub use events::release;
 pub use held::held_kind;
 pub use held::held_label;

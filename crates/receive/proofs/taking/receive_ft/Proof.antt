@@ -14,7 +14,7 @@ receive-ft-spec =
     (λ c. search needs)
     (λ c κs. (c .before .before .before .before .pre, c .before .header-of .ensures, refl))
     (λ c κs. search needs)
-    (λ c κs. c .before .before .before .before .before .before .before .before .before .pre .size)
+    (λ c κs. c .before .before .before .before .before .before .before .before .before .pre)
     (λ c. search needs)
     (λ c. ft-settled _ _ _ (c .before .before .before .before .before .before .before .judge-ft .ensures .0) (denied (c .before .before .before .before .before .is-done .ensures) (c .before .before .before .before .if1 .taken)) (c .before .before .settle .ensures))
     (λ c. search needs)

@@ -1,4 +1,4 @@
--- `block::zeros::rest_zero` meets its contract: the bytes passed are zero, so the rest decides. Assumes nothing.
+-- `block::zeros::each_is_zero` meets its contract: the bytes passed are zero, so the rest decides. Assumes nothing.
 use mathlib.Core.Path.{_≡_, refl, sym, _∙_}
 use Prim.Native.Nat.{_≤_, _-_}
 use native.Mathlib.Omega.{arith}
@@ -6,14 +6,14 @@ use borrow.Author.Tests.{eq-eqb, ne-eqb}
 use lib.ListN.{length, drop, drop-of-length-le}
 use Rattle.block.specs.Zeros.{allZero}
 use Rattle.block.proofs.ZeroBytes.{allZero-turn, allZero-none}
-use Rattle.block.proofs.zeros.rest_zero.Statement.{statement}
-use Rattle.block.proofs.zeros.rest_zero.Tie as tie
+use Rattle.block.proofs.zeros.each_is_zero.Statement.{statement}
+use Rattle.block.proofs.zeros.each_is_zero.Tie as tie
 
 abbrev Inv-loop : tie.InvT-loop
-Inv-loop s at i₀ i = (i ≤ length s) × (allZero (drop at s) ≡ allZero (drop i s))
+Inv-loop s i₀ i = (i ≤ length s) × (allZero s ≡ allZero (drop i s))
 
 abbrev μ-loop : tie.MeasureT-loop
-μ-loop s at i₀ i = length s - i
+μ-loop s i₀ i = length s - i
 
 returns : tie.Need-returns Inv-loop μ-loop
 returns c =
@@ -33,8 +33,8 @@ returns-2 c =
     let s = c .before .before .args .s .now in
     sym (l .inv .1 ∙ rw (drop-of-length-le s {i = l .i} (omega arith), allZero-none))
 
-pub rest-zero-spec : {M : Type 1} → statement M
-rest-zero-spec =
+pub each-is-zero-spec : {M : Type 1} → statement M
+each-is-zero-spec =
     tie.close
     (tie.spec Inv-loop μ-loop
     (λ c. (omega arith, refl))
