@@ -4,7 +4,7 @@ ghost use Prim.Native.Nat.{_<_};
 ghost use lib.ListN.{length};
 ghost use Rattle.octets.specs.Differ.{differ};
 ghost use Rattle.message_writer.specs.Written.{writtenOf};
-ghost use Rattle.image.specs.Sizes.{imageSize, block};
+ghost use Rattle.image.specs.Sizes.{block};
 ghost use Rattle.image.specs.State.{decode};
 ghost use Rattle.image.specs.Verdict.{IsSound};
 ghost use Rattle.calls.specs.declared.Answer;
@@ -93,7 +93,7 @@ fn write_next(image: &[u8], sent: u32, ack: bool, out: &mut [u8]) -> Written
 
 // Numbers the message at a place of the queue, if it has no number. Whether block 0 changed.
 fn issue(image: &mut [u8], sent: u32) -> bool
-    requires { ⌜ (length (now image) ≡ imageSize) × (sent < 65536) ⌝ }
+    requires { ⌜ IsSound (now image) × (sent < 65536) ⌝ }
     ensures { λ r. ⌜ (r ≡ differ (block (now (image .entry)) 0) (block (now (image .exit)) 0)) × (now (image .exit) ≡ sendImage (now (image .entry)) sent) ⌝ }
 {
     let h = image::header_of(image);

@@ -19,6 +19,7 @@ use Rattle.label_meaning.specs.Valid.{InRange, IsValid}
 use Rattle.label_meaning.proofs.Meaning.{valid-means}
 use Rattle.image.specs.State.{decode}
 use Rattle.image.proofs.Stored.{state-eq}
+use Rattle.image.proofs.Same.{word-kept}
 use Rattle.image.proofs.Sound.{sound-valid}
 use Rattle.image.proofs.Changes.{release-decodes, break-decodes}
 use Rattle.calls.specs.declared.Answer
@@ -42,12 +43,7 @@ unfolding wordSwept wordOf codeSwept
 word-freed w range =
     by-test (eqb (codeOf w) 6)
     (λ six. rw six)
-    (λ other. rw other (by-test (eqb (codeOf w) 0)
-    (λ z. rw z (free (eqb-true (codeOf w) 0 z)))
-    (λ z. rw z (omega arith))))
-  where
-    free : codeOf w ≡ 0 → 0 ≡ w
-    free z = by-test (eqb w 0) (λ e. sym (eqb-true w 0 e)) (λ e. let r : InRange w = range (eqb-false w 0 e) in absurd (omega arith))
+    (λ other. word-kept w range (eqb-false (codeOf w) 6 other) ∙ (rw other))
 
 words-freed : (ls : List ℕ) → IsValid ls → sweptOf ls AfterBreak ≡ map freed ls
 unfolding wordSwept wordOf codeSwept
