@@ -1,9 +1,8 @@
 -- Between the two ends no answer comes but 0, 21, 35 and 36. Assumes nothing.
 use Prim.Native.Nat.{ℕ}
-use native.Mathlib.Omega.{arith}
-use mathlib.Core.Path.{_≡_, refl, sym, ap, _∙_}
+use mathlib.Core.Path.{_≡_, refl, sym}
 use mathlib.Core.Bool.{Bool, true, false, true≢false}
-use mathlib.Core.List.{List, [], _∷_, map}
+use mathlib.Core.List.{List, _∷_}
 use mathlib.Core.Logic.{⊎-elim}
 use Rattle.image.specs.State.{decode}
 use Rattle.calls.specs.declared.Answer
@@ -14,7 +13,7 @@ use Rattle.calls.specs.Outcomes.{releasedWith}
 use Rattle.init.specs.declared.Start
 use Rattle.init.specs.declared.Start.{Start}
 use Rattle.init.specs.Begun.{initStart, initReceivedOf}
-use Rattle.receive.specs.Rule.{receiveAnswer, receiveOf}
+use Rattle.receive.specs.Rule.{receiveAnswer}
 use Rattle.receive.proofs.Meaning.{receive-answered}
 use Rattle.two_ends.specs.World.{History, End, World, swap}
 use Rattle.two_ends.specs.Runs.{Event, run, AllProper}
@@ -27,7 +26,8 @@ use Rattle.two_ends.proofs.Worlds.{ended, at-swap}
 use Rattle.two_ends.proofs.Delivering.{Oldest, oldest}
 use Rattle.two_ends.proofs.Greeting.{first-begins, again-start, again-begins, again-changed}
 use Rattle.two_ends.proofs.Judging.{Fair, fair-done, fair-full, fair-fatal}
-use Rattle.two_ends.proofs.Arriving.{alive-done, carried-fair, up-reads}
+use Rattle.two_ends.proofs.Arriving.{alive-done, carried-fair}
+use Rattle.two_ends.proofs.Delivered.{up-reads}
 use Rattle.two_ends.proofs.Begun.{at-start}
 use Rattle.two_ends.proofs.Theorem.{at-run}
 

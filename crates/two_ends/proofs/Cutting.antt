@@ -1,9 +1,9 @@
 -- Power lost in a Submit that has stored its slot, and not yet block 0. Assumes nothing.
-use Prim.Native.Nat.{ℕ, _+_, _%_, _<_}
+use Prim.Native.Nat.{ℕ, _<_}
 use native.Mathlib.Omega.{arith}
-use mathlib.Core.Path.{_≡_, refl, sym, ap, _∙_}
+use mathlib.Core.Path.{_≡_, refl, ap, _∙_}
 use mathlib.Core.Bool.{Bool}
-use mathlib.Core.List.{List, []}
+use mathlib.Core.List.{List}
 use mathlib.Core.Logic.{⊎-elim}
 use borrow.Author.Tests.{ne-eqb}
 use Rattle.block0.specs.Layout.{slotCount}
@@ -30,10 +30,10 @@ use Rattle.connect.specs.Start.{restoreOf}
 use Rattle.connect.proofs.Meaning.{restore-passes}
 use Rattle.two_ends.specs.World.{History, End, World}
 use Rattle.two_ends.specs.Calls.{plainly, slotStored}
-use Rattle.two_ends.proofs.Invariant.{Waiting, Ready, Some, Good}
+use Rattle.two_ends.proofs.Invariant.{Some, Good}
 use Rattle.two_ends.proofs.Worlds.{ended}
 use Rattle.two_ends.proofs.Failing.{failing}
-use Rattle.two_ends.proofs.Resting.{at-plain, at-restarts}
+use Rattle.two_ends.proofs.Resting.{at-plain}
 use Rattle.two_ends.proofs.Submitting.{storable, room}
 
 -- the image as the power cut leaves it: sound, and the state of before
@@ -84,23 +84,26 @@ uncut im ph m st =
 some-uncut : (im im′ : List ℕ) (ph : Phase) (jo bg : Bool) (h : History) {b : End} {ab ba : List (List ℕ)} → Uncut im im′ → Some (ended im ph jo bg h) b ab ba → Some (ended im′ ph jo bg h) b ab ba
 some-uncut im im′ ph jo bg h u s =
     let i = s .2 in
-    let r = i .own in
-    (s .0, s .1, record {
-      lineA = i .lineA;
-      lineB = i .lineB;
-      own = record {
-        stand = record { sound = u .sound; range = rw (u .state) (r .stand .range); fits = rw (u .state) (r .stand .fits) };
-        proposal = r .proposal;
-        keeping = rw (u .state) (r .keeping);
-        okays = r .okays;
-        sixless = rw (u .state) (r .sixless);
-        waiting = λ q. let v = r .waiting q in record { on = v .on; waits = v .waits; nothing = v .nothing };
-        linked = r .linked;
-      };
-      peer = i .peer;
-      out = rw (u .state) (i .out);
-      back = rw (u .state) (i .back);
-    })
+    let r = i .own in (
+      s .0,
+      s .1,
+      record {
+        lineA = i .lineA;
+        lineB = i .lineB;
+        own = record {
+          stand = record { sound = u .sound; range = rw (u .state) (r .stand .range); fits = rw (u .state) (r .stand .fits) };
+          proposal = r .proposal;
+          keeping = rw (u .state) (r .keeping);
+          okays = r .okays;
+          sixless = rw (u .state) (r .sixless);
+          waiting = λ q. let v = r .waiting q in record { on = v .on; waits = v .waits; nothing = v .nothing };
+          linked = r .linked;
+        };
+        peer = i .peer;
+        out = rw (u .state) (i .out);
+        back = rw (u .state) (i .back);
+      },
+    )
 
 pub at-halts : (w : World) (m : List ℕ) → Good w → Good (plainly w (restoreOf (slotStored (w .a .image) (submitOf (w .a .image) (w .a .phase) m))))
 unfolding failedWith

@@ -1,10 +1,10 @@
 -- The oldest message of a line, and what it lets go. Assumes nothing.
 use Prim.Native.Nat.{ℕ, _-_, _≤_}
 use native.Mathlib.Omega.{arith}
-use mathlib.Core.Path.{_≡_, refl, sym, ap, _∙_}
+use mathlib.Core.Path.{_≡_, refl, ap}
 use mathlib.Core.List.{List, [], _∷_, map}
 use lib.ListN.{length, take, drop, length-drop}
-use Rattle.image.specs.State.{State, decode}
+use Rattle.image.specs.State.{decode}
 use Rattle.calls.specs.Outcomes.{After}
 use Rattle.two_ends.specs.Calls.{letGo}
 use Rattle.two_ends.proofs.Packets.{Packet, bytesOf}

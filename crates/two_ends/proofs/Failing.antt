@@ -1,10 +1,10 @@
 -- An end whose connection has failed. Assumes nothing.
-use Prim.Native.Nat.{ℕ, _<_}
+use Prim.Native.Nat.{ℕ}
 use native.Mathlib.Omega.{arith}
-use mathlib.Core.Path.{_≡_, refl, sym, ap, _∙_}
-use mathlib.Core.Bool.{Bool, true, false, not, true≢false}
+use mathlib.Core.Path.{_≡_, refl, sym}
+use mathlib.Core.Bool.{Bool, true, false, true≢false}
 use mathlib.Core.List.{List, []}
-use mathlib.Core.Logic.{_⊎_, inl, inr}
+use mathlib.Core.Logic.{inl, inr}
 use lib.Dec.{eqb}
 use Rattle.octets.specs.Pick.{pick}
 use Rattle.block0.specs.declared.Header.{Header}
@@ -20,14 +20,12 @@ use Rattle.calls.specs.Outcomes.{failedWith}
 use Rattle.calls.proofs.Phasing.{resting-failed}
 use Rattle.call_meaning.specs.Standing.{Standing}
 use Rattle.call_meaning.proofs.Stands.{break-decodes, failed-stands}
-use Rattle.init.specs.Begun.{proposalOf}
 use Rattle.timers.specs.Events.{connected}
 use Rattle.two_ends.specs.World.{History, End}
-use Rattle.two_ends.specs.Calls.{off, keeps}
-use Rattle.two_ends.proofs.Invariant.{Ready, Inv, Some}
+use Rattle.two_ends.proofs.Invariant.{Ready, Some}
 use Rattle.two_ends.proofs.Sides.{dir-failed, dir-failed-peer, dir-rest, dir-rest-peer}
 use Rattle.two_ends.proofs.Sixless.{broken-sixless}
-use Rattle.two_ends.proofs.Worlds.{ended, kept-one, ready-off, closes, Settled}
+use Rattle.two_ends.proofs.Worlds.{ended, kept-one, ready-off, Settled}
 
 resting-off : (h : Header) → connected (restingPhase h) ≡ false
 unfolding restingPhase
@@ -64,15 +62,21 @@ pub failing-on : (im : List ℕ) (ph : Phase) (bg : Bool) (h : History) {b : End
 failing-on im ph true h {b} s rest more =
     let i = s .2 in
     let st = i .own .stand in
-    inr (rw (resting-off (decode im .header)), λ ga gb.
-    ([], [], record {
-      lineA = refl;
-      lineB = refl;
-      own = failed-ready im ph true h (i .own);
-      peer = ready-off (i .peer) gb;
-      out = rw (break-decodes im (st .sound) (st .range), resting im ph true h (i .own)) (dir-failed (i .out) gb);
-      back = rw (break-decodes im (st .sound) (st .range), resting im ph true h (i .own)) (dir-failed-peer (i .back) ga);
-    }))
+    inr (
+      rw (resting-off (decode im .header)),
+      λ ga gb. (
+        [],
+        [],
+        record {
+          lineA = refl;
+          lineB = refl;
+          own = failed-ready im ph true h (i .own);
+          peer = ready-off (i .peer) gb;
+          out = rw (break-decodes im (st .sound) (st .range), resting im ph true h (i .own)) (dir-failed (i .out) gb);
+          back = rw (break-decodes im (st .sound) (st .range), resting im ph true h (i .own)) (dir-failed-peer (i .back) ga);
+        },
+      ),
+    )
 failing-on im ph false h s rest more = inr (rw (resting-off (decode im .header)), λ ga gb. absurd (true≢false (sym ga)))
 
 -- one that was on none is only off
@@ -82,12 +86,19 @@ failing im ph true bg h {ab = ab} {ba = ba} s = failing-on im ph bg h s ab ba
 failing im ph false true h s =
     let i = s .2 in
     let st = i .own .stand in
-    inl (refl, (s .0, s .1, record {
-      lineA = i .lineA;
-      lineB = i .lineB;
-      own = failed-ready im ph false h (i .own);
-      peer = i .peer;
-      out = rw (break-decodes im (st .sound) (st .range), resting im ph false h (i .own)) (dir-rest (decode im) (decode im .header .kept) ph true h (i .out));
-      back = rw (break-decodes im (st .sound) (st .range), resting im ph false h (i .own)) (dir-rest-peer (decode im) (decode im .header .kept) ph true h (i .back));
-    }))
+    inl (
+      refl,
+      (
+        s .0,
+        s .1,
+        record {
+          lineA = i .lineA;
+          lineB = i .lineB;
+          own = failed-ready im ph false h (i .own);
+          peer = i .peer;
+          out = rw (break-decodes im (st .sound) (st .range), resting im ph false h (i .own)) (dir-rest (decode im) (decode im .header .kept) ph true h (i .out));
+          back = rw (break-decodes im (st .sound) (st .range), resting im ph false h (i .own)) (dir-rest-peer (decode im) (decode im .header .kept) ph true h (i .back));
+        },
+      ),
+    )
 failing im ph false false h s = absurd (true≢false (sym (s .2 .own .waiting refl .on)))

@@ -1,8 +1,8 @@
 -- How the messages of the two ends are judged in UpFT. Assumes nothing.
-use Prim.Native.Nat.{ℕ, _+_, _%_, _≤_}
+use Prim.Native.Nat.{ℕ, _≤_}
 use native.Mathlib.Omega.{arith}
-use mathlib.Core.Path.{_≡_, refl, sym, ap, _∙_}
-use mathlib.Core.Bool.{Bool, true, false, true≢false}
+use mathlib.Core.Path.{_≡_, refl, sym, _∙_}
+use mathlib.Core.Bool.{true, false, true≢false}
 use mathlib.Core.List.{List}
 use borrow.Author.Tests.{eq-eqb, ne-eqb}
 use Rattle.ft_number.specs.Circle.{next}
@@ -33,7 +33,7 @@ use Rattle.receive.specs.declared.LabelEffect
 use Rattle.receive.specs.declared.LabelEffect.{LabelEffect}
 use Rattle.receive.specs.Labels.{labelEffect, isProtected, protectionRule, effectReception}
 use Rattle.receive.specs.Rule.{isFatal, isZero, inTurn, ackOn}
-use Rattle.receive.specs.Cases.{wordsAfter, Case, wrong-phase, malformed, an-init, fatal, zero-number, wrong-ack, missing, wrong, out-of-turn, no-word, taken}
+use Rattle.receive.specs.Cases.{wordsAfter, Case, wrong-phase, an-init, fatal, zero-number, wrong-ack, missing, wrong, out-of-turn, no-word, taken}
 use Rattle.two_ends.proofs.Sixless.{NoSix, protected-right}
 
 never : {P : Type 0} → true ≡ false → P

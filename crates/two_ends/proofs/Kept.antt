@@ -1,11 +1,9 @@
 -- Over every run: with no event that releases, neither end releases its state. Assumes nothing.
 use Prim.Native.Nat.{ℕ}
-use mathlib.Core.Path.{_≡_, refl, sym, ap, _∙_}
+use mathlib.Core.Path.{_≡_, refl, sym, _∙_}
 use mathlib.Core.Bool.{Bool, true, false}
 use mathlib.Core.List.{List, [], _∷_}
 use borrow.Author.Tests.{eqb-true}
-use lib.Dec.{eqb}
-use Rattle.octets.specs.Pick.{pick}
 use Rattle.label_list.proofs.Choice.{by-test, pick-all}
 use Rattle.image.specs.State.{decode}
 use Rattle.calls.specs.declared.Answer
@@ -19,21 +17,21 @@ use Rattle.connect.proofs.Meaning.{restore-passes}
 use Rattle.connect.specs.Writers.{openOf, keepaliveOf}
 use Rattle.send.specs.Rule.{sendOf}
 use Rattle.submit.specs.Act.{submitOf}
-use Rattle.timers.specs.Events.{connected, waiting, eventAnswer, connectionFailedOf, expired, timePassedOf}
+use Rattle.timers.specs.Events.{connected, waiting, connectionFailedOf, expired, timePassedOf}
 use Rattle.timers.proofs.Meaning.{failed-is, passed-is}
-use Rattle.two_ends.specs.World.{History, End, World, swap}
+use Rattle.two_ends.specs.World.{History, World, swap}
 use Rattle.two_ends.specs.Calls.{called, replaced, plainly, put, counts, accepts, submitted, wrote, on, opened, slotStored}
-use Rattle.two_ends.specs.Runs.{Event, submits, sends, keepalives, opens, passes, delivers, breaks, notices, restarts, halts, Proper, act, step, run, AllProper}
+use Rattle.two_ends.specs.Runs.{Event, submits, sends, keepalives, opens, passes, delivers, breaks, notices, restarts, halts, act, step, run, AllProper}
 use Rattle.two_ends.specs.Start.{Opener, start, Sound, Afresh}
-use Rattle.two_ends.specs.Staying.{Releasing, ReleasingAt, NoneReleases}
-use Rattle.two_ends.proofs.Invariant.{Some, Good}
-use Rattle.two_ends.proofs.Worlds.{ended, at-swap}
+use Rattle.two_ends.specs.Staying.{Releasing, ReleasingAt, NoneReleases, Stays}
+use Rattle.two_ends.proofs.Invariant.{Good}
+use Rattle.two_ends.proofs.Worlds.{at-swap}
 use Rattle.two_ends.proofs.Resting.{unnoticed, untimed}
 use Rattle.two_ends.proofs.Cutting.{uncut}
 use Rattle.two_ends.proofs.Begun.{at-start}
 use Rattle.two_ends.proofs.Theorem.{at-run, at-step}
 use Rattle.two_ends.proofs.Unreleased.{Kept, failed-kept, submit-kept, send-kept, open-kept, alive-kept}
-use Rattle.two_ends.proofs.Staying.{Stays, broken-stays, replaced-stays, keeps-one, delivers-stays}
+use Rattle.two_ends.proofs.Staying.{broken-stays, replaced-stays, keeps-one, delivers-stays}
 
 -- ---- the events that are no calls of the protocol
 notice-kept : (im : List ℕ) (ph : Phase) → Standing im ph → Kept im (connectionFailedOf im ph)

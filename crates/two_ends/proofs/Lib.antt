@@ -1,6 +1,7 @@
 pub mod Positions
 pub mod Half
 pub mod Books
+pub mod Lines
 pub mod Direction
 pub mod Octets
 pub mod Packets
@@ -20,10 +21,12 @@ pub mod Opening
 pub mod Sending
 pub mod Delivering
 pub mod Starting
+pub mod Begins
 pub mod Greeting
 pub mod Judging
 pub mod Receiving
 pub mod Arriving
+pub mod Delivered
 pub mod Begun
 pub mod Theorem
 pub mod Answering

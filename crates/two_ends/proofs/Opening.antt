@@ -1,9 +1,9 @@
 -- An end opens a new connection. Assumes nothing.
-use Prim.Native.Nat.{ℕ, _^_, _<_}
+use Prim.Native.Nat.{ℕ, _<_}
 use native.Mathlib.Omega.{arith}
 use mathlib.Core.Path.{_≡_, refl, sym, ap, _∙_}
 use mathlib.Core.Bool.{Bool, true, false, true≢false}
-use mathlib.Core.List.{List, [], _∷_, _++_, map}
+use mathlib.Core.List.{List, [], _∷_, map}
 use mathlib.Core.Logic.{_⊎_, inl, ⊎-elim}
 use Rattle.octets.specs.Pick.{pick}
 use Rattle.ft_number.specs.Timeout.{proposedOf}
@@ -29,7 +29,7 @@ use Rattle.two_ends.specs.Runs.{Widths, Seconds}
 use Rattle.two_ends.proofs.Packets.{Packet, again, bytesOf}
 use Rattle.two_ends.proofs.Invariant.{Ready, Inv, Some, Good}
 use Rattle.two_ends.proofs.Sides.{dir-open, dir-open-peer}
-use Rattle.two_ends.proofs.Worlds.{ended, kept-one, ready-open, at-replaced, Settled}
+use Rattle.two_ends.proofs.Worlds.{ended, kept-one, at-replaced, Settled}
 use Rattle.two_ends.proofs.Quiet.{Quiet, quietly}
 use Rattle.two_ends.proofs.Resting.{at-plain}
 use Rattle.two_ends.proofs.Writing.{Wrote, writer-says, put-wrote, no-idle}
@@ -73,14 +73,21 @@ module _ (im : List ℕ) (h : History) (id : MessageId) (p : OwnParameters) (t :
       } in
       let packet : Packet = again id p (proposedOf t) (decode im .header .secured) in
       let empty : ab ≡ [] = i .lineA ∙ ap (map bytesOf) none in
-      inl (refl, (packet ∷ [], pb, record {
-        lineA = put-wrote ab (Phase.InitWait (proposedOf t)) im im out (openBytes (decode im .header) id p t) ∙ rw (empty, bytes-are im id p t widths seconds kept);
-        lineB = i .lineB;
-        own = own;
-        peer = i .peer;
-        out = dir-open (decode im) (decode im .header .kept) (proposedOf t) h id p (init-fits im id p t widths seconds st) (rw none at (i .out));
-        back = dir-open-peer (decode im) (decode im .header .kept) (proposedOf t) h id p (rw none at (i .back));
-      }))
+      inl (
+        refl,
+        (
+          packet ∷ [],
+          pb,
+          record {
+            lineA = put-wrote ab (Phase.InitWait (proposedOf t)) im im out (openBytes (decode im .header) id p t) ∙ rw (empty, bytes-are im id p t widths seconds kept);
+            lineB = i .lineB;
+            own = own;
+            peer = i .peer;
+            out = dir-open (decode im) (decode im .header .kept) (proposedOf t) h id p (init-fits im id p t widths seconds st) (rw none at (i .out));
+            back = dir-open-peer (decode im) (decode im .header .kept) (proposedOf t) h id p (rw none at (i .back));
+          },
+        ),
+      )
 
   opening : (ph : Phase) (jo bg : Bool) → opens ph ≡ true → Some (ended im ph jo bg h) b ab ba
       → keeps (ended im (Phase.InitWait (proposedOf t)) true bg h) ≡ true

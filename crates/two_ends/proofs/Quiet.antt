@@ -1,5 +1,5 @@
 -- A call that changes nothing. Assumes nothing.
-use mathlib.Core.Path.{_≡_, refl, sym, ap, _∙_}
+use mathlib.Core.Path.{_≡_, refl}
 use mathlib.Core.Bool.{Bool, true, false}
 use mathlib.Core.List.{List}
 use Prim.Native.Nat.{ℕ}
@@ -12,7 +12,7 @@ use Rattle.calls.specs.declared.Effect
 use Rattle.calls.specs.declared.Effect.{Effect}
 use Rattle.calls.specs.declared.Phase.{Phase}
 use Rattle.calls.specs.Answers.{effectOf}
-use Rattle.calls.specs.Outcomes.{After, isDone, unchanged, settleOf}
+use Rattle.calls.specs.Outcomes.{After, isDone, settleOf}
 use Rattle.calls.proofs.Settled.{Admitted}
 use Rattle.calls.proofs.Ends.{settle-refusal}
 use Rattle.call_meaning.specs.Standing.{Standing}

@@ -1,11 +1,11 @@
 -- A message in UpFT is delivered. Assumes nothing.
-use Prim.Native.Nat.{ℕ, _+_, _-_, _^_, _≤_, _<_}
+use Prim.Native.Nat.{ℕ, _-_, _≤_}
 use native.Mathlib.Omega.{arith}
-use mathlib.Core.Path.{_≡_, refl, sym, ap, _∙_}
-use mathlib.Core.Bool.{Bool, true, false, true≢false}
+use mathlib.Core.Path.{_≡_, refl, ap, _∙_}
+use mathlib.Core.Bool.{true, true≢false}
 use mathlib.Core.List.{List, [], _∷_, map}
 use mathlib.Core.Logic.{inl}
-use lib.ListN.{length, getD, take, drop}
+use lib.ListN.{take, drop}
 use Rattle.ft_number.specs.declared.Ack
 use Rattle.ft_number.specs.declared.Ack.{Ack}
 use Rattle.message.specs.Reading.{readingOf}
@@ -101,11 +101,18 @@ module _ (im : List ℕ) (sent : ℕ) (m : List ℕ) (stand : Standing im (Phase
             linked = λ z. refl;
           } in
           rw (done, up, gone, secured)
-          (inl (refl, (pa, qs, record {
-            lineA = i .lineA;
-            lineB = refl;
-            own = own;
-            peer = i .peer;
-            out = rw (d .state) (dir-took (decode im) sent h g j acks got qs f (i .out));
-            back = rw (d .state) back;
-          })))
+          (inl (
+            refl,
+            (
+              pa,
+              qs,
+              record {
+                lineA = i .lineA;
+                lineB = refl;
+                own = own;
+                peer = i .peer;
+                out = rw (d .state) (dir-took (decode im) sent h g j acks got qs f (i .out));
+                back = rw (d .state) back;
+              },
+            ),
+          ))

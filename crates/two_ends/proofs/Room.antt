@@ -1,7 +1,7 @@
 -- Only at 64 held is a message refused for room in the store. Assumes nothing.
 use mathlib.Core.Path.{_≡_, refl, sym, ap, _∙_}
 use mathlib.Core.Bool.{Bool, true, false, not}
-use mathlib.Core.List.{List, [], _∷_, _++_}
+use mathlib.Core.List.{List, []}
 use Prim.Native.Nat.{ℕ}
 use Rattle.octets.specs.Pick.{pick, both}
 use Rattle.calls.specs.declared.Answer

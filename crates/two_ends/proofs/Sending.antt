@@ -1,17 +1,14 @@
 -- A message is sent. Assumes nothing.
-use Prim.Native.Nat.{ℕ, zero, suc, _+_, _^_, _≤_, _<_}
+use Prim.Native.Nat.{ℕ, zero, suc, _+_, _<_}
 use native.Mathlib.Omega.{arith}
-use mathlib.Core.Path.{_≡_, refl, sym, ap, _∙_}
+use mathlib.Core.Path.{_≡_, refl, sym, _∙_}
 use mathlib.Core.Bool.{Bool, true, false, true≢false}
 use mathlib.Core.List.{List, [], _∷_, _++_}
 use mathlib.Core.Logic.{inl}
 use lib.Dec.{ltb}
-use lib.ListN.{length, getD, drop}
+use lib.ListN.{length, drop}
 use lib.Seq.{drop-cons}
 use Rattle.octets.specs.Pick.{pick}
-use Rattle.ft_number.specs.declared.FtNumber.{FtNumber}
-use Rattle.tlv.specs.declared.FtField
-use Rattle.tlv.specs.declared.FtField.{FtField}
 use Rattle.message_writer.specs.ReadBack.{AckFits}
 use Rattle.label_list.proofs.Choice.{by-test}
 use Rattle.block0.specs.declared.Header.{Header}
@@ -22,7 +19,7 @@ use Rattle.calls.specs.declared.Answer.{Answer}
 use Rattle.calls.specs.declared.Phase
 use Rattle.calls.specs.declared.Phase.{Phase}
 use Rattle.calls.specs.Answers.{effectOf}
-use Rattle.calls.specs.Outcomes.{After, isDone, admitted, roomFor, wrote}
+use Rattle.calls.specs.Outcomes.{isDone, wrote}
 use Rattle.call_meaning.specs.Standing.{Standing}
 use Rattle.call_meaning.proofs.Refusals.{Harmless, admitted-harmless, settle-does}
 use Rattle.send.specs.Rule.{isUp, sentOf, nextMessage, numberAt, ackAsked, sendBytes, sendRule, sendAnswer, sentState, sendImage, sendOf}
@@ -33,7 +30,7 @@ use Rattle.two_ends.specs.World.{History, End, World}
 use Rattle.two_ends.specs.Calls.{keeps, called, put, wrote as writes}
 use Rattle.two_ends.proofs.Direction.{half-place}
 use Rattle.two_ends.proofs.Packets.{Packet, carried, bytesOf, Okay, Okays, Fine}
-use Rattle.two_ends.proofs.Invariant.{Ready, Inv, Some, Good}
+use Rattle.two_ends.proofs.Invariant.{Ready, Some, Good}
 use Rattle.two_ends.proofs.Sends.{sent-labels, dir-send, dir-send-lost, dir-send-peer, dir-send-lost-peer}
 use Rattle.two_ends.proofs.Worlds.{ended, kept-one, ready-open, at-replaced, Settled}
 use Rattle.two_ends.proofs.Quiet.{Quiet, settled-quiet, quietly-puts}
@@ -115,27 +112,41 @@ module _ (im : List ℕ) (sent : ℕ) (h : History) (ask : Bool) (out : List ℕ
           omega (arith, number-fits (s .header) sent),
           ack-fits ask (s .header) (st .range .header .secured),
         ) in
-        inl (ready-open own, (o .0 ++ (packet ∷ []), o .1, record {
-          lineA = put-wrote ab (Phase.UpFT (sent + 1)) im (sendImage im sent) out (bytesOf packet) ∙ line-more (o .0) packet (i .lineA);
-          lineB = i .lineB;
-          own = own;
-          peer = i .peer;
-          out = rw (decodes st one) (dir-send s sent true h m (drop (suc sent) (s .queue)) at-place (ackAsked ask (s .header)) fine (i .out));
-          back = rw (decodes st one) (dir-send-peer s sent true h ask m (numberAt (s .header) sent) (i .back));
-        }))
+        inl (
+          ready-open own,
+          (
+            o .0 ++ (packet ∷ []),
+            o .1,
+            record {
+              lineA = put-wrote ab (Phase.UpFT (sent + 1)) im (sendImage im sent) out (bytesOf packet) ∙ line-more (o .0) packet (i .lineA);
+              lineB = i .lineB;
+              own = own;
+              peer = i .peer;
+              out = rw (decodes st one) (dir-send s sent true h m (drop (suc sent) (s .queue)) at-place (ackAsked ask (s .header)) fine (i .out));
+              back = rw (decodes st one) (dir-send-peer s sent true h ask m (numberAt (s .header) sent) (i .back));
+            },
+          ),
+        )
     sending false true o k =
         let i = o .2 in
         let st = i .own .stand in
         let one = kept-one (i .own) in
         let own = ready st one false (i .own) k in
-        inl (ready-open own, (o .0, o .1, record {
-          lineA = i .lineA;
-          lineB = i .lineB;
-          own = own;
-          peer = i .peer;
-          out = rw (decodes st one) (dir-send-lost s sent true h m (drop (suc sent) (s .queue)) at-place (i .out));
-          back = rw (decodes st one) (dir-send-lost-peer s sent true h (i .back));
-        }))
+        inl (
+          ready-open own,
+          (
+            o .0,
+            o .1,
+            record {
+              lineA = i .lineA;
+              lineB = i .lineB;
+              own = own;
+              peer = i .peer;
+              out = rw (decodes st one) (dir-send-lost s sent true h m (drop (suc sent) (s .queue)) at-place (i .out));
+              back = rw (decodes st one) (dir-send-lost-peer s sent true h (i .back));
+            },
+          ),
+        )
 
 -- ---- the call
 sends-up : (im : List ℕ) (ph : Phase) (jo bg : Bool) (h : History) (ask : Bool) (out : List ℕ) {b : End} {ab ba : List (List ℕ)} → Sendable im ph

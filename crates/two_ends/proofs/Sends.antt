@@ -17,10 +17,9 @@ use Rattle.calls.specs.declared.Phase.{Phase}
 use Rattle.calls.specs.Phases.{issuedCount}
 use Rattle.send.specs.Rule.{numberAt, ackAsked, numbered, sentState}
 use Rattle.two_ends.specs.World.{History}
-use Rattle.two_ends.proofs.Half.{Snd}
 use Rattle.two_ends.proofs.Books.{issues}
 use Rattle.two_ends.proofs.Direction.{half-ack-out, half-send, half-send-lost}
-use Rattle.two_ends.proofs.Packets.{Packet, carried, Fine, datas, acksOf, datas-append, acks-append, fines-snoc}
+use Rattle.two_ends.proofs.Packets.{Packet, carried, Fine, acksOf, datas-append, acks-append, fines-snoc}
 use Rattle.two_ends.proofs.Invariant.{Side, sndOf, rcvOf, live, Dir}
 use Rattle.two_ends.proofs.Sides.{side, shape-snoc}
 

@@ -1,11 +1,10 @@
 -- The two directions after each event at one end. Assumes nothing.
-use Prim.Native.Nat.{ℕ, _+_, _-_, _≤_, _<_}
+use Prim.Native.Nat.{ℕ, _+_, _-_, _<_}
 use native.Mathlib.Omega.{arith}
-use mathlib.Core.Path.{_≡_, refl, sym, ap, _∙_}
+use mathlib.Core.Path.{_≡_, refl}
 use mathlib.Core.Bool.{Bool, true, false}
 use mathlib.Core.List.{List, [], _∷_, _++_, append-nil}
 use lib.ListN.{length}
-use Rattle.ft_number.specs.declared.FtNumber.{FtNumber}
 use Rattle.ft_number.specs.declared.MessageId.{MessageId}
 use Rattle.message_writer.specs.declared.OwnParameters.{OwnParameters}
 use Rattle.image.specs.State.{State}
@@ -15,10 +14,9 @@ use Rattle.calls.specs.declared.Phase.{Phase}
 use Rattle.submit.specs.Act.{submitted}
 use Rattle.two_ends.specs.World.{History}
 use Rattle.two_ends.specs.Calls.{accepts}
-use Rattle.two_ends.proofs.Half.{Half}
 use Rattle.two_ends.proofs.Direction.{half-accept, half-ack-out, half-lost, half-again, half-rest}
-use Rattle.two_ends.proofs.Packets.{Packet, first, again, alive, carried, Fine, NoInit, datas, acksOf, datas-append, acks-append, fines-snoc, noinit-snoc}
-use Rattle.two_ends.proofs.Invariant.{Side, sndOf, rcvOf, live, Headed, Shape, Dir}
+use Rattle.two_ends.proofs.Packets.{Packet, first, again, alive, carried, Fine, NoInit, datas, datas-append, acks-append, fines-snoc, noinit-snoc}
+use Rattle.two_ends.proofs.Invariant.{Side, live, Headed, Shape, Dir}
 
 -- an end by its parts
 abbrev pub side : State → ℕ → Phase → Bool → Bool → History → Side

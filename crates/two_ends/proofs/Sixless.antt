@@ -2,13 +2,12 @@
 use Prim.Native.Nat.{ℕ, zero, suc}
 use native.Mathlib.Omega.{arith}
 use mathlib.Core.Path.{_≡_, refl, sym, ap, _∙_}
-use mathlib.Core.Bool.{Bool, true, false}
+use mathlib.Core.Bool.{true, false}
 use mathlib.Core.List.{List, [], _∷_}
 use mathlib.Core.Logic.{_⊎_, ⊎-elim}
 use borrow.Author.Tests.{eqb-true}
 use lib.Dec.{eqb}
 use lib.ListN.{getD, replicate}
-use Rattle.octets.specs.Pick.{pick}
 use Rattle.message.specs.Submission.{submissionOf}
 use Rattle.message.specs.declared.Submission.{Submission}
 use Rattle.label_list.specs.Word.{wordCount, standsFor}
@@ -20,7 +19,7 @@ use Rattle.label_list.specs.declared.LabelMessage.{LabelMessage}
 use Rattle.label_list.specs.declared.LabelMessage.the-variants.{Mapping, Withdraw, Release}
 use Rattle.label_list.specs.declared.Protection
 use Rattle.label_list.specs.declared.Protection.{Protection}
-use Rattle.label_list.specs.declared.Side.the-variants.{Given, Used}
+use Rattle.label_list.specs.declared.Side.the-variants.{Used}
 use Rattle.label_list.specs.declared.SweepRule.the-variants.{AfterBreak}
 use Rattle.label_list.proofs.Choice.{by-test, pick-all}
 use Rattle.label_list.proofs.Standing.{free-stands}

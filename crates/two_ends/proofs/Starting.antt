@@ -1,9 +1,8 @@
 -- How the Inits of the two ends are judged. Assumes nothing.
-use Prim.Native.Nat.{ℕ, _<_}
+use Prim.Native.Nat.{ℕ}
 use native.Mathlib.Omega.{arith}
-use mathlib.Core.Path.{_≡_, refl, sym, ap, _∙_}
+use mathlib.Core.Path.{_≡_, refl}
 use mathlib.Core.Bool.{Bool, true, false}
-use mathlib.Core.List.{List}
 use mathlib.Core.Logic.{_⊎_, inl, inr, ⊎-elim}
 use borrow.Author.Tests.{eq-eqb, ne-eqb}
 use lib.Dec.{eqb}
@@ -28,7 +27,7 @@ use Rattle.calls.specs.declared.Answer.{Answer}
 use Rattle.init.specs.declared.Start
 use Rattle.init.specs.declared.Start.{Start}
 use Rattle.init.specs.declared.Terms.{Terms}
-use Rattle.init.specs.Judged.{termsOf, resumedBy, bothSet, startOf}
+use Rattle.init.specs.Judged.{termsOf, bothSet, startOf}
 use Rattle.two_ends.proofs.Invariant.{Leads}
 
 module _ (h : Header) (t : ℕ) (id : MessageId) (p : OwnParameters) (seconds : ℕ) where

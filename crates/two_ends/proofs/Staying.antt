@@ -1,20 +1,20 @@
 -- As long as no event releases, both ends keep their state. Assumes nothing.
 use Prim.Native.Nat.{ℕ, _≤_}
 use native.Mathlib.Omega.{arith}
-use mathlib.Core.Path.{_≡_, refl, sym, ap, _∙_}
+use mathlib.Core.Path.{_≡_, refl, sym, _∙_}
 use mathlib.Core.Bool.{Bool, true, false, not, true≢false}
-use mathlib.Core.List.{List, [], _∷_, map}
+use mathlib.Core.List.{List, [], _∷_}
 use mathlib.Core.Logic.{⊎-elim}
-use borrow.Author.Tests.{eqb-true, eq-eqb}
+use borrow.Author.Tests.{eq-eqb}
 use lib.Dec.{eqb}
 use Rattle.octets.specs.Pick.{pick, both}
-use Rattle.image.specs.State.{State, decode}
+use Rattle.image.specs.State.{decode}
 use Rattle.calls.specs.declared.Answer
 use Rattle.calls.specs.declared.Answer.{Answer}
 use Rattle.calls.specs.declared.Phase
 use Rattle.calls.specs.declared.Phase.{Phase}
 use Rattle.calls.specs.Acked.{acked}
-use Rattle.calls.specs.Outcomes.{After, isDone, releasedWith}
+use Rattle.calls.specs.Outcomes.{releasedWith}
 use Rattle.calls.specs.Answers.{answerNumber}
 use Rattle.timers.specs.Events.{connected}
 use Rattle.init.specs.declared.Start
@@ -23,9 +23,8 @@ use Rattle.init.specs.Begun.{resumed, initStart, initReceivedOf}
 use Rattle.receive.specs.Rule.{receiveAnswer, receiveOf}
 use Rattle.receive.proofs.Meaning.{receive-answered}
 use Rattle.two_ends.specs.World.{History, End, World}
-use Rattle.two_ends.specs.Calls.{off, broken, keeps, called, replaced, greeted, anew, took, delivered, delivery}
-use Rattle.two_ends.specs.Answers.{answerTo}
-use Rattle.two_ends.specs.Staying.{Fatal}
+use Rattle.two_ends.specs.Calls.{broken, keeps, replaced, greeted, anew, took, delivered, delivery}
+use Rattle.two_ends.specs.Staying.{Fatal, Stays}
 use Rattle.two_ends.proofs.Packets.{Packet, first, again, alive, carried, bytesOf, NoInit, fine-bytes}
 use Rattle.two_ends.proofs.Invariant.{Headed, linkable, Inv, Good}
 use Rattle.two_ends.proofs.Takes.{headed}
@@ -33,15 +32,11 @@ use Rattle.two_ends.proofs.Worlds.{ended, kept-one, next}
 use Rattle.two_ends.proofs.Delivering.{Oldest, oldest}
 use Rattle.two_ends.proofs.Greeting.{again-start, again-begins, again-changed}
 use Rattle.two_ends.proofs.Judging.{Fair, fair-done, fair-full, fair-fatal}
-use Rattle.two_ends.proofs.Arriving.{g₁, alive-read, alive-done, g₂, carried-read, carried-fair, up-reads}
+use Rattle.two_ends.proofs.Arriving.{g₁, alive-read, alive-done, g₂, carried-read, carried-fair}
+use Rattle.two_ends.proofs.Delivered.{up-reads}
 use Rattle.two_ends.proofs.Unreleased.{Kept, taken-kept, full-kept}
 
--- ---- both have begun, and both keep their state
-pub record Stays (w : World) : Type 0 where
-  pub kept : w .kept ≡ true
-  pub ours : w .a .begun ≡ true
-  pub theirs : w .b .begun ≡ true
-
+-- ---- an event that leaves both states kept
 pub both-are : {a b : Bool} → a ≡ true → b ≡ true → both a b ≡ true
 both-are p q = rw (p, q)
 

@@ -4,7 +4,7 @@ use native.Mathlib.Omega.{arith}
 use mathlib.Core.Path.{_≡_, refl, sym}
 use mathlib.Core.Bool.{Bool, true, false, true≢false}
 use mathlib.Core.List.{List, []}
-use mathlib.Core.Logic.{_⊎_, inl, inr, ⊎-elim}
+use mathlib.Core.Logic.{_⊎_, inl, ⊎-elim}
 use lib.ListN.{length}
 use Rattle.octets.specs.Pick.{pick, both}
 use Rattle.block0.specs.Layout.{slotCount}
@@ -75,14 +75,21 @@ module _ (im : List ℕ) (ph : Phase) (m : List ℕ) (st : Standing im ph) (done
           linked = i .own .linked;
         } in
         let few : length (decode im .queue) < 64 = omega (arith, room, queue-length im) in
-        inl (ready-open own, (s .0, s .1, record {
-          lineA = i .lineA;
-          lineB = i .lineB;
-          own = own;
-          peer = i .peer;
-          out = rw decodes (dir-accept (decode im) (decode im .header .kept) ph jo true h m few (i .out));
-          back = rw decodes (dir-accept-peer (decode im) (decode im .header .kept) ph jo true h m (i .back));
-        }))
+        inl (
+          ready-open own,
+          (
+            s .0,
+            s .1,
+            record {
+              lineA = i .lineA;
+              lineB = i .lineB;
+              own = own;
+              peer = i .peer;
+              out = rw decodes (dir-accept (decode im) (decode im .header .kept) ph jo true h m few (i .out));
+              back = rw decodes (dir-accept-peer (decode im) (decode im .header .kept) ph jo true h m (i .back));
+            },
+          ),
+        )
     accepted false s k =
         let i = s .2 in
         let v = i .own .waiting refl in
@@ -95,14 +102,21 @@ module _ (im : List ℕ) (ph : Phase) (m : List ℕ) (st : Standing im ph) (done
           waiting = λ q. record { on = v .on; waits = v .waits; nothing = v .nothing };
           linked = i .own .linked;
         } in
-        inl (ready-open own, (s .0, s .1, record {
-          lineA = i .lineA;
-          lineB = i .lineB;
-          own = own;
-          peer = i .peer;
-          out = rw decodes (i .out);
-          back = rw decodes (i .back);
-        }))
+        inl (
+          ready-open own,
+          (
+            s .0,
+            s .1,
+            record {
+              lineA = i .lineA;
+              lineB = i .lineB;
+              own = own;
+              peer = i .peer;
+              out = rw decodes (i .out);
+              back = rw decodes (i .back);
+            },
+          ),
+        )
 
 -- any other answer changes nothing
 refused : (im : List ℕ) (ph : Phase) (m : List ℕ) → effectOf (submitAnswer im ph m) ≡ Effect.Nothing → Quiet im ph (submitOf im ph m)

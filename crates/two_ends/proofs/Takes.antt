@@ -1,9 +1,9 @@
 -- The two directions after the oldest message of a line is taken. Assumes nothing.
-use Prim.Native.Nat.{ℕ, zero, suc, _-_}
+use Prim.Native.Nat.{ℕ, _-_}
 use native.Mathlib.Omega.{arith}
-use mathlib.Core.Path.{_≡_, refl, sym, ap, _∙_}
+use mathlib.Core.Path.{_≡_}
 use mathlib.Core.Bool.{Bool, true, false}
-use mathlib.Core.List.{List, [], _∷_, _++_, append-nil}
+use mathlib.Core.List.{List, [], _∷_, append-nil}
 use lib.ListN.{take}
 use Rattle.ft_number.specs.Circle.{stepsOf}
 use Rattle.ft_number.specs.Ack.{ackOf}
@@ -27,8 +27,8 @@ use Rattle.two_ends.specs.World.{History, none}
 use Rattle.two_ends.specs.Calls.{takes}
 use Rattle.two_ends.proofs.Half.{Half}
 use Rattle.two_ends.proofs.Direction.{Freed, half-none, half-ack, half-init, half-secure}
-use Rattle.two_ends.proofs.Packets.{Packet, first, again, alive, carried, NoInit, datas, acksOf}
-use Rattle.two_ends.proofs.Invariant.{Side, sndOf, rcvOf, live, Headed, Shape, Dir}
+use Rattle.two_ends.proofs.Packets.{Packet, first, again, alive, carried, datas, acksOf}
+use Rattle.two_ends.proofs.Invariant.{Side, sndOf, rcvOf, Headed, Shape, Dir}
 use Rattle.two_ends.proofs.Sides.{side}
 
 pub nil-cons : {P : Type 0} {p : Packet} {ps : List Packet} → p ∷ ps ≡ [] → P

@@ -1,12 +1,10 @@
 -- Over any run: nothing lost, nothing twice. Assumes nothing.
-use Prim.Native.Nat.{ℕ, _+_, _≤_}
-use native.Mathlib.Omega.{arith}
-use mathlib.Core.Path.{_≡_, refl, sym, ap, _∙_}
+use Prim.Native.Nat.{ℕ, _+_}
+use mathlib.Core.Path.{_≡_, sym, ap, _∙_}
 use mathlib.Core.Bool.{Bool, true, false}
 use mathlib.Core.List.{List, [], _∷_, _++_}
 use lib.ListN.{length, take, drop, length-append, take-append-drop}
 use lib.Seq.{take-take}
-use Rattle.image.specs.State.{decode}
 use Rattle.image.proofs.Queue.{queue-length}
 use Rattle.image.proofs.Sound.{sound-valid}
 use Rattle.two_ends.specs.World.{End, World, swap}
@@ -22,7 +20,7 @@ use Rattle.two_ends.proofs.Cutting.{at-halts}
 use Rattle.two_ends.proofs.Writing.{at-keepalives}
 use Rattle.two_ends.proofs.Opening.{at-opens}
 use Rattle.two_ends.proofs.Sending.{at-sends}
-use Rattle.two_ends.proofs.Arriving.{at-delivers}
+use Rattle.two_ends.proofs.Delivered.{at-delivers}
 use Rattle.two_ends.proofs.Begun.{at-start}
 
 -- ---- every event keeps the invariant

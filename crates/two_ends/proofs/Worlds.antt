@@ -1,10 +1,9 @@
 -- A world after a call at the end a, whatever the call is. Assumes nothing.
 use Prim.Native.Nat.{ℕ}
-use native.Mathlib.Omega.{arith}
-use mathlib.Core.Path.{_≡_, refl, sym, ap, _∙_}
+use mathlib.Core.Path.{_≡_, refl, sym, _∙_}
 use mathlib.Core.Bool.{Bool, true, false, not, true≢false}
 use mathlib.Core.List.{List, []}
-use mathlib.Core.Logic.{_⊎_, inl, inr, ⊎-elim}
+use mathlib.Core.Logic.{_⊎_, inl, ⊎-elim}
 use borrow.Author.Tests.{eqb-true}
 use Rattle.octets.specs.Pick.{pick, both}
 use Rattle.label_list.proofs.Choice.{both-true}
@@ -14,9 +13,8 @@ use Rattle.calls.specs.declared.Phase.{Phase}
 use Rattle.calls.specs.Outcomes.{After}
 use Rattle.timers.specs.Events.{connected}
 use Rattle.two_ends.specs.World.{History, End, World, swap}
-use Rattle.two_ends.specs.Calls.{off, broken, keeps, called, replaced, plainly}
-use Rattle.two_ends.proofs.Packets.{Packet}
-use Rattle.two_ends.proofs.Invariant.{Waiting, linkable, Ready, Inv, Some, Good}
+use Rattle.two_ends.specs.Calls.{off, broken, keeps, called, replaced}
+use Rattle.two_ends.proofs.Invariant.{Waiting, linkable, Ready, Some, Good}
 use Rattle.two_ends.proofs.Sides.{dir-lost}
 
 -- an end by its parts
@@ -70,15 +68,18 @@ ready-open {e} r = by (e .joined) (r .linked)
 -- ---- both ends off the connection
 pub some-off : {a b : End} {ab ba : List (List ℕ)} → Some a b ab ba → a .begun ≡ true → b .begun ≡ true → Some (off a) (off b) [] []
 some-off s ga gb =
-    let i = s .2 in
-    ([], [], record {
-      lineA = refl;
-      lineB = refl;
-      own = ready-off (i .own) ga;
-      peer = ready-off (i .peer) gb;
-      out = dir-lost (i .out) gb;
-      back = dir-lost (i .back) ga;
-    })
+    let i = s .2 in (
+      [],
+      [],
+      record {
+        lineA = refl;
+        lineB = refl;
+        own = ready-off (i .own) ga;
+        peer = ready-off (i .peer) gb;
+        out = dir-lost (i .out) gb;
+        back = dir-lost (i .back) ga;
+      },
+    )
 
 pub at-broken : (w : World) → Good w → Good (broken w)
 at-broken w g k =

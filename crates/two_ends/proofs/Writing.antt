@@ -1,5 +1,5 @@
 -- What a writer puts on its line, and a KeepAlive. Assumes nothing.
-use Prim.Native.Nat.{ℕ, _^_, _≤_, _<_}
+use Prim.Native.Nat.{ℕ, _≤_, _<_}
 use native.Mathlib.Omega.{arith}
 use mathlib.Core.Path.{_≡_, refl, sym, ap, _∙_}
 use mathlib.Core.Bool.{Bool, true, false, true≢false}
@@ -10,7 +10,6 @@ use lib.Dec.{ltb, eqb}
 use lib.ListN.{length, drop}
 use lib.Seq.{take-append-seam}
 use Rattle.octets.specs.Pick.{pick}
-use Rattle.ft_number.specs.declared.FtNumber.{FtNumber}
 use Rattle.ft_number.specs.declared.MessageId.{MessageId}
 use Rattle.image.specs.State.{decode}
 use Rattle.calls.specs.declared.Answer
@@ -27,7 +26,7 @@ use Rattle.connect.specs.Writers.{writerOf, isUp, aliveBytes, keepaliveOf}
 use Rattle.two_ends.specs.World.{History, End, World}
 use Rattle.two_ends.specs.Calls.{called, put, wrote as writes}
 use Rattle.two_ends.proofs.Packets.{Packet, alive, Fine, bytesOf}
-use Rattle.two_ends.proofs.Invariant.{Waiting, Ready, Inv, Some, Good}
+use Rattle.two_ends.proofs.Invariant.{Waiting, Ready, Some, Good}
 use Rattle.two_ends.proofs.Sides.{dir-alive, dir-alive-peer}
 use Rattle.two_ends.proofs.Worlds.{ended, kept-one, begun-else, ready-open, at-replaced, Settled}
 use Rattle.two_ends.proofs.Quiet.{Quiet, settled-quiet, standing-admitted, quietly-puts}
@@ -92,14 +91,21 @@ module _ (im : List ℕ) (h : History) (id : MessageId) (small : id .0 < 4294967
       let i = s .2 in
       let p : Packet = alive id (decode im .header .secured) in
       let fine : Fine p = (omega arith, omega (arith, i .own .stand .range .header .secured)) in
-      inl (ready-open (i .own), (s .0 ++ (p ∷ []), s .1, record {
-        lineA = put-wrote ab (Phase.UpFT sent) im im out (bytesOf p) ∙ line-more (s .0) p (i .lineA);
-        lineB = i .lineB;
-        own = i .own;
-        peer = i .peer;
-        out = dir-alive (decode im) (decode im .header .kept) sent true h id fine (i .out);
-        back = dir-alive-peer (decode im) (decode im .header .kept) sent true h id (i .back);
-      }))
+      inl (
+        ready-open (i .own),
+        (
+          s .0 ++ (p ∷ []),
+          s .1,
+          record {
+            lineA = put-wrote ab (Phase.UpFT sent) im im out (bytesOf p) ∙ line-more (s .0) p (i .lineA);
+            lineB = i .lineB;
+            own = i .own;
+            peer = i .peer;
+            out = dir-alive (decode im) (decode im .header .kept) sent true h id fine (i .out);
+            back = dir-alive-peer (decode im) (decode im .header .kept) sent true h id (i .back);
+          },
+        ),
+      )
   alive-written Phase.UpPlain jo bg u s = absurd (no-plain (s .2 .own))
   alive-written Phase.Failed jo bg u s = absurd (true≢false (sym u))
 

@@ -3,7 +3,7 @@
 -- connection; the first of them may send before the other has read its Init. Each end is counted from its own fresh UpFT.
 use Prim.Native.Nat.{ℕ}
 use mathlib.Core.Path.{_≡_}
-use mathlib.Core.Bool.{Bool, true, false}
+use mathlib.Core.Bool.{true, false}
 use mathlib.Core.List.{List, [], _∷_}
 use mathlib.Core.Logic.{_⊎_}
 use Rattle.ft_number.specs.Timeout.{proposedOf}

@@ -1,0 +1,68 @@
+-- What the peer's Init leaves of an image, where it is not refused, and where its parameters are others. Assumes nothing.
+use Prim.Native.Nat.{ℕ, _<_}
+use native.Mathlib.Omega.{arith}
+use mathlib.Core.Path.{_≡_, refl, _∙_}
+use mathlib.Core.Bool.{true}
+use mathlib.Core.List.{List, []}
+use lib.ListN.{take}
+use Rattle.image.specs.State.{State, decode}
+use Rattle.image.specs.Verdict.{IsSound}
+use Rattle.image.proofs.Ranges.{Bytes}
+use Rattle.image.proofs.Sound.{sound-valid}
+use Rattle.calls.specs.Acked.{acked}
+use Rattle.calls.specs.declared.Answer
+use Rattle.calls.specs.declared.Answer.{Answer}
+use Rattle.calls.specs.declared.Phase
+use Rattle.calls.specs.declared.Phase.{Phase}
+use Rattle.calls.specs.Outcomes.{After, isDone, releasedWith}
+use Rattle.calls.proofs.Settled.{admitted-is}
+use Rattle.call_meaning.specs.Standing.{Standing}
+use Rattle.call_meaning.proofs.Answered.{answered-released}
+use Rattle.init.specs.declared.Start
+use Rattle.init.specs.declared.Start.{Start}
+use Rattle.init.specs.declared.Terms.{Terms}
+use Rattle.init.specs.Judged.{startAnswer}
+use Rattle.init.specs.Begun.{fresh, resumed, startState, startPhase, begunAs, initStart, initReceivedOf}
+use Rattle.init.specs.Meaning.{BegunFrom}
+use Rattle.init.proofs.Meaning.{init-decodes, init-stands}
+use Rattle.two_ends.proofs.Sixless.{NoSix, none-sixless, released-sixless}
+use Rattle.two_ends.proofs.Quiet.{standing-admitted}
+
+-- ---- what the call leaves
+module _ (im : List ℕ) (t : ℕ) (m : List ℕ) where
+  abbrev ph : Phase
+  ph = Phase.InitWait t
+
+  abbrev st : Start
+  st = initStart im ph m
+
+  abbrev x : After
+  x = initReceivedOf im ph m
+
+  -- a start that is not refused
+  pub record Begins (s : State) : Type 0 where
+    pub answer : x .outcome .answer ≡ Answer.Done
+    pub state : decode (x .image) ≡ s
+    pub phase : x .outcome .phase ≡ Phase.UpFT 0
+    pub stands : Standing (x .image) (Phase.UpFT 0)
+
+  module _ (stand : Standing im ph) (byte : Bytes m) (low : t < 65536) where
+    pub begins : (s : State) → isDone (startAnswer st) ≡ true → startState (decode im) st ≡ s → startPhase ph st ≡ Phase.UpFT 0 → Begins s
+    begins s d e f =
+        let b : BegunFrom (decode im) ph st x = init-decodes im ph m stand byte low refl d in
+        let up : x .outcome .phase ≡ Phase.UpFT 0 = b .phase ∙ f in
+        record { answer = b .answer; state = b .state ∙ e; phase = up; stands = rw up at (init-stands im ph m stand byte low) }
+
+    -- one that is refused with 35 releases
+    pub changed : st ≡ Start.Refused Answer.ParametersChanged → x ≡ releasedWith Answer.ParametersChanged im []
+    unfolding initReceivedOf
+    changed e = rw (admitted-is (standing-admitted stand) (startAnswer st), e) (answered-released Answer.ParametersChanged ph im [] (begunAs im ph (Start.Refused Answer.ParametersChanged)) (omega arith))
+
+-- a fresh session has no label; a resumed one those that the ACK leaves
+pub fresh-sixless : (ts : Terms) → NoSix (fresh ts .labels)
+unfolding fresh
+fresh-sixless ts = none-sixless
+
+pub resumed-sixless : (im : List ℕ) (ts : Terms) (k a : ℕ) → IsSound im → NoSix (decode im .labels) → NoSix (resumed (decode im) ts k a .labels)
+unfolding resumed acked
+resumed-sixless im ts k a s n = released-sixless (take k (decode im .queue)) (decode im .labels) (sound-valid im s .labels) n

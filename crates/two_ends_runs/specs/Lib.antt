@@ -1,0 +1,2 @@
+pub mod Cabinets
+pub mod Tales
