@@ -18,6 +18,16 @@ use Rattle.two_ends.specs.Runs.{Event, submits, sends, keepalives, opens, deliv
 abbrev pub address : ℕ → List ℕ
 address n = 3 ∷ 0 ∷ 0 ∷ 4 ∷ 0 ∷ 0 ∷ 0 ∷ n ∷ []
 
+-- a Mapping and a Release of label 16, with an empty FEC
+abbrev labelled : ℕ → ℕ → List ℕ
+labelled type n = 4 ∷ type ∷ 0 ∷ 16 ∷ 0 ∷ 0 ∷ 0 ∷ n ∷ 1 ∷ 0 ∷ 0 ∷ 0 ∷ 2 ∷ 0 ∷ 0 ∷ 4 ∷ 0 ∷ 0 ∷ 0 ∷ 16 ∷ []
+
+abbrev pub mapping : ℕ → List ℕ
+mapping n = labelled 0 n
+
+abbrev pub release : ℕ → List ℕ
+release n = labelled 3 n
+
 -- output lent to a writer
 abbrev pub room : List ℕ
 room = replicate 42 0
