@@ -6,6 +6,8 @@ pub mod Direction
 pub mod Octets
 pub mod Packets
 pub mod Sixless
+pub mod Owed
+pub mod Paid
 pub mod Invariant
 pub mod Sides
 pub mod Sends

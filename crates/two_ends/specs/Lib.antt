@@ -5,3 +5,4 @@ pub mod Start
 pub mod Demand
 pub mod Answers
 pub mod Staying
+pub mod Labels

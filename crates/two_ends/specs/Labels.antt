@@ -1,0 +1,38 @@
+-- What holds of the labels at one end of a run.
+use Prim.Native.Nat.{ℕ}
+use mathlib.Core.Path.{_≡_}
+use mathlib.Core.Bool.{true}
+use mathlib.Core.List.{List}
+use Rattle.message.specs.Kinds.{kindNumber}
+use Rattle.message.specs.declared.Kind
+use Rattle.message.specs.declared.Kind.{Kind}
+use Rattle.label_list.specs.declared.LabelMessage
+use Rattle.label_list.specs.declared.LabelMessage.{LabelMessage}
+use Rattle.label_list.specs.declared.Side
+use Rattle.label_list.specs.declared.Side.{Side}
+use Rattle.label_events.specs.Change.{codeAt}
+use Rattle.submit.specs.Labels.{isHeld}
+
+-- a label of code 2, withdrawing, waits for its Withdraw to be acknowledged; one of code 5, releasing, for its Release
+pub data Due : Type 0 where
+  withdrawal release : Due
+
+abbrev pub sideOf : Due → Side
+sideOf withdrawal = Side.Given
+sideOf release = Side.Used
+
+abbrev pub codeOf : Due → ℕ
+codeOf withdrawal = 2
+codeOf release = 5
+
+abbrev pub messageOf : Due → LabelMessage
+messageOf withdrawal = LabelMessage.Withdraw
+messageOf release = LabelMessage.Release
+
+abbrev pub kindOf : Due → ℕ
+kindOf withdrawal = kindNumber Kind.Withdraw
+kindOf release = kindNumber Kind.Release
+
+-- such a label has its message in the store
+abbrev pub Owed : List ℕ → List (List ℕ) → Type 0
+Owed labels queue = (due : Due) (l : ℕ) → codeAt labels (sideOf due) l ≡ codeOf due → isHeld (kindOf due) l queue ≡ true
