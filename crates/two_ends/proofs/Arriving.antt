@@ -4,7 +4,7 @@ use native.Mathlib.Omega.{arith}
 use mathlib.Core.Path.{_≡_, refl, ap}
 use mathlib.Core.Bool.{true}
 use mathlib.Core.List.{List, [], _∷_, map}
-use lib.ListN.{length, take}
+use lib.ListN.{length}
 use Rattle.ft_number.specs.declared.Ack
 use Rattle.ft_number.specs.declared.Ack.{Ack}
 use Rattle.ft_number.specs.declared.FtNumber.{FtNumber}
@@ -22,21 +22,19 @@ use Rattle.message_writer.proofs.Own.{keepalive-reads}
 use Rattle.message_writer.proofs.RoundTrip.{submitted, sent-reads, sent-kind, sent-payload}
 use Rattle.image.specs.State.{decode}
 use Rattle.image.proofs.Sound.{sound-valid}
-use Rattle.calls.specs.Acked.{releasedLabels, acked}
-use Rattle.call_meaning.proofs.Released.{released-valid}
 use Rattle.calls.specs.declared.Answer
 use Rattle.calls.specs.declared.Answer.{Answer}
 use Rattle.calls.specs.declared.Phase
 use Rattle.calls.specs.declared.Phase.{Phase}
 use Rattle.receive.specs.Labels.{labelEffect, protectionRule}
-use Rattle.receive.specs.Rule.{ackOn, taken as rtaken, receivedState, receiveAnswer, receiveOf}
+use Rattle.receive.specs.Rule.{ackOn, receivedState, receiveAnswer, receiveOf}
 use Rattle.two_ends.specs.World.{History, End}
 use Rattle.two_ends.specs.Calls.{keeps, took, securing}
 use Rattle.two_ends.proofs.Direction.{half-ack, half-turn}
 use Rattle.two_ends.proofs.Packets.{Packet, alive, carried, bytesOf, Fine, fine-bytes}
 use Rattle.two_ends.proofs.Invariant.{sideOf, Inv}
 use Rattle.two_ends.proofs.Takes.{arrives, dir-took-alive, dir-took-carried}
-use Rattle.two_ends.proofs.Sixless.{NoSix, released-sixless, received-sixless}
+use Rattle.two_ends.proofs.Tidy.{Tidy, tidy-words, tidy-bare, tidy-protected}
 use Rattle.two_ends.proofs.Worlds.{ended, Settled}
 use Rattle.two_ends.proofs.Judging.{Fair, fair-done, fair-full, fair-fatal, InOrder, order-fair, Plain, plain-done, not-init}
 use Rattle.two_ends.proofs.Receiving.{judged, takes-none, takes-end, takes-it}
@@ -57,9 +55,8 @@ module _ (im : List ℕ) (sent : ℕ) (h : History) (id : MessageId) (n : FtNumb
     pub alive-read : readingOf m₁ ≡ Reading.Whole g₁
     alive-read = keepalive-reads id (FtField.Number n) (i .back .fines .0 .0) (i .back .fines .0 .1)
 
-    alive-sixless : (j : ℕ) → ackOn (decode im .header) g₁ ≡ Ack.Releases j → NoSix (receivedState (decode im) g₁ .labels)
-    unfolding receivedState rtaken acked labelEffect
-    alive-sixless j acks = rw acks (released-sixless (take j (decode im .queue)) (decode im .labels) (sound-valid im (i .own .stand .sound) .labels) (i .own .sixless refl))
+    alive-tidy : (j : ℕ) → ackOn (decode im .header) g₁ ≡ Ack.Releases j → Tidy (receivedState (decode im) g₁)
+    alive-tidy j acks = tidy-bare (decode im) (sound-valid im (i .own .stand .sound) .labels) (i .own .tidy refl) g₁ j acks (plain j acks .effect)
 
     pub alive-done : receiveAnswer im (Phase.UpFT sent) m₁ ≡ Answer.Done
     unfolding ackOn
@@ -72,7 +69,7 @@ module _ (im : List ℕ) (sent : ℕ) (h : History) (id : MessageId) (n : FtNumb
     unfolding ackOn
     alive-arrives k =
         let free = half-ack (i .out .half) in
-        takes-it im sent m₁ (i .own .stand) g₁ alive-read h i (fine-bytes (alive id n) (i .back .fines .0)) (free .0) (free .1 .right) (free .1) (alive-sixless (free .0) (free .1 .right)) [] (rw alive-read) alive-done k
+        takes-it im sent m₁ (i .own .stand) g₁ alive-read h i (fine-bytes (alive id n) (i .back .fines .0)) (free .0) (free .1 .right) (free .1) (alive-tidy (free .0) (free .1 .right)) [] (rw alive-read) alive-done k
         (dir-took-alive (decode im) sent h g₁ (free .0) (free .1 .right) refl id n (i .back))
 
 -- ---- a message with its number
@@ -104,17 +101,11 @@ module _ (im : List ℕ) (sent : ℕ) (h : History) (m : List ℕ) (n : FtNumber
           protected = refl;
           acks = acks;
           turn = half-turn (i .back .half);
-          sixless = λ j. released-sixless (take j (decode im .queue)) (decode im .labels) valid (i .own .sixless refl);
+          sixless = tidy-words (decode im) valid (i .own .tidy refl);
         }
 
-    carried-sixless : (j : ℕ) → ackOn (decode im .header) g₂ ≡ Ack.Releases j → NoSix (receivedState (decode im) g₂ .labels)
-    unfolding receivedState rtaken acked
-    carried-sixless j acks =
-        let valid = sound-valid im (i .own .stand .sound) .labels in
-        let gone = take j (decode im .queue) in
-        rw acks
-        (received-sixless (releasedLabels gone (decode im .labels)) (labelEffect g₂) (released-valid gone (decode im .labels) valid)
-        (released-sixless gone (decode im .labels) valid (i .own .sixless refl)))
+    carried-tidy : (j : ℕ) → ackOn (decode im .header) g₂ ≡ Ack.Releases j → Tidy (receivedState (decode im) g₂)
+    carried-tidy j acks = tidy-protected (decode im) (sound-valid im (i .own .stand .sound) .labels) (i .own .tidy refl) g₂ j acks n refl
 
     pub carried-fair : Fair (receiveAnswer im (Phase.UpFT sent) m₂)
     unfolding ackOn
@@ -135,7 +126,7 @@ module _ (im : List ℕ) (sent : ℕ) (h : History) (m : List ℕ) (n : FtNumber
         by : (a : Answer) → receiveAnswer im (Phase.UpFT sent) m₂ ≡ a → Fair a → Settled (took (ended im (Phase.UpFT sent) true true h) m₂ (receiveOf im (Phase.UpFT sent) m₂)) b ab (map bytesOf qs)
         by Answer.Done e fair-done =
             let free = arrives (decode im) h sent (sideOf b) pa qs m n ack (i .out .half) in
-            takes-it im sent m₂ (i .own .stand) g₂ carried-read h i (fine-bytes (carried m n ack) f) (free .0) (free .1 .right) (free .1) (carried-sixless (free .0) (free .1 .right)) (m ∷ []) secures e k
+            takes-it im sent m₂ (i .own .stand) g₂ carried-read h i (fine-bytes (carried m n ack) f) (free .0) (free .1 .right) (free .1) (carried-tidy (free .0) (free .1 .right)) (m ∷ []) secures e k
             (dir-took-carried (decode im) sent h g₂ (free .0) (free .1 .right) m n ack refl (i .back))
         by Answer.NoWordForMapping e fair-full = takes-none im sent m₂ (i .own .stand) g₂ carried-read h i e
         by Answer.StatusFatal e fair-fatal = takes-end im sent m₂ (i .own .stand) g₂ carried-read h i Answer.StatusFatal e (omega arith) k

@@ -4,12 +4,8 @@ use native.Mathlib.Omega.{arith}
 use mathlib.Core.Path.{_≡_, refl, _∙_}
 use mathlib.Core.Bool.{true}
 use mathlib.Core.List.{List, []}
-use lib.ListN.{take}
 use Rattle.image.specs.State.{State, decode}
-use Rattle.image.specs.Verdict.{IsSound}
 use Rattle.image.proofs.Ranges.{Bytes}
-use Rattle.image.proofs.Sound.{sound-valid}
-use Rattle.calls.specs.Acked.{acked}
 use Rattle.calls.specs.declared.Answer
 use Rattle.calls.specs.declared.Answer.{Answer}
 use Rattle.calls.specs.declared.Phase
@@ -20,12 +16,10 @@ use Rattle.call_meaning.specs.Standing.{Standing}
 use Rattle.call_meaning.proofs.Answered.{answered-released}
 use Rattle.init.specs.declared.Start
 use Rattle.init.specs.declared.Start.{Start}
-use Rattle.init.specs.declared.Terms.{Terms}
 use Rattle.init.specs.Judged.{startAnswer}
-use Rattle.init.specs.Begun.{fresh, resumed, startState, startPhase, begunAs, initStart, initReceivedOf}
+use Rattle.init.specs.Begun.{startState, startPhase, begunAs, initStart, initReceivedOf}
 use Rattle.init.specs.Meaning.{BegunFrom}
 use Rattle.init.proofs.Meaning.{init-decodes, init-stands}
-use Rattle.two_ends.proofs.Sixless.{NoSix, none-sixless, released-sixless}
 use Rattle.two_ends.proofs.Quiet.{standing-admitted}
 
 -- ---- what the call leaves
@@ -57,12 +51,3 @@ module _ (im : List ℕ) (t : ℕ) (m : List ℕ) where
     pub changed : st ≡ Start.Refused Answer.ParametersChanged → x ≡ releasedWith Answer.ParametersChanged im []
     unfolding initReceivedOf
     changed e = rw (admitted-is (standing-admitted stand) (startAnswer st), e) (answered-released Answer.ParametersChanged ph im [] (begunAs im ph (Start.Refused Answer.ParametersChanged)) (omega arith))
-
--- a fresh session has no label; a resumed one those that the ACK leaves
-pub fresh-sixless : (ts : Terms) → NoSix (fresh ts .labels)
-unfolding fresh
-fresh-sixless ts = none-sixless
-
-pub resumed-sixless : (im : List ℕ) (ts : Terms) (k a : ℕ) → IsSound im → NoSix (decode im .labels) → NoSix (resumed (decode im) ts k a .labels)
-unfolding resumed acked
-resumed-sixless im ts k a s n = released-sixless (take k (decode im .queue)) (decode im .labels) (sound-valid im s .labels) n

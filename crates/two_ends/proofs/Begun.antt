@@ -59,7 +59,7 @@ ready o s = record {
   proposal = seconds-small (o .proposal) (s .seconds);
   keeping = refl;
   okays = tt;
-  sixless = λ q. absurd (true≢false (sym q));
+  tidy = λ q. absurd (true≢false (sym q));
   waiting = λ q. record { on = refl; waits = refl; nothing = refl };
   linked = λ q. refl;
 }

@@ -95,7 +95,7 @@ some-uncut im im′ ph jo bg h u s =
           proposal = r .proposal;
           keeping = rw (u .state) (r .keeping);
           okays = r .okays;
-          sixless = rw (u .state) (r .sixless);
+          tidy = rw (u .state) (r .tidy);
           waiting = λ q. let v = r .waiting q in record { on = v .on; waits = v .waits; nothing = v .nothing };
           linked = r .linked;
         };

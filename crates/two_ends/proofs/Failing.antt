@@ -24,7 +24,7 @@ use Rattle.timers.specs.Events.{connected}
 use Rattle.two_ends.specs.World.{History, End}
 use Rattle.two_ends.proofs.Invariant.{Ready, Some}
 use Rattle.two_ends.proofs.Sides.{dir-failed, dir-failed-peer, dir-rest, dir-rest-peer}
-use Rattle.two_ends.proofs.Sixless.{broken-sixless}
+use Rattle.two_ends.proofs.Tidy.{tidy-broken}
 use Rattle.two_ends.proofs.Worlds.{ended, kept-one, ready-off, Settled}
 
 resting-off : (h : Header) → connected (restingPhase h) ≡ false
@@ -51,7 +51,7 @@ module _ (im : List ℕ) (ph : Phase) (jo : Bool) (h : History) (r : Ready (ende
     proposal = rw resting (omega arith);
     keeping = rw (break-decodes im (st .sound) (st .range)) (r .keeping);
     okays = r .okays;
-    sixless = λ q. rw (break-decodes im (st .sound) (st .range)) (broken-sixless (decode im .labels) (sound-valid im (st .sound) .labels) (r .sixless refl));
+    tidy = λ q. rw (break-decodes im (st .sound) (st .range)) (tidy-broken (decode im) (sound-valid im (st .sound) .labels) (r .tidy refl));
     waiting = λ q. absurd (true≢false q);
     linked = λ q. absurd (true≢false (sym q));
   }

@@ -12,6 +12,7 @@ use Rattle.tlv.specs.declared.FtField.{FtField}
 use Rattle.message_writer.specs.declared.OwnParameters.{OwnParameters}
 use Rattle.image.specs.State.{State, decode}
 use Rattle.image.proofs.Ranges.{Bytes}
+use Rattle.image.proofs.Sound.{sound-valid}
 use Rattle.calls.specs.declared.Answer
 use Rattle.calls.specs.declared.Answer.{Answer}
 use Rattle.calls.specs.declared.Phase
@@ -32,7 +33,8 @@ use Rattle.two_ends.proofs.Takes.{headed, dir-fresh, dir-fresh-peer, di
 use Rattle.two_ends.proofs.Worlds.{ended, kept-one, Settled}
 use Rattle.two_ends.proofs.Resting.{released-ends}
 use Rattle.two_ends.proofs.Delivering.{let-go}
-use Rattle.two_ends.proofs.Begins.{Begins, begins, changed, fresh-sixless, resumed-sixless}
+use Rattle.two_ends.proofs.Begins.{Begins, begins, changed}
+use Rattle.two_ends.proofs.Tidy.{tidy-fresh, tidy-resumed}
 use Rattle.two_ends.proofs.Starting.{terms, starts-fresh, starts-again}
 
 -- the end after it
@@ -68,7 +70,7 @@ module _ (im : List ℕ) (t : ℕ) (h : History) (id : MessageId) (p : OwnParame
           proposal = omega arith;
           keeping = rw (e, d .answer) at k;
           okays = i .own .okays;
-          sixless = λ q. rw (d .state) (fresh-sixless ts);
+          tidy = λ q. rw (d .state) (tidy-fresh ts);
           waiting = λ q. absurd (true≢false q);
           linked = λ q. refl;
         } in
@@ -131,7 +133,7 @@ module _ (im : List ℕ) (t : ℕ) (h : History) (id : MessageId) (p : OwnParame
           proposal = omega arith;
           keeping = k;
           okays = i .own .okays;
-          sixless = λ q. rw (d .state) (resumed-sixless im ts j (a .0) (stand .sound) (i .own .sixless refl));
+          tidy = λ q. rw (d .state) (tidy-resumed (decode im) (sound-valid im (stand .sound) .labels) (i .own .tidy refl) ts j (a .0));
           waiting = λ q. absurd (true≢false q);
           linked = λ q. refl;
         } in

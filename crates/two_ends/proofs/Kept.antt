@@ -110,7 +110,7 @@ module _ (w : World) (g : Good w) (s : Stays w) where
 swap-stays : (w : World) → Stays w → Stays (swap w)
 swap-stays w s = record { kept = s .kept; ours = s .theirs; theirs = s .ours }
 
-step-stays : (w : World) (at : Bool) (v : Event) → Good w → Stays w → (ReleasingAt w at v → ⊥) → Stays (step w at v)
+pub step-stays : (w : World) (at : Bool) (v : Event) → Good w → Stays w → (ReleasingAt w at v → ⊥) → Stays (step w at v)
 step-stays w true v g s n = act-stays w g s v n
 step-stays w false v g s n = swap-stays (act (swap w) v) (act-stays (swap w) (at-swap w g) (swap-stays w s) v n)
 

@@ -8,6 +8,7 @@ pub mod Packets
 pub mod Sixless
 pub mod Owed
 pub mod Paid
+pub mod Tidy
 pub mod Invariant
 pub mod Sides
 pub mod Sends
@@ -36,3 +37,4 @@ pub mod Room
 pub mod Unreleased
 pub mod Staying
 pub mod Kept
+pub mod Listing

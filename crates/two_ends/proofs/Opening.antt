@@ -67,7 +67,7 @@ module _ (im : List ℕ) (h : History) (id : MessageId) (p : OwnParameters) (t :
         proposal = seconds-small t seconds;
         keeping = k;
         okays = i .own .okays;
-        sixless = i .own .sixless;
+        tidy = i .own .tidy;
         waiting = λ q. absurd (true≢false q);
         linked = λ q. refl;
       } in

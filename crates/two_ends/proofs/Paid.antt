@@ -1,15 +1,13 @@
 -- An acknowledgement that lets a Withdraw or Release go frees its label. Assumes nothing.
 use Prim.Native.Nat.{ℕ, zero, suc}
 use native.Mathlib.Omega.{arith}
-use mathlib.Core.Path.{_≡_, refl, sym, ap, _∙_}
-use mathlib.Core.Bool.{Bool, true, false, true≢false}
+use mathlib.Core.Path.{_≡_, refl, sym}
+use mathlib.Core.Bool.{true, false, true≢false}
 use mathlib.Core.List.{List, [], _∷_}
 use mathlib.Core.Logic.{⊎-elim}
 use mathlib.Core.Logic.{_≢_}
 use borrow.Author.Tests.{eqb-true, ne-eqb}
-use lib.Dec.{eqb}
 use lib.ListN.{take, drop}
-use Rattle.octets.specs.Pick.{pick, both}
 use Rattle.message.specs.Kinds.{kindNumber}
 use Rattle.message.specs.Submission.{submissionOf}
 use Rattle.message.specs.declared.Kind
@@ -19,7 +17,7 @@ use Rattle.message.specs.declared.Submission.{Submission}
 use Rattle.label_list.specs.Valid.{validOf}
 use Rattle.label_list.specs.declared.LabelMessage.{LabelMessage}
 use Rattle.label_list.specs.declared.LabelMessage.the-variants.{Withdraw, Release}
-use Rattle.label_list.proofs.Choice.{by-test, both-true}
+use Rattle.label_list.proofs.Choice.{by-test}
 use Rattle.label_events.specs.Change.{codeAt}
 use Rattle.label_meaning.specs.Event.{Accepted, Acked, step, withdraw-acked, release-acked}
 use Rattle.label_meaning.proofs.Meaning.{valid-means}

@@ -31,7 +31,8 @@ use Rattle.two_ends.specs.Calls.{keeps, called, put, wrote as writes}
 use Rattle.two_ends.proofs.Direction.{half-place}
 use Rattle.two_ends.proofs.Packets.{Packet, carried, bytesOf, Okay, Okays, Fine}
 use Rattle.two_ends.proofs.Invariant.{Ready, Some, Good}
-use Rattle.two_ends.proofs.Sends.{sent-labels, dir-send, dir-send-lost, dir-send-peer, dir-send-lost-peer}
+use Rattle.two_ends.proofs.Sends.{dir-send, dir-send-lost, dir-send-peer, dir-send-lost-peer}
+use Rattle.two_ends.proofs.Tidy.{tidy-sent}
 use Rattle.two_ends.proofs.Worlds.{ended, kept-one, ready-open, at-replaced, Settled}
 use Rattle.two_ends.proofs.Quiet.{Quiet, settled-quiet, quietly-puts}
 use Rattle.two_ends.proofs.Writing.{put-wrote, line-more}
@@ -92,7 +93,7 @@ module _ (im : List ℕ) (sent : ℕ) (h : History) (ask : Bool) (out : List ℕ
       proposal = omega arith;
       keeping = k;
       okays = r .okays;
-      sixless = λ q. rw (decodes, sent-labels s sent) (r .sixless refl);
+      tidy = λ q. rw decodes (tidy-sent s sent (r .tidy refl));
       waiting = λ q. absurd (true≢false q);
       linked = λ q. refl;
     }

@@ -42,7 +42,7 @@ ready-off r begun = record {
   proposal = r .proposal;
   keeping = r .keeping;
   okays = r .okays;
-  sixless = r .sixless;
+  tidy = r .tidy;
   waiting = λ q. never (sym begun ∙ q);
   linked = λ q. never (sym q);
 }
