@@ -69,10 +69,10 @@ module _ (w : World) (g : Good w) (s : Stays w) where
   abbrev ph : Phase
   ph = w .a .phase
 
-  stand : Standing im ph
+  pub stand : Standing im ph
   stand = g (s .kept) .2 .own .stand
 
-  one : decode im .header .kept ≡ 1
+  pub one : decode im .header .kept ≡ 1
   one = eqb-true (decode im .header .kept) 1 (rw (s .ours) at (g (s .kept) .2 .own .keeping))
 
   -- a call that leaves kept

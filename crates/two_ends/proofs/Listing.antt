@@ -1,17 +1,13 @@
 -- Over every run: a label is withdrawing or releasing only as long as its message is held. Assumes nothing.
-use Prim.Native.Nat.{ℕ}
 use mathlib.Core.Path.{_≡_, sym, ap, _∙_}
 use mathlib.Core.Bool.{Bool, true, true≢false}
-use mathlib.Core.List.{List, []}
+use mathlib.Core.List.{List}
 use Rattle.image.specs.State.{decode}
-use Rattle.label_events.specs.Change.{codeAt}
 use Rattle.submit.specs.Labels.{isHeld}
 use Rattle.two_ends.specs.World.{End}
-use Rattle.two_ends.specs.Demand.{store}
-use Rattle.two_ends.specs.Labels.{Due, sideOf, codeOf, kindOf, Listed}
+use Rattle.two_ends.specs.Labels.{kindOf, Listed}
 use Rattle.two_ends.specs.Runs.{Event, run, AllProper}
 use Rattle.two_ends.specs.Start.{Opener, start, Sound, Afresh}
-use Rattle.two_ends.proofs.Invariant.{Ready}
 use Rattle.two_ends.proofs.Tidy.{Tidy}
 use Rattle.two_ends.proofs.Begun.{at-start}
 use Rattle.two_ends.proofs.Theorem.{at-run}

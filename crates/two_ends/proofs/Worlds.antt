@@ -100,6 +100,14 @@ Settled e b ab ba = ((closes e ≡ false) × Some e b ab ba) ⊎ ((closes e ≡ 
 abbrev pub next : World → End → List (List ℕ) → List (List ℕ) → World
 next w e ab ba = record { a = e; b = w .b; ab = ab; ba = ba; kept = both (w .kept) (keeps e) }
 
+-- what holds of the end, on the connection or off it, holds of the end in the world
+pub replaced-a : (P : End → Type 0) (w : World) (e : End) (ab ba : List (List ℕ)) → P e → P (off e) → P (replaced w e ab ba .a)
+replaced-a P w e ab ba p q = by (closes e)
+  where
+    by : (c : Bool) → P (pick c (broken (next w e ab ba)) (next w e ab ba) .a)
+    by true = q
+    by false = p
+
 pub at-replaced : (w : World) (e : End) (ab ba : List (List ℕ)) → (w .kept ≡ true → keeps e ≡ true → Settled e (w .b) ab ba) → Good (replaced w e ab ba)
 at-replaced w e ab ba f = by (closes e) refl
   where

@@ -1,2 +1,3 @@
+pub mod Opened
 pub mod Computed
-pub mod Race
+pub mod Filling

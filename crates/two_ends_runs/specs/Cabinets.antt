@@ -75,6 +75,7 @@ reopen at = (at, opens id parameters (Proposal.Seconds 5) room)
 abbrev pub deliver : Bool → Bool × Event
 deliver at = (at, delivers)
 
+-- that many submissions at a
 abbrev pub many : ℕ → List (Bool × Event)
 many zero = []
-many (suc n) = submit true n ∷ many n
+many (suc n) = submit true 7 ∷ many n
