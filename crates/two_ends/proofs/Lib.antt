@@ -34,6 +34,7 @@ pub mod Begun
 pub mod Theorem
 pub mod Answering
 pub mod Room
+pub mod Moving
 pub mod Unreleased
 pub mod Staying
 pub mod Kept

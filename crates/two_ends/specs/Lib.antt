@@ -6,3 +6,4 @@ pub mod Demand
 pub mod Answers
 pub mod Staying
 pub mod Labels
+pub mod Steady
