@@ -39,9 +39,9 @@ use Rattle.two_ends.proofs.Opening.{seconds-small}
 abbrev packet : Opener → Packet
 packet o = first (o .id) (o .parameters) (proposedOf (o .proposal)) (keptAck (decode (o .image) .header))
 
-ack-fits : (h : Header) → h .secured .0 < 4294967296 → AckFits (keptAck h)
+pub kept-fits : (h : Header) → h .secured .0 < 4294967296 → AckFits (keptAck h)
 unfolding keptAck
-ack-fits h l = pick-all AckFits (eqb (h .kept) 1) (omega arith) tt
+kept-fits h l = pick-all AckFits (eqb (h .kept) 1) (omega arith) tt
 
 fine : (o : Opener) → Sound o → Fine (packet o)
 fine o s = record {
@@ -49,7 +49,7 @@ fine o s = record {
   keepalive = omega (arith, s .widths .keepalive);
   pdulength = omega (arith, s .widths .pdulength);
   seconds = omega (arith, seconds-small (o .proposal) (s .seconds));
-  ack = ack-fits (decode (o .image) .header) (s .range .header .secured);
+  ack = kept-fits (decode (o .image) .header) (s .range .header .secured);
 }
 
 ready : (o : Opener) → Sound o → Ready (opener o)

@@ -39,3 +39,5 @@ pub mod Unreleased
 pub mod Staying
 pub mod Kept
 pub mod Listing
+pub mod Saying
+pub mod Steady

@@ -63,7 +63,7 @@ okay-at zero (x ∷ l) m ms e o = let q : x ≡ m = cc in rw q at (o .0)
 okay-at (suc n) [] m ms e o = absurd (let q : _≡_ {A = ℕ} 0 1 = cc in omega arith)
 okay-at (suc n) (x ∷ l) m ms e o = okay-at n l m ms e (o .1)
 
-ack-fits : (ask : Bool) (h : Header) → h .secured .0 < 4294967296 → AckFits (ackAsked ask h)
+pub ack-fits : (ask : Bool) (h : Header) → h .secured .0 < 4294967296 → AckFits (ackAsked ask h)
 unfolding ackAsked
 ack-fits true h l = omega arith
 ack-fits false h l = tt
