@@ -26,7 +26,8 @@ use Rattle.two_ends.proofs.Worlds.{ended, at-swap}
 use Rattle.two_ends.proofs.Delivering.{Oldest, oldest}
 use Rattle.two_ends.proofs.Greeting.{first-begins, again-start, again-begins, again-changed}
 use Rattle.two_ends.proofs.Judging.{Fair, fair-done, fair-full, fair-fatal}
-use Rattle.two_ends.proofs.Arriving.{alive-done, carried-fair, up-reads}
+use Rattle.two_ends.proofs.Arriving.{alive-done, carried-fair}
+use Rattle.two_ends.proofs.Delivered.{up-reads}
 use Rattle.two_ends.proofs.Begun.{at-start}
 use Rattle.two_ends.proofs.Theorem.{at-run}
 

@@ -6,6 +6,8 @@ use mathlib.Core.List.{List}
 use Rattle.image.specs.State.{decode}
 use Rattle.image.specs.Verdict.{IsSound}
 use Rattle.image.proofs.Sound.{sound-parts, parts-sound}
+use Rattle.calls.specs.declared.Answer
+use Rattle.calls.specs.declared.Effect
 use Rattle.calls.specs.declared.Phase.{Phase}
 use Rattle.calls.specs.Outcomes.{failedWith}
 use Rattle.call_meaning.specs.Standing.{Standing}
@@ -38,23 +40,26 @@ uncut im ph m st =
 some-uncut : (im im′ : List ℕ) (ph : Phase) (jo bg : Bool) (h : History) {b : End} {ab ba : List (List ℕ)} → Uncut im im′ → Some (ended im ph jo bg h) b ab ba → Some (ended im′ ph jo bg h) b ab ba
 some-uncut im im′ ph jo bg h u s =
     let i = s .2 in
-    let r = i .own in
-    (s .0, s .1, record {
-      lineA = i .lineA;
-      lineB = i .lineB;
-      own = record {
-        stand = record { sound = u .sound; range = rw (u .state) (r .stand .range); fits = rw (u .state) (r .stand .fits) };
-        proposal = r .proposal;
-        keeping = rw (u .state) (r .keeping);
-        okays = r .okays;
-        sixless = rw (u .state) (r .sixless);
-        waiting = λ q. let v = r .waiting q in record { on = v .on; waits = v .waits; nothing = v .nothing };
-        linked = r .linked;
-      };
-      peer = i .peer;
-      out = rw (u .state) (i .out);
-      back = rw (u .state) (i .back);
-    })
+    let r = i .own in (
+      s .0,
+      s .1,
+      record {
+        lineA = i .lineA;
+        lineB = i .lineB;
+        own = record {
+          stand = record { sound = u .sound; range = rw (u .state) (r .stand .range); fits = rw (u .state) (r .stand .fits) };
+          proposal = r .proposal;
+          keeping = rw (u .state) (r .keeping);
+          okays = r .okays;
+          tidy = rw (u .state) (r .tidy);
+          waiting = λ q. let v = r .waiting q in record { on = v .on; waits = v .waits; nothing = v .nothing };
+          linked = r .linked;
+        };
+        peer = i .peer;
+        out = rw (u .state) (i .out);
+        back = rw (u .state) (i .back);
+      },
+    )
 
 pub at-halts : (w : World) (m : List ℕ) → Good w → Good (plainly w (restoreOf (slotAlone (w .a .image) (submitOf (w .a .image) (w .a .phase) m))))
 unfolding failedWith

@@ -25,7 +25,7 @@ use Rattle.timers.specs.Events.{connected}
 use Rattle.two_ends.specs.World.{History, End}
 use Rattle.two_ends.proofs.Invariant.{Ready, Some}
 use Rattle.two_ends.proofs.Sides.{dir-failed, dir-failed-peer, dir-rest, dir-rest-peer}
-use Rattle.two_ends.proofs.Sixless.{broken-sixless}
+use Rattle.two_ends.proofs.Tidy.{tidy-broken}
 use Rattle.two_ends.proofs.Worlds.{ended, kept-one, ready-off, Settled}
 
 resting-off : (h : Header) → connected (restingPhase h) ≡ false
@@ -52,7 +52,7 @@ module _ (im : List ℕ) (ph : Phase) (jo : Bool) (h : History) (r : Ready (ende
     proposal = rw resting (omega arith);
     keeping = rw (break-decodes im (st .sound) (st .range)) (r .keeping);
     okays = r .okays;
-    sixless = λ q. rw (break-decodes im (st .sound) (st .range)) (broken-sixless (decode im .labels) (sound-valid im (st .sound) .labels) (r .sixless refl));
+    tidy = λ q. rw (break-decodes im (st .sound) (st .range)) (tidy-broken (decode im) (sound-valid im (st .sound) .labels) (r .tidy refl));
     waiting = λ q. absurd (true≢false q);
     linked = λ q. absurd (true≢false (sym q));
   }
@@ -63,15 +63,21 @@ pub failing-on : (im : List ℕ) (ph : Phase) (bg : Bool) (h : History) {b : End
 failing-on im ph true h {b} s rest more =
     let i = s .2 in
     let st = i .own .stand in
-    inr (rw (resting-off (decode im .header)), λ ga gb.
-    ([], [], record {
-      lineA = refl;
-      lineB = refl;
-      own = failed-ready im ph true h (i .own);
-      peer = ready-off (i .peer) gb;
-      out = rw (break-decodes im (st .sound) (st .range), resting im ph true h (i .own)) (dir-failed (i .out) gb);
-      back = rw (break-decodes im (st .sound) (st .range), resting im ph true h (i .own)) (dir-failed-peer (i .back) ga);
-    }))
+    inr (
+      rw (resting-off (decode im .header)),
+      λ ga gb. (
+        [],
+        [],
+        record {
+          lineA = refl;
+          lineB = refl;
+          own = failed-ready im ph true h (i .own);
+          peer = ready-off (i .peer) gb;
+          out = rw (break-decodes im (st .sound) (st .range), resting im ph true h (i .own)) (dir-failed (i .out) gb);
+          back = rw (break-decodes im (st .sound) (st .range), resting im ph true h (i .own)) (dir-failed-peer (i .back) ga);
+        },
+      ),
+    )
 failing-on im ph false h s rest more = inr (rw (resting-off (decode im .header)), λ ga gb. absurd (true≢false (sym ga)))
 
 -- one that was on none is only off
@@ -81,12 +87,19 @@ failing im ph true bg h {ab = ab} {ba = ba} s = failing-on im ph bg h s ab ba
 failing im ph false true h s =
     let i = s .2 in
     let st = i .own .stand in
-    inl (refl, (s .0, s .1, record {
-      lineA = i .lineA;
-      lineB = i .lineB;
-      own = failed-ready im ph false h (i .own);
-      peer = i .peer;
-      out = rw (break-decodes im (st .sound) (st .range), resting im ph false h (i .own)) (dir-rest (decode im) (decode im .header .kept) ph true h (i .out));
-      back = rw (break-decodes im (st .sound) (st .range), resting im ph false h (i .own)) (dir-rest-peer (decode im) (decode im .header .kept) ph true h (i .back));
-    }))
+    inl (
+      refl,
+      (
+        s .0,
+        s .1,
+        record {
+          lineA = i .lineA;
+          lineB = i .lineB;
+          own = failed-ready im ph false h (i .own);
+          peer = i .peer;
+          out = rw (break-decodes im (st .sound) (st .range), resting im ph false h (i .own)) (dir-rest (decode im) (decode im .header .kept) ph true h (i .out));
+          back = rw (break-decodes im (st .sound) (st .range), resting im ph false h (i .own)) (dir-rest-peer (decode im) (decode im .header .kept) ph true h (i .back));
+        },
+      ),
+    )
 failing im ph false false h s = absurd (true≢false (sym (s .2 .own .waiting refl .on)))

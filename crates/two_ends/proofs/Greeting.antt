@@ -11,76 +11,31 @@ use Rattle.ft_number.specs.declared.MessageId.{MessageId}
 use Rattle.tlv.specs.declared.FtField.{FtField}
 use Rattle.message_writer.specs.declared.OwnParameters.{OwnParameters}
 use Rattle.image.specs.State.{State, decode}
-use Rattle.image.specs.Verdict.{IsSound}
 use Rattle.octets.specs.Bytes.{Bytes}
 use Rattle.image.proofs.Sound.{sound-valid}
-use Rattle.calls.specs.Acked.{acked}
 use Rattle.calls.specs.declared.Answer
 use Rattle.calls.specs.declared.Answer.{Answer}
 use Rattle.calls.specs.declared.Phase
 use Rattle.calls.specs.declared.Phase.{Phase}
-use Rattle.calls.specs.Outcomes.{After, isDone, releasedWith}
-use Rattle.calls.proofs.Settled.{admitted-is}
+use Rattle.calls.specs.Outcomes.{releasedWith}
 use Rattle.call_meaning.specs.Standing.{Standing}
-use Rattle.call_meaning.proofs.Answered.{answered-released}
 use Rattle.init.specs.declared.Start
 use Rattle.init.specs.declared.Start.{Start}
 use Rattle.init.specs.declared.Terms.{Terms}
-use Rattle.init.specs.Judged.{startAnswer}
-use Rattle.init.specs.Begun.{fresh, resumed, startState, startPhase, begunAs, initStart, initReceivedOf}
-use Rattle.init.specs.Meaning.{BegunFrom}
-use Rattle.init.proofs.Meaning.{init-decodes, init-stands, resumed-queue}
-use Rattle.call_meaning.proofs.Stands.{standing-admitted}
+use Rattle.init.specs.Begun.{fresh, resumed, initStart, initReceivedOf}
+use Rattle.init.proofs.Meaning.{resumed-queue}
 use Rattle.two_ends.specs.World.{History, End, none}
 use Rattle.two_ends.specs.Calls.{keeps, greeted, takes}
 use Rattle.two_ends.proofs.Direction.{Freed, half-init}
 use Rattle.two_ends.proofs.Packets.{Packet, first, again, alive, carried, bytesOf, Fine, datas, acksOf, fine-bytes}
 use Rattle.two_ends.proofs.Invariant.{sideOf, sndOf, rcvOf, Leads, Headed, Ready, Inv}
 use Rattle.two_ends.proofs.Takes.{headed, dir-fresh, dir-fresh-peer, dir-resume, dir-resume-peer}
-use Rattle.two_ends.proofs.Sixless.{NoSix, none-sixless, released-sixless}
 use Rattle.two_ends.proofs.Worlds.{ended, kept-one, Settled}
 use Rattle.two_ends.proofs.Resting.{released-ends}
 use Rattle.two_ends.proofs.Delivering.{let-go}
+use Rattle.two_ends.proofs.Begins.{Begins, begins, changed}
+use Rattle.two_ends.proofs.Tidy.{tidy-fresh, tidy-resumed}
 use Rattle.two_ends.proofs.Starting.{terms, starts-fresh, starts-again}
-
--- ---- what the call leaves
-module _ (im : List ℕ) (t : ℕ) (m : List ℕ) where
-  abbrev ph : Phase
-  ph = Phase.InitWait t
-
-  abbrev st : Start
-  st = initStart im ph m
-
-  abbrev x : After
-  x = initReceivedOf im ph m
-
-  -- a start that is not refused
-  pub record Begins (s : State) : Type 0 where
-    pub answer : x .outcome .answer ≡ Answer.Done
-    pub state : decode (x .image) ≡ s
-    pub phase : x .outcome .phase ≡ Phase.UpFT 0
-    pub stands : Standing (x .image) (Phase.UpFT 0)
-
-  module _ (stand : Standing im ph) (byte : Bytes m) (low : t < 65536) where
-    begins : (s : State) → isDone (startAnswer st) ≡ true → startState (decode im) st ≡ s → startPhase ph st ≡ Phase.UpFT 0 → Begins s
-    begins s d e f =
-        let b : BegunFrom (decode im) ph st x = init-decodes im ph m stand byte low refl d in
-        let up : x .outcome .phase ≡ Phase.UpFT 0 = b .phase ∙ f in
-        record { answer = b .answer; state = b .state ∙ e; phase = up; stands = rw up at (init-stands im ph m stand byte low) }
-
-    -- one that is refused with 35 releases
-    changed : st ≡ Start.Refused Answer.ParametersChanged → x ≡ releasedWith Answer.ParametersChanged im []
-    unfolding initReceivedOf
-    changed e = rw (admitted-is (standing-admitted stand) (startAnswer st), e) (answered-released Answer.ParametersChanged ph im [] (begunAs im ph (Start.Refused Answer.ParametersChanged)) (omega arith))
-
--- a fresh session has no label; a resumed one those that the ACK leaves
-fresh-sixless : (ts : Terms) → NoSix (fresh ts .labels)
-unfolding fresh
-fresh-sixless ts = none-sixless
-
-resumed-sixless : (im : List ℕ) (ts : Terms) (k a : ℕ) → IsSound im → NoSix (decode im .labels) → NoSix (resumed (decode im) ts k a .labels)
-unfolding resumed acked
-resumed-sixless im ts k a s n = released-sixless (take k (decode im .queue)) (decode im .labels) (sound-valid im s .labels) n
 
 -- the end after it
 abbrev pub greetedBy : List ℕ → ℕ → Bool → History → Packet → End
@@ -115,19 +70,26 @@ module _ (im : List ℕ) (t : ℕ) (h : History) (id : MessageId) (p : OwnParame
           proposal = omega arith;
           keeping = rw (e, d .answer) at k;
           okays = i .own .okays;
-          sixless = λ q. rw (d .state) (fresh-sixless ts);
+          tidy = λ q. rw (d .state) (tidy-fresh ts);
           waiting = λ q. absurd (true≢false q);
           linked = λ q. refl;
         } in
         rw (e, d .answer, d .phase)
-        (inl (refl, (pa, qs, record {
-          lineA = i .lineA;
-          lineB = refl;
-          own = own;
-          peer = i .peer;
-          out = rw (d .state, nothing) (dir-fresh (decode im .header .kept) t ts (fresh ts .header .kept) id p seconds ack (rw nothing at (i .out)));
-          back = rw (d .state, nothing) (dir-fresh-peer (decode im .header .kept) t ts (fresh ts .header .kept) id p seconds ack (rw nothing at (i .back)));
-        })))
+        (inl (
+          refl,
+          (
+            pa,
+            qs,
+            record {
+              lineA = i .lineA;
+              lineB = refl;
+              own = own;
+              peer = i .peer;
+              out = rw (d .state, nothing) (dir-fresh (decode im .header .kept) t ts (fresh ts .header .kept) id p seconds ack (rw nothing at (i .out)));
+              back = rw (d .state, nothing) (dir-fresh-peer (decode im .header .kept) t ts (fresh ts .header .kept) id p seconds ack (rw nothing at (i .back)));
+            },
+          ),
+        ))
 
 -- ---- a later Init
 module _ (im : List ℕ) (t : ℕ) (h : History) (id : MessageId) (p : OwnParameters) (seconds : ℕ) (a : FtNumber) where
@@ -171,19 +133,26 @@ module _ (im : List ℕ) (t : ℕ) (h : History) (id : MessageId) (p : OwnParame
           proposal = omega arith;
           keeping = k;
           okays = i .own .okays;
-          sixless = λ q. rw (d .state) (resumed-sixless im ts j (a .0) (stand .sound) (i .own .sixless refl));
+          tidy = λ q. rw (d .state) (tidy-resumed (decode im) (sound-valid im (stand .sound) .labels) (i .own .tidy refl) ts j (a .0));
           waiting = λ q. absurd (true≢false q);
           linked = λ q. refl;
         } in
         rw (d .answer, d .phase, gone)
-        (inl (refl, (pa, qs, record {
-          lineA = i .lineA;
-          lineB = refl;
-          own = own;
-          peer = i .peer;
-          out = rw (d .state) (dir-resume (decode im) t h a ts j id p seconds free (i .out));
-          back = rw (d .state) (dir-resume-peer (decode im) t h a ts j id p seconds (i .back));
-        })))
+        (inl (
+          refl,
+          (
+            pa,
+            qs,
+            record {
+              lineA = i .lineA;
+              lineB = refl;
+              own = own;
+              peer = i .peer;
+              out = rw (d .state) (dir-resume (decode im) t h a ts j id p seconds free (i .out));
+              back = rw (d .state) (dir-resume-peer (decode im) t h a ts j id p seconds (i .back));
+            },
+          ),
+        ))
 
     greet-again : keeps (greetedBy im t true h (again id p seconds a)) ≡ true → Settled (greetedBy im t true h (again id p seconds a)) b ab (map bytesOf qs)
     unfolding releasedWith

@@ -17,7 +17,7 @@ use Rattle.init.specs.Begun.{awaits, proposalOf}
 use Rattle.two_ends.specs.World.{History, End, World, none}
 use Rattle.two_ends.specs.Calls.{keeps}
 use Rattle.two_ends.proofs.Half.{Snd, Rcv, Half}
-use Rattle.two_ends.proofs.Sixless.{NoSix}
+use Rattle.two_ends.proofs.Tidy.{Tidy}
 use Rattle.two_ends.proofs.Packets.{Packet, first, again, alive, carried, bytesOf, Okays, Fines, NoInit, datas, acksOf}
 
 -- ---- an end as the other one sees it
@@ -94,8 +94,7 @@ pub record Ready (e : End) : Type 0 where
   pub proposal : proposalOf (e .phase) < 65536
   pub keeping : keeps e ≡ true
   pub okays : Okays (e .history .accepted)
-  -- it has no label in use without protection
-  pub sixless : e .begun ≡ true → NoSix (decode (e .image) .labels)
+  pub tidy : e .begun ≡ true → Tidy (decode (e .image))
   -- an end that has not come to its fresh UpFT awaits the peer's Init on the first connection
   pub waiting : e .begun ≡ false → Waiting e
   pub linked : e .joined ≡ true → linkable (e .phase) ≡ true

@@ -9,6 +9,7 @@ use Rattle.ft_number.specs.Circle.{next}
 use Rattle.ft_number.specs.declared.Ack
 use Rattle.ft_number.specs.declared.Ack.{Ack}
 use Rattle.ft_number.specs.declared.FtNumber.{FtNumber}
+use Rattle.tlv.specs.declared.Field
 use Rattle.tlv.specs.declared.Field.{Field}
 use Rattle.tlv.specs.declared.FtField
 use Rattle.tlv.specs.declared.FtField.{FtField}

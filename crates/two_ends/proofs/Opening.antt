@@ -67,20 +67,27 @@ module _ (im : List ℕ) (h : History) (id : MessageId) (p : OwnParameters) (t :
         proposal = seconds-small t seconds;
         keeping = k;
         okays = i .own .okays;
-        sixless = i .own .sixless;
+        tidy = i .own .tidy;
         waiting = λ q. absurd (true≢false q);
         linked = λ q. refl;
       } in
       let packet : Packet = again id p (proposedOf t) (decode im .header .secured) in
       let empty : ab ≡ [] = i .lineA ∙ ap (map bytesOf) none in
-      inl (refl, (packet ∷ [], pb, record {
-        lineA = put-wrote ab (Phase.InitWait (proposedOf t)) im im out (openBytes (decode im .header) id p t) ∙ rw (empty, bytes-are im id p t widths seconds kept);
-        lineB = i .lineB;
-        own = own;
-        peer = i .peer;
-        out = dir-open (decode im) (decode im .header .kept) (proposedOf t) h id p (init-fits im id p t widths seconds st) (rw none at (i .out));
-        back = dir-open-peer (decode im) (decode im .header .kept) (proposedOf t) h id p (rw none at (i .back));
-      }))
+      inl (
+        refl,
+        (
+          packet ∷ [],
+          pb,
+          record {
+            lineA = put-wrote ab (Phase.InitWait (proposedOf t)) im im out (openBytes (decode im .header) id p t) ∙ rw (empty, bytes-are im id p t widths seconds kept);
+            lineB = i .lineB;
+            own = own;
+            peer = i .peer;
+            out = dir-open (decode im) (decode im .header .kept) (proposedOf t) h id p (init-fits im id p t widths seconds st) (rw none at (i .out));
+            back = dir-open-peer (decode im) (decode im .header .kept) (proposedOf t) h id p (rw none at (i .back));
+          },
+        ),
+      )
 
   opening : (ph : Phase) (jo bg : Bool) → opens ph ≡ true → Some (ended im ph jo bg h) b ab ba
       → keeps (ended im (Phase.InitWait (proposedOf t)) true bg h) ≡ true

@@ -2,7 +2,7 @@
 use Prim.Native.Nat.{ℕ, _-_, _≤_}
 use native.Mathlib.Omega.{arith}
 use mathlib.Core.Path.{_≡_, refl, ap, _∙_}
-use mathlib.Core.Bool.{true, false, true≢false}
+use mathlib.Core.Bool.{true, true≢false}
 use mathlib.Core.List.{List, [], _∷_, map}
 use mathlib.Core.Logic.{inl}
 use lib.ListN.{take, drop}
@@ -35,7 +35,7 @@ use Rattle.two_ends.proofs.Packets.{Packet, bytesOf, datas, acksOf}
 use Rattle.two_ends.proofs.Invariant.{sideOf, sndOf, rcvOf, Ready, Inv, Dir}
 use Rattle.two_ends.proofs.Sides.{side}
 use Rattle.two_ends.proofs.Takes.{dir-took}
-use Rattle.two_ends.proofs.Sixless.{NoSix}
+use Rattle.two_ends.proofs.Tidy.{Tidy}
 use Rattle.two_ends.proofs.Worlds.{ended, Settled}
 use Rattle.two_ends.proofs.Failing.{failing-on}
 use Rattle.two_ends.proofs.Resting.{released-ends}
@@ -83,10 +83,10 @@ module _ (im : List ℕ) (sent : ℕ) (m : List ℕ) (stand : Standing im (Phase
       unfolding receivedState taken acked
       received-queue = rw acks
 
-      pub takes-it : NoSix (s .labels) → (got : List (List ℕ)) → securing m ≡ got → receiveAnswer im ph m ≡ Answer.Done → keeps (took (ended im ph true true h) m x) ≡ true
+      pub takes-it : Tidy s → (got : List (List ℕ)) → securing m ≡ got → receiveAnswer im ph m ≡ Answer.Done → keeps (took (ended im ph true true h) m x) ≡ true
           → Dir (sideOf b) (side s (s .header .kept) (Phase.UpFT (sent - j)) true true (takes (take j (decode im .queue)) got h)) qs pa
           → Settled (took (ended im ph true true h) m x) b ab (map bytesOf qs)
-      takes-it sixless got secured e k back =
+      takes-it tidy got secured e k back =
           let done : x .outcome .answer ≡ Answer.Done = receive-answered im ph m ∙ e in
           let d : ReceivedFrom (decode im) sent g x = receive-decodes im sent m stand byte g read done in
           let up : x .outcome .phase ≡ Phase.UpFT (sent - j) = rw acks at (d .phase) in
@@ -96,16 +96,23 @@ module _ (im : List ℕ) (sent : ℕ) (m : List ℕ) (stand : Standing im (Phase
             proposal = omega arith;
             keeping = k;
             okays = i .own .okays;
-            sixless = λ z. rw (d .state) sixless;
+            tidy = λ z. rw (d .state) tidy;
             waiting = λ z. absurd (true≢false z);
             linked = λ z. refl;
           } in
           rw (done, up, gone, secured)
-          (inl (refl, (pa, qs, record {
-            lineA = i .lineA;
-            lineB = refl;
-            own = own;
-            peer = i .peer;
-            out = rw (d .state) (dir-took (decode im) sent h g j acks got qs f (i .out));
-            back = rw (d .state) back;
-          })))
+          (inl (
+            refl,
+            (
+              pa,
+              qs,
+              record {
+                lineA = i .lineA;
+                lineB = refl;
+                own = own;
+                peer = i .peer;
+                out = rw (d .state) (dir-took (decode im) sent h g j acks got qs f (i .out));
+                back = rw (d .state) back;
+              },
+            ),
+          ))

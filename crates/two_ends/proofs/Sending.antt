@@ -31,7 +31,8 @@ use Rattle.two_ends.specs.Calls.{keeps, called, put, wrote as writes}
 use Rattle.two_ends.proofs.Direction.{half-place}
 use Rattle.two_ends.proofs.Packets.{Packet, carried, bytesOf, Okay, Okays, Fine}
 use Rattle.two_ends.proofs.Invariant.{Ready, Some, Good}
-use Rattle.two_ends.proofs.Sends.{sent-labels, dir-send, dir-send-lost, dir-send-peer, dir-send-lost-peer}
+use Rattle.two_ends.proofs.Sends.{dir-send, dir-send-lost, dir-send-peer, dir-send-lost-peer}
+use Rattle.two_ends.proofs.Tidy.{tidy-sent}
 use Rattle.two_ends.proofs.Worlds.{ended, kept-one, ready-open, at-replaced, Settled}
 use Rattle.two_ends.proofs.Quiet.{Quiet, settled-quiet, quietly-puts}
 use Rattle.two_ends.proofs.Writing.{put-wrote, line-more}
@@ -62,7 +63,7 @@ okay-at zero (x ∷ l) m ms e o = let q : x ≡ m = cc in rw q at (o .0)
 okay-at (suc n) [] m ms e o = absurd (let q : _≡_ {A = ℕ} 0 1 = cc in omega arith)
 okay-at (suc n) (x ∷ l) m ms e o = okay-at n l m ms e (o .1)
 
-ack-fits : (ask : Bool) (h : Header) → h .secured .0 < 4294967296 → AckFits (ackAsked ask h)
+pub ack-fits : (ask : Bool) (h : Header) → h .secured .0 < 4294967296 → AckFits (ackAsked ask h)
 unfolding ackAsked
 ack-fits true h l = omega arith
 ack-fits false h l = tt
@@ -92,7 +93,7 @@ module _ (im : List ℕ) (sent : ℕ) (h : History) (ask : Bool) (out : List ℕ
       proposal = omega arith;
       keeping = k;
       okays = r .okays;
-      sixless = λ q. rw (decodes, sent-labels s sent) (r .sixless refl);
+      tidy = λ q. rw decodes (tidy-sent s sent (r .tidy refl));
       waiting = λ q. absurd (true≢false q);
       linked = λ q. refl;
     }
@@ -112,27 +113,41 @@ module _ (im : List ℕ) (sent : ℕ) (h : History) (ask : Bool) (out : List ℕ
           omega (arith, number-fits (s .header) sent),
           ack-fits ask (s .header) (st .range .header .secured),
         ) in
-        inl (ready-open own, (o .0 ++ (packet ∷ []), o .1, record {
-          lineA = put-wrote ab (Phase.UpFT (sent + 1)) im (sendImage im sent) out (bytesOf packet) ∙ line-more (o .0) packet (i .lineA);
-          lineB = i .lineB;
-          own = own;
-          peer = i .peer;
-          out = rw (decodes st one) (dir-send s sent true h m (drop (suc sent) (s .queue)) at-place (ackAsked ask (s .header)) fine (i .out));
-          back = rw (decodes st one) (dir-send-peer s sent true h ask m (numberAt (s .header) sent) (i .back));
-        }))
+        inl (
+          ready-open own,
+          (
+            o .0 ++ (packet ∷ []),
+            o .1,
+            record {
+              lineA = put-wrote ab (Phase.UpFT (sent + 1)) im (sendImage im sent) out (bytesOf packet) ∙ line-more (o .0) packet (i .lineA);
+              lineB = i .lineB;
+              own = own;
+              peer = i .peer;
+              out = rw (decodes st one) (dir-send s sent true h m (drop (suc sent) (s .queue)) at-place (ackAsked ask (s .header)) fine (i .out));
+              back = rw (decodes st one) (dir-send-peer s sent true h ask m (numberAt (s .header) sent) (i .back));
+            },
+          ),
+        )
     sending false true o k =
         let i = o .2 in
         let st = i .own .stand in
         let one = kept-one (i .own) in
         let own = ready st one false (i .own) k in
-        inl (ready-open own, (o .0, o .1, record {
-          lineA = i .lineA;
-          lineB = i .lineB;
-          own = own;
-          peer = i .peer;
-          out = rw (decodes st one) (dir-send-lost s sent true h m (drop (suc sent) (s .queue)) at-place (i .out));
-          back = rw (decodes st one) (dir-send-lost-peer s sent true h (i .back));
-        }))
+        inl (
+          ready-open own,
+          (
+            o .0,
+            o .1,
+            record {
+              lineA = i .lineA;
+              lineB = i .lineB;
+              own = own;
+              peer = i .peer;
+              out = rw (decodes st one) (dir-send-lost s sent true h m (drop (suc sent) (s .queue)) at-place (i .out));
+              back = rw (decodes st one) (dir-send-lost-peer s sent true h (i .back));
+            },
+          ),
+        )
 
 -- ---- the call
 sends-up : (im : List ℕ) (ph : Phase) (jo bg : Bool) (h : History) (ask : Bool) (out : List ℕ) {b : End} {ab ba : List (List ℕ)} → Sendable im ph

@@ -19,6 +19,7 @@ use Rattle.label_list.specs.declared.LabelMessage.{LabelMessage}
 use Rattle.label_list.specs.declared.LabelMessage.the-variants.{Mapping, Withdraw, Release}
 use Rattle.label_list.specs.declared.Protection
 use Rattle.label_list.specs.declared.Protection.{Protection}
+use Rattle.label_list.specs.declared.Side.{Side}
 use Rattle.label_list.specs.declared.Side.the-variants.{Used}
 use Rattle.label_list.specs.declared.SweepRule.the-variants.{AfterBreak}
 use Rattle.octets.proofs.Choice.{by-test, pick-all}
@@ -79,11 +80,13 @@ zero-at zero i = refl
 zero-at (suc n) zero = refl
 zero-at (suc n) (suc i) = zero-at n i
 
+pub none-code : (side : Side) (l : ℕ) → codeAt noLabels side l ≡ 0
+none-code side l =
+    let free : (i : ℕ) → standsFor side l (getD noLabels i 0) ≡ false = λ i. ap (standsFor side l) (zero-at wordCount i) ∙ free-stands side l in
+    is-code noLabels side l (valid-means noLabels none-valid) (absent free)
+
 pub none-sixless : NoSix noLabels
-none-sixless l six =
-    let free : (i : ℕ) → standsFor Used l (getD noLabels i 0) ≡ false = λ i. ap (standsFor Used l) (zero-at wordCount i) ∙ free-stands Used l in
-    let zero : codeAt noLabels Used l ≡ 0 = is-code noLabels Used l (valid-means noLabels none-valid) (absent free) in
-    omega arith
+none-sixless l six = omega (arith, none-code Used l)
 
 -- ---- a connection ends
 pub broken-sixless : (ls : List ℕ) → validOf ls ≡ true → NoSix ls → NoSix (sweptOf ls AfterBreak)

@@ -24,7 +24,7 @@ use Rattle.receive.specs.Rule.{receiveAnswer, receiveOf}
 use Rattle.receive.proofs.Meaning.{receive-answered}
 use Rattle.two_ends.specs.World.{History, End, World}
 use Rattle.two_ends.specs.Calls.{broken, keeps, replaced, greeted, anew, took, delivered, delivery}
-use Rattle.two_ends.specs.Staying.{Fatal}
+use Rattle.two_ends.specs.Staying.{Fatal, Stays}
 use Rattle.two_ends.proofs.Packets.{Packet, first, again, alive, carried, bytesOf, NoInit, fine-bytes}
 use Rattle.two_ends.proofs.Invariant.{Headed, linkable, Inv, Good}
 use Rattle.two_ends.proofs.Takes.{headed}
@@ -32,15 +32,12 @@ use Rattle.two_ends.proofs.Worlds.{ended, kept-one, next}
 use Rattle.two_ends.proofs.Delivering.{Oldest, oldest}
 use Rattle.two_ends.proofs.Greeting.{again-start, again-begins, again-changed}
 use Rattle.two_ends.proofs.Judging.{Fair, fair-done, fair-full, fair-fatal}
-use Rattle.two_ends.proofs.Arriving.{g₁, alive-read, alive-done, g₂, carried-read, carried-fair, up-reads}
-use Rattle.two_ends.proofs.Unreleased.{Kept, taken-kept, full-kept}
+use Rattle.two_ends.proofs.Arriving.{g₁, alive-read, alive-done, g₂, carried-read, carried-fair}
+use Rattle.two_ends.proofs.Delivered.{up-reads}
+use Rattle.two_ends.proofs.Moving.{Terms}
+use Rattle.two_ends.proofs.Unreleased.{taken-terms, full-terms}
 
--- ---- both have begun, and both keep their state
-pub record Stays (w : World) : Type 0 where
-  pub kept : w .kept ≡ true
-  pub ours : w .a .begun ≡ true
-  pub theirs : w .b .begun ≡ true
-
+-- ---- an event that leaves both states kept
 pub both-are : {a b : Bool} → a ≡ true → b ≡ true → both a b ≡ true
 both-are p q = rw (p, q)
 
@@ -70,7 +67,7 @@ module _ (im : List ℕ) (h : History) {b : End} {ab ba : List (List ℕ)} {pa q
   -- an Init: the end has begun, so the session is resumed
   init-stays : (t : ℕ) (q : Packet) → Headed true (decode im .header .kept) (q ∷ qs) → Inv (ended im (Phase.InitWait t) true true h) b ab ba pa (q ∷ qs)
       → (30 ≤ answerNumber (initReceivedOf im (Phase.InitWait t) (bytesOf q) .outcome .answer) → ⊥)
-      → Kept im (initReceivedOf im (Phase.InitWait t) (bytesOf q)) × (anew (initStart im (Phase.InitWait t) (bytesOf q)) (initReceivedOf im (Phase.InitWait t) (bytesOf q)) ≡ false)
+      → Terms (decode im) (decode (initReceivedOf im (Phase.InitWait t) (bytesOf q) .image)) × (anew (initStart im (Phase.InitWait t) (bytesOf q)) (initReceivedOf im (Phase.InitWait t) (bytesOf q)) ≡ false)
   unfolding releasedWith resumed acked
   init-stays t (first id p seconds ack) w i n = absurd (true≢false (w .0))
   init-stays t (again id p seconds a) w i n =
@@ -79,37 +76,37 @@ module _ (im : List ℕ) (h : History) {b : End} {ab ba : List (List ℕ)} {pa q
       ⊎-elim
       (λ (e : initStart im (Phase.InitWait t) m ≡ Start.Resumed _ (st .0) a).
       let d = again-begins im t h id p seconds a i (st .0) e in
-      (rw (d .state), rw (d .answer, e)))
+      (rw (d .state) (record { kept = refl; keepalive = refl; maxpdu = refl }), rw (d .answer, e)))
       (λ (e : initStart im (Phase.InitWait t) m ≡ Start.Refused Answer.ParametersChanged). absurd (n (rw (again-changed im t h id p seconds a i e) (omega arith))))
       (st .2)
   init-stays t (alive id s) w i n = absurd w
   init-stays t (carried m c ack) w i n = absurd w
 
   message-stays : (sent : ℕ) (q : Packet) → NoInit (q ∷ qs) → Inv (ended im (Phase.UpFT sent) true true h) b ab ba pa (q ∷ qs)
-      → (30 ≤ answerNumber (receiveAnswer im (Phase.UpFT sent) (bytesOf q)) → ⊥) → Kept im (receiveOf im (Phase.UpFT sent) (bytesOf q))
+      → (30 ≤ answerNumber (receiveAnswer im (Phase.UpFT sent) (bytesOf q)) → ⊥) → Terms (decode im) (decode (receiveOf im (Phase.UpFT sent) (bytesOf q) .image))
   message-stays sent (first id p seconds ack) none i n = absurd none
   message-stays sent (again id p seconds a) none i n = absurd none
   message-stays sent (alive id c) none i n =
-      taken-kept im sent (bytesOf (alive id c)) (i .own .stand) (g₁ im sent h id c) (alive-read im sent h id c i) (fine-bytes (alive id c) (i .back .fines .0)) (alive-done im sent h id c i)
+      taken-terms im sent (bytesOf (alive id c)) (i .own .stand) (g₁ im sent h id c) (alive-read im sent h id c i) (fine-bytes (alive id c) (i .back .fines .0)) (alive-done im sent h id c i)
   message-stays sent (carried m c ack) none i n = by (receiveAnswer im (Phase.UpFT sent) (bytesOf (carried m c ack))) refl (carried-fair im sent h m c ack i)
     where
-      by : (a : Answer) → receiveAnswer im (Phase.UpFT sent) (bytesOf (carried m c ack)) ≡ a → Fair a → Kept im (receiveOf im (Phase.UpFT sent) (bytesOf (carried m c ack)))
+      by : (a : Answer) → receiveAnswer im (Phase.UpFT sent) (bytesOf (carried m c ack)) ≡ a → Fair a → Terms (decode im) (decode (receiveOf im (Phase.UpFT sent) (bytesOf (carried m c ack)) .image))
       by Answer.Done e fair-done =
-          taken-kept im sent (bytesOf (carried m c ack)) (i .own .stand) (g₂ im sent h m c ack i) (carried-read im sent h m c ack i) (fine-bytes (carried m c ack) (i .back .fines .0)) e
-      by Answer.NoWordForMapping e fair-full = full-kept im sent (bytesOf (carried m c ack)) (i .own .stand) (g₂ im sent h m c ack i) (carried-read im sent h m c ack i) e
+          taken-terms im sent (bytesOf (carried m c ack)) (i .own .stand) (g₂ im sent h m c ack i) (carried-read im sent h m c ack i) (fine-bytes (carried m c ack) (i .back .fines .0)) e
+      by Answer.NoWordForMapping e fair-full = full-terms im sent (bytesOf (carried m c ack)) (i .own .stand) (g₂ im sent h m c ack i) (carried-read im sent h m c ack i) e
       by Answer.StatusFatal e fair-fatal = absurd (n (rw e (omega arith)))
 
 -- the oldest of the line
 module _ (im : List ℕ) (h : History) {b : End} {ab ba : List (List ℕ)} {pa ps : List Packet} {m : List ℕ} {rest : List (List ℕ)} {q : Packet} {qs : List Packet}
     (o : Oldest m rest ps q qs) where
   oldest-init : (t : ℕ) → Inv (ended im (Phase.InitWait t) true true h) b ab ba pa ps → (30 ≤ answerNumber (initReceivedOf im (Phase.InitWait t) m .outcome .answer) → ⊥)
-      → Kept im (initReceivedOf im (Phase.InitWait t) m) × (anew (initStart im (Phase.InitWait t) m) (initReceivedOf im (Phase.InitWait t) m) ≡ false)
+      → Terms (decode im) (decode (initReceivedOf im (Phase.InitWait t) m .image)) × (anew (initStart im (Phase.InitWait t) m) (initReceivedOf im (Phase.InitWait t) m) ≡ false)
   oldest-init t i n =
       let j = rw (o .is) at i in
       rw (o .bytes) (init-stays im h t q (headed (b .joined) true (decode im .header .kept) q qs (j .back .shape)) j (rw (o .bytes) at n))
 
   oldest-message : (sent : ℕ) → Inv (ended im (Phase.UpFT sent) true true h) b ab ba pa ps → (30 ≤ answerNumber (receiveOf im (Phase.UpFT sent) m .outcome .answer) → ⊥)
-      → Kept im (receiveOf im (Phase.UpFT sent) m)
+      → Terms (decode im) (decode (receiveOf im (Phase.UpFT sent) m .image))
   oldest-message sent i n =
       let j = rw (o .is) at i in
       rw (o .bytes)
@@ -128,7 +125,7 @@ module _ (im : List ℕ) (h : History) (b : End) (ab : List (List ℕ)) (kept : 
       let i = g (s .kept) in
       let f = oldest-init im h (oldest m rest (i .1) (i .2 .lineB) .2) t (i .2) (λ l. n (record { message = m; rest = rest; on = refl; line = refl; answer = l })) in
       replaced-stays (record { a = e; b = b; ab = ab; ba = m ∷ rest; kept = both kept (not (both true (anew st x))) }) (greeted e st x) ab rest
-      (both-are (s .kept) (rw (f .1))) (s .theirs) refl (keeps-one (greeted e st x) (f .0 ∙ kept-one (i .2 .own)))
+      (both-are (s .kept) (rw (f .1))) (s .theirs) refl (keeps-one (greeted e st x) (f .0 .kept ∙ kept-one (i .2 .own)))
 
   deliver-message : (sent : ℕ) (m : List ℕ) (rest : List (List ℕ)) → Good (world (Phase.UpFT sent) true true (m ∷ rest)) → Stays (world (Phase.UpFT sent) true true (m ∷ rest))
       → (Fatal (world (Phase.UpFT sent) true true (m ∷ rest)) → ⊥) → Stays (delivered (world (Phase.UpFT sent) true true (m ∷ rest)) m rest)
@@ -137,7 +134,7 @@ module _ (im : List ℕ) (h : History) (b : End) (ab : List (List ℕ)) (kept : 
       let i = g (s .kept) in
       let f = oldest-message im h (oldest m rest (i .1) (i .2 .lineB) .2) sent (i .2) (λ l. n (record { message = m; rest = rest; on = refl; line = refl; answer = l })) in
       replaced-stays (world (Phase.UpFT sent) true true (m ∷ rest)) (took e m (receiveOf im (Phase.UpFT sent) m)) ab rest
-      (s .kept) (s .theirs) refl (keeps-one (took e m (receiveOf im (Phase.UpFT sent) m)) (f ∙ kept-one (i .2 .own)))
+      (s .kept) (s .theirs) refl (keeps-one (took e m (receiveOf im (Phase.UpFT sent) m)) (f .kept ∙ kept-one (i .2 .own)))
 
   off-phase : (ph : Phase) (ba : List (List ℕ)) → linkable ph ≡ false → Good (world ph true true ba) → Stays (world ph true true ba) → ⊥
   off-phase ph ba l g s = true≢false (sym (g (s .kept) .2 .own .linked refl) ∙ l)

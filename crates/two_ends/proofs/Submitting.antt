@@ -8,7 +8,6 @@ use mathlib.Core.Logic.{_⊎_, inl, ⊎-elim}
 use lib.ListN.{length}
 use Rattle.octets.specs.Pick.{pick, both}
 use Rattle.block0.specs.Layout.{slotCount}
-use Rattle.message.specs.Submission.{submissionOf}
 use Rattle.slot.specs.Held.{Storable}
 use Rattle.image.specs.State.{decode}
 use Rattle.image.proofs.Queue.{queue-length}
@@ -31,7 +30,7 @@ use Rattle.two_ends.specs.Calls.{keeps, called, counts, accepts, submitt
 use Rattle.two_ends.proofs.Packets.{okays-snoc}
 use Rattle.two_ends.proofs.Invariant.{Ready, Some, Good}
 use Rattle.two_ends.proofs.Sides.{dir-accept, dir-accept-peer}
-use Rattle.two_ends.proofs.Sixless.{accepted-sixless}
+use Rattle.two_ends.proofs.Tidy.{tidy-submitted}
 use Rattle.two_ends.proofs.Worlds.{ended, ready-open, at-replaced, Settled}
 use Rattle.two_ends.proofs.Quiet.{Quiet, nothing-still, settled-quiet, quietly-counts, done-or-nothing}
 
@@ -70,19 +69,26 @@ module _ (im : List ℕ) (ph : Phase) (m : List ℕ) (st : Standing im ph) (done
           proposal = i .own .proposal;
           keeping = k;
           okays = okays-snoc (h .accepted) m (i .own .okays) (record { storable = storable; bytes = bytes });
-          sixless = λ q. rw decodes (accepted-sixless (decode im .labels) (sound-valid im (st .sound) .labels) (i .own .sixless refl) (submissionOf m));
+          tidy = λ q. rw decodes (tidy-submitted (decode im) (sound-valid im (st .sound) .labels) (i .own .tidy refl) m);
           waiting = λ q. absurd (true≢false q);
           linked = i .own .linked;
         } in
         let few : length (decode im .queue) < 64 = omega (arith, room, queue-length im) in
-        inl (ready-open own, (s .0, s .1, record {
-          lineA = i .lineA;
-          lineB = i .lineB;
-          own = own;
-          peer = i .peer;
-          out = rw decodes (dir-accept (decode im) (decode im .header .kept) ph jo true h m few (i .out));
-          back = rw decodes (dir-accept-peer (decode im) (decode im .header .kept) ph jo true h m (i .back));
-        }))
+        inl (
+          ready-open own,
+          (
+            s .0,
+            s .1,
+            record {
+              lineA = i .lineA;
+              lineB = i .lineB;
+              own = own;
+              peer = i .peer;
+              out = rw decodes (dir-accept (decode im) (decode im .header .kept) ph jo true h m few (i .out));
+              back = rw decodes (dir-accept-peer (decode im) (decode im .header .kept) ph jo true h m (i .back));
+            },
+          ),
+        )
     accepted false s k =
         let i = s .2 in
         let v = i .own .waiting refl in
@@ -91,18 +97,25 @@ module _ (im : List ℕ) (ph : Phase) (m : List ℕ) (st : Standing im ph) (done
           proposal = i .own .proposal;
           keeping = k;
           okays = i .own .okays;
-          sixless = λ q. absurd (true≢false (sym q));
+          tidy = λ q. absurd (true≢false (sym q));
           waiting = λ q. record { on = v .on; waits = v .waits; nothing = v .nothing };
           linked = i .own .linked;
         } in
-        inl (ready-open own, (s .0, s .1, record {
-          lineA = i .lineA;
-          lineB = i .lineB;
-          own = own;
-          peer = i .peer;
-          out = rw decodes (i .out);
-          back = rw decodes (i .back);
-        }))
+        inl (
+          ready-open own,
+          (
+            s .0,
+            s .1,
+            record {
+              lineA = i .lineA;
+              lineB = i .lineB;
+              own = own;
+              peer = i .peer;
+              out = rw decodes (i .out);
+              back = rw decodes (i .back);
+            },
+          ),
+        )
 
 -- any other answer changes nothing
 refused : (im : List ℕ) (ph : Phase) (m : List ℕ) → effectOf (submitAnswer im ph m) ≡ Effect.Nothing → Quiet im ph (submitOf im ph m)

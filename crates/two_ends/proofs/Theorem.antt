@@ -20,7 +20,7 @@ use Rattle.two_ends.proofs.Cutting.{at-halts}
 use Rattle.two_ends.proofs.Writing.{at-keepalives}
 use Rattle.two_ends.proofs.Opening.{at-opens}
 use Rattle.two_ends.proofs.Sending.{at-sends}
-use Rattle.two_ends.proofs.Arriving.{at-delivers}
+use Rattle.two_ends.proofs.Delivered.{at-delivers}
 use Rattle.two_ends.proofs.Begun.{at-start}
 
 -- ---- every event keeps the invariant

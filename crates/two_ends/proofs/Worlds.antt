@@ -42,7 +42,7 @@ ready-off r begun = record {
   proposal = r .proposal;
   keeping = r .keeping;
   okays = r .okays;
-  sixless = r .sixless;
+  tidy = r .tidy;
   waiting = λ q. never (sym begun ∙ q);
   linked = λ q. never (sym q);
 }
@@ -68,15 +68,18 @@ ready-open {e} r = by (e .joined) (r .linked)
 -- ---- both ends off the connection
 pub some-off : {a b : End} {ab ba : List (List ℕ)} → Some a b ab ba → a .begun ≡ true → b .begun ≡ true → Some (off a) (off b) [] []
 some-off s ga gb =
-    let i = s .2 in
-    ([], [], record {
-      lineA = refl;
-      lineB = refl;
-      own = ready-off (i .own) ga;
-      peer = ready-off (i .peer) gb;
-      out = dir-lost (i .out) gb;
-      back = dir-lost (i .back) ga;
-    })
+    let i = s .2 in (
+      [],
+      [],
+      record {
+        lineA = refl;
+        lineB = refl;
+        own = ready-off (i .own) ga;
+        peer = ready-off (i .peer) gb;
+        out = dir-lost (i .out) gb;
+        back = dir-lost (i .back) ga;
+      },
+    )
 
 pub at-broken : (w : World) → Good w → Good (broken w)
 at-broken w g k =
@@ -96,6 +99,14 @@ Settled e b ab ba = ((closes e ≡ false) × Some e b ab ba) ⊎ ((closes e ≡ 
 
 abbrev pub next : World → End → List (List ℕ) → List (List ℕ) → World
 next w e ab ba = record { a = e; b = w .b; ab = ab; ba = ba; kept = both (w .kept) (keeps e) }
+
+-- what holds of the end, on the connection or off it, holds of the end in the world
+pub replaced-a : (P : End → Type 0) (w : World) (e : End) (ab ba : List (List ℕ)) → P e → P (off e) → P (replaced w e ab ba .a)
+replaced-a P w e ab ba p q = by (closes e)
+  where
+    by : (c : Bool) → P (pick c (broken (next w e ab ba)) (next w e ab ba) .a)
+    by true = q
+    by false = p
 
 pub at-replaced : (w : World) (e : End) (ab ba : List (List ℕ)) → (w .kept ≡ true → keeps e ≡ true → Settled e (w .b) ab ba) → Good (replaced w e ab ba)
 at-replaced w e ab ba f = by (closes e) refl

@@ -92,14 +92,21 @@ module _ (im : List ℕ) (h : History) (id : MessageId) (small : id .0 < 4294967
       let i = s .2 in
       let p : Packet = alive id (decode im .header .secured) in
       let fine : Fine p = (omega arith, omega (arith, i .own .stand .range .header .secured)) in
-      inl (ready-open (i .own), (s .0 ++ (p ∷ []), s .1, record {
-        lineA = put-wrote ab (Phase.UpFT sent) im im out (bytesOf p) ∙ line-more (s .0) p (i .lineA);
-        lineB = i .lineB;
-        own = i .own;
-        peer = i .peer;
-        out = dir-alive (decode im) (decode im .header .kept) sent true h id fine (i .out);
-        back = dir-alive-peer (decode im) (decode im .header .kept) sent true h id (i .back);
-      }))
+      inl (
+        ready-open (i .own),
+        (
+          s .0 ++ (p ∷ []),
+          s .1,
+          record {
+            lineA = put-wrote ab (Phase.UpFT sent) im im out (bytesOf p) ∙ line-more (s .0) p (i .lineA);
+            lineB = i .lineB;
+            own = i .own;
+            peer = i .peer;
+            out = dir-alive (decode im) (decode im .header .kept) sent true h id fine (i .out);
+            back = dir-alive-peer (decode im) (decode im .header .kept) sent true h id (i .back);
+          },
+        ),
+      )
   alive-written Phase.UpPlain jo bg u s = absurd (no-plain (s .2 .own))
   alive-written Phase.Failed jo bg u s = absurd (true≢false (sym u))
 

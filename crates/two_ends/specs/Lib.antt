@@ -5,3 +5,5 @@ pub mod Start
 pub mod Demand
 pub mod Answers
 pub mod Staying
+pub mod Labels
+pub mod Steady

@@ -52,7 +52,7 @@ Proper delivers = Unit {0}
 Proper breaks = Unit {0}
 Proper notices = Unit {0}
 Proper restarts = Unit {0}
-Proper (halts m) = Bytes m
+Proper (halts m) = Unit {0}
 
 -- an event at the end a
 abbrev pub act : World → Event → World

@@ -39,3 +39,9 @@ ReleasingAt w false v = Releasing (swap w) v
 abbrev pub NoneReleases : World → List (Bool × Event) → Type 0
 NoneReleases w [] = Unit {0}
 NoneReleases w (v ∷ vs) = (ReleasingAt w (v .0) (v .1) → ⊥) × NoneReleases (step w (v .0) (v .1)) vs
+
+-- both ends have come to their fresh UpFT, and neither has released its state
+pub record Stays (w : World) : Type 0 where
+  pub kept : w .kept ≡ true
+  pub ours : w .a .begun ≡ true
+  pub theirs : w .b .begun ≡ true

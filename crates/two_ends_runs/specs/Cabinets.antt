@@ -1,0 +1,81 @@
+-- The cabinets and the messages of the sample runs.
+use Prim.Native.Nat.{ℕ, zero, suc}
+use mathlib.Core.Bool.{Bool, true}
+use mathlib.Core.List.{List, [], _∷_}
+use lib.ListN.{replicate}
+use Rattle.ft_number.specs.declared.MessageId.{MessageId}
+use Rattle.ft_number.specs.declared.Proposal
+use Rattle.ft_number.specs.declared.Proposal.{Proposal}
+use Rattle.message_writer.specs.declared.OwnParameters.{OwnParameters}
+use Rattle.block0.specs.declared.Header.{Header}
+use Rattle.block0.specs.Layout.{noLabels}
+use Rattle.image.specs.State.{store0}
+use Rattle.image.specs.Events.{newImage}
+use Rattle.two_ends.specs.Start.{Opener}
+use Rattle.two_ends.specs.Runs.{Event, submits, sends, keepalives, opens, delivers}
+
+-- an Address message with that message ID
+abbrev pub address : ℕ → List ℕ
+address n = 3 ∷ 0 ∷ 0 ∷ 4 ∷ 0 ∷ 0 ∷ 0 ∷ n ∷ []
+
+-- a Mapping and a Release of label 16, with an empty FEC
+abbrev labelled : ℕ → ℕ → List ℕ
+labelled type n = 4 ∷ type ∷ 0 ∷ 16 ∷ 0 ∷ 0 ∷ 0 ∷ n ∷ 1 ∷ 0 ∷ 0 ∷ 0 ∷ 2 ∷ 0 ∷ 0 ∷ 4 ∷ 0 ∷ 0 ∷ 0 ∷ 16 ∷ []
+
+abbrev pub mapping : ℕ → List ℕ
+mapping n = labelled 0 n
+
+abbrev pub release : ℕ → List ℕ
+release n = labelled 3 n
+
+-- output lent to a writer
+abbrev pub room : List ℕ
+room = replicate 42 0
+
+abbrev pub id : MessageId
+id = record { 0 = 1 }
+
+abbrev pub parameters : OwnParameters
+parameters = record { keepalive = 15; pdulength = 4096; lsr = 1; space = 0 }
+
+-- a cabinet that opens with that image
+abbrev pub cabinet : List ℕ → Opener
+cabinet image = record { image = image; id = id; parameters = parameters; proposal = Proposal.Seconds 5 }
+
+-- an image that holds nothing, kept, with these R, I and S
+abbrev pub header : ℕ → ℕ → Header
+header issued secured = record {
+  released = record { 0 = issued };
+  issued = record { 0 = issued };
+  secured = record { 0 = secured };
+  first = 0;
+  held = 0;
+  timeout = 5;
+  kept = 1;
+  keepalive = 15;
+  maxpdu = 4096;
+}
+
+abbrev pub imageWith : ℕ → ℕ → List ℕ
+imageWith issued secured = store0 newImage (header issued secured) noLabels
+
+-- ---- events
+abbrev pub submit : Bool → ℕ → Bool × Event
+submit at n = (at, submits (address n))
+
+abbrev pub send : Bool → Bool × Event
+send at = (at, sends true room)
+
+abbrev pub alive : Bool → Bool × Event
+alive at = (at, keepalives id room)
+
+abbrev pub reopen : Bool → Bool × Event
+reopen at = (at, opens id parameters (Proposal.Seconds 5) room)
+
+abbrev pub deliver : Bool → Bool × Event
+deliver at = (at, delivers)
+
+-- that many submissions at a
+abbrev pub many : ℕ → List (Bool × Event)
+many zero = []
+many (suc n) = submit true 7 ∷ many n

@@ -1,0 +1,3 @@
+pub mod Cabinets
+pub mod Tales
+pub mod Race

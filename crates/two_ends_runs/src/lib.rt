@@ -1,0 +1,1 @@
+// Runs of two cabinets by computation, bytes and all. Definitions and theorems alone, no code.
