@@ -1,7 +1,7 @@
 // Block 0 of the stored image: the session's numbers and its 120 label words.
 ghost use mathlib.Core.Path.{_≡_};
-ghost use Prim.Native.Nat.{_+_, _*_, _≤_};
-ghost use lib.ListN.{length, take, drop};
+ghost use Prim.Native.Nat.{_<_};
+ghost use lib.ListN.{length, getD, take, drop};
 ghost use Rattle.label_list.specs.Valid.{validOf};
 ghost use Rattle.label_list.specs.Word.{wordCount};
 ghost use Rattle.block.specs.Check.{blockSize};
@@ -58,6 +58,14 @@ pub fn read_labels(block: &[u8], words: &mut [u32])
     ensures { λ _. ⌜ now (words .exit) ≡ labelsOf (now (block .entry)) ⌝ }
 {
     block::words::load_words(block, LABELS_AT, words)
+}
+
+// The label word at a place of block 0.
+pub fn read_label(block: &[u8], place: usize) -> u32
+    requires { ⌜ (length (now block) ≡ blockSize) × (place < wordCount) ⌝ }
+    ensures { λ r. ⌜ r ≡ getD (labelsOf (now (block .entry))) place 0 ⌝ }
+{
+    octets::get_u32(block, LABELS_AT + place * 4)
 }
 
 fn put_numbers(block: &mut [u8], h: Header)

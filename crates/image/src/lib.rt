@@ -138,6 +138,14 @@ pub fn labels_of(image: &[u8], words: &mut [u32])
     block0::read_labels(block_at(image, 0), words)
 }
 
+// The label word at a place.
+pub fn label_at(image: &[u8], place: usize) -> u32
+    requires { ⌜ (length (now image) ≡ imageSize) × (place < wordCount) ⌝ }
+    ensures { λ r. ⌜ r ≡ getD (decode (now (image .entry)) .labels) place 0 ⌝ }
+{
+    block0::read_label(block_at(image, 0), place)
+}
+
 // First stage: stores a message that Submit takes in slot k, with its kind and label.
 pub fn store_slot(image: &mut [u8], k: usize, m: &[u8], kind: Kind, label: u32)
     requires { ⌜ (length (now image) ≡ imageSize) × (k < slotCount) × (length (now m) ≤ longest) × (submissionOf (now m) ≡ Accepted kind label) ⌝ }

@@ -42,6 +42,6 @@ module _ (im : List ℕ) (place : ℕ) {v : Verdict} {n : ℕ} (ev : v ≡ verdi
   pub label-size : n ≡ 0 → length im ≡ imageSize
   label-size z = sound-parts im (passes z) .size
 
-  pub label-read : {words : List ℕ} → n ≡ 0 → place < wordCount → words ≡ decode im .labels → getD words place 0 ≡ labelAt im place
+  pub label-read : {w : ℕ} → n ≡ 0 → place < wordCount → w ≡ getD (decode im .labels) place 0 → w ≡ labelAt im place
   unfolding labelAt
-  label-read z l e = rw (passes z, lt-ltb place wordCount l, e)
+  label-read z l e = rw (passes z, lt-ltb place wordCount l) e

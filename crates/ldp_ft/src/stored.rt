@@ -29,7 +29,5 @@ pub extern "C" fn ldp_ft_label(image: &[u8], place: u32) -> u32
     if label_list::WORD_COUNT <= place as usize {
         return NONE;
     }
-    let mut words = [0u32; label_list::WORD_COUNT];
-    image::labels_of(image, &mut words);
-    words[place as usize]
+    image::label_at(image, place as usize)
 }

@@ -1,7 +1,6 @@
 // Send next: the oldest held message not sent on this connection, with its FT number.
 ghost use mathlib.Core.Path.{_≡_};
 ghost use Prim.Native.Nat.{_<_};
-ghost use lib.ListN.{length};
 ghost use Rattle.octets.specs.Differ.{differ};
 ghost use Rattle.message_writer.specs.Written.{writtenOf};
 ghost use Rattle.image.specs.Sizes.{block};

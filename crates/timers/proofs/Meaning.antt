@@ -5,7 +5,7 @@ use mathlib.Core.List.{List, [], map}
 use mathlib.Core.Logic.{_≢_}
 use Prim.Native.Nat.{ℕ}
 use native.Mathlib.Omega.{arith}
-use borrow.Author.Tests.{eqb-true, eqb-false, le-leb, lt-leb}
+use borrow.Author.Tests.{eqb-false, le-leb, lt-leb}
 use lib.Dec.{eqb}
 use lib.ListN.{getD, length-map, List·getD-map}
 use lib.Seq.{ext-getD}

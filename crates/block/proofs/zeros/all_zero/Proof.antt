@@ -1,5 +1,5 @@
 -- `block::zeros::all_zero` meets its contract: the pairs passed are zero, and the last reaches to the end. Assumes nothing.
-use mathlib.Core.Path.{_≡_, sym, _∙_}
+use mathlib.Core.Path.{_∙_}
 use Prim.Native.Nat.{_*_, _/_, _≤_, _-_}
 use native.Mathlib.Omega.{arith}
 use lib.ListN.{length}
