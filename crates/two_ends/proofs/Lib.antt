@@ -41,3 +41,4 @@ pub mod Kept
 pub mod Listing
 pub mod Saying
 pub mod Steady
+pub mod Calm
