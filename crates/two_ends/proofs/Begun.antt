@@ -43,7 +43,7 @@ pub kept-fits : (h : Header) → h .secured .0 < 4294967296 → AckFits (keptAck
 unfolding keptAck
 kept-fits h l = pick-all AckFits (eqb (h .kept) 1) (omega arith) tt
 
-fine : (o : Opener) → Sound o → Fine (packet o)
+pub fine : (o : Opener) → Sound o → Fine (packet o)
 fine o s = record {
   id = omega (arith, s .widths .id);
   keepalive = omega (arith, s .widths .keepalive);

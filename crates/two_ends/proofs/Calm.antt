@@ -1,7 +1,6 @@
 -- A message of a steady owner is delivered. Assumes nothing.
-use Prim.Native.Nat.{ℕ, _≤_}
-use native.Mathlib.Omega.{arith}
-use mathlib.Core.Path.{_≡_, refl, sym, ap, _∙_}
+use Prim.Native.Nat.{ℕ}
+use mathlib.Core.Path.{_≡_, refl, sym, _∙_}
 use mathlib.Core.Bool.{Bool, true, false, true≢false}
 use mathlib.Core.List.{List, [], _∷_}
 use Rattle.tlv.specs.declared.FtField
@@ -23,11 +22,9 @@ use Rattle.calls.specs.declared.Phase
 use Rattle.calls.specs.declared.Phase.{Phase}
 use Rattle.calls.specs.Acked.{acked}
 use Rattle.calls.specs.Outcomes.{After}
-use Rattle.calls.specs.Received.{isInit}
 use Rattle.call_meaning.specs.Standing.{Standing}
 use Rattle.init.specs.declared.Start
 use Rattle.init.specs.declared.Start.{Start}
-use Rattle.init.specs.declared.Terms
 use Rattle.init.specs.Begun.{fresh, resumed, initStart, initReceivedOf}
 use Rattle.receive.specs.Rule.{isFatal, ackOn, ackCount, taken as takes, receivedState, receiveAnswer, receiveOf}
 use Rattle.receive.specs.Cases.{Case, fatal}
@@ -37,12 +34,12 @@ use Rattle.two_ends.specs.Steady.{Mild, Calm, taken, no-word}
 use Rattle.two_ends.proofs.Packets.{Packet, first, again, alive, carried, bytesOf, NoInit, fine-bytes}
 use Rattle.two_ends.proofs.Invariant.{Headed, Inv}
 use Rattle.two_ends.proofs.Worlds.{ended, kept-one}
-use Rattle.two_ends.proofs.Starting.{terms, starts-same}
+use Rattle.two_ends.proofs.Starting.{starts-same}
 use Rattle.two_ends.proofs.Greeting.{first-begins, again-start, again-begins}
 use Rattle.two_ends.proofs.Judging.{Fair, fair-done, fair-full, fair-fatal}
 use Rattle.two_ends.proofs.Receiving.{judged, broke}
 use Rattle.two_ends.proofs.Arriving.{g₁, alive-read, alive-done, g₂, carried-read, carried-fair, carried-another}
-use Rattle.two_ends.proofs.Moving.{Terms, Moves, failed-moved}
+use Rattle.two_ends.proofs.Moving.{Terms, failed-moved}
 use Rattle.two_ends.proofs.Unreleased.{taken-terms, full-terms}
 use Rattle.two_ends.proofs.Saying.{All, all-drop, Says}
 use Rattle.two_ends.proofs.Steady.{Settled, moved-mild}

@@ -42,3 +42,7 @@ pub mod Listing
 pub mod Saying
 pub mod Steady
 pub mod Calm
+pub mod Undisturbed
+pub mod Steadily
+pub mod Monotone
+pub mod Enduring

@@ -1,19 +1,18 @@
 -- Steady owners: what holds of both ends and both lines, and every event but a delivery. Assumes nothing.
-use Prim.Native.Nat.{ℕ, _+_, _^_, _≤_, _<_}
+use Prim.Native.Nat.{ℕ, _+_, _<_}
 use native.Mathlib.Omega.{arith}
-use mathlib.Core.Path.{_≡_, refl, sym, ap, _∙_}
-use mathlib.Core.Bool.{Bool, true, false, not, true≢false}
-use mathlib.Core.List.{List, [], _∷_, _++_, append-nil}
+use mathlib.Core.Path.{_≡_, _∙_}
+use mathlib.Core.Bool.{Bool, true, false}
+use mathlib.Core.List.{List, [], _∷_, append-nil}
 use mathlib.Core.Logic.{_⊎_, ⊎-elim}
 use lib.ListN.{length}
-use Rattle.octets.specs.Pick.{pick, both}
+use Rattle.octets.specs.Pick.{pick}
 use Rattle.ft_number.specs.Timeout.{proposedOf}
-use Rattle.ft_number.specs.declared.FtNumber.{FtNumber}
 use Rattle.ft_number.specs.declared.MessageId.{MessageId}
 use Rattle.ft_number.specs.declared.Proposal.{Proposal}
 use Rattle.message_writer.specs.ReadBack.{AckFits}
 use Rattle.message_writer.specs.declared.OwnParameters.{OwnParameters}
-use Rattle.label_list.proofs.Choice.{by-test, pick-all}
+use Rattle.label_list.proofs.Choice.{by-test}
 use Rattle.block0.specs.declared.Header.{Header}
 use Rattle.image.specs.State.{State, decode}
 use Rattle.image.proofs.Queue.{queue-length, queue-storable}
@@ -21,12 +20,12 @@ use Rattle.calls.specs.declared.Phase
 use Rattle.calls.specs.declared.Phase.{Phase}
 use Rattle.calls.specs.Outcomes.{After, isDone, wrote}
 use Rattle.call_meaning.specs.Standing.{Standing}
-use Rattle.send.specs.Rule.{sentOf, nextMessage, numberAt, ackAsked, sendBytes, sendAnswer, sendImage, sendOf}
+use Rattle.send.specs.Rule.{isUp as isSending, sentOf, nextMessage, numberAt, ackAsked, sendBytes, sendAnswer, sendImage, sendOf}
 use Rattle.send.proofs.Judged.{Sendable, answered-sendable}
 use Rattle.send.proofs.Numbers.{number-fits}
 use Rattle.connect.specs.Writers.{opens, keptAck, openBytes, openOf, isUp, aliveAck, aliveBytes, keepaliveOf}
 use Rattle.two_ends.specs.World.{History, End, World}
-use Rattle.two_ends.specs.Calls.{off, broken, called, replaced, put}
+use Rattle.two_ends.specs.Calls.{broken, called, replaced, put}
 use Rattle.two_ends.specs.Runs.{Widths, Seconds}
 use Rattle.two_ends.specs.Steady.{Mild}
 use Rattle.two_ends.proofs.Worlds.{closes, next}
@@ -128,7 +127,7 @@ module _ (o : OwnParameters) (im : List ℕ) (ph : Phase) (st : Standing im ph) 
       }) k l)
 
   -- a message of the store
-  pub send-line : (ask : Bool) (out : List ℕ) → All Mild (decode im .queue) → All (Says o) (put jo line (sendOf im ph ask out))
+  pub send-line : (ask : Bool) (out : List ℕ) → (isSending ph ≡ true → All Mild (decode im .queue)) → All (Says o) (put jo line (sendOf im ph ask out))
   unfolding sendBytes
   send-line ask out mild =
       by-test (isDone (sendAnswer im ph ask (length out)))
@@ -136,7 +135,7 @@ module _ (o : OwnParameters) (im : List ℕ) (ph : Phase) (st : Standing im ph) 
       let d : Sendable im ph = answered-sendable im ph ask (length out) t in
       let n : ℕ = sentOf ph in
       let said : Says o (sendBytes (decode im) n ask) =
-      carried-says o (nextMessage (decode im) n) (queue-storable im (st .sound) n (d .some)) (all-at Mild n (decode im .queue) (rw (queue-length im) (d .some)) mild)
+      carried-says o (nextMessage (decode im) n) (queue-storable im (st .sound) n (d .some)) (all-at Mild n (decode im .queue) (rw (queue-length im) (d .some)) (mild (d .up)))
       (numberAt (decode im .header) n) (ackAsked ask (decode im .header)) (omega (arith, number-fits (decode im .header) n)) (ack-fits ask (decode im .header) (st .range .header .secured)) in
       rw (sent-is im ph ask out t) (by jo said))
       (λ n. rw (put-still jo line (sendOf im ph ask out) (unsent im ph ask out n .still)) says)
