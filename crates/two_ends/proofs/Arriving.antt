@@ -31,7 +31,8 @@ use Rattle.receive.specs.Labels.{labelEffect, protectionRule}
 use Rattle.receive.specs.Rule.{ackOn, receivedState, receiveAnswer, receiveOf}
 use Rattle.two_ends.specs.World.{History, End}
 use Rattle.two_ends.specs.Calls.{keeps, took, securing}
-use Rattle.two_ends.proofs.Direction.{half-ack, half-turn}
+use Rattle.two_ends.proofs.Direction.{half-turn}
+use Rattle.two_ends.proofs.Freeing.{half-ack}
 use Rattle.two_ends.proofs.Packets.{Packet, alive, carried, bytesOf, Fine, fine-bytes}
 use Rattle.two_ends.proofs.Invariant.{sideOf, Inv}
 use Rattle.two_ends.proofs.Takes.{arrives, dir-took-alive, dir-took-carried}

@@ -35,7 +35,8 @@ use Rattle.two_ends.proofs.Packets.{Packet, first, again, alive, carrie
 use Rattle.two_ends.proofs.Invariant.{Headed, Inv}
 use Rattle.two_ends.proofs.Worlds.{ended, kept-one}
 use Rattle.two_ends.proofs.Starting.{starts-same}
-use Rattle.two_ends.proofs.Greeting.{first-begins, again-start, again-begins}
+use Rattle.two_ends.proofs.Greeted.{first-begins}
+use Rattle.two_ends.proofs.Resuming.{again-start, again-begins}
 use Rattle.two_ends.proofs.Judging.{Fair, fair-done, fair-full, fair-fatal}
 use Rattle.two_ends.proofs.Receiving.{judged, broke}
 use Rattle.two_ends.proofs.Arriving.{g₁, alive-read, alive-done, g₂, carried-read, carried-fair, carried-another}

@@ -32,7 +32,7 @@ use Rattle.two_ends.proofs.Worlds.{closes, next}
 use Rattle.two_ends.proofs.Quiet.{Quiet, put-still}
 use Rattle.two_ends.proofs.Writing.{Wrote, writer-says, put-wrote}
 use Rattle.two_ends.proofs.Opening.{seconds-small}
-use Rattle.two_ends.proofs.Sending.{unsent, sent-is, ack-fits}
+use Rattle.two_ends.proofs.Sent.{unsent, sent-is, ack-fits}
 use Rattle.two_ends.proofs.Begun.{kept-fits}
 use Rattle.two_ends.proofs.Moving.{Terms, Moves}
 use Rattle.two_ends.proofs.Saying.{All, all-snoc, all-at, Says, init-says, alive-says, carried-says}
