@@ -24,7 +24,8 @@ use Rattle.two_ends.proofs.Invariant.{Headed, Inv, Some, Good}
 use Rattle.two_ends.proofs.Takes.{headed}
 use Rattle.two_ends.proofs.Worlds.{ended, at-swap}
 use Rattle.two_ends.proofs.Delivering.{Oldest, oldest}
-use Rattle.two_ends.proofs.Greeting.{first-begins, again-start, again-begins, again-changed}
+use Rattle.two_ends.proofs.Greeted.{first-begins}
+use Rattle.two_ends.proofs.Resuming.{again-start, again-begins, again-changed}
 use Rattle.two_ends.proofs.Judging.{Fair, fair-done, fair-full, fair-fatal}
 use Rattle.two_ends.proofs.Arriving.{alive-done, carried-fair}
 use Rattle.two_ends.proofs.Delivered.{up-reads}

@@ -2,7 +2,7 @@
 use Prim.Native.Nat.{ℕ, _+_, _-_, _^_, _<_}
 use native.Mathlib.Omega.{arith}
 use mathlib.Core.Path.{_≡_, refl, ap}
-use mathlib.Core.Bool.{true}
+use mathlib.Core.Bool.{true, false}
 use mathlib.Core.List.{List, [], _∷_, map}
 use lib.ListN.{length}
 use Rattle.ft_number.specs.declared.Ack
@@ -22,6 +22,7 @@ use Rattle.message_writer.proofs.Own.{keepalive-reads}
 use Rattle.message_writer.proofs.RoundTrip.{submitted, sent-reads, sent-kind, sent-payload}
 use Rattle.image.specs.State.{decode}
 use Rattle.image.proofs.Sound.{sound-valid}
+use Rattle.calls.specs.Received.{isInit}
 use Rattle.calls.specs.declared.Answer
 use Rattle.calls.specs.declared.Answer.{Answer}
 use Rattle.calls.specs.declared.Phase
@@ -30,7 +31,8 @@ use Rattle.receive.specs.Labels.{labelEffect, protectionRule}
 use Rattle.receive.specs.Rule.{ackOn, receivedState, receiveAnswer, receiveOf}
 use Rattle.two_ends.specs.World.{History, End}
 use Rattle.two_ends.specs.Calls.{keeps, took, securing}
-use Rattle.two_ends.proofs.Direction.{half-ack, half-turn}
+use Rattle.two_ends.proofs.Direction.{half-turn}
+use Rattle.two_ends.proofs.Freeing.{half-ack}
 use Rattle.two_ends.proofs.Packets.{Packet, alive, carried, bytesOf, Fine, fine-bytes}
 use Rattle.two_ends.proofs.Invariant.{sideOf, Inv}
 use Rattle.two_ends.proofs.Takes.{arrives, dir-took-alive, dir-took-carried}
@@ -90,19 +92,21 @@ module _ (im : List ℕ) (sent : ℕ) (h : History) (m : List ℕ) (n : FtNumber
     pub carried-read : readingOf m₂ ≡ Reading.Whole g₂
     carried-read = sent-reads m (f .0 .storable .kind) (f .0 .storable .label) (f .0 .storable .accepted) n ack short (f .1) (f .2)
 
-    in-order : (j : ℕ) → ackOn (decode im .header) g₂ ≡ Ack.Releases j → InOrder (decode im) g₂ j n
-    in-order j acks =
+    pub carried-another : isInit (g₂ .typename) ≡ false
+    carried-another =
         let k = f .0 .storable .kind in
         let l = f .0 .storable .label in
         let e = f .0 .storable .accepted in
-        let valid = sound-valid im (i .own .stand .sound) .labels in
-        record {
-          another = not-init g₂ (rw (sent-kind m k l e n ack short) (accepted m k l e .labelled .some));
-          protected = refl;
-          acks = acks;
-          turn = half-turn (i .back .half);
-          sixless = tidy-words (decode im) valid (i .own .tidy refl);
-        }
+        not-init g₂ (rw (sent-kind m k l e n ack short) (accepted m k l e .labelled .some))
+
+    in-order : (j : ℕ) → ackOn (decode im .header) g₂ ≡ Ack.Releases j → InOrder (decode im) g₂ j n
+    in-order j acks = record {
+      another = carried-another;
+      protected = refl;
+      acks = acks;
+      turn = half-turn (i .back .half);
+      sixless = tidy-words (decode im) (sound-valid im (i .own .stand .sound) .labels) (i .own .tidy refl);
+    }
 
     carried-tidy : (j : ℕ) → ackOn (decode im .header) g₂ ≡ Ack.Releases j → Tidy (receivedState (decode im) g₂)
     carried-tidy j acks = tidy-protected (decode im) (sound-valid im (i .own .stand .sound) .labels) (i .own .tidy refl) g₂ j acks n refl

@@ -25,9 +25,9 @@ use Rattle.calls.specs.Outcomes.{After, roomFor, wrote}
 use Rattle.calls.proofs.Settled.{admitted-is}
 use Rattle.calls.proofs.Ends.{settle-done}
 use Rattle.call_meaning.specs.Standing.{Standing}
-use Rattle.call_meaning.proofs.Stands.{standing-admitted}
 use Rattle.connect.specs.Writers.{opens, keptAck, openOf, writerOf}
 use Rattle.connect.proofs.Written.{kept-clear}
+use Rattle.call_meaning.proofs.Stands.{standing-admitted}
 use Rattle.two_ends.specs.World.{none}
 use Rattle.two_ends.specs.Start.{Opener, opener, firstInit, start, Sound, RZero, Afresh}
 use Rattle.two_ends.proofs.Half.{Half}
@@ -43,7 +43,7 @@ pub kept-fits : (h : Header) → h .secured .0 < 4294967296 → AckFits (keptAck
 unfolding keptAck
 kept-fits h l = pick-all AckFits (eqb (h .kept) 1) (omega arith) tt
 
-fine : (o : Opener) → Sound o → Fine (packet o)
+pub fine : (o : Opener) → Sound o → Fine (packet o)
 fine o s = record {
   id = omega (arith, s .widths .id);
   keepalive = omega (arith, s .widths .keepalive);

@@ -3,7 +3,7 @@ use Prim.Native.Nat.{ℕ, suc, _+_, _-_, _≤_, _<_}
 use native.Mathlib.Omega.{arith}
 use mathlib.Core.Path.{_≡_, refl, sym, ap, _∙_}
 use mathlib.Core.Bool.{Bool, true, false}
-use mathlib.Core.List.{List, [], _∷_, _++_, append-nil}
+use mathlib.Core.List.{List, [], _∷_, _++_}
 use lib.ListN.{length, drop, length-append}
 use Rattle.ft_number.specs.Circle.{circle, next, after}
 use Rattle.ft_number.specs.Ack.{ackOf}
@@ -11,8 +11,8 @@ use Rattle.ft_number.specs.declared.Ack
 use Rattle.ft_number.specs.declared.Ack.{Ack}
 use Rattle.two_ends.proofs.Positions.{num, num-next, num-le}
 use Rattle.two_ends.proofs.Half.{Snd, Rcv, Half}
-use Rattle.two_ends.proofs.Lines.{asc-le, line-snoc, line-secure, line-end, flow-grow, flow-snoc}
-use Rattle.two_ends.proofs.Books.{accepts, issues, frees, secures, held-length, numbered, unsent, place, issued, ack-right, books-accept, books-issue, books-free, books-secure}
+use Rattle.two_ends.proofs.Lines.{line-snoc, line-secure, line-end, flow-grow, flow-snoc}
+use Rattle.two_ends.proofs.Books.{accepts, issues, secures, numbered, unsent, place, issued, ack-right, books-accept, books-issue, books-secure}
 
 module _ {A : Type 0} where
   module _ {x : Snd A} {sent : ℕ} {up : Bool} {y : Rcv A} {dat : List (ℕ × A)} {acks : List ℕ} (p : Half x sent up y dat acks) where
@@ -113,58 +113,3 @@ module _ {A : Type 0} where
               (numbered (p .books) sent ∙ ap num at) (place (p .books) sent m ms e) (p .flow);
           line = (omega (arith, ld, p .line .0), p .line .1);
         }
-
-  -- ---- an acknowledgement arrives, or a message that bears none
-  -- it is right, and this is what it leaves
-  pub record Freed (x : Snd A) (sent : ℕ) (y : Rcv A) (dat : List (ℕ × A)) (acks : List ℕ) (n k : ℕ) : Type 0 where
-    pub right : ackOf (x .R) (x .I) n ≡ Ack.Releases k
-    pub few : k ≤ length (x .queue)
-    pub half : Half (frees k n x) (sent - k) true y dat acks
-
-  pub half-none : {x : Snd A} {sent : ℕ} {y : Rcv A} {dat : List (ℕ × A)} {acks : List ℕ} → Half x sent true y dat acks → Freed x sent y dat acks (x .R) 0
-  half-none {x} {sent} p =
-      let all : sent - 0 ≡ sent = omega arith in
-      record { right = half-same p; few = omega arith; half = rw (append-nil (x .letgo), all) p }
-
-  module _ {x : Snd A} {y : Rcv A} {dat : List (ℕ × A)} {acks : List ℕ} {n : ℕ} where
-    pub half-ack : {sent : ℕ} → Half x sent true y dat (n ∷ acks) → (k : ℕ) × Freed x sent y dat acks n k
-    half-ack {sent} p =
-        let c = p .line .1 in
-        let ks : c .0 ≤ p .s = asc-le (c .0) acks (p .s) (c .3) in (
-          c .0 - p .r,
-          record {
-            right = ack-right (p .books) n (c .0) (c .1) (c .2) ks;
-            few = omega (arith, held-length (p .books), p .books .si, p .books .ia, ks);
-            half = record {
-              r = c .0;
-              i = p .i;
-              s = p .s;
-              books = books-free (p .books) n (c .0) (c .1) (c .2) ks;
-              sentI = omega (arith, p .sentI, p .books .si, ks);
-              flow = p .flow;
-              line = (omega (arith, p .line .0, c .2, ks), c .3);
-            };
-          },
-        )
-
-    -- the peer's Init
-    pub half-init : Half x 0 false y dat (n ∷ acks) → (k : ℕ) × Freed x 0 y dat acks n k
-    half-init p =
-        let c = p .line .1 in
-        let ks : c .0 ≤ p .s = asc-le (c .0) acks (p .s) (c .3) in
-        let rk : p .r ≤ c .0 = omega (arith, p .books .rs, c .2) in (
-          c .0 - p .r,
-          record {
-            right = ack-right (p .books) n (c .0) (c .1) rk ks;
-            few = omega (arith, held-length (p .books), p .books .si, p .books .ia, ks);
-            half = record {
-              r = c .0;
-              i = p .i;
-              s = p .s;
-              books = books-free (p .books) n (c .0) (c .1) rk ks;
-              sentI = omega (arith, p .books .si, ks);
-              flow = p .flow;
-              line = (omega (arith, p .line .0, c .2, ks), c .3);
-            };
-          },
-        )

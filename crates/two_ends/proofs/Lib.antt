@@ -3,6 +3,7 @@ pub mod Half
 pub mod Books
 pub mod Lines
 pub mod Direction
+pub mod Freeing
 pub mod Octets
 pub mod Packets
 pub mod Sixless
@@ -21,10 +22,13 @@ pub mod Submitting
 pub mod Cutting
 pub mod Writing
 pub mod Opening
+pub mod Sent
 pub mod Sending
 pub mod Delivering
 pub mod Starting
 pub mod Begins
+pub mod Greeted
+pub mod Resuming
 pub mod Greeting
 pub mod Judging
 pub mod Receiving
@@ -41,3 +45,8 @@ pub mod Kept
 pub mod Listing
 pub mod Saying
 pub mod Steady
+pub mod Calm
+pub mod Undisturbed
+pub mod Steadily
+pub mod Monotone
+pub mod Enduring

@@ -37,7 +37,7 @@ use Rattle.session.specs.Store.{slotAlone}
 use Rattle.two_ends.proofs.Quiet.{done-or-nothing}
 use Rattle.two_ends.proofs.Resting.{unnoticed, untimed}
 use Rattle.two_ends.proofs.Cutting.{uncut}
-use Rattle.two_ends.proofs.Sending.{unsent, sent-is}
+use Rattle.two_ends.proofs.Sent.{unsent, sent-is}
 
 -- kept and the peer's two parameters are as they were
 pub record Terms (s t : State) : Type 0 where

@@ -30,7 +30,7 @@ use Rattle.receive.proofs.Cases.{cases}
 use Rattle.receive.proofs.Meaning.{receive-answered, receive-judged, receive-decodes, receive-stands}
 use Rattle.two_ends.specs.World.{History, End}
 use Rattle.two_ends.specs.Calls.{keeps, took, takes, securing}
-use Rattle.two_ends.proofs.Direction.{Freed}
+use Rattle.two_ends.proofs.Freeing.{Freed}
 use Rattle.two_ends.proofs.Packets.{Packet, bytesOf, datas, acksOf}
 use Rattle.two_ends.proofs.Invariant.{sideOf, sndOf, rcvOf, Ready, Inv, Dir}
 use Rattle.two_ends.proofs.Sides.{side}

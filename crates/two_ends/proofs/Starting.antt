@@ -59,3 +59,10 @@ module _ (h : Header) (t : ℕ) (id : MessageId) (p : OwnParameters) (seconds : 
           ⊎ (pick b (Start.Resumed terms k a) (Start.Refused Answer.ParametersChanged) ≡ Start.Refused Answer.ParametersChanged)
       by true = inl refl
       by false = inr refl
+
+  -- with the parameters that are stored it is resumed
+  pub starts-same : (a : FtNumber) (k : ℕ) → InitFits id p seconds (FtField.Number a) → h .kept ≡ 1 → h .keepalive ≡ p .keepalive → h .maxpdu ≡ p .pdulength
+      → ackOf (h .released .0) (h .issued .0) (a .0) ≡ Ack.Releases k → startOf h t (readingOf (initBytes id p seconds (FtField.Number a))) ≡ Start.Resumed terms k a
+  unfolding startOf bothSet
+  starts-same a k f kept e l acks =
+      rw (init-reads id p seconds (FtField.Number a) f, eq-eqb (h .kept) 1 kept, eq-eqb (h .keepalive) (p .keepalive) e, eq-eqb (h .maxpdu) (p .pdulength) l, acks)

@@ -30,7 +30,7 @@ use Rattle.two_ends.proofs.Invariant.{Headed, linkable, Inv, Good}
 use Rattle.two_ends.proofs.Takes.{headed}
 use Rattle.two_ends.proofs.Worlds.{ended, kept-one, next}
 use Rattle.two_ends.proofs.Delivering.{Oldest, oldest}
-use Rattle.two_ends.proofs.Greeting.{again-start, again-begins, again-changed}
+use Rattle.two_ends.proofs.Resuming.{again-start, again-begins, again-changed}
 use Rattle.two_ends.proofs.Judging.{Fair, fair-done, fair-full, fair-fatal}
 use Rattle.two_ends.proofs.Arriving.{g₁, alive-read, alive-done, g₂, carried-read, carried-fair}
 use Rattle.two_ends.proofs.Delivered.{up-reads}

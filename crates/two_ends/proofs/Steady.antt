@@ -20,7 +20,7 @@ use Rattle.calls.specs.declared.Phase
 use Rattle.calls.specs.declared.Phase.{Phase}
 use Rattle.calls.specs.Outcomes.{After, isDone, wrote}
 use Rattle.call_meaning.specs.Standing.{Standing}
-use Rattle.send.specs.Rule.{sentOf, nextMessage, numberAt, ackAsked, sendBytes, sendAnswer, sendImage, sendOf}
+use Rattle.send.specs.Rule.{isUpFT, sentOf, nextMessage, numberAt, ackAsked, sendBytes, sendAnswer, sendImage, sendOf}
 use Rattle.send.proofs.Judged.{Sendable, answered-sendable}
 use Rattle.send.proofs.Numbers.{number-fits}
 use Rattle.connect.specs.Writers.{opens, keptAck, openBytes, openOf, isUp, aliveAck, aliveBytes, keepaliveOf}
@@ -32,7 +32,7 @@ use Rattle.two_ends.proofs.Worlds.{closes, next}
 use Rattle.two_ends.proofs.Quiet.{Quiet, put-still}
 use Rattle.two_ends.proofs.Writing.{Wrote, writer-says, put-wrote}
 use Rattle.two_ends.proofs.Opening.{seconds-small}
-use Rattle.two_ends.proofs.Sending.{unsent, sent-is, ack-fits}
+use Rattle.two_ends.proofs.Sent.{unsent, sent-is, ack-fits}
 use Rattle.two_ends.proofs.Begun.{kept-fits}
 use Rattle.two_ends.proofs.Moving.{Terms, Moves}
 use Rattle.two_ends.proofs.Saying.{All, all-snoc, all-at, Says, init-says, alive-says, carried-says}
@@ -127,7 +127,7 @@ module _ (o : OwnParameters) (im : List ℕ) (ph : Phase) (st : Standing im ph) 
       }) k l)
 
   -- a message of the store
-  pub send-line : (ask : Bool) (out : List ℕ) → All Mild (decode im .queue) → All (Says o) (put jo line (sendOf im ph ask out))
+  pub send-line : (ask : Bool) (out : List ℕ) → (isUpFT ph ≡ true → All Mild (decode im .queue)) → All (Says o) (put jo line (sendOf im ph ask out))
   unfolding sendBytes
   send-line ask out mild =
       by-test (isDone (sendAnswer im ph ask (length out)))
@@ -135,7 +135,7 @@ module _ (o : OwnParameters) (im : List ℕ) (ph : Phase) (st : Standing im ph) 
       let d : Sendable im ph = answered-sendable im ph ask (length out) t in
       let n : ℕ = sentOf ph in
       let said : Says o (sendBytes (decode im) n ask) =
-      carried-says o (nextMessage (decode im) n) (queue-storable im (st .sound) n (d .some)) (all-at Mild n (decode im .queue) (rw (queue-length im) (d .some)) mild)
+      carried-says o (nextMessage (decode im) n) (queue-storable im (st .sound) n (d .some)) (all-at Mild n (decode im .queue) (rw (queue-length im) (d .some)) (mild (d .up)))
       (numberAt (decode im .header) n) (ackAsked ask (decode im .header)) (omega (arith, number-fits (decode im .header) n)) (ack-fits ask (decode im .header) (st .range .header .secured)) in
       rw (sent-is im ph ask out t) (by jo said))
       (λ n. rw (put-still jo line (sendOf im ph ask out) (unsent im ph ask out n .still)) says)

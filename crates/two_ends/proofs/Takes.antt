@@ -26,7 +26,8 @@ use Rattle.receive.specs.Rule.{ackOn, taken, receivedState}
 use Rattle.two_ends.specs.World.{History, none}
 use Rattle.two_ends.specs.Calls.{takes}
 use Rattle.two_ends.proofs.Half.{Half}
-use Rattle.two_ends.proofs.Direction.{Freed, half-none, half-ack, half-init, half-secure}
+use Rattle.two_ends.proofs.Direction.{half-secure}
+use Rattle.two_ends.proofs.Freeing.{Freed, half-none, half-ack, half-init}
 use Rattle.two_ends.proofs.Packets.{Packet, first, again, alive, carried, datas, acksOf}
 use Rattle.two_ends.proofs.Invariant.{Side, sndOf, rcvOf, Headed, Shape, Dir}
 use Rattle.two_ends.proofs.Sides.{side}

@@ -9,9 +9,12 @@ use Rattle.message.specs.declared.Reading
 use Rattle.message.specs.declared.Reading.{Reading}
 use Rattle.message_writer.specs.declared.OwnParameters.{OwnParameters}
 use Rattle.image.specs.State.{decode}
+use Rattle.calls.specs.declared.Answer
+use Rattle.calls.specs.declared.Answer.{Answer}
 use Rattle.timers.specs.Events.{waiting, expired}
 use Rattle.receive.specs.Rule.{isFatal}
 use Rattle.two_ends.specs.World.{World, swap}
+use Rattle.two_ends.specs.Answers.{answerTo}
 use Rattle.two_ends.specs.Runs.{Event, submits, sends, keepalives, opens, passes, delivers, breaks, notices, restarts, halts, step}
 
 -- "36: Status with E set" does not come of it
@@ -40,3 +43,11 @@ SteadilyAt oa ob w false v = Steadily ob (swap w) v
 abbrev pub AllSteady : OwnParameters → OwnParameters → World → List (Bool × Event) → Type 0
 AllSteady oa ob w [] = Unit {0}
 AllSteady oa ob w (v ∷ vs) = SteadilyAt oa ob w (v .0) (v .1) × AllSteady oa ob (step w (v .0) (v .1)) vs
+
+-- the answers that then come to what is delivered: 0, and 21
+pub data Calm : Answer → Type 0 where
+  taken : Calm Answer.Done
+  no-word : Calm Answer.NoWordForMapping
+
+abbrev pub AllCalm : World → Type 0
+AllCalm w = (m : List ℕ) (rest : List (List ℕ)) → w .a .joined ≡ true → w .ba ≡ m ∷ rest → Calm (answerTo (w .a) m)
