@@ -14,12 +14,15 @@ use Rattle.image.specs.State.{decode}
 use Rattle.image.specs.Verdict.{verdict}
 use Rattle.image.specs.declared.Verdict
 use Rattle.image.specs.declared.Verdict.{Verdict}
+use Rattle.calls.specs.declared.Answer
+use Rattle.calls.specs.declared.Answer.{Answer}
+use Rattle.calls.specs.Answers.{answerNumber}
 use Rattle.ldp_ft.specs.declared.DistanceNumbers.{DistanceNumbers}
 
 -- "answer 0 or 2; steps 0 with 2"
 abbrev pub distanceNumbers : Distance → DistanceNumbers
 distanceNumbers (Distance.Steps n) = record { answer = 0; steps = n }
-distanceNumbers Distance.Refused = record { answer = 2; steps = pos 0 }
+distanceNumbers Distance.Refused = record { answer = answerNumber Answer.ZeroDistance; steps = pos 0 }
 
 -- "0xFFFFFFFF where refused"
 abbrev pub none : ℕ

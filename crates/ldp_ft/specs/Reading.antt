@@ -20,6 +20,9 @@ use Rattle.message.specs.Kinds.{kindOf, kindNumber}
 use Rattle.message.specs.declared.Message.{Message}
 use Rattle.message.specs.declared.Reading
 use Rattle.message.specs.declared.Reading.{Reading}
+use Rattle.calls.specs.declared.Answer
+use Rattle.calls.specs.declared.Answer.{Answer}
+use Rattle.calls.specs.Answers.{answerNumber}
 use Rattle.ldp_ft.specs.declared.MessageNumbers.{MessageNumbers}
 use Rattle.ldp_ft.specs.declared.PartNumbers.{PartNumbers}
 use Rattle.ldp_ft.specs.declared.PduNumbers.{PduNumbers}
@@ -27,11 +30,11 @@ use Rattle.ldp_ft.specs.declared.PduNumbers.{PduNumbers}
 -- "0 or 4; number of messages"
 abbrev pub pduNumbers : Opened → PduNumbers
 pduNumbers (Opened.Whole count) = record { answer = 0; count = count }
-pduNumbers Opened.Malformed = record { answer = 4; count = 0 }
+pduNumbers Opened.Malformed = record { answer = answerNumber Answer.Malformed; count = 0 }
 
 -- "4, 0, 0 where none does"; so too where 32 bits do not name the place, which no PDU reaches: it has 65,539 bytes at most
 abbrev pub noPart : PartNumbers
-noPart = record { answer = 4; start = 0; end = 0 }
+noPart = record { answer = answerNumber Answer.Malformed; start = 0; end = 0 }
 
 abbrev pub partOf : ℕ → ℕ → PartNumbers
 partOf start end = pick (ltb 4294967295 end) noPart (record { answer = 0; start = start; end = end })
@@ -82,7 +85,7 @@ pub record NarrowMessage (g : Message) : Type 0 where
 -- "22 where malformed; then all else is 0"
 abbrev pub noMessage : MessageNumbers
 noMessage = record {
-  answer = 22;
+  answer = answerNumber Answer.MalformedReceived;
   typenumber = 0;
   id = 0;
   kind = 0;

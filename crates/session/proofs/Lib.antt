@@ -7,3 +7,4 @@ pub mod Stands
 pub mod Sample
 pub mod Second
 pub mod Keepers
+pub mod Numbers
