@@ -1,5 +1,5 @@
 -- The end of a block's check: what is behind the chunks that were summed. Assumes nothing.
-use mathlib.Core.Path.{_≡_, refl, sym, ap, _∙_}
+use mathlib.Core.Path.{_≡_, sym, _∙_}
 use mathlib.Core.Bool.{true}
 use mathlib.Core.List.{List}
 use Prim.Native.Nat.{ℕ, _+_, _-_, _*_, _/_, _%_, _≤_, _<_}
@@ -11,9 +11,9 @@ use mir.Syntax.{w64}
 use mir.Val.{Fits}
 use Rattle.octets.specs.Be.{beAt}
 use Rattle.octets.specs.Part.{part}
+use Rattle.octets.proofs.Part.{part-at}
 use Rattle.block.specs.Check.{sums, checkOf, checkAt}
 use Rattle.block.specs.Zeros.{allZero}
-use Rattle.block.proofs.Parts.{part-at}
 use Rattle.block.proofs.Sums.{sums-turn, sums-last, sums-zeros}
 use Rattle.block.proofs.ZeroBytes.{zero-bytes, bytes-zero}
 

@@ -9,6 +9,7 @@ use lib.ListN.{length, getD, drop}
 use mir.Syntax.{w64}
 use mir.Val.{Fits}
 use Rattle.octets.specs.Be.{beAt}
+use Rattle.octets.specs.Bytes.{Bytes}
 use Rattle.octets.proofs.Be.{beAt-lt}
 use Rattle.block.specs.Check.{sums, checkOf}
 use Rattle.block.specs.Lanes.{lane, runs, paired, InLanes}
@@ -35,9 +36,6 @@ two-words s at =
     rw third (omega arith)
 
 -- ---- a lane
-abbrev pub Bytes : List ℕ → Type 0
-Bytes s = (i : ℕ) → getD s i 0 < 256
-
 lane-low : (s : List ℕ) (o n : ℕ) → Bytes s → lane s o n ≤ 65535 * n
 unfolding lane
 lane-low s o zero byte = omega arith

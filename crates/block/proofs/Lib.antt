@@ -1,5 +1,3 @@
-pub mod Tests
-pub mod Parts
 pub mod Sums
 pub mod Sealed
 pub mod ZeroBytes
@@ -8,3 +6,4 @@ pub mod WordRun
 pub mod Lanes
 pub mod Ends
 pub mod ZeroPairs
+pub mod Same

@@ -1,15 +1,14 @@
 -- The laws of a run of numbers: what is written is read back, and nothing else changes. Assumes nothing.
-use mathlib.Core.Path.{_≡_, refl, sym, ap, _∙_}
+use mathlib.Core.Path.{_≡_, refl, _∙_}
 use mathlib.Core.List.{List, [], _∷_}
 use mathlib.Core.Logic.{_≢_, ⊎-elim}
-use Prim.Native.Nat.{ℕ, zero, suc, _+_, _*_, _^_, _-_, _≤_, _<_}
-use native.Mathlib.Nat.{eq-or-lt-of-le, le-of-suc-le-suc}
+use Prim.Native.Nat.{ℕ, _+_, _^_, _-_, _≤_, _<_}
 use native.Mathlib.Omega.{arith}
 use lib.ListN.{length, getD, replicate}
 use Rattle.octets.specs.Be.{beAt, putBe}
-use Rattle.octets.proofs.Be.{beAt-suc, beAt-same, beAt-putBe-fits, getD-putBe, length-putBe}
+use Rattle.octets.proofs.Be.{beAt-same, beAt-putBe-fits, getD-putBe, length-putBe, zeros-beAt, beAt-zeros}
+use Rattle.octets.proofs.Choice.{below-or-not}
 use Rattle.block.specs.Run.{getRun, putRun, runSize}
-use Rattle.block.proofs.Tests.{below-or-not}
 
 -- each value has its width
 pub data Fit : List ℕ → List ℕ → Type 0 where
@@ -49,20 +48,6 @@ getRun-same (w ∷ ws) s t at same =
     rw (head, rest)
 
 -- ---- zeros
--- a field of bytes that are zero is zero, and so are the bytes of a field that is
-pub zeros-beAt : (w : ℕ) (s : List ℕ) (at : ℕ) → ((k : ℕ) → k < w → getD s (at + k) 0 ≡ 0) → beAt w s at ≡ 0
-zeros-beAt zero s at z = refl
-zeros-beAt (suc w) s at z = rw (beAt-suc, zeros-beAt w s at (λ k l. z k (omega arith)), z w (omega arith))
-
-pub beAt-zeros : (w : ℕ) (s : List ℕ) (at : ℕ) → beAt w s at ≡ 0 → (k : ℕ) → k < w → getD s (at + k) 0 ≡ 0
-beAt-zeros zero s at e k l = absurd (omega arith)
-beAt-zeros (suc w) s at e k l =
-    let sum : beAt w s at * 256 + getD s (at + w) 0 ≡ 0 = sym (beAt-suc w s at) ∙ e in
-    ⊎-elim
-    (λ (h : k ≡ w). rw h (omega arith))
-    (λ (h : k < w). beAt-zeros w s at (omega arith) k h)
-    (eq-or-lt-of-le (le-of-suc-le-suc l))
-
 pub zeros-getRun : (ws s : List ℕ) (at : ℕ) → ((k : ℕ) → k < runSize ws → getD s (at + k) 0 ≡ 0) → getRun ws s at ≡ replicate (length ws) 0
 zeros-getRun [] s at z = refl
 zeros-getRun (w ∷ ws) s at z =

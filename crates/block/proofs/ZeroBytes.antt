@@ -1,6 +1,6 @@
 -- Bytes that are all zero, one by one. Assumes nothing.
-use mathlib.Core.Path.{_≡_, refl, sym, _∙_}
-use mathlib.Core.Bool.{Bool, true, false}
+use mathlib.Core.Path.{_≡_, refl}
+use mathlib.Core.Bool.{true}
 use mathlib.Core.List.{List, [], _∷_}
 use Prim.Native.Nat.{ℕ, zero, suc, _+_, _<_}
 use native.Mathlib.Numerals.{add-one}
@@ -10,8 +10,8 @@ use lib.Dec.{eqb}
 use lib.ListN.{length, getD, drop}
 use lib.Seq.{drop-cons}
 use Rattle.octets.specs.Pick.{both}
+use Rattle.octets.proofs.Choice.{both-true}
 use Rattle.block.specs.Zeros.{allZero}
-use Rattle.block.proofs.Tests.{both-true}
 
 pub allZero-none : allZero [] ≡ true
 unfolding allZero

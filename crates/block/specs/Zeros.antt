@@ -10,6 +10,6 @@ unfoldable pub allZero : List ℕ → Bool
 allZero [] = true
 allZero (x ∷ rest) = both (eqb x 0) (allZero rest)
 
--- how the code looks at sixteen bytes at once: the sum of their four numbers of 32 bits
+-- sixteen bytes by one number: the sum of their four numbers of 32 bits
 unfoldable pub pairSum : List ℕ → ℕ → ℕ
 pairSum s at = beAt 4 s at + beAt 4 s (at + 4) + (beAt 4 s (at + 8) + beAt 4 s (at + 8 + 4))

@@ -39,9 +39,8 @@ module _ (b : List ℕ) {v : ℕ} (ev : v ≡ beAt 4 b 0) where
             zeros-decide r b (sym er)
             ∙ simp (← ev, eq-eqb v 1 one, ← ez, eq-eqb z 0 zero, ← eh, ← et, not-false t fine, eq-eqb (h .kept) 0 k, ← er)
 
-        pub labels-judged : (h .kept ≡ 0 → ⊥) → {ws : List ℕ} → ws ≡ labelsOf b → {r : Bool} → r ≡ validOf ws → r ≡ fieldsOk b
+        pub labels-judged : (h .kept ≡ 0 → ⊥) → {r : Bool} → r ≡ validOf (labelsOf b) → r ≡ fieldsOk b
         unfolding fieldsOk
-        labels-judged k {ws} ew {r} er =
-            simp (← ev, eq-eqb v 1 one, ← ez, eq-eqb z 0 zero, ← eh, ← et, not-false t fine, ne-eqb (h .kept) 0 k, ← ew, ← er)
+        labels-judged k {r} er = simp (← ev, eq-eqb v 1 one, ← ez, eq-eqb z 0 zero, ← eh, ← et, not-false t fine, ne-eqb (h .kept) 0 k, ← er)
 
 pub ruleset judged = (other-version, spare-set, header-wrong, released-judged, labels-judged)

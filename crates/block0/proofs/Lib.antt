@@ -1,3 +1,4 @@
 pub mod Written
 pub mod Rules
 pub mod Judged
+pub mod Same

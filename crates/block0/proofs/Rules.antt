@@ -1,24 +1,25 @@
 -- Block 0's fields: the test and its clauses. Assumes nothing.
 use mathlib.Core.Path.{_≡_, refl, sym, ap, _∙_}
-use mathlib.Core.Bool.{Bool, true, false}
-use mathlib.Core.List.{List, [], _∷_}
+use mathlib.Core.Bool.{true}
+use mathlib.Core.List.{List, _∷_}
 use mathlib.Core.Logic.{_⊎_, ⊎-elim}
-use Prim.Native.Nat.{ℕ, _+_, _-_, _*_, _≤_, _<_}
+use Prim.Native.Nat.{ℕ, _+_, _-_, _≤_, _<_}
 use native.Mathlib.Nat.{eq-zero-or-pos}
 use native.Mathlib.Omega.{arith}
-use borrow.Author.Tests.{eqb-true, eq-eqb, ne-eqb, ltb-true, leb-true, lt-ltb, le-leb}
-use lib.Dec.{eqb, leb, ltb}
+use borrow.Author.Tests.{eq-eqb, ne-eqb, ltb-true, leb-true, lt-ltb, le-leb}
+use lib.Dec.{eqb}
 use lib.ListN.{length, getD, drop, replicate}
 use Rattle.octets.specs.Be.{beAt}
-use Rattle.octets.specs.Pick.{pick, both}
+use Rattle.octets.specs.Part.{part}
+use Rattle.octets.specs.Pick.{pick}
+use Rattle.octets.proofs.Choice.{both-true, below-or-not}
+use Rattle.octets.proofs.Part.{part-at, part-inside}
 use Rattle.ft_number.specs.Circle.{stepsOf}
 use Rattle.label_list.specs.Word.{wordCount, isFree}
 use Rattle.label_list.specs.Valid.{validOf, validWord}
 use Rattle.block.specs.Check.{checkAt}
-use Rattle.block.specs.Run.{getRun, wordsAt, Words}
+use Rattle.block.specs.Run.{getRun, Words}
 use Rattle.block.specs.Zeros.{allZero}
-use Rattle.block.proofs.Tests.{both-true, below-or-not}
-use Rattle.block.proofs.Parts.{part-at, part-inside}
 use Rattle.block.proofs.Run.{zeros-getRun, getRun-zeros}
 use Rattle.block.proofs.WordRun.{zeros-words, words-zeros}
 use Rattle.block.proofs.ZeroBytes.{zero-bytes, bytes-zero}
@@ -27,11 +28,20 @@ use Rattle.block0.specs.Layout.{widths, labelsAt, values, fromValues, he
 use Rattle.block0.specs.Fields.{atMost, headerOk, bodyOf, fieldsOk, Fits, Valid}
 use Rattle.block0.proofs.Written.{length-block0, run-block0, header-block0, labels-block0}
 
--- ---- with kept 0
+-- ---- zeros
 pub none-valid : validOf noLabels ≡ true
 unfolding validOf validWord isFree
 none-valid = refl
 
+-- no label stands in zeros
+free-labels : (b : List ℕ) → ((k : ℕ) → k < 480 → getD b (labelsAt + k) 0 ≡ 0) → labelsOf b ≡ noLabels
+unfolding labelsOf
+free-labels b z = zeros-words wordCount b labelsAt z
+
+pub free-valid : (b : List ℕ) → allZero (part b labelsAt checkAt) ≡ true → validOf (labelsOf b) ≡ true
+free-valid b zero = ap validOf (free-labels b (λ k l. sym (part-at b labelsAt checkAt k l) ∙ zero-bytes (part b labelsAt checkAt) zero k)) ∙ none-valid
+
+-- with kept 0
 module _ (b : List ℕ) (zero : allZero (bodyOf b) ≡ true) where
   byte : (i : ℕ) → i < 504 → getD b (4 + i) 0 ≡ 0
   byte i l = sym (part-at b 4 checkAt i l) ∙ zero-bytes (bodyOf b) zero i
@@ -41,11 +51,8 @@ module _ (b : List ℕ) (zero : allZero (bodyOf b) ≡ true) where
   zero-header = ap (λ (l : List ℕ). fromValues (beAt 4 b 0 ∷ l)) (zeros-getRun (drop 1 widths) b 4 (λ k l. byte k (omega arith)))
 
   pub zero-labels : labelsOf b ≡ noLabels
-  unfolding labelsOf
-  zero-labels =
-      zeros-words wordCount b labelsAt (λ k l. let e : labelsAt + k ≡ 4 + (24 + k) = omega arith in rw e (byte (24 + k) (omega arith)))
+  zero-labels = free-labels b (λ k l. let e : labelsAt + k ≡ 4 + (24 + k) = omega arith in rw e (byte (24 + k) (omega arith)))
 
-  -- no label stands in zeros
   pub zero-valid : validOf (labelsOf b) ≡ true
   zero-valid = ap validOf zero-labels ∙ none-valid
 

@@ -1,7 +1,8 @@
 // Block 0 of the stored image: the session's numbers and its 120 label words.
 ghost use mathlib.Core.Path.{_≡_};
-ghost use Prim.Native.Nat.{_+_, _*_, _≤_};
-ghost use lib.ListN.{length, take, drop};
+ghost use Prim.Native.Nat.{_<_};
+ghost use lib.ListN.{length, getD, take, drop};
+ghost use Rattle.label_list.specs.Valid.{validOf};
 ghost use Rattle.label_list.specs.Word.{wordCount};
 ghost use Rattle.block.specs.Check.{blockSize};
 ghost use Rattle.block.specs.Run.{putRun};
@@ -24,10 +25,8 @@ pub struct Header {
     pub maxpdu: u16,
 }
 
-// The slots of the ring, and the label words.
+// The slots of the ring.
 pub const SLOT_COUNT: u16 = 64;
-
-pub const WORD_COUNT: usize = 120;
 
 // The layout's version.
 const VERSION: u32 = 1;
@@ -59,6 +58,14 @@ pub fn read_labels(block: &[u8], words: &mut [u32])
     ensures { λ _. ⌜ now (words .exit) ≡ labelsOf (now (block .entry)) ⌝ }
 {
     block::words::load_words(block, LABELS_AT, words)
+}
+
+// The label word at a place of block 0.
+pub fn read_label(block: &[u8], place: usize) -> u32
+    requires { ⌜ (length (now block) ≡ blockSize) × (place < wordCount) ⌝ }
+    ensures { λ r. ⌜ r ≡ getD (labelsOf (now (block .entry))) place 0 ⌝ }
+{
+    octets::get_u32(block, LABELS_AT + place * 4)
 }
 
 fn put_numbers(block: &mut [u8], h: Header)
@@ -120,6 +127,19 @@ fn header_is_valid(h: Header) -> bool
     issued_are_held(h)
 }
 
+// Whether the label words are right. Where all are free they are not read one by one.
+fn labels_are_valid(block: &[u8]) -> bool
+    requires { ⌜ length (now block) ≡ blockSize ⌝ }
+    ensures { λ r. ⌜ r ≡ validOf (labelsOf (now (block .entry))) ⌝ }
+{
+    if block::zeros::all_zero(&block[LABELS_AT..block::CHECK_AT]) {
+        return true;
+    }
+    let mut words = [0u32; label_list::WORD_COUNT];
+    read_labels(block, &mut words);
+    label_list::valid(&words)
+}
+
 // Whether block 0's fields are right. Its check is not looked at.
 pub fn block0_is_valid(block: &[u8]) -> bool
     requires { ⌜ length (now block) ≡ blockSize ⌝ }
@@ -139,7 +159,5 @@ pub fn block0_is_valid(block: &[u8]) -> bool
     if h.kept == 0 {
         return block::zeros::all_zero(&block[4..block::CHECK_AT]);
     }
-    let mut words = [0u32; WORD_COUNT];
-    read_labels(block, &mut words);
-    label_list::valid(&words)
+    labels_are_valid(block)
 }

@@ -1,10 +1,8 @@
 -- What a call leaves by the number of its answer, and that this is the answer of its tests. Assumes nothing.
 use mathlib.Core.Path.{_≡_, refl, sym, _∙_}
-use mathlib.Core.Bool.{Bool, true, false}
 use mathlib.Core.List.{List}
 use Prim.Native.Nat.{ℕ, _≤_, _<_}
-use native.Mathlib.Omega.{arith}
-use Rattle.label_list.proofs.Choice.{by-test}
+use Rattle.octets.proofs.Choice.{by-test}
 use Rattle.calls.specs.declared.Answer
 use Rattle.calls.specs.declared.Answer.{Answer}
 use Rattle.calls.specs.declared.Effect
@@ -12,41 +10,12 @@ use Rattle.calls.specs.declared.Effect.{Effect}
 use Rattle.calls.specs.declared.Phase.{Phase}
 use Rattle.calls.specs.Answers.{answerNumber, effectOf}
 use Rattle.calls.specs.Outcomes.{After, isDone, unchanged, failedWith, releasedWith, settledBy, settleOf}
-use Rattle.calls.proofs.Effects.{effect-nothing, effect-fail, effect-release}
+use Rattle.calls.proofs.Effects.{effect-nothing, effect-fail, effect-release, done-is}
 use Rattle.calls.proofs.Ends.{settle-fail, settle-release, settle-refusal, settle-other}
-use Rattle.image.proofs.Changes.{release-decodes}
+use Rattle.image.proofs.Changes.{release-decodes, break-decodes}
 use Rattle.call_meaning.specs.Standing.{Standing}
 use Rattle.call_meaning.specs.Ended.{Unapplied, ReleasedIdle}
 use Rattle.call_meaning.proofs.Refusals.{settle-does}
-use Rattle.call_meaning.proofs.Stands.{break-decodes}
-
--- an answer whose number is 0 is Done
-pub done-is : (a : Answer) → isDone a ≡ true → a ≡ Answer.Done
-done-is Answer.Done e = refl
-done-is Answer.WrongPhase e = let z : _≡_ {A = ℕ} 0 1 = cc in absurd (omega arith)
-done-is Answer.ZeroDistance e = let z : _≡_ {A = ℕ} 0 1 = cc in absurd (omega arith)
-done-is Answer.LengthOutOfRange e = let z : _≡_ {A = ℕ} 0 1 = cc in absurd (omega arith)
-done-is Answer.Malformed e = let z : _≡_ {A = ℕ} 0 1 = cc in absurd (omega arith)
-done-is Answer.KindNotSent e = let z : _≡_ {A = ℕ} 0 1 = cc in absurd (omega arith)
-done-is Answer.LabelNotAllowed e = let z : _≡_ {A = ℕ} 0 1 = cc in absurd (omega arith)
-done-is Answer.StoreFull e = let z : _≡_ {A = ℕ} 0 1 = cc in absurd (omega arith)
-done-is Answer.NothingUnsent e = let z : _≡_ {A = ℕ} 0 1 = cc in absurd (omega arith)
-done-is Answer.OutputTooShort e = let z : _≡_ {A = ℕ} 0 1 = cc in absurd (omega arith)
-done-is (Answer.BadBlock b) e = let z : _≡_ {A = ℕ} 0 1 = cc in absurd (omega arith)
-done-is (Answer.BadField b) e = let z : _≡_ {A = ℕ} 0 1 = cc in absurd (omega arith)
-done-is Answer.WrongSize e = let z : _≡_ {A = ℕ} 0 1 = cc in absurd (omega arith)
-done-is Answer.NoLabelWord e = let z : _≡_ {A = ℕ} 0 1 = cc in absurd (omega arith)
-done-is Answer.OutOfTurn e = let z : _≡_ {A = ℕ} 0 1 = cc in absurd (omega arith)
-done-is Answer.NoWordForMapping e = let z : _≡_ {A = ℕ} 0 1 = cc in absurd (omega arith)
-done-is Answer.MalformedReceived e = let z : _≡_ {A = ℕ} 0 1 = cc in absurd (omega arith)
-done-is Answer.BadInit e = let z : _≡_ {A = ℕ} 0 1 = cc in absurd (omega arith)
-done-is Answer.ZeroNumber e = let z : _≡_ {A = ℕ} 0 1 = cc in absurd (omega arith)
-done-is Answer.FtTlvInPlain e = let z : _≡_ {A = ℕ} 0 1 = cc in absurd (omega arith)
-done-is Answer.ProtectionWrong e = let z : _≡_ {A = ℕ} 0 1 = cc in absurd (omega arith)
-done-is Answer.ProtectionMissing e = let z : _≡_ {A = ℕ} 0 1 = cc in absurd (omega arith)
-done-is Answer.AckSequenceError e = let z : _≡_ {A = ℕ} 0 1 = cc in absurd (omega arith)
-done-is Answer.ParametersChanged e = let z : _≡_ {A = ℕ} 0 1 = cc in absurd (omega arith)
-done-is Answer.StatusFatal e = let z : _≡_ {A = ℕ} 0 1 = cc in absurd (omega arith)
 
 module _ (a : Answer) (ph : Phase) (im o : List ℕ) (done : After) where
   -- where what is done says Done, the answer left is that of the tests

@@ -2,5 +2,4 @@ pub mod Refusals
 pub mod Calling
 pub mod Stands
 pub mod Released
-pub mod Widths
 pub mod Answered

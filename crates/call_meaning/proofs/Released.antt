@@ -1,47 +1,39 @@
 -- What an acknowledgement leaves: the numbers in their window, and label words that are valid. Assumes nothing.
-use mathlib.Core.Path.{_≡_, refl, sym, ap, _∙_}
-use mathlib.Core.Bool.{true}
+use mathlib.Core.Path.{_≡_, refl, _∙_}
+use mathlib.Core.Bool.{true, false≢true}
 use mathlib.Core.List.{List, [], _∷_}
-use Prim.Native.Nat.{ℕ, zero, suc, _+_, _-_, _≤_, _<_}
+use Prim.Native.Nat.{ℕ, _-_, _≤_, _<_}
 use native.Mathlib.Omega.{arith}
 use borrow.Author.Tests.{leb-true, le-leb}
 use lib.Dec.{eqb}
 use lib.ListN.{length}
-use Rattle.ft_number.specs.Circle.{circle, next, after, stepsOf}
-use Rattle.ft_number.specs.Ack.{ackOf}
+use Rattle.octets.proofs.Choice.{pick-all}
+use Rattle.ft_number.specs.Circle.{circle, stepsOf}
+use Rattle.ft_number.specs.Ack.{within, ackOf}
 use Rattle.ft_number.specs.declared.Ack
 use Rattle.ft_number.specs.declared.Ack.{Ack}
-use Rattle.ft_number.specs.declared.Steps.the-variants.{Count}
-use Rattle.ft_number.proofs.Circle.{after-none, after-suc, steps-reach, steps-after, Acknowledged, ack-releases}
+use Rattle.ft_number.specs.declared.Steps.{Steps}
+use Rattle.ft_number.specs.declared.Steps.the-variants.{Count, Unreachable}
+use Rattle.ft_number.proofs.Circle.{after-none, steps-after, steps-rest, Acknowledged, ack-releases}
 use Rattle.message.specs.Submission.{submissionOf}
 use Rattle.label_list.specs.Word.{wordCount}
 use Rattle.label_list.specs.Valid.{validOf}
 use Rattle.label_list.specs.declared.LabelMessage.the-variants.{Withdraw, Release}
-use Rattle.label_list.proofs.Choice.{pick-all}
-use Rattle.label_meaning.specs.Event.{Event, Acked, step}
+use Rattle.label_meaning.specs.Event.{Acked, step}
 use Rattle.label_meaning.proofs.Kept.{step-length}
-use Rattle.label_meaning.proofs.Meaning.{valid-means, valid-range}
 use Rattle.label_meaning.proofs.Step.{step-valid}
 use Rattle.block.specs.Run.{Words}
 use Rattle.block0.specs.declared.Header.{Header}
+use Rattle.block0.specs.Layout.{slotCount}
 use Rattle.block0.specs.Fields.{atMost}
+use Rattle.image.specs.Sizes.{slotAt}
+use Rattle.image.specs.State.{State}
 use Rattle.slot.specs.Held.{kindIn, labelIn}
-use Rattle.calls.specs.Acked.{releasedKind, releasedLabels, withReleased}
+use Rattle.image.proofs.Ranges.{valid-words}
+use Rattle.calls.specs.Acked.{releasedKind, releasedLabels, withReleased, acked}
 use Rattle.calls.specs.Phases.{issuedCount}
 
 -- ---- the numbers
-after-add : (j k n : ℕ) → after (j + k) n ≡ after j (after k n)
-after-add zero k n = let e : 0 + k ≡ k = omega arith in rw e (sym (after-none (after k n)))
-after-add (suc j) k n = let e : suc j + k ≡ suc (j + k) = omega arith in rw (e, after-suc (j + k) n, after-add j k n, after-suc j (after k n))
-
--- past the number acknowledged lie the numbers that it does not release
-steps-rest : (r i a k n : ℕ) → r ≤ circle → i ≤ circle → a ≤ circle → n < circle → stepsOf r a ≡ Count k → stepsOf r i ≡ Count n → k ≤ n → stepsOf a i ≡ Count (n - k)
-steps-rest r i a k n lr li la ln ea ei few =
-    let sum : (n - k) + k ≡ n = omega arith in
-    let there : after (n - k) a ≡ i =
-    ap (after (n - k)) (sym (steps-reach r a k lr la ea)) ∙ sym (after-add (n - k) k r) ∙ ap (λ (x : ℕ). after x r) sum ∙ steps-reach r i n lr li ei in
-    rw there at (steps-after a (n - k) la (omega arith))
-
 -- an ACK that releases names no more than are held
 pub ack-held : (h : Header) (a k : ℕ) → atMost (h .held) (stepsOf (h .released .0) (h .issued .0)) ≡ true
     → ackOf (h .released .0) (h .issued .0) a ≡ Ack.Releases k → k ≤ h .held
@@ -69,6 +61,26 @@ module _ (h : Header) (a k : ℕ) (lr : h .released .0 < 4294967296) (li : h .is
   unfolding issuedCount
   ack-issued = rw (rest, acks .window)
 
+-- to acknowledge R again releases nothing
+pub ack-again : (h : Header) → h .released .0 < 4294967296 → atMost (h .held) (stepsOf (h .released .0) (h .issued .0)) ≡ true
+    → ackOf (h .released .0) (h .issued .0) (h .released .0) ≡ Ack.Releases 0
+unfolding ackOf
+ack-again h lr window =
+    let none : stepsOf (h .released .0) (h .released .0) ≡ Count 0 = rw (after-none (h .released .0)) at (steps-after (h .released .0) 0 (omega arith) (omega arith)) in
+    rw none (by (stepsOf (h .released .0) (h .issued .0)) window)
+  where
+    by : (n : Steps) → atMost (h .held) n ≡ true → within (Count 0) n ≡ Ack.Releases 0
+    by (Count n) e = rw (le-leb 0 n (omega arith))
+    by Unreachable e = absurd (false≢true e)
+
+-- and changes nothing
+pub acked-none : (s : State) → s .header .first < slotCount → acked s 0 (s .header .released .0) ≡ s
+unfolding acked releasedLabels
+acked-none s l =
+    let first : slotAt (s .header .first) 0 ≡ s .header .first = omega arith in
+    let held : s .header .held - 0 ≡ s .header .held = omega arith in
+    rw (first, held)
+
 -- ---- the labels
 kind-valid : (kind label : ℕ) (ls : List ℕ) → validOf ls ≡ true → validOf (releasedKind kind label ls) ≡ true
 unfolding releasedKind step
@@ -93,10 +105,6 @@ unfolding releasedLabels
 released-length [] ls = refl
 released-length (m ∷ ms) ls =
     released-length ms (releasedKind (kindIn (submissionOf m)) (labelIn (submissionOf m)) ls) ∙ kind-length (kindIn (submissionOf m)) (labelIn (submissionOf m)) ls
-
--- valid words are words of 32 bits
-pub valid-words : (ls : List ℕ) → length ls ≡ wordCount → validOf ls ≡ true → Words wordCount ls
-valid-words ls n v = record { count = n; each = λ i. omega (arith, valid-range (valid-means ls v) i) }
 
 pub released-words : (ms : List (List ℕ)) (ls : List ℕ) → length ls ≡ wordCount → validOf ls ≡ true → Words wordCount (releasedLabels ms ls)
 released-words ms ls n v = valid-words (releasedLabels ms ls) (released-length ms ls ∙ n) (released-valid ms ls v)

@@ -1,9 +1,13 @@
--- The effect of an answer by its number. Assumes nothing.
+-- An answer by its number: its effect, and whether it is Done. Assumes nothing.
 use mathlib.Core.Path.{_≡_, refl}
+use mathlib.Core.Bool.{true}
 use Prim.Native.Nat.{ℕ, _<_, _≤_}
 use native.Mathlib.Omega.{arith}
 use borrow.Author.Tests.{eq-eqb, ne-eqb, lt-ltb, le-ltb}
+use Rattle.octets.proofs.Choice.{no}
 use Rattle.calls.specs.Answers.{answerNumber, effectOf}
+use Rattle.calls.specs.Outcomes.{isDone}
+use Rattle.calls.specs.declared.Answer
 use Rattle.calls.specs.declared.Answer.{Answer}
 use Rattle.calls.specs.declared.Effect
 use Rattle.calls.specs.declared.Effect.{Effect}
@@ -24,3 +28,31 @@ module _ (a : Answer) (n : ℕ) (e : n ≡ answerNumber a) where
   pub effect-release : 30 ≤ n → Effect.Release ≡ effectOf a
   unfolding effectOf
   effect-release l = rw (← e, ne-eqb n 0 (λ (z : n ≡ 0). omega arith), le-ltb n 20 (omega arith), le-ltb n 30 l)
+
+-- an answer whose number is 0 is Done
+pub done-is : (a : Answer) → isDone a ≡ true → a ≡ Answer.Done
+done-is Answer.Done e = refl
+done-is Answer.WrongPhase e = no (cc)
+done-is Answer.ZeroDistance e = no (cc)
+done-is Answer.LengthOutOfRange e = no (cc)
+done-is Answer.Malformed e = no (cc)
+done-is Answer.KindNotSent e = no (cc)
+done-is Answer.LabelNotAllowed e = no (cc)
+done-is Answer.StoreFull e = no (cc)
+done-is Answer.NothingUnsent e = no (cc)
+done-is Answer.OutputTooShort e = no (cc)
+done-is (Answer.BadBlock b) e = no (cc)
+done-is (Answer.BadField b) e = no (cc)
+done-is Answer.WrongSize e = no (cc)
+done-is Answer.NoLabelWord e = no (cc)
+done-is Answer.OutOfTurn e = no (cc)
+done-is Answer.NoWordForMapping e = no (cc)
+done-is Answer.MalformedReceived e = no (cc)
+done-is Answer.BadInit e = no (cc)
+done-is Answer.ZeroNumber e = no (cc)
+done-is Answer.FtTlvInPlain e = no (cc)
+done-is Answer.ProtectionWrong e = no (cc)
+done-is Answer.ProtectionMissing e = no (cc)
+done-is Answer.AckSequenceError e = no (cc)
+done-is Answer.ParametersChanged e = no (cc)
+done-is Answer.StatusFatal e = no (cc)

@@ -1,15 +1,19 @@
 -- How a call ends, by its answer's effect. Assumes nothing.
 use mathlib.Core.Path.{_≡_, refl, sym, ap, _∙_}
 use mathlib.Core.Bool.{Bool, true, false}
-use mathlib.Core.List.{List, []}
+use mathlib.Core.List.{List}
 use Prim.Native.Nat.{ℕ}
 use lib.Dec.{eqb, ltb}
 use Rattle.octets.specs.Pick.{pick}
+use Rattle.octets.specs.Bytes.{Bytes}
 use Rattle.octets.specs.Differ.{differ}
+use Rattle.octets.proofs.Differ.{differ-self}
 use Rattle.block0.specs.declared.Header.{Header}
 use Rattle.image.specs.Sizes.{block}
 use Rattle.image.specs.State.{decode}
-use Rattle.image.specs.Events.{releaseOf, breakOf}
+use Rattle.image.specs.Events.{releaseOf, breakOf, unprotected}
+use Rattle.image.specs.Verdict.{IsSound}
+use Rattle.image.proofs.Same.{break-same}
 use Rattle.calls.specs.declared.Answer
 use Rattle.calls.specs.declared.Answer.{Answer}
 use Rattle.calls.specs.declared.Effect
@@ -27,6 +31,12 @@ pub fail-is : (a : Answer) (im o : List ℕ) {old im′ : List ℕ} {h : Header}
     → after (record { answer = a; phase = ph; written = 0; slot = 0; block0 = b }) im′ o ≡ failedWith a im o
 unfolding failedWith
 fail-is a im o e₁ e₂ e₃ e₄ e₅ = rw (e₅, e₄, e₁, e₃, e₂)
+
+-- no label is used without protection: the image stays as it is
+pub fail-none : (a : Answer) (im o : List ℕ) {h : Header} {ph : Phase} {b : Bool} {r : Outcome} → IsSound im → Bytes im
+    → h ≡ decode im .header → ph ≡ restingPhase h → b ≡ unprotected (decode im .labels) → b ≡ false → r ≡ refusal a ph → after r im o ≡ failedWith a im o
+unfolding failedWith
+fail-none a im o s byte e₁ e₂ e₃ f e₄ = rw (break-same im s byte (sym e₃ ∙ f), differ-self, e₄, e₂, e₁)
 
 pub release-is : (a : Answer) (im o : List ℕ) {old im′ : List ℕ} {b : Bool}
     → old ≡ block im 0 → im′ ≡ releaseOf im → b ≡ differ old (block im′ 0)
@@ -77,3 +87,7 @@ settle-refusal a ph im o d e = rw e
 
 pub unchanged-is : (a : Answer) (ph : Phase) (im o : List ℕ) {r : Outcome} → r ≡ refusal a ph → after r im o ≡ unchanged a ph im o
 unchanged-is a ph im o e = rw e
+
+-- what was compared is block 0 as it was
+pub compared : (old x y : List ℕ) {b : Bool} → b ≡ differ old y → old ≡ x → b ≡ differ x y
+compared old x y e p = e ∙ ap (λ (k : List ℕ). differ k y) p

@@ -3,3 +3,4 @@ pub mod Phasing
 pub mod Settled
 pub mod Releasing
 pub mod Ends
+pub mod Saying

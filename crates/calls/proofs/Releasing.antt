@@ -1,31 +1,41 @@
 -- The label words as messages are released one after the other. Assumes nothing.
-use mathlib.Core.Path.{_≡_, refl, sym, ap, _∙_}
+use mathlib.Core.Path.{_≡_, refl, sym, _∙_}
+use mathlib.Core.Bool.{false}
 use mathlib.Core.List.{List, [], _∷_, _++_}
-use Prim.Native.Nat.{ℕ, zero, suc, _+_, _≤_, _<_}
+use Prim.Native.Nat.{ℕ, _+_, _≤_, _<_}
 use native.Mathlib.Numerals.{add-one}
 use native.Mathlib.Omega.{arith}
 use borrow.Author.Tests.{eq-eqb, ne-eqb}
+use lib.Dec.{eqb}
 use lib.ListN.{length, getD, take}
 use lib.Seq.{take-suc}
+use Rattle.message.specs.Kinds.{kindNumber}
 use Rattle.message.specs.Submission.{submissionOf}
+use Rattle.message.specs.declared.Kind
+use Rattle.message.specs.declared.Kind.{Kind}
 use Rattle.label_list.specs.declared.LabelMessage
 use Rattle.label_list.specs.declared.LabelMessage.{LabelMessage}
 use Rattle.label_events.specs.Ack.{ackedOf}
 use Rattle.slot.specs.Held.{kindIn, labelIn}
 use Rattle.calls.specs.Acked.{releasedKind, releasedLabels}
 
-module _ (kind label : ℕ) (ls : List ℕ) {ys : List ℕ} where
-  pub released-withdraw : kind ≡ 2 → ys ≡ ackedOf ls LabelMessage.Withdraw label → ys ≡ releasedKind kind label ls
+-- by the kind; the premises are what the code was told of the two kinds' numbers, and its tests
+module _ (kind label : ℕ) (ls : List ℕ) {w : ℕ} (ew : w ≡ kindNumber Kind.Withdraw) where
+  pub released-withdraw : {ys : List ℕ} → kind ≡ w → ys ≡ ackedOf ls LabelMessage.Withdraw label → ys ≡ releasedKind kind label ls
   unfolding releasedKind
-  released-withdraw k e = rw (eq-eqb kind 2 k) e
+  released-withdraw k e = rw (eq-eqb kind (kindNumber Kind.Withdraw) (k ∙ ew)) e
 
-  pub released-release : (kind ≡ 2 → ⊥) → kind ≡ 3 → ys ≡ ackedOf ls LabelMessage.Release label → ys ≡ releasedKind kind label ls
-  unfolding releasedKind
-  released-release n k e = rw (ne-eqb kind 2 n, eq-eqb kind 3 k) e
+  module _ (n : kind ≡ w → ⊥) {r : ℕ} (er : r ≡ kindNumber Kind.Release) where
+    other : eqb kind (kindNumber Kind.Withdraw) ≡ false
+    other = ne-eqb kind (kindNumber Kind.Withdraw) (λ k. n (k ∙ sym ew))
 
-pub released-other : (kind label : ℕ) (ls : List ℕ) → (kind ≡ 2 → ⊥) → (kind ≡ 3 → ⊥) → ls ≡ releasedKind kind label ls
-unfolding releasedKind
-released-other kind label ls n k = rw (ne-eqb kind 2 n, ne-eqb kind 3 k)
+    pub released-release : {ys : List ℕ} → kind ≡ r → ys ≡ ackedOf ls LabelMessage.Release label → ys ≡ releasedKind kind label ls
+    unfolding releasedKind
+    released-release k e = rw (other, eq-eqb kind (kindNumber Kind.Release) (k ∙ er)) e
+
+    pub released-other : (kind ≡ r → ⊥) → ls ≡ releasedKind kind label ls
+    unfolding releasedKind
+    released-other m = rw (other, ne-eqb kind (kindNumber Kind.Release) (λ k. m (k ∙ sym er)))
 
 pub released-append : (ms ns : List (List ℕ)) (ls : List ℕ) → releasedLabels (ms ++ ns) ls ≡ releasedLabels ns (releasedLabels ms ls)
 unfolding releasedLabels

@@ -1,13 +1,14 @@
 -- The first tests of a call, and what its answer leaves. Assumes nothing.
 use mathlib.Core.Path.{_≡_, refl, sym, ap, _∙_}
-use mathlib.Core.Bool.{Bool, true, false}
+use mathlib.Core.Bool.{Bool, true, false, true≢false}
 use mathlib.Core.List.{List}
-use Prim.Native.Nat.{ℕ}
+use Prim.Native.Nat.{ℕ, _<_}
 use native.Mathlib.Omega.{arith}
+use borrow.Author.Tests.{eqb-true}
 use lib.ListN.{length}
 use Rattle.octets.specs.Pick.{pick}
 use Rattle.octets.specs.Fill.{copied}
-use Rattle.octets.proofs.Fill.{copied-all}
+use Rattle.octets.proofs.Copied.{copied-all}
 use Rattle.block0.specs.declared.Header.{Header}
 use Rattle.image.specs.State.{decode}
 use Rattle.image.specs.Verdict.{verdict, IsSound}
@@ -17,26 +18,59 @@ use Rattle.image.proofs.Sound.{sound-parts}
 use Rattle.calls.specs.declared.Answer
 use Rattle.calls.specs.declared.Answer.{Answer}
 use Rattle.calls.specs.declared.Phase.{Phase}
+use Rattle.calls.specs.Answers.{answerNumber}
 use Rattle.calls.specs.Phases.{phaseFits}
 use Rattle.calls.specs.Outcomes.{isDone, checked, admitted}
 
--- an image that the checks refuse is answered so, whatever would come after
-pub checked-refused : (v : Verdict) (a : Answer) → isDone (checked v Answer.Done) ≡ false → checked v Answer.Done ≡ checked v a
-checked-refused Verdict.Sound a e = let z : _≡_ {A = ℕ} 0 1 = cc in absurd (omega arith)
-checked-refused Verdict.WrongSize a e = refl
-checked-refused (Verdict.BadBlock b) a e = refl
-checked-refused (Verdict.BadField b) a e = refl
+-- what a call knows that was admitted
+pub record Admitted (im : List ℕ) (ph : Phase) : Type 0 where
+  pub passes : verdict im ≡ Verdict.Sound
+  pub fits : phaseFits ph (decode im .header) ≡ true
 
--- one that they pass is sound
-pub checked-sound : (v : Verdict) → isDone (checked v Answer.Done) ≡ true → v ≡ Verdict.Sound
-checked-sound Verdict.Sound e = refl
-checked-sound Verdict.WrongSize e = let z : _≡_ {A = ℕ} 0 1 = cc in absurd (omega arith)
-checked-sound (Verdict.BadBlock b) e = let z : _≡_ {A = ℕ} 0 1 = cc in absurd (omega arith)
-checked-sound (Verdict.BadField b) e = let z : _≡_ {A = ℕ} 0 1 = cc in absurd (omega arith)
+-- ---- the first tests, and then an answer
+-- what holds of the refusals by the first tests, and of the answer that comes where they are passed, holds of the answer
+module _ (P : Answer → Type 0) (refused : (x : Answer) → 0 < answerNumber x → answerNumber x < 20 → P x) where
+  pub checked-all : (v : Verdict) {a : Answer} → (v ≡ Verdict.Sound → P a) → P (checked v a)
+  checked-all Verdict.Sound p = p refl
+  checked-all Verdict.WrongSize p = refused Answer.WrongSize (omega arith) (omega arith)
+  checked-all (Verdict.BadBlock b) p = refused (Answer.BadBlock b) (omega arith) (omega arith)
+  checked-all (Verdict.BadField b) p = refused (Answer.BadField b) (omega arith) (omega arith)
 
+  pub admitted-all : (im : List ℕ) (ph : Phase) {a : Answer} → (Admitted im ph → P a) → P (admitted im ph a)
+  unfolding admitted
+  admitted-all im ph {a} p = checked-all (verdict im) (λ s. by (phaseFits ph (decode im .header)) refl s)
+    where
+      by : (b : Bool) → phaseFits ph (decode im .header) ≡ b → verdict im ≡ Verdict.Sound → P (pick b a Answer.WrongPhase)
+      by true f s = p (record { passes = s; fits = f })
+      by false f s = refused Answer.WrongPhase (omega arith) (omega arith)
+
+not-done : (x : Answer) → 0 < answerNumber x → isDone x ≡ true → ⊥
+not-done x l t = let z : answerNumber x ≡ 0 = eqb-true (answerNumber x) 0 t in omega arith
+
+-- an image that the checks pass is sound
 pub checks-sound : (im : List ℕ) {r : Answer} → r ≡ checked (verdict im) Answer.Done → isDone r ≡ true → verdict im ≡ Verdict.Sound
-checks-sound im e t = checked-sound (verdict im) (ap isDone (sym e) ∙ t)
+checks-sound im e t =
+    checked-all (λ (x : Answer). isDone x ≡ true → verdict im ≡ Verdict.Sound) (λ x l m t. absurd (not-done x l t)) (verdict im) (λ s t. s) (ap isDone (sym e) ∙ t)
 
+-- a call that is done was admitted, and its own tests are passed
+pub admitted-done : (im : List ℕ) (ph : Phase) (a : Answer) → isDone (admitted im ph a) ≡ true → Admitted im ph × (isDone a ≡ true)
+admitted-done im ph a =
+    admitted-all (λ (x : Answer). isDone x ≡ true → Admitted im ph × (isDone a ≡ true)) (λ x l m t. absurd (not-done x l t)) im ph (λ d t. (d, t))
+
+refused-same : (v : Verdict) (b : Bool) (a c : Answer) → (isDone a ≡ false → a ≡ c) → isDone (checked v (pick b a Answer.WrongPhase)) ≡ false
+    → checked v (pick b a Answer.WrongPhase) ≡ checked v (pick b c Answer.WrongPhase)
+refused-same Verdict.Sound true a c h n = h n
+refused-same Verdict.Sound false a c h n = refl
+refused-same Verdict.WrongSize b a c h n = refl
+refused-same (Verdict.BadBlock k) b a c h n = refl
+refused-same (Verdict.BadField k) b a c h n = refl
+
+-- a refusal is the same where the call's own tests agree on theirs
+pub admitted-other : (im : List ℕ) (ph : Phase) (a c : Answer) → (isDone a ≡ false → a ≡ c) → isDone (admitted im ph a) ≡ false → admitted im ph a ≡ admitted im ph c
+unfolding admitted
+admitted-other im ph a c h n = refused-same (verdict im) (phaseFits ph (decode im .header)) a c h n
+
+-- ---- the tests as the code makes them
 -- a test's result, of a header that was read
 pub fits-read : (ph : Phase) {h h′ : Header} {b t : Bool} → b ≡ phaseFits ph h → h ≡ h′ → b ≡ t → phaseFits ph h′ ≡ t
 fits-read ph e f g = rw (← f, ← e) g
@@ -44,7 +78,8 @@ fits-read ph e f g = rw (← f, ← e) g
 module _ (im : List ℕ) (ph : Phase) where
   pub admit-checks : (a : Answer) {r : Answer} → r ≡ checked (verdict im) Answer.Done → isDone r ≡ false → r ≡ admitted im ph a
   unfolding admitted
-  admit-checks a e n = e ∙ checked-refused (verdict im) (pick (phaseFits ph (decode im .header)) a Answer.WrongPhase) (ap isDone (sym e) ∙ n)
+  admit-checks a e n =
+      e ∙ refused-same (verdict im) true Answer.Done (pick (phaseFits ph (decode im .header)) a Answer.WrongPhase) (λ z. absurd (true≢false z)) (ap isDone (sym e) ∙ n)
 
   pub admit-phase : (a : Answer) → verdict im ≡ Verdict.Sound → phaseFits ph (decode im .header) ≡ false → Answer.WrongPhase ≡ admitted im ph a
   unfolding admitted
@@ -54,37 +89,14 @@ module _ (im : List ℕ) (ph : Phase) where
   unfolding admitted
   admit-rest a s f = rw (s, f)
 
--- what a call knows that was admitted
-pub record Admitted (im : List ℕ) (ph : Phase) : Type 0 where
-  pub passes : verdict im ≡ Verdict.Sound
-  pub fits : phaseFits ph (decode im .header) ≡ true
-
-admitted-by : (im : List ℕ) (ph : Phase) (v : Verdict) (b : Bool) → verdict im ≡ v → phaseFits ph (decode im .header) ≡ b
-    → isDone (checked v (pick b Answer.Done Answer.WrongPhase)) ≡ true → Admitted im ph
-admitted-by im ph Verdict.Sound true e f t = record { passes = e; fits = f }
-admitted-by im ph Verdict.Sound false e f t = let z : _≡_ {A = ℕ} 0 1 = cc in absurd (omega arith)
-admitted-by im ph Verdict.WrongSize b e f t = let z : _≡_ {A = ℕ} 0 1 = cc in absurd (omega arith)
-admitted-by im ph (Verdict.BadBlock k) b e f t = let z : _≡_ {A = ℕ} 0 1 = cc in absurd (omega arith)
-admitted-by im ph (Verdict.BadField k) b e f t = let z : _≡_ {A = ℕ} 0 1 = cc in absurd (omega arith)
-
-refused-by : (v : Verdict) (b : Bool) (a : Answer) → isDone (checked v (pick b Answer.Done Answer.WrongPhase)) ≡ false
-    → checked v (pick b Answer.Done Answer.WrongPhase) ≡ checked v (pick b a Answer.WrongPhase)
-refused-by Verdict.Sound true a e = let z : _≡_ {A = ℕ} 0 1 = cc in absurd (omega arith)
-refused-by Verdict.Sound false a e = refl
-refused-by Verdict.WrongSize b a e = refl
-refused-by (Verdict.BadBlock k) b a e = refl
-refused-by (Verdict.BadField k) b a e = refl
-
 module _ (im : List ℕ) (ph : Phase) {r : Answer} (e : r ≡ admitted im ph Answer.Done) where
   -- a call that is not admitted is answered so, whatever its own tests would say
   pub admit-refused : (a : Answer) → isDone r ≡ false → r ≡ admitted im ph a
-  unfolding admitted
-  admit-refused a n = e ∙ refused-by (verdict im) (phaseFits ph (decode im .header)) a (ap isDone (sym e) ∙ n)
+  admit-refused a n = e ∙ admitted-other im ph Answer.Done a (λ z. absurd (true≢false z)) (ap isDone (sym e) ∙ n)
 
   -- one that is admitted has a sound image and a phase that it allows
   pub admit-passed : isDone r ≡ true → Admitted im ph
-  unfolding admitted
-  admit-passed t = admitted-by im ph (verdict im) (phaseFits ph (decode im .header)) refl refl (ap isDone (sym e) ∙ t)
+  admit-passed t = admitted-done im ph Answer.Done (ap isDone (sym e) ∙ t) .0
 
 -- then its own tests decide
 pub admitted-is : {im : List ℕ} {ph : Phase} → Admitted im ph → (a : Answer) → admitted im ph a ≡ a

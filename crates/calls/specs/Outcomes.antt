@@ -1,6 +1,6 @@
 -- What a call leaves: its outcome, the image and the output; and what every answer but Done leaves, once for all calls.
 use Prim.Native.Nat.{ℕ}
-use mathlib.Core.Bool.{Bool, true, false}
+use mathlib.Core.Bool.{Bool, false}
 use mathlib.Core.List.{List}
 use lib.Dec.{eqb, ltb}
 use lib.ListN.{length}
@@ -8,7 +8,7 @@ use Rattle.octets.specs.Pick.{pick}
 use Rattle.octets.specs.Part.{overlaid}
 use Rattle.octets.specs.Differ.{differ}
 use Rattle.image.specs.Sizes.{block}
-use Rattle.image.specs.State.{State, decode}
+use Rattle.image.specs.State.{decode}
 use Rattle.image.specs.Verdict.{verdict}
 use Rattle.image.specs.Events.{releaseOf, breakOf}
 use Rattle.image.specs.declared.Verdict

@@ -1,6 +1,6 @@
 -- 01's phases, and which of them the image rules out: "UpFT or Failed with kept 0, Idle or UpPlain with kept 1, count sent past I".
 use Prim.Native.Nat.{ℕ}
-use mathlib.Core.Bool.{Bool, true, false}
+use mathlib.Core.Bool.{Bool, true}
 use lib.Dec.{eqb, leb}
 use Rattle.octets.specs.Pick.{pick, both}
 use Rattle.ft_number.specs.Circle.{stepsOf}

@@ -1,21 +1,24 @@
-// What an acknowledgement makes of the label words.
+// What an acknowledgement makes of block 0's numbers and label words.
 ghost use mathlib.Core.Path.{_≡_};
 ghost use Prim.Native.Nat.{_≤_};
 ghost use lib.ListN.{take};
 ghost use Rattle.image.specs.State.{decode};
 ghost use Rattle.image.specs.Verdict.{IsSound};
-ghost use Rattle.calls.specs.Acked.{releasedKind, releasedLabels};
+ghost use Rattle.calls.specs.Acked.{releasedKind, releasedLabels, withReleased};
+use block0::Header;
+use ft_number::FtNumber;
 use label_list::LabelMessage;
+use message::Kind;
 
 // The label words after a held message of that kind and label was released.
 fn release_label(words: &mut [u32], kind: u8, label: u32)
     ensures { λ _. ⌜ now (words .exit) ≡ releasedKind kind label (now (words .entry)) ⌝ }
 {
-    if kind == 2 {
+    if kind == message::kind_number(Kind::Withdraw) {
         label_events::release_by_ack(words, LabelMessage::Withdraw, label);
         return;
     }
-    if kind == 3 {
+    if kind == message::kind_number(Kind::Release) {
         label_events::release_by_ack(words, LabelMessage::Release, label);
         return;
     }
@@ -35,4 +38,16 @@ pub fn release_labels(image: &[u8], count: usize, words: &mut [u32])
         );
         i += 1;
     }
+}
+
+// The header after an ACK: R is the number acknowledged, and the oldest `count` slots are free.
+pub fn released_header(h: Header, count: u32, ack: FtNumber) -> Header
+    requires { ⌜ count ≤ h .held ⌝ }
+    ensures { λ r. ⌜ r ≡ withReleased h count (ack .0) ⌝ }
+{
+    let mut next = h;
+    next.released = ack;
+    next.first = ((h.first as usize + count as usize) % image::SLOT_COUNT) as u16;
+    next.held = h.held - count as u16;
+    next
 }

@@ -4,22 +4,27 @@ mod admitting;
 mod answers;
 mod ending;
 mod phases;
+mod receiving;
+mod storing;
 
 pub use acking::release_labels;
+pub use acking::released_header;
 pub use admitting::admit;
 pub use admitting::check;
 pub use admitting::refuse;
 pub use answers::answer_number;
 pub use answers::effect_of;
 pub use answers::is_done;
-pub use ending::block0_changed;
-pub use ending::copy_block0;
 pub use ending::fail;
 pub use ending::release;
 pub use ending::settle;
 pub use phases::issued_count;
 pub use phases::phase_fits;
 pub use phases::resting_phase;
+pub use receiving::is_init;
+pub use storing::block0_changed;
+pub use storing::copy_block0;
+pub use storing::store_changed;
 
 // 01's phases. InitWait bears our proposed timeout, UpFT the count sent on this connection.
 pub enum Phase {

@@ -1,13 +1,14 @@
 -- What Format, Restore, Open and KeepAlive leave. Assumes nothing.
-use mathlib.Core.Path.{_≡_, refl, sym, ap, _∙_}
+use mathlib.Core.Path.{_≡_, refl, sym}
 use mathlib.Core.Bool.{Bool, true, false}
 use mathlib.Core.List.{List, []}
-use Prim.Native.Nat.{ℕ}
+use Prim.Native.Nat.{ℕ, _<_}
 use native.Mathlib.Omega.{arith}
 use borrow.Author.Tests.{eq-eqb, ne-eqb}
 use lib.Dec.{ltb}
 use lib.ListN.{length}
 use Rattle.octets.specs.Pick.{pick}
+use Rattle.octets.proofs.Choice.{pick-all}
 use Rattle.octets.proofs.Differ.{differ-self}
 use Rattle.ft_number.specs.Timeout.{proposedOf}
 use Rattle.ft_number.specs.declared.MessageId.{MessageId}
@@ -24,25 +25,26 @@ use Rattle.block0.specs.declared.Header.{Header}
 use Rattle.image.specs.Sizes.{imageSize, block}
 use Rattle.image.specs.State.{decode, InRange}
 use Rattle.image.specs.Verdict.{verdict, IsSound}
-use Rattle.image.specs.Events.{broken, newImage, released}
+use Rattle.image.specs.Events.{broken, released}
 use Rattle.image.specs.declared.Verdict
 use Rattle.image.specs.declared.Verdict.{Verdict}
-use Rattle.image.proofs.Changes.{in-range-released, new-decodes, new-sound}
-use Rattle.image.proofs.Sound.{parts-sound, sound-valid}
+use Rattle.image.proofs.Changes.{in-range-released, new-decodes, new-sound, break-decodes}
+use Rattle.image.proofs.Sound.{parts-sound}
 use Rattle.calls.specs.declared.Answer
 use Rattle.calls.specs.declared.Answer.{Answer}
 use Rattle.calls.specs.declared.Phase
 use Rattle.calls.specs.declared.Phase.{Phase}
-use Rattle.calls.specs.Answers.{effectOf}
+use Rattle.calls.specs.Answers.{answerNumber, effectOf}
 use Rattle.calls.specs.Phases.{phaseFits, restingPhase}
 use Rattle.calls.specs.Outcomes.{After, checked, admitted, roomFor, wrote, unchanged, failedWith, settleOf}
+use Rattle.calls.proofs.Effects.{effect-nothing}
+use Rattle.calls.proofs.Settled.{admitted-all}
 use Rattle.calls.proofs.Ends.{settle-done, settle-refusal}
-use Rattle.calls.proofs.Phasing.{resting-failed, resting-idle}
 use Rattle.call_meaning.specs.Standing.{Standing, Stands}
 use Rattle.connect.specs.Start.{formatted, formatOf, restoreOf}
-use Rattle.connect.specs.Writers.{writerOf, opens, keptAck, openBytes, openOf, isUp, aliveBytes, keepaliveOf}
+use Rattle.connect.specs.Writers.{writerOf, opens, openBytes, openOf, isUp, aliveBytes, keepaliveOf}
 use Rattle.connect.proofs.Written.{kept-set, kept-clear}
-use Rattle.call_meaning.proofs.Stands.{break-decodes, break-sound, break-range, resting-fits, settled-stands}
+use Rattle.call_meaning.proofs.Stands.{failure-stands, settled-stands}
 
 -- ---- Format
 module _ (im : List ℕ) where
@@ -91,14 +93,7 @@ module _ (im : List ℕ) where
       restore-decodes = rw restore-passes (break-decodes im s r)
 
       pub restore-stands : Stands (restoreOf im)
-      unfolding failedWith
-      restore-stands =
-          rw restore-passes
-          (record {
-            sound = break-sound im s r;
-            range = break-range im s r;
-            fits = rw (break-decodes im s r) (resting-fits (decode im .header) (sound-valid im s .kept));
-          })
+      restore-stands = rw restore-passes (failure-stands im s r Answer.Done [])
 
 -- ---- the writers
 -- what a writer leaves: the image as it was, and nothing of it to be stored
@@ -112,20 +107,21 @@ module _ (im : List ℕ) (ph : Phase) (may : Bool) (next : Phase) (out bytes : L
   wrote-leaves = record { image = refl; slot = refl; block0 = differ-self (block im 0) }
 
   -- each of its answers but Done changes nothing
-  leaves-by : (v : Verdict) (fits may short : Bool)
-      → Leaves im (settleOf (checked v (pick fits (pick may (pick short Answer.OutputTooShort Answer.Done) Answer.WrongPhase) Answer.WrongPhase)) ph im out (wrote next im im out bytes))
-  unfolding settleOf effectOf
-  leaves-by Verdict.Sound true true true = record { image = refl; slot = refl; block0 = refl }
-  leaves-by Verdict.Sound true true false = wrote-leaves
-  leaves-by Verdict.Sound true false short = record { image = refl; slot = refl; block0 = refl }
-  leaves-by Verdict.Sound false may short = record { image = refl; slot = refl; block0 = refl }
-  leaves-by Verdict.WrongSize fits may short = record { image = refl; slot = refl; block0 = refl }
-  leaves-by (Verdict.BadBlock b) fits may short = record { image = refl; slot = refl; block0 = refl }
-  leaves-by (Verdict.BadField b) fits may short = record { image = refl; slot = refl; block0 = refl }
+  abbrev LeavesBy : Answer → Type 0
+  LeavesBy a = Leaves im (settleOf a ph im out (wrote next im im out bytes))
+
+  refused-leaves : (a : Answer) → 0 < answerNumber a → answerNumber a < 20 → LeavesBy a
+  refused-leaves a l m =
+      rw (settle-refusal a ph im out (wrote next im im out bytes) (sym (effect-nothing a (answerNumber a) refl l m)))
+      (record { image = refl; slot = refl; block0 = refl })
 
   writer-leaves : Leaves im (writerOf im ph may next out bytes)
-  unfolding writerOf admitted
-  writer-leaves = leaves-by (verdict im) (phaseFits ph (decode im .header)) may (ltb (length out) (length bytes))
+  unfolding writerOf
+  writer-leaves =
+      admitted-all LeavesBy refused-leaves im ph (λ d.
+      pick-all LeavesBy may
+      (pick-all LeavesBy (ltb (length out) (length bytes)) (refused-leaves Answer.OutputTooShort (omega arith) (omega arith)) (rw settle-done wrote-leaves))
+      (refused-leaves Answer.WrongPhase (omega arith) (omega arith)))
 
   writer-stands : Standing im ph → phaseFits next (decode im .header) ≡ true → Stands (writerOf im ph may next out bytes)
   unfolding writerOf

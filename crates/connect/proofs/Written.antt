@@ -8,7 +8,6 @@ use lib.Dec.{ltb}
 use lib.ListN.{length}
 use Rattle.octets.specs.Pick.{pick}
 use Rattle.octets.specs.Part.{overlaid}
-use Rattle.octets.specs.Differ.{differ}
 use Rattle.octets.proofs.Differ.{differ-self}
 use Rattle.ft_number.specs.Timeout.{proposedOf}
 use Rattle.ft_number.specs.declared.MessageId.{MessageId}
@@ -25,13 +24,11 @@ use Rattle.image.specs.Sizes.{block}
 use Rattle.image.specs.State.{decode}
 use Rattle.calls.specs.declared.Answer
 use Rattle.calls.specs.declared.Answer.{Answer}
-use Rattle.calls.specs.declared.Effect
-use Rattle.calls.specs.declared.Effect.{Effect}
 use Rattle.calls.specs.declared.Outcome.{Outcome}
 use Rattle.calls.specs.declared.Phase
 use Rattle.calls.specs.declared.Phase.{Phase}
 use Rattle.calls.specs.Answers.{effectOf}
-use Rattle.calls.specs.Outcomes.{After, after, isDone, refusal, admitted, roomFor, wrote, settleOf}
+use Rattle.calls.specs.Outcomes.{after, isDone, refusal, admitted, roomFor, wrote, settleOf}
 use Rattle.calls.proofs.Ends.{settle-done}
 use Rattle.connect.specs.Writers.{writerOf, writtenAs, opens, keptAck, openBytes, openOf, isUp, aliveAck, aliveBytes, keepaliveOf}
 use Rattle.call_meaning.proofs.Calling.{call-refused, call-own, own-refused}

@@ -10,7 +10,6 @@ use Rattle.image.specs.Events.{newImage}
 use Rattle.image.specs.Verdict.{verdict}
 use Rattle.calls.specs.declared.Answer
 use Rattle.calls.specs.declared.Answer.{Answer}
-use Rattle.calls.specs.declared.Outcome.{Outcome}
 use Rattle.calls.specs.declared.Phase
 use Rattle.calls.specs.declared.Phase.{Phase}
 use Rattle.calls.specs.Outcomes.{After, after, settleOf, checked, failedWith}

@@ -4,7 +4,7 @@ use mathlib.Core.Path.{_≡_, refl, sym, ap, _∙_}
 use mathlib.Core.List.{List, [], _∷_, _++_, append-nil, append-assoc}
 use native.Mathlib.Nat.{sub-zero}
 use native.Mathlib.Omega.{arith}
-use lib.ListN.{length, replicate, length-replicate}
+use lib.ListN.{length}
 use Rattle.pdu.specs.Pdu.{placeOf, messageOf, openedOf}
 use Rattle.pdu.specs.Split.{handedOut}
 use Rattle.pdu.specs.declared.Opened
@@ -76,7 +76,3 @@ module _ (before : List ℕ) (number : ℕ) (pdu : List ℕ) (count : ℕ) where
       let none : count - k ≡ 0 = omega arith in
       let all : a .text ≡ linesOf number 0 (handedOut pdu count 10) = sym (append-nil (a .text)) ∙ rw none at (a .lines) in
       rw all at (a .put)
-
--- a buffer of n zeros has n bytes; said at ℕ, so that no check writes a large buffer out
-pub zeros-length : (n : ℕ) → length {A = ℕ} (replicate n 0) ≡ n
-zeros-length n = length-replicate n 0

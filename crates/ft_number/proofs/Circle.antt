@@ -1,6 +1,7 @@
 -- What the numbers' definitions mean: `stepsOf` counts successors and is the fewest there are, the count is unique within the circle, and an ACK
 -- is right exactly if it lies on the way from R to I. Assumes nothing.
 use Prim.Native.Nat.{ℕ, zero, suc, _+_, _-_, _%_, _<_, _≤_}
+use native.Mathlib.Numerals.{add-one}
 use native.Mathlib.Omega.{arith}
 use mathlib.Core.Path.{_≡_, refl, sym, ap, _∙_}
 use borrow.Author.Tests.{ne-eqb, leb-true}
@@ -11,7 +12,6 @@ use Rattle.ft_number.specs.Circle.{circle, next, after, forward, stepsOf
 use Rattle.ft_number.specs.Ack.{within, ackOf}
 use Rattle.ft_number.specs.declared.Steps.{Steps}
 use Rattle.ft_number.specs.declared.Steps.the-variants.{Count, Unreachable}
-use Rattle.ft_number.specs.declared.Ack.{Ack}
 use Rattle.ft_number.specs.declared.Ack.the-variants.{Releases, SequenceError}
 use Rattle.ft_number.proofs.Laws.{steps-none, steps-on}
 
@@ -40,6 +40,14 @@ after-is (suc (suc k)) n h p = ap next (after-is (suc k) n h (omega arith)) ∙ 
 pub after-suc : (k n : ℕ) → after (suc k) n ≡ next (after k n)
 unfolding after
 after-suc k n = refl
+
+pub after-add : (j k n : ℕ) → after (j + k) n ≡ after j (after k n)
+after-add zero k n = let e : 0 + k ≡ k = omega arith in rw e (sym (after-none (after k n)))
+after-add (suc j) k n = let e : suc j + k ≡ suc (j + k) = omega arith in rw (e, after-suc (j + k) n, after-add j k n, after-suc j (after k n))
+
+-- a successor is a number of the circle
+pub after-small : (k n : ℕ) → after (k + 1) n ≤ circle
+after-small k n = rw (add-one k, after-suc k n) (omega arith)
 
 -- what a count says of the two numbers
 pub record Counted (a b k : ℕ) : Type 0 where
@@ -96,6 +104,14 @@ steps-after (suc a) (suc k) ha hk =
     let s : after (suc k) (suc a) ≡ (suc a + suc k - 1) % circle + 1 = after-is (suc k) (suc a) ha (omega arith) in
     let e : suc k ≡ forward (suc a) (after (suc k) (suc a)) = omega arith in
     sym (steps-on (suc a) (after (suc k) (suc a)) (λ z. omega arith) (λ z. omega arith) e)
+
+-- past the number that k steps lead to lie the rest of the steps
+pub steps-rest : (r i a k n : ℕ) → r ≤ circle → i ≤ circle → a ≤ circle → n < circle → stepsOf r a ≡ Count k → stepsOf r i ≡ Count n → k ≤ n → stepsOf a i ≡ Count (n - k)
+steps-rest r i a k n lr li la ln ea ei few =
+    let sum : (n - k) + k ≡ n = omega arith in
+    let there : after (n - k) a ≡ i =
+    ap (after (n - k)) (sym (steps-reach r a k lr la ea)) ∙ sym (after-add (n - k) k r) ∙ ap (λ (x : ℕ). after x r) sum ∙ steps-reach r i n lr li ei in
+    rw there at (steps-after a (n - k) la (omega arith))
 
 -- an acknowledgement that releases k names the k-th number after R, and no more than were issued
 pub record Acknowledged (r i a k : ℕ) : Type 0 where

@@ -1,17 +1,19 @@
 -- What becomes of the state of a released image, of a new one, and of one as after a break. Assumes nothing.
 use mathlib.Core.Path.{_≡_, refl, ap, _∙_}
+use mathlib.Core.Bool.{true}
 use mathlib.Core.List.{List}
 use mathlib.Core.Logic.{_≢_}
-use Prim.Native.Nat.{ℕ, _+_, _*_, _≤_, _<_}
+use Prim.Native.Nat.{ℕ, _<_}
 use native.Mathlib.Omega.{arith}
 use lib.ListN.{length, replicate, length-map}
+use Rattle.octets.proofs.Fill.{length-zeros, zeros-at}
 use Rattle.ft_number.specs.Circle.{stepsOf}
 use Rattle.label_list.specs.Word.{wordCount, wordOf}
 use Rattle.label_list.specs.Rules.{codeSwept}
 use Rattle.label_list.specs.Sweep.{wordSwept, sweptOf}
+use Rattle.label_list.specs.Valid.{validOf}
 use Rattle.label_list.specs.declared.SweepRule.the-variants.{AfterBreak}
-use Rattle.label_meaning.specs.Valid.{IsValid}
-use Rattle.label_meaning.proofs.Meaning.{valid-means, means-valid, valid-range}
+use Rattle.label_meaning.proofs.Meaning.{valid-means, means-valid}
 use Rattle.label_meaning.proofs.Swept.{sweep-valid}
 use Rattle.block.specs.Check.{blockSize}
 use Rattle.block.specs.Run.{Words}
@@ -25,7 +27,8 @@ use Rattle.image.specs.Verdict.{IsSound}
 use Rattle.image.specs.Events.{released, releaseOf, newImage, broken, breakOf}
 use Rattle.image.proofs.Stored.{decode-store0, decode-keep, zeroth-other}
 use Rattle.image.proofs.Sound.{sound-store0, sound-keep, sound-valid}
-use Rattle.image.proofs.Formatted.{length-zeros, zeros-at, block-zeros}
+use Rattle.image.proofs.Formatted.{block-zeros}
+use Rattle.image.proofs.Ranges.{valid-words}
 
 -- ---- released
 fits-released : Fits releasedHeader
@@ -97,16 +100,13 @@ module _ (image : List ℕ) (s : IsSound image) (range : InRange (decode image))
   freed : List ℕ
   freed = sweptOf (decode image .labels) AfterBreak
 
-  freed-valid : IsValid freed
+  freed-valid : validOf freed ≡ true
   unfolding freed
-  freed-valid = sweep-valid (decode image .labels) (valid-means (decode image .labels) (sound-valid image s .labels)) AfterBreak
+  freed-valid = means-valid freed (sweep-valid (decode image .labels) (valid-means (decode image .labels) (sound-valid image s .labels)) AfterBreak)
 
   freed-words : Words wordCount freed
   unfolding freed
-  freed-words = record {
-    count = length-map (decode image .labels) (wordSwept AfterBreak) ∙ range .labels .count;
-    each = λ i. omega (arith, valid-range freed-valid i);
-  }
+  freed-words = valid-words freed (length-map (decode image .labels) (wordSwept AfterBreak) ∙ range .labels .count) freed-valid
 
   -- a valid list stays valid, and one of free words stays as it is
   freed-fields : Valid (decode image .header) freed
@@ -118,7 +118,7 @@ module _ (image : List ℕ) (s : IsSound image) (range : InRange (decode image))
         held = v .held;
         kept = v .kept;
         window = v .window;
-        labels = means-valid freed freed-valid;
+        labels = freed-valid;
         idle = λ k. (v .idle k .0, ap (λ (ls : List ℕ). sweptOf ls AfterBreak) (v .idle k .1) ∙ swept-none);
       }
 

@@ -1,36 +1,19 @@
 -- An image of zeros, and a new image. Assumes nothing.
-use mathlib.Core.Path.{_≡_, refl, sym, ap, _∙_}
-use mathlib.Core.List.{List, []}
-use Prim.Native.Nat.{ℕ, zero, suc, _+_, _-_, _*_, _≤_, _<_}
+use mathlib.Core.Path.{_≡_, refl, sym, _∙_}
+use mathlib.Core.List.{List}
+use Prim.Native.Nat.{ℕ, _+_, _*_, _≤_}
 use native.Mathlib.Omega.{arith}
 use borrow.Author.Tests.{eq-eqb, ne-eqb}
-use lib.ListN.{length, getD, replicate}
+use lib.ListN.{length, replicate}
 use lib.Seq.{ext-getD}
 use Rattle.octets.specs.Fill.{zeroed}
-use Rattle.octets.proofs.Fill.{length-filled, filled-at}
+use Rattle.octets.proofs.Fill.{length-zeros, zeros-at, zeroed-all}
+use Rattle.octets.proofs.Part.{part-at}
 use Rattle.block.specs.Check.{blockSize}
-use Rattle.block.proofs.Parts.{part-at}
-use Rattle.image.specs.declared.Verdict.{Verdict}
 use Rattle.image.specs.declared.Verdict.the-variants.{Sound, WrongSize}
 use Rattle.image.specs.Sizes.{imageSize, block}
 use Rattle.image.proofs.Blocks.{length-block}
 use Rattle.image.specs.Events.{sizeVerdict, releaseOf, newImage, formatOf}
-
-pub length-zeros : (n : ℕ) → length {A = ℕ} (replicate n 0) ≡ n
-length-zeros zero = refl
-length-zeros (suc n) = ap suc (length-zeros n)
-
-pub zeros-at : (n i : ℕ) → _≡_ {A = ℕ} (getD (replicate n 0) i 0) 0
-zeros-at zero i = refl
-zeros-at (suc n) zero = refl
-zeros-at (suc n) (suc i) = zeros-at n i
-
--- a list cleared from its start to its end
-zeroed-all : (s : List ℕ) (n : ℕ) → length s ≡ n → zeroed s 0 n ≡ replicate n 0
-zeroed-all s n long =
-    ext-getD 0 (zeroed s 0 n) (replicate n 0) (length-filled n (λ i. 0) s 0 ∙ long ∙ sym (length-zeros n)) (λ i h.
-    let start : 0 + i ≡ i = omega arith in
-    (rw start at (filled-at n (λ k. 0) s 0 i (omega arith) (omega (arith, length-filled n (λ k. 0) s 0)))) ∙ sym (zeros-at n i))
 
 -- a block of zeros
 pub block-zeros : (n b : ℕ) → b * blockSize + blockSize ≤ n → block (replicate n 0) b ≡ replicate blockSize 0

@@ -7,3 +7,4 @@ pub mod Queue
 pub mod Formatted
 pub mod Changes
 pub mod Ranges
+pub mod Same

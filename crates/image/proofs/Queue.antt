@@ -1,20 +1,19 @@
 -- The messages held: the queue and the slots in which they stand. Assumes nothing.
-use mathlib.Core.Path.{_≡_, refl, sym, ap, _∙_}
+use mathlib.Core.Path.{_≡_, sym, _∙_}
 use mathlib.Core.Bool.{true}
 use mathlib.Core.List.{List, []}
-use Prim.Native.Nat.{ℕ, _+_, _*_, _%_, _≤_, _<_}
+use Prim.Native.Nat.{ℕ, _+_, _<_}
 use native.Mathlib.Omega.{arith}
 use lib.ListN.{length, getD}
 use Rattle.message.specs.Submission.{submissionOf}
 use Rattle.block.specs.Check.{blockSize}
-use Rattle.block0.specs.declared.Header.{Header}
-use Rattle.block0.specs.Layout.{slotCount, headerOf}
+use Rattle.block0.specs.Layout.{headerOf}
 use Rattle.slot.specs.Layout.{kindOf, labelOf, messageOf}
 use Rattle.slot.specs.Fields.{slotOk}
 use Rattle.slot.specs.Held.{Storable, kindIn, labelIn}
 use Rattle.slot.proofs.Holding.{holds-kind, holds-label, holds-storable}
-use Rattle.image.specs.Sizes.{imageSize, block, blockOf, slotAt}
-use Rattle.image.specs.State.{decode, slotsOf, heldBlock, heldPlace}
+use Rattle.image.specs.Sizes.{block, blockOf, slotAt}
+use Rattle.image.specs.State.{decode, slotsOf, heldBlock}
 use Rattle.image.specs.Verdict.{IsSound, SlotGood}
 use Rattle.image.proofs.Blocks.{length-block}
 use Rattle.image.proofs.Rings.{ring-at, ring-length}

@@ -1,27 +1,27 @@
--- The numbers that an image of bytes holds have their widths. Assumes nothing.
-use mathlib.Core.Path.{_≡_, sym, ap, _∙_}
+-- The numbers that an image of bytes holds have their widths, and so have valid label words. Assumes nothing.
+use mathlib.Core.Path.{_≡_}
+use mathlib.Core.Bool.{true}
 use mathlib.Core.List.{List}
 use mathlib.Core.Logic.{⊎-elim}
 use Prim.Native.Nat.{ℕ, _+_, _*_, _-_, _≤_, _<_}
 use native.Mathlib.Omega.{arith}
-use lib.ListN.{length, getD, List·getD-eq-default}
+use lib.ListN.{length, List·getD-eq-default}
+use Rattle.octets.specs.Bytes.{Bytes}
 use Rattle.octets.proofs.Be.{beAt-lt}
+use Rattle.octets.proofs.Part.{part-at, part-inside}
+use Rattle.octets.proofs.Choice.{below-or-not}
 use Rattle.label_list.specs.Word.{wordCount}
+use Rattle.label_list.specs.Valid.{validOf}
+use Rattle.label_meaning.proofs.Meaning.{valid-means, valid-range}
 use Rattle.block.specs.Check.{blockSize}
 use Rattle.block.specs.Run.{wordsAt, Words}
-use Rattle.block.proofs.Parts.{part-at, part-inside}
-use Rattle.block.proofs.Tests.{below-or-not}
 use Rattle.block.proofs.WordRun.{length-wordsAt, getD-wordsAt}
 use Rattle.block0.specs.Layout.{labelsAt, headerOf, labelsOf}
 use Rattle.block0.specs.Fields.{Fits}
 use Rattle.image.specs.Sizes.{block}
 use Rattle.image.specs.State.{decode, InRange}
 
--- each element is a byte
-abbrev pub Bytes : List ℕ → Type 0
-Bytes s = (i : ℕ) → getD s i 0 < 256
-
-bytes-block : (image : List ℕ) (b : ℕ) → Bytes image → Bytes (block image b)
+pub bytes-block : (image : List ℕ) (b : ℕ) → Bytes image → Bytes (block image b)
 bytes-block image b byte i =
     ⊎-elim
     (λ (l : i < length (block image b)).
@@ -59,3 +59,7 @@ bytes-in-range image byte = record {
   header = fits-bytes (block image 0) (bytes-block image 0 byte);
   labels = words-bytes wordCount (block image 0) labelsAt (bytes-block image 0 byte);
 }
+
+-- valid label words have their width too
+pub valid-words : (ls : List ℕ) → length ls ≡ wordCount → validOf ls ≡ true → Words wordCount ls
+valid-words ls n v = record { count = n; each = λ i. omega (arith, valid-range (valid-means ls v) i) }

@@ -2,7 +2,7 @@
 use mathlib.Core.Path.{_≡_, refl, sym, _∙_}
 use mathlib.Core.Bool.{Bool, true, false, not}
 use mathlib.Core.List.{List}
-use Prim.Native.Nat.{ℕ, suc, _+_, _-_, _*_, _%_, _≤_, _<_}
+use Prim.Native.Nat.{ℕ, suc, _+_, _-_, _%_, _≤_, _<_}
 use native.Mathlib.Omega.{arith}
 use borrow.Author.Tests.{eq-eqb, ne-eqb, not-true, not-false}
 use lib.ListN.{length}
@@ -16,7 +16,7 @@ use Rattle.slot.specs.Fields.{slotVerdict}
 use Rattle.image.specs.declared.Verdict.{Verdict}
 use Rattle.image.specs.declared.Verdict.the-variants.{Sound, WrongSize, BadBlock, BadField}
 use Rattle.image.specs.Sizes.{imageSize, block, blockOf}
-use Rattle.image.specs.Verdict.{slotThen, slotFirst, scan, verdict}
+use Rattle.image.specs.Verdict.{slotThen, slotFirst, scan, verdict, verdictNumber}
 
 pub scan-none : (s : List ℕ) (f : ℕ) → scan s f 0 ≡ Sound
 unfolding scan
@@ -83,3 +83,10 @@ module _ (s : List ℕ) where
           er ∙ sym (simp (eq-eqb (length s) imageSize size, ← eb, ← et, not-false t fine, ← eu, not-false u hu, ← eh, ← ef, ← en))
 
 pub ruleset verdicts = (wrong-size, zeroth-check, zeroth-fields, slots-judged)
+
+-- a verdict whose number is 0
+pub number-sound : (v : Verdict) → verdictNumber v ≡ 0 → v ≡ Sound
+number-sound Sound e = refl
+number-sound WrongSize e = absurd (omega arith)
+number-sound (BadBlock b) e = absurd (omega arith)
+number-sound (BadField b) e = absurd (omega arith)

@@ -1,28 +1,26 @@
 -- A sound image, clause by clause, and what storing leaves of it. Assumes nothing.
-use mathlib.Core.Path.{_≡_, refl, sym, ap, _∙_}
-use mathlib.Core.Bool.{true}
+use mathlib.Core.Path.{_≡_, refl}
 use mathlib.Core.List.{List}
 use mathlib.Core.Logic.{_≢_, ⊎-elim}
-use Prim.Native.Nat.{ℕ, zero, suc, _+_, _-_, _*_, _%_, _≤_, _<_}
+use Prim.Native.Nat.{ℕ, zero, suc, _+_, _-_, _%_, _≤_, _<_}
 use native.Mathlib.Nat.{eq-or-lt-of-le}
 use native.Mathlib.Omega.{arith}
 use borrow.Author.Tests.{eqb-true, eq-eqb}
 use lib.Dec.{eqb}
 use lib.ListN.{length}
-use Rattle.octets.specs.Pick.{pick}
+use Rattle.octets.proofs.Choice.{no, passed}
 use Rattle.label_list.specs.Word.{wordCount}
 use Rattle.block.specs.Check.{blockSize, sound}
 use Rattle.block.specs.Run.{Words}
-use Rattle.block.proofs.Tests.{no, passed}
 use Rattle.block0.specs.declared.Header.{Header}
-use Rattle.block0.specs.Layout.{slotCount, headerOf, labelsOf, block0}
+use Rattle.block0.specs.Layout.{slotCount, headerOf, block0}
 use Rattle.block0.specs.Fields.{fieldsOk, Fits, Valid}
 use Rattle.block0.proofs.Written.{header-block0, block0-sound}
 use Rattle.block0.proofs.Rules.{fields-valid, valid-fields}
 use Rattle.slot.specs.declared.SlotVerdict.{SlotVerdict}
 use Rattle.slot.specs.declared.SlotVerdict.the-variants.{Good, BadCheck, BadFields}
 use Rattle.slot.specs.Fields.{slotVerdict}
-use Rattle.slot.specs.Held.{Storable, slotFor}
+use Rattle.slot.specs.Held.{Storable}
 use Rattle.slot.proofs.Holding.{slotFor-sound, slotFor-ok, good-parts, parts-good}
 use Rattle.image.specs.declared.Verdict.{Verdict}
 use Rattle.image.specs.declared.Verdict.the-variants.{Sound, WrongSize, BadBlock, BadField}

@@ -2,7 +2,7 @@
 use mathlib.Core.Path.{_≡_, refl, sym, ap, ap₂, _∙_}
 use mathlib.Core.List.{List, [], _∷_, _++_}
 use mathlib.Core.Logic.{_≢_}
-use Prim.Native.Nat.{ℕ, _+_, _-_, _*_, _%_, _≤_, _<_}
+use Prim.Native.Nat.{ℕ, _+_, _-_, _*_, _≤_, _<_}
 use native.Mathlib.Omega.{arith}
 use lib.ListN.{length, drop}
 use Rattle.label_list.specs.Word.{wordCount}
@@ -15,7 +15,7 @@ use Rattle.block0.proofs.Written.{length-block0, header-block0, labels-block0}
 use Rattle.slot.specs.Layout.{messageOf}
 use Rattle.slot.specs.Held.{Storable, slotFor}
 use Rattle.slot.proofs.Holding.{length-slotFor, slotFor-message}
-use Rattle.image.specs.Sizes.{block, withBlock, blockOf, slotAt, imageSize}
+use Rattle.image.specs.Sizes.{block, blockOf, slotAt, imageSize}
 use Rattle.image.specs.Ring.{ring}
 use Rattle.image.specs.State.{State, slotsOf, decode, storeSlot, store0}
 use Rattle.image.proofs.Rings.{ring-same, ring-snoc, ring-drop}

@@ -22,6 +22,7 @@ mod held;
 
 pub use events::format;
 pub use events::free_unprotected;
+pub use events::has_unprotected;
 pub use events::release;
 pub use held::held_kind;
 pub use held::held_label;
@@ -36,9 +37,9 @@ pub enum Verdict {
 }
 
 // The slots of the ring, and the size of the image: they and block 0.
-const SLOT_COUNT: usize = block0::SLOT_COUNT as usize;
+pub const SLOT_COUNT: usize = block0::SLOT_COUNT as usize;
 
-const IMAGE_SIZE: usize = (SLOT_COUNT + 1) * block::BLOCK_SIZE;
+pub const IMAGE_SIZE: usize = (SLOT_COUNT + 1) * block::BLOCK_SIZE;
 
 // The paper's number of a verdict.
 pub fn verdict_number(v: Verdict) -> u32
@@ -135,6 +136,14 @@ pub fn labels_of(image: &[u8], words: &mut [u32])
     ensures { λ _. ⌜ now (words .exit) ≡ decode (now (image .entry)) .labels ⌝ }
 {
     block0::read_labels(block_at(image, 0), words)
+}
+
+// The label word at a place.
+pub fn label_at(image: &[u8], place: usize) -> u32
+    requires { ⌜ (length (now image) ≡ imageSize) × (place < wordCount) ⌝ }
+    ensures { λ r. ⌜ r ≡ getD (decode (now (image .entry)) .labels) place 0 ⌝ }
+{
+    block0::read_label(block_at(image, 0), place)
 }
 
 // First stage: stores a message that Submit takes in slot k, with its kind and label.

@@ -2,16 +2,13 @@
 use block0::Header;
 use ft_number::FtNumber;
 use ft_number::Steps;
-use image::Verdict;
 ghost use mathlib.Core.Path.{_≡_};
 ghost use mathlib.Core.Bool.{true};
-ghost use Prim.Native.Nat.{_+_, _≤_};
-ghost use lib.ListN.{length};
 ghost use Rattle.block0.specs.Fields.{atMost};
 ghost use Rattle.ft_number.specs.Circle.{stepsOf};
 ghost use Rattle.image.specs.State.{decode};
 ghost use Rattle.image.specs.Verdict.{IsSound};
-ghost use Rattle.image_report.specs.Report.{isListed, listedOf, pendedOf, countsOf, reportOf};
+ghost use Rattle.image_report.specs.Report.{pendedOf, countsOf, reportOf};
 
 pub mod lines;
 
@@ -22,34 +19,13 @@ pub struct Counts {
     pub secured: FtNumber,
     pub held: u16,
     pub pended: u16,
-    pub labels: u16,
+    pub labels: usize,
 }
 
 // The counts, or the refusal's number and the block that it names.
 pub enum Report {
     Counted(Counts),
     Refused(u32, usize),
-}
-
-// 1 where a word is not zero.
-fn is_listed(word: u32) -> u16
-    ensures { λ r. ⌜ (r ≡ isListed word) × (r ≤ 1) ⌝ }
-{
-    if word == 0 { 0 } else { 1 }
-}
-
-// How many words are not zero.
-fn count_listed(words: &[u32]) -> u16
-    requires { ⌜ length (now words) ≤ 65535 ⌝ }
-    ensures { λ r. ⌜ r ≡ listedOf (now (words .entry)) ⌝ }
-{
-    let mut count: u16 = 0;
-    let mut i: usize = 0;
-    while i < words.len() {
-        count += is_listed(words[i]);
-        i += 1;
-    }
-    count
 }
 
 // Held messages that have no number yet.
@@ -68,7 +44,7 @@ fn counts_of(image: &[u8]) -> Counts
     ensures { λ r. ⌜ r ≡ countsOf (decode (now (image .entry))) ⌝ }
 {
     let h = image::header_of(image);
-    let mut words = [0u32; block0::WORD_COUNT];
+    let mut words = [0u32; label_list::WORD_COUNT];
     image::labels_of(image, &mut words);
     let released = h.released;
     let issued = h.issued;
@@ -79,7 +55,7 @@ fn counts_of(image: &[u8]) -> Counts
         secured: secured,
         held: h.held,
         pended: count_pended(h),
-        labels: count_listed(&words),
+        labels: label_list::count_listed(&words),
     }
 }
 
@@ -87,10 +63,10 @@ fn counts_of(image: &[u8]) -> Counts
 pub fn report_of(image: &[u8]) -> Report
     ensures { λ r. ⌜ r ≡ reportOf (now (image .entry)) ⌝ }
 {
-    match image::check_image(image) {
-        Verdict::Sound => Report::Counted(counts_of(image)),
-        Verdict::WrongSize => Report::Refused(12, 0),
-        Verdict::BadBlock(b) => Report::Refused(10, b),
-        Verdict::BadField(b) => Report::Refused(11, b),
+    let v = image::check_image(image);
+    let n = image::verdict_number(v);
+    if n == 0 {
+        return Report::Counted(counts_of(image));
     }
+    Report::Refused(n, image::verdict_block(v))
 }

@@ -64,9 +64,9 @@ pub fn put_report(out: &mut [u8], report: Report) -> usize
     }
 }
 
-// Reads an image from `fd`, of any size, and prints what it says.
+// Reads an image from `fd`, of any size, and prints what it says: a byte more than it may have shows that it is too long.
 pub fn print_image(fd: i32) {
-    let mut image = [0u8; 33281];
+    let mut image = [0u8; image::IMAGE_SIZE + 1];
     let size = io::read_full(fd, &mut image);
     let mut out = [0u8; 186];
     let end = put_report(&mut out, crate::report_of(&image[..size]));

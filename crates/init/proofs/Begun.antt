@@ -1,10 +1,9 @@
 -- The state that each start leads to: stored, it is read back, sound and in range, and allows the phase. Assumes nothing.
-use mathlib.Core.Path.{_≡_, refl, sym, ap, _∙_}
+use mathlib.Core.Path.{_≡_, refl}
 use mathlib.Core.Bool.{true}
 use mathlib.Core.List.{List}
-use Prim.Native.Nat.{ℕ, _+_, _-_, _%_, _≤_, _<_}
+use Prim.Native.Nat.{ℕ, _-_, _≤_, _<_}
 use native.Mathlib.Omega.{arith}
-use borrow.Author.Tests.{eq-eqb, le-leb}
 use lib.ListN.{length, take}
 use Rattle.ft_number.specs.Circle.{stepsOf}
 use Rattle.ft_number.specs.Ack.{ackOf}
@@ -17,9 +16,9 @@ use Rattle.block0.specs.declared.Header.{Header}
 use Rattle.block0.specs.Layout.{noLabels}
 use Rattle.block0.specs.Fields.{Fits, Valid}
 use Rattle.block0.proofs.Rules.{none-valid}
-use Rattle.image.specs.Sizes.{imageSize, slotAt}
+use Rattle.image.specs.Sizes.{imageSize}
 use Rattle.image.specs.Ring.{ring}
-use Rattle.image.specs.State.{State, decode, store, InRange}
+use Rattle.image.specs.State.{decode, store, InRange}
 use Rattle.image.specs.Verdict.{IsSound}
 use Rattle.image.specs.Events.{released}
 use Rattle.image.proofs.Changes.{in-range-released, release-decodes, release-sound}
@@ -28,21 +27,16 @@ use Rattle.image.proofs.Stored.{decode-store0, decode-release}
 use Rattle.calls.specs.declared.Phase
 use Rattle.calls.specs.declared.Phase.{Phase}
 use Rattle.calls.specs.Acked.{releasedLabels, withReleased, acked}
-use Rattle.calls.specs.Phases.{phaseFits, issuedCount}
+use Rattle.calls.specs.Phases.{phaseFits}
+use Rattle.calls.proofs.Phasing.{fits-up}
 use Rattle.call_meaning.specs.Standing.{Stored}
-use Rattle.call_meaning.proofs.Released.{ack-window, released-valid, released-words}
+use Rattle.call_meaning.proofs.Released.{ack-held, ack-window, released-valid, released-words}
 use Rattle.init.specs.declared.Start
 use Rattle.init.specs.declared.Start.{Start}
 use Rattle.init.specs.declared.Terms.{Terms}
 use Rattle.init.specs.Begun.{freshHeader, fresh, withTimeout, resumed, startState, startImage, startPhase}
 use Rattle.init.specs.Cases.{Case, malformed, another, without-parameters, without-ack, plain, peer-clear, ours-clear, changed, wrong-ack, resumes}
 use Rattle.init.specs.Meaning.{TermsFit, InWidth}
-use Rattle.init.proofs.Cases.{ack-held}
-
--- kept state allows UpFT with nothing sent
-kept-fits : (h : Header) → h .kept ≡ 1 → phaseFits (Phase.UpFT 0) h ≡ true
-unfolding phaseFits
-kept-fits h k = rw (eq-eqb (h .kept) 1 k) (le-leb 0 (issuedCount h) (omega arith))
 
 -- ---- plain
 pub plain-stored : (im : List ℕ) → length im ≡ imageSize → Stored (startImage im Start.Plain) released Phase.UpPlain
@@ -82,7 +76,7 @@ module _ (t : Terms) (f : TermsFit t) where
     decodes = decode-store0 im size (freshHeader t) noLabels fresh-fits (in-range-released .labels);
     sound = sound-store0 im (freshHeader t) noLabels size fresh-fits (in-range-released .labels) fresh-valid (λ i l. absurd (omega arith));
     range = record { header = fresh-fits; labels = in-range-released .labels };
-    fits = kept-fits (freshHeader t) refl;
+    fits = fits-up (freshHeader t) 0 refl (omega arith);
   }
 
 -- ---- resumed
@@ -135,7 +129,7 @@ module _ (im : List ℕ) (s : IsSound im) (r : InRange (decode im)) (t : Terms) 
     decodes = decode-release im next words k (s .size) resumed-fits resumed-words few refl refl;
     sound = sound-release im next words k s resumed-fits resumed-words resumed-valid few refl refl;
     range = record { header = resumed-fits; labels = resumed-words };
-    fits = kept-fits next kept;
+    fits = fits-up next 0 kept (omega arith);
   }
 
 -- ---- every start

@@ -1,9 +1,9 @@
 -- The judgement of an Init is the list of its cases, and what follows from that. Assumes nothing.
-use mathlib.Core.Path.{_≡_, refl, sym, ap, _∙_}
+use mathlib.Core.Path.{_≡_, refl}
 use mathlib.Core.Bool.{Bool, true, false}
 use Prim.Native.Nat.{ℕ, _≤_}
 use native.Mathlib.Omega.{arith}
-use borrow.Author.Tests.{eqb-true, eqb-false, leb-true}
+use borrow.Author.Tests.{eqb-true, eqb-false}
 use lib.Dec.{eqb}
 use Rattle.octets.specs.Pick.{pick, both}
 use Rattle.ft_number.specs.Circle.{stepsOf}
@@ -11,7 +11,6 @@ use Rattle.ft_number.specs.Ack.{ackOf}
 use Rattle.ft_number.specs.declared.Ack
 use Rattle.ft_number.specs.declared.Ack.{Ack}
 use Rattle.ft_number.specs.declared.FtNumber.{FtNumber}
-use Rattle.ft_number.proofs.Circle.{Acknowledged, ack-releases}
 use Rattle.ft_number.proofs.Timeout.{lesser-zero}
 use Rattle.tlv.specs.declared.FtField
 use Rattle.tlv.specs.declared.FtField.{FtField}
@@ -28,6 +27,7 @@ use Rattle.calls.specs.declared.Answer
 use Rattle.calls.specs.declared.Answer.{Answer}
 use Rattle.calls.specs.Answers.{answerNumber}
 use Rattle.calls.specs.Received.{isInit}
+use Rattle.call_meaning.proofs.Released.{ack-held}
 use Rattle.init.specs.declared.Start
 use Rattle.init.specs.declared.Start.{Start}
 use Rattle.init.specs.declared.Terms.{Terms}
@@ -79,12 +79,6 @@ cases h p (Reading.Whole g) = by (isInit (g .typename)) refl
     by false e = another e
 
 -- ---- an ACK that releases names no more than are held
-pub ack-held : (h : Header) (a k : ℕ) → atMost (h .held) (stepsOf (h .released .0) (h .issued .0)) ≡ true
-    → ackOf (h .released .0) (h .issued .0) a ≡ Ack.Releases k → k ≤ h .held
-ack-held h a k window e =
-    let c : Acknowledged (h .released .0) (h .issued .0) a k = ack-releases (h .released .0) (h .issued .0) a k e in
-    omega (arith, c .few, leb-true (c .issued) (h .held) (rw (c .window) at window))
-
 case-fits : {h : Header} {p : ℕ} {rd : Reading} {st : Start} → atMost (h .held) (stepsOf (h .released .0) (h .issued .0)) ≡ true → Case h p rd st → StartFits (h .held) st
 case-fits w malformed = tt
 case-fits w (another e) = tt

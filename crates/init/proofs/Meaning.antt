@@ -1,34 +1,27 @@
 -- What the peer's Init leaves. Assumes nothing.
-use mathlib.Core.Path.{_≡_, refl, sym, ap, _∙_}
-use mathlib.Core.Bool.{Bool, true, false}
+use mathlib.Core.Path.{_≡_, refl, sym}
+use mathlib.Core.Bool.{Bool, true}
 use mathlib.Core.List.{List, []}
 use Prim.Native.Nat.{ℕ, _≤_, _<_}
 use native.Mathlib.Omega.{arith}
 use lib.ListN.{length, drop}
+use Rattle.octets.specs.Bytes.{Bytes}
 use Rattle.octets.specs.Pick.{pick}
+use Rattle.octets.proofs.Choice.{pick-all}
 use Rattle.message.specs.Reading.{readingOf}
 use Rattle.block0.specs.Layout.{noLabels}
 use Rattle.image.specs.Sizes.{imageSize}
 use Rattle.image.specs.State.{State, decode, store}
-use Rattle.image.specs.Verdict.{verdict}
-use Rattle.image.specs.declared.Verdict
-use Rattle.image.specs.declared.Verdict.{Verdict}
-use Rattle.image.proofs.Ranges.{Bytes}
-use Rattle.image.proofs.Sound.{parts-sound}
 use Rattle.calls.specs.declared.Answer
 use Rattle.calls.specs.declared.Answer.{Answer}
-use Rattle.calls.specs.declared.Phase
 use Rattle.calls.specs.declared.Phase.{Phase}
 use Rattle.calls.specs.Acked.{acked}
 use Rattle.calls.specs.Answers.{answerNumber}
-use Rattle.calls.specs.Phases.{phaseFits}
-use Rattle.calls.specs.Outcomes.{After, isDone, checked, admitted, settleOf}
-use Rattle.calls.proofs.Settled.{Admitted, admitted-is}
+use Rattle.calls.specs.Outcomes.{isDone, admitted}
+use Rattle.calls.proofs.Settled.{admitted-all, admitted-is}
 use Rattle.call_meaning.specs.Standing.{Standing, Stands, Stored}
 use Rattle.call_meaning.proofs.Calling.{own-done}
-use Rattle.call_meaning.proofs.Stands.{settled-stands, settled-answer}
-use Rattle.init.specs.declared.Start
-use Rattle.init.specs.declared.Start.{Start}
+use Rattle.call_meaning.proofs.Stands.{stored-stands, standing-admitted, settled-stands, settled-answer}
 use Rattle.init.specs.declared.Terms.{Terms}
 use Rattle.init.specs.Judged.{startAnswer}
 use Rattle.init.specs.Begun.{fresh, freshHeader, resumed, startState, startPhase, startImage, awaits, proposalOf, initStart, begunAs, initReceivedOf}
@@ -49,20 +42,20 @@ unfolding resumed acked
 resumed-queue s t k a = refl
 
 -- ---- the answers
-admitted-late : (v : Verdict) (fits may : Bool) (a : Answer) → 30 ≤ answerNumber (checked v (pick fits (pick may a Answer.WrongPhase) Answer.WrongPhase)) → 30 ≤ answerNumber a
-admitted-late Verdict.Sound true true a l = l
-admitted-late Verdict.Sound true false a l = absurd (omega arith)
-admitted-late Verdict.Sound false may a l = absurd (omega arith)
-admitted-late Verdict.WrongSize fits may a l = absurd (omega arith)
-admitted-late (Verdict.BadBlock b) fits may a l = absurd (omega arith)
-admitted-late (Verdict.BadField b) fits may a l = absurd (omega arith)
+-- an answer that releases the state is that of the start's judgement
+abbrev Late : Answer → Answer → Type 0
+Late own a = 30 ≤ answerNumber a → 30 ≤ answerNumber own
+
+late-own : (im : List ℕ) (ph : Phase) (may : Bool) (own : Answer) → Late own (admitted im ph (pick may own Answer.WrongPhase))
+late-own im ph may own =
+    admitted-all (Late own) (λ x low high late. absurd (omega arith)) im ph (λ d. pick-all (Late own) may (λ late. late) (λ late. absurd (omega arith)))
 
 -- "35 and 34 arise only with both R set": no other answer of the call releases the state
 pub init-releases : (im : List ℕ) (ph : Phase) (m : List ℕ) → 30 ≤ answerNumber (initReceivedOf im ph m .outcome .answer) → BothR (decode im .header) (readingOf m)
-unfolding initReceivedOf begunAs admitted
+unfolding initReceivedOf begunAs
 init-releases im ph m l =
     both-needed (decode im .header) (proposalOf ph) (readingOf m)
-    (admitted-late (verdict im) (phaseFits ph (decode im .header)) (awaits ph) (startAnswer (initStart im ph m))
+    (late-own im ph (awaits ph) (startAnswer (initStart im ph m))
     (settled-answer (λ (a : Answer). 30 ≤ answerNumber a) (admitted im ph (pick (awaits ph) (startAnswer (initStart im ph m)) Answer.WrongPhase)) ph im []
     (begunAs im ph (initStart im ph m)) (λ late. absurd (omega arith)) l))
 
@@ -75,7 +68,7 @@ module _ (im : List ℕ) (ph : Phase) (m : List ℕ) (st : Standing im ph) (byte
 
   begun-stands : Stands (begunAs im ph (initStart im ph m))
   unfolding begunAs
-  begun-stands = record { sound = stored .sound; range = rw (stored .decodes) (stored .range); fits = rw (stored .decodes) (stored .fits) }
+  begun-stands = stored-stands stored
 
   -- whatever the answer is
   pub init-stands : Stands (initReceivedOf im ph m)
@@ -83,13 +76,10 @@ module _ (im : List ℕ) (ph : Phase) (m : List ℕ) (st : Standing im ph) (byte
   init-stands =
       settled-stands im ph st (admitted im ph (pick (awaits ph) (startAnswer (initStart im ph m)) Answer.WrongPhase)) [] (begunAs im ph (initStart im ph m)) (λ d. begun-stands)
 
-  admitted-here : Admitted im ph
-  admitted-here = record { passes = parts-sound im (st .sound); fits = st .fits }
-
   init-is : awaits ph ≡ true → isDone (startAnswer (initStart im ph m)) ≡ true → initReceivedOf im ph m ≡ begunAs im ph (initStart im ph m)
   unfolding initReceivedOf
   init-is w d =
-      rw (admitted-is admitted-here (pick (awaits ph) (startAnswer (initStart im ph m)) Answer.WrongPhase), w)
+      rw (admitted-is (standing-admitted st) (pick (awaits ph) (startAnswer (initStart im ph m)) Answer.WrongPhase), w)
       (sym (own-done (startAnswer (initStart im ph m)) ph im [] (begunAs im ph (initStart im ph m)) d refl))
 
   -- a start that is not refused leaves its state, and its phase

@@ -1,15 +1,14 @@
 -- The returns of `init_received`, and of the functions that store the state. Assumes nothing.
-use mathlib.Core.Path.{_≡_, refl, sym, ap, _∙_}
+use mathlib.Core.Path.{_≡_, refl, _∙_}
 use mathlib.Core.Bool.{Bool, true, false}
 use mathlib.Core.List.{List, []}
-use Prim.Native.Nat.{ℕ, _≤_, _<_}
+use Prim.Native.Nat.{ℕ}
 use lib.ListN.{take}
 use Rattle.octets.specs.Pick.{pick}
 use Rattle.octets.specs.Differ.{differ}
 use Rattle.message.specs.Reading.{readingOf}
 use Rattle.message.specs.declared.Reading.{Reading}
 use Rattle.block0.specs.declared.Header.{Header}
-use Rattle.block0.specs.Layout.{slotCount}
 use Rattle.image.specs.Sizes.{block}
 use Rattle.image.specs.State.{decode, store0, store}
 use Rattle.image.specs.Verdict.{IsSound}
@@ -17,14 +16,12 @@ use Rattle.image.proofs.Sound.{sound-valid}
 use Rattle.calls.specs.declared.Answer
 use Rattle.calls.specs.declared.Answer.{Answer}
 use Rattle.calls.specs.declared.Outcome.{Outcome}
-use Rattle.calls.specs.declared.Phase
 use Rattle.calls.specs.declared.Phase.{Phase}
 use Rattle.calls.specs.Answers.{effectOf}
 use Rattle.calls.specs.Acked.{releasedLabels, withReleased, acked}
 use Rattle.calls.specs.Outcomes.{After, after, isDone, refusal, unchanged, admitted, settleOf}
 use Rattle.calls.proofs.Ends.{settle-other}
 use Rattle.call_meaning.proofs.Calling.{call-refused, call-own, own-done, own-refused}
-use Rattle.init.specs.declared.Start
 use Rattle.init.specs.declared.Start.{Start}
 use Rattle.init.specs.declared.Terms.{Terms}
 use Rattle.init.specs.Judged.{startOf, startAnswer}
@@ -37,11 +34,6 @@ pub resumed-is : (im : List ℕ) (t : Terms) (k a : ℕ) {h h₂ : Header} {ls l
     → im′ ≡ store im (resumed (decode im) t k a)
 unfolding resumed acked
 resumed-is im t k a eh el ek en e = rw (e, en, eh, ek, el)
-
--- a sound image's header, with no more released than held
-pub header-room : (im : List ℕ) {h : Header} {k : ℕ} → IsSound im → h ≡ decode im .header → k ≤ decode im .header .held
-    → (h .first < slotCount) × (h .held ≤ slotCount) × (k ≤ h .held)
-header-room im s e l = rw e (sound-valid im s .first, sound-valid im s .held, l)
 
 pub begun-is : (im : List ℕ) (ph : Phase) (st : Start) {old im′ : List ℕ} {next : Phase} {b : Bool} → old ≡ block im 0 → im′ ≡ startImage im st
     → next ≡ startPhase ph st → b ≡ differ old (block im′ 0)

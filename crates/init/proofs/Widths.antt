@@ -3,6 +3,7 @@ use Prim.Native.Nat.{ℕ, _<_}
 use mathlib.Core.Path.{_≡_, refl}
 use mathlib.Core.Bool.{Bool}
 use mathlib.Core.List.{List}
+use Rattle.octets.specs.Bytes.{Bytes}
 use Rattle.ft_number.proofs.Timeout.{lesser-below}
 use Rattle.tlv.specs.declared.Session
 use Rattle.tlv.specs.declared.Session.{Session}
@@ -10,9 +11,8 @@ use Rattle.message.specs.Reading.{readingOf}
 use Rattle.message.specs.declared.Message.{Message}
 use Rattle.message.specs.declared.Reading
 use Rattle.message.specs.declared.Reading.{Reading}
+use Rattle.message.proofs.Widths.{Widths, read-widths}
 use Rattle.block0.specs.declared.Header.{Header}
-use Rattle.image.proofs.Ranges.{Bytes}
-use Rattle.call_meaning.proofs.Widths.{Widths, read-widths}
 use Rattle.init.specs.declared.Start.{Start}
 use Rattle.init.specs.Judged.{termsOf, startOf}
 use Rattle.init.specs.Cases.{IsInit, Case, malformed, another, without-parameters, without-ack, plain, peer-clear, ours-clear, changed, wrong-ack, resumes}

@@ -3,7 +3,7 @@
 -- fresh UpFT, kept 1, peer's parameters stored. Equal means the two stored ones; of the peer's parameters only these are read. 35 and 34 arise only with both R
 -- set; FT ACK on an Init with R clear, and FT Protection on any Init, are ignored. Resumed or fresh, the agreed timeout is the lesser of both, zero counting as infinite".
 use Prim.Native.Nat.{ℕ}
-use mathlib.Core.Bool.{Bool, true, false}
+use mathlib.Core.Bool.{true, false}
 use lib.Dec.{eqb}
 use Rattle.octets.specs.Pick.{pick, both}
 use Rattle.ft_number.specs.Ack.{ackOf}
@@ -16,7 +16,6 @@ use Rattle.tlv.specs.declared.Parameters
 use Rattle.tlv.specs.declared.Parameters.{Parameters}
 use Rattle.tlv.specs.declared.Session
 use Rattle.tlv.specs.declared.Session.{Session}
-use Rattle.message.specs.declared.Message.{Message}
 use Rattle.message.specs.declared.Reading
 use Rattle.message.specs.declared.Reading.{Reading}
 use Rattle.block0.specs.declared.Header.{Header}

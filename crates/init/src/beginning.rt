@@ -1,13 +1,11 @@
 // The session that the peer's Init begins: released, fresh, or resumed.
 ghost use mathlib.Core.Path.{_≡_};
 ghost use mathlib.Core.List.{[]};
-ghost use Prim.Native.Nat.{_≤_, _<_};
+ghost use Prim.Native.Nat.{_≤_};
 ghost use lib.ListN.{length};
-ghost use Rattle.block0.specs.Layout.{slotCount};
 ghost use Rattle.image.specs.Sizes.{imageSize};
 ghost use Rattle.image.specs.State.{decode, store};
 ghost use Rattle.image.specs.Verdict.{IsSound};
-ghost use Rattle.calls.specs.Acked.{withReleased};
 ghost use Rattle.calls.specs.Outcomes.{after};
 ghost use Rattle.init.specs.Begun.{StartFits, fresh, resumed, startImage, startPhase, begunAs, awaits, proposalOf, initReceivedOf};
 use crate::Start;
@@ -62,21 +60,8 @@ fn store_fresh(image: &mut [u8], terms: Terms)
         keepalive: terms.keepalive,
         maxpdu: terms.maxpdu,
     };
-    let labels = [0u32; 120];
+    let labels = [0u32; label_list::WORD_COUNT];
     image::store_block0(image, h, &labels);
-}
-
-// The header after an ACK: R is the number acknowledged, and the oldest `count` slots are free.
-fn released_header(h: Header, count: u32, ack: FtNumber) -> Header
-    requires { ⌜ (h .first < slotCount) × (h .held ≤ slotCount) × (count ≤ h .held) ⌝ }
-    ensures { λ r. ⌜ r ≡ withReleased h count (ack .0) ⌝ }
-{
-    let n = count as u16;
-    let mut next = h;
-    next.released = ack;
-    next.first = (h.first + n) % 64;
-    next.held = h.held - n;
-    next
 }
 
 // A resumed session: the peer's ACK is applied, and the timeout is the newly agreed one.
@@ -85,10 +70,10 @@ fn store_resumed(image: &mut [u8], terms: Terms, count: u32, ack: FtNumber)
     ensures { λ _. ⌜ now (image .exit) ≡ store (now (image .entry)) (resumed (decode (now (image .entry))) terms count (ack .0)) ⌝ }
 {
     let h = image::header_of(image);
-    let mut words = [0u32; 120];
+    let mut words = [0u32; label_list::WORD_COUNT];
     image::labels_of(image, &mut words);
     calls::release_labels(image, count as usize, &mut words);
-    let mut next = released_header(h, count, ack);
+    let mut next = calls::released_header(h, count, ack);
     next.timeout = terms.timeout;
     image::store_block0(image, next, &words);
 }

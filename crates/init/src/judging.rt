@@ -1,7 +1,6 @@
 // How the peer's Init is judged: 22, 23, 35, 34, or the session that it begins. Nothing is changed here.
 ghost use mathlib.Core.Path.{_≡_};
 ghost use Rattle.ft_number.specs.Timeout.{lesserOf};
-ghost use Rattle.calls.specs.Received.{isInit};
 ghost use Rattle.init.specs.Judged.{bothSet, peerSet, sessionStart, parametersStart, startOf, startAnswer};
 use crate::Start;
 use crate::Terms;
@@ -10,7 +9,6 @@ use calls::Answer;
 use ft_number::Ack;
 use ft_number::FtNumber;
 use message::Message;
-use message::MessageType;
 use message::Reading;
 use tlv::FtField;
 use tlv::Parameters;
@@ -97,24 +95,6 @@ fn judge_init(h: Header, proposed: u16, g: Message) -> Start
     }
 }
 
-fn is_init(t: MessageType) -> bool
-    ensures { λ r. ⌜ r ≡ isInit t ⌝ }
-{
-    match t {
-        MessageType::Notification => false,
-        MessageType::Initialization => true,
-        MessageType::KeepAlive => false,
-        MessageType::Address => false,
-        MessageType::AddressWithdraw => false,
-        MessageType::Mapping => false,
-        MessageType::Request => false,
-        MessageType::Withdraw => false,
-        MessageType::Release => false,
-        MessageType::Abort => false,
-        MessageType::Other => false,
-    }
-}
-
 // How the session begins with what was read, with the image's header and our proposed timeout.
 pub fn judge_start(h: Header, proposed: u16, reading: Reading) -> Start
     ensures { λ r. ⌜ r ≡ startOf h proposed reading ⌝ }
@@ -123,7 +103,7 @@ pub fn judge_start(h: Header, proposed: u16, reading: Reading) -> Start
         Reading::Malformed => Start::Refused(Answer::MalformedReceived),
         Reading::Whole(g) => {
             let t = g.typename;
-            if !is_init(t) {
+            if !calls::is_init(t) {
                 return Start::Refused(Answer::MalformedReceived);
             }
             judge_init(h, proposed, g)

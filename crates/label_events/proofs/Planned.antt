@@ -7,6 +7,7 @@ use Prim.Native.Nat.{ℕ, _≤_, _<_}
 use native.Mathlib.Omega.{arith}
 use lib.ListN.{getD, set}
 use borrow.Author.Tests.{eq-eqb, ne-eqb}
+use Rattle.octets.proofs.Choice.{pick-all}
 use Rattle.label_list.specs.Word.{labelCount, codeOf, wordOf, isFree, listable, standsFor}
 use Rattle.label_list.specs.Rules.{sentSide, receivedSide, codeAccepted, codeAcked, codeReceived}
 use Rattle.label_list.specs.Find.{findOf}
@@ -30,7 +31,6 @@ use Rattle.label_events.specs.declared.Touched.{Touched}
 use Rattle.label_events.specs.declared.Touched.the-variants.{Label, Every, Nothing}
 use Rattle.label_events.specs.declared.Reception.{Reception}
 use Rattle.label_events.specs.declared.Reception.the-variants.{Taken}
-use Rattle.label_list.proofs.Choice.{pick-all}
 use Rattle.label_list.proofs.Standing.{within-in, within-below, within-above, stands-parts}
 use Rattle.label_list.proofs.Reached.{found-passes}
 use Rattle.label_events.proofs.Written.{change-of-in}

@@ -4,12 +4,12 @@ use mathlib.Core.List.{List}
 use Prim.Native.Nat.{ℕ, _<_}
 use lib.ListN.{length}
 use lib.Dec.{eqb}
+use Rattle.octets.proofs.Choice.{pick-all}
 use Rattle.label_list.specs.Word.{isFree, standsFor, wordOf}
 use Rattle.label_list.specs.Find.{findOf, FoundIn}
 use Rattle.label_list.specs.declared.Side.{Side}
 use Rattle.label_list.specs.declared.Found.{Found}
 use Rattle.label_list.specs.declared.Found.the-variants.{At, Nowhere}
-use Rattle.label_list.proofs.Choice.{pick-all}
 use Rattle.label_list.proofs.Reached.{found-in}
 use Rattle.label_events.specs.Change.{ChangeIn, takeFree, changeAt, changeOf}
 use Rattle.label_events.specs.declared.Change.{Change}

@@ -7,13 +7,13 @@ use Prim.Native.Nat.{ℕ, zero, suc, _-_, _≤_, _<_}
 use native.Mathlib.Omega.{arith}
 use lib.ListN.{length, getD, drop, take, length-drop}
 use lib.Seq.{drop-cons, drop-length, take-all}
-use Rattle.octets.specs.Pick.{both}
 use borrow.Author.Tests.{le-leb, lt-leb, eq-eqb, ne-eqb}
+use Rattle.octets.specs.Pick.{both}
+use Rattle.octets.proofs.Choice.{both-true, by-test}
 use Rattle.label_list.specs.Word.{labelOf, codeOf, isFree, onSide}
 use Rattle.label_list.specs.Valid.{absent, validWord, validOf}
 use Rattle.label_list.specs.Marks.{Marked}
 use Rattle.label_list.specs.declared.Side.the-variants.{Given, Used}
-use Rattle.label_list.proofs.Choice.{both-true, by-test}
 use Rattle.label_list.proofs.Marks.{marked-none}
 
 -- The words from index i on are valid and marked.

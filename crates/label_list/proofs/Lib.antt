@@ -1,8 +1,6 @@
-pub mod Choice
 pub mod Standing
 pub mod Sought
 pub mod Reached
 pub mod Marks
 pub mod Checked
-pub mod Map
 pub mod Small

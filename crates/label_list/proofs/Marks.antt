@@ -7,12 +7,12 @@ use Prim.Native.Nat.{ℕ, _<_}
 use native.Mathlib.Omega.{arith}
 use lib.ListN.{length, getD, set, length-set}
 use lib.Seq.{getD-set-same, getD-set-other}
+use Rattle.octets.proofs.Choice.{by-test}
 use Rattle.label_list.specs.Word.{labelOf, codeOf, onSide, standsFor}
 use Rattle.label_list.specs.Find.{any}
 use Rattle.label_list.specs.Valid.{absent}
 use Rattle.label_list.specs.Marks.{placeOf, Marked}
 use Rattle.label_list.specs.declared.Side.{Side}
-use Rattle.label_list.proofs.Choice.{by-test}
 use Rattle.label_list.proofs.Standing.{one-side, stands-parts, free-stands}
 use Rattle.label_list.proofs.Sought.{any-cons}
 

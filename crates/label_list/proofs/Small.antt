@@ -2,6 +2,7 @@
 use mathlib.Core.Bool.{Bool, true, false}
 use Prim.Native.Nat.{ℕ, _<_}
 use lib.Dec.{lit<, leb, eqb}
+use Rattle.octets.proofs.Choice.{pick-all}
 use Rattle.label_list.specs.Word.{within}
 use Rattle.label_list.specs.Rules.{codeAccepted, codeAcked, codeReceived, codeSwept}
 use Rattle.label_list.specs.declared.LabelMessage.{LabelMessage}
@@ -10,7 +11,6 @@ use Rattle.label_list.specs.declared.Next.{Next}
 use Rattle.label_list.specs.declared.Next.the-variants.{Code, NotAllowed}
 use Rattle.label_list.specs.declared.SweepRule.{SweepRule}
 use Rattle.label_list.specs.declared.SweepRule.the-variants.{WithdrawAll, ReleaseAll, AfterBreak}
-use Rattle.label_list.proofs.Choice.{pick-all}
 
 abbrev pub Small : ℕ → Type 0
 Small code = code < 4096

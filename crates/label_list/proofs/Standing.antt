@@ -5,10 +5,10 @@ use Prim.Native.Nat.{ℕ, _≤_, _<_}
 use native.Mathlib.Omega.{arith}
 use lib.Dec.{eqb, leb}
 use borrow.Author.Tests.{le-leb, lt-leb, leb-true, eq-eqb, eqb-true}
+use Rattle.octets.proofs.Choice.{both-true}
 use Rattle.label_list.specs.Word.{labelOf, codeOf, within, onSide, standsFor}
 use Rattle.label_list.specs.declared.Side.{Side}
 use Rattle.label_list.specs.declared.Side.the-variants.{Given, Used}
-use Rattle.label_list.proofs.Choice.{both-true}
 
 module _ (low high n : ℕ) where
   pub within-in : low ≤ n → n ≤ high → true ≡ within low high n

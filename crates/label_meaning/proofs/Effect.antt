@@ -9,12 +9,12 @@ use lib.ListN.{length, getD, set}
 use lib.Seq.{getD-set-same, getD-set-other}
 use lib.Dec.{eqb}
 use borrow.Author.Tests.{eqb-true, eqb-false, eq-eqb, ne-eqb}
+use Rattle.octets.proofs.Choice.{by-test}
 use Rattle.label_list.specs.Word.{labelCount, labelOf, codeOf, wordOf, isFree, onSide, standsFor}
 use Rattle.label_list.specs.Find.{findOf}
 use Rattle.label_list.specs.declared.Side.{Side}
 use Rattle.label_list.specs.declared.Found.{Found}
 use Rattle.label_list.specs.declared.Found.the-variants.{At, Nowhere}
-use Rattle.label_list.proofs.Choice.{by-test}
 use Rattle.label_list.proofs.Standing.{parts-stands, free-stands}
 use Rattle.label_list.proofs.Reached.{found-in, found-place, found-passes}
 use Rattle.label_events.specs.Change.{takeFree, changeAt, changeOf, changed}

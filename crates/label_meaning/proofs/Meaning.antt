@@ -9,12 +9,12 @@ use lib.ListN.{getD}
 use lib.Dec.{eqb, leb}
 use borrow.Author.Tests.{eqb-true, eqb-false, ne-eqb, leb-true, leb-false}
 use Rattle.octets.specs.Pick.{pick, both}
+use Rattle.octets.proofs.Choice.{by-test, both-true}
 use Rattle.label_list.specs.Word.{labelCount, labelOf, codeOf, isFree, onSide, standsFor}
 use Rattle.label_list.specs.Find.{any}
 use Rattle.label_list.specs.Valid.{absent, standsOnce, validWord, validOf}
 use Rattle.label_list.specs.declared.Side.{Side}
 use Rattle.label_list.specs.declared.Side.the-variants.{Given, Used}
-use Rattle.label_list.proofs.Choice.{by-test, both-true}
 use Rattle.label_list.proofs.Standing.{within-range, within-in, one-side, stands-parts, parts-stands, free-stands}
 use Rattle.label_list.proofs.Checked.{word-free, word-given, word-used}
 use Rattle.label_meaning.specs.Valid.{InRange, IsValid}

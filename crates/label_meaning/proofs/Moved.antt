@@ -7,6 +7,7 @@ use Prim.Native.Nat.{ℕ, _≤_}
 use native.Mathlib.Omega.{arith}
 use lib.Dec.{eqb, leb}
 use borrow.Author.Tests.{eqb-true, eqb-false, leb-true}
+use Rattle.octets.proofs.Choice.{by-test}
 use Rattle.label_list.specs.Word.{within, onSide}
 use Rattle.label_list.specs.Rules.{sentSide, receivedSide, codeAccepted, codeAcked, codeReceived, codeSwept}
 use Rattle.label_list.specs.Sweep.{sweptOf}
@@ -17,7 +18,6 @@ use Rattle.label_list.specs.declared.LabelMessage.the-variants.{Mapping, Withdr
 use Rattle.label_list.specs.declared.Next.the-variants.{Code}
 use Rattle.label_list.specs.declared.SweepRule.{SweepRule}
 use Rattle.label_list.specs.declared.SweepRule.the-variants.{WithdrawAll, ReleaseAll, AfterBreak}
-use Rattle.label_list.proofs.Choice.{by-test}
 use Rattle.label_list.proofs.Standing.{within-range}
 use Rattle.label_events.specs.Change.{codeAt}
 use Rattle.label_events.specs.Accept.{acceptedOf}

@@ -6,6 +6,7 @@ use Prim.Native.Nat.{ℕ}
 use native.Mathlib.Omega.{arith}
 use lib.Dec.{eqb, leb}
 use borrow.Author.Tests.{eqb-true}
+use Rattle.octets.proofs.Choice.{by-test, pick-all}
 use Rattle.label_list.specs.Word.{within, onSide}
 use Rattle.label_list.specs.Rules.{sentSide, receivedSide, codeAccepted, codeAcked, codeReceived, codeSwept}
 use Rattle.label_list.specs.declared.Side.{Side}
@@ -16,7 +17,6 @@ use Rattle.label_list.specs.declared.Next.{Next}
 use Rattle.label_list.specs.declared.Next.the-variants.{Code, NotAllowed}
 use Rattle.label_list.specs.declared.SweepRule.{SweepRule}
 use Rattle.label_list.specs.declared.SweepRule.the-variants.{WithdrawAll, ReleaseAll, AfterBreak}
-use Rattle.label_list.proofs.Choice.{by-test, pick-all}
 
 -- A code that a label can have on a side: 0, absent, or one of the side.
 abbrev pub Proper : Side → ℕ → Type 0

@@ -9,6 +9,7 @@ use lib.ListN.{getD}
 use lib.Dec.{eqb, leb}
 use borrow.Author.Tests.{eqb-false}
 use Rattle.octets.specs.Pick.{pick}
+use Rattle.octets.proofs.Choice.{by-test, both-true}
 use Rattle.label_list.specs.Word.{labelOf, codeOf, onSide, standsFor}
 use Rattle.label_list.specs.Rules.{receivedSide}
 use Rattle.label_list.specs.Protection.{needsProtection, barsProtection, codeProtection, protectedOn}
@@ -19,7 +20,6 @@ use Rattle.label_list.specs.declared.LabelMessage.{LabelMessage}
 use Rattle.label_list.specs.declared.LabelMessage.the-variants.{Mapping, Withdraw, Release}
 use Rattle.label_list.specs.declared.Protection.{Protection}
 use Rattle.label_list.specs.declared.Protection.the-variants.{Right, Missing, Wrong}
-use Rattle.label_list.proofs.Choice.{by-test, both-true}
 use Rattle.label_list.proofs.Standing.{parts-stands}
 use Rattle.label_events.specs.Change.{codeAt}
 use Rattle.label_events.specs.Protect.{protectionOf}

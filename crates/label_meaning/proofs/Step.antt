@@ -6,6 +6,7 @@ use mathlib.Core.Logic.{_≢_, _⊎_, inl, inr, ⊎-elim}
 use Prim.Native.Nat.{ℕ, _≤_, _<_}
 use native.Mathlib.Omega.{arith}
 use lib.ListN.{getD, set}
+use Rattle.octets.proofs.Choice.{by-test}
 use Rattle.label_list.specs.Word.{labelCount, labelOf, codeOf, wordOf, isFree, listable, onSide, standsFor}
 use Rattle.label_list.specs.Rules.{sentSide, receivedSide, codeAccepted, codeAcked, codeReceived}
 use Rattle.label_list.specs.Find.{findOf}
@@ -18,7 +19,6 @@ use Rattle.label_list.specs.declared.LabelMessage.the-variants.{Mapping, Withdr
 use Rattle.label_list.specs.declared.Next.{Next}
 use Rattle.label_list.specs.declared.Next.the-variants.{Code, NotAllowed}
 use Rattle.label_list.specs.declared.SweepRule.the-variants.{WithdrawAll, ReleaseAll, AfterBreak}
-use Rattle.label_list.proofs.Choice.{by-test}
 use Rattle.label_list.proofs.Standing.{within-in, within-range, stands-parts, free-stands}
 use Rattle.label_list.proofs.Reached.{found-passes}
 use Rattle.label_events.specs.Change.{codeIn, codeAt, changeAt, changeOf, changed}

@@ -8,6 +8,7 @@ use native.Mathlib.Omega.{arith}
 use lib.ListN.{getD, List·getD-map}
 use lib.Dec.{eqb}
 use borrow.Author.Tests.{eqb-true, eqb-false}
+use Rattle.octets.proofs.Choice.{by-test}
 use Rattle.label_list.specs.Word.{labelOf, codeOf, wordOf, onSide, standsFor}
 use Rattle.label_list.specs.Rules.{codeReceived, codeSwept}
 use Rattle.label_list.specs.Sweep.{wordSwept, sweptOf}
@@ -15,7 +16,6 @@ use Rattle.label_list.specs.declared.Side.{Side}
 use Rattle.label_list.specs.declared.Side.the-variants.{Given, Used}
 use Rattle.label_list.specs.declared.SweepRule.{SweepRule}
 use Rattle.label_list.specs.declared.SweepRule.the-variants.{WithdrawAll, ReleaseAll, AfterBreak}
-use Rattle.label_list.proofs.Choice.{by-test}
 use Rattle.label_list.proofs.Standing.{stands-parts, parts-stands, free-stands}
 use Rattle.label_meaning.specs.Valid.{InRange, IsValid}
 use Rattle.label_meaning.specs.View.{CodeIs, listed, absent}

@@ -1,3 +1,4 @@
 pub mod Readings
 pub mod Submissions
+pub mod Widths
 pub mod Laws

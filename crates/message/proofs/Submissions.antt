@@ -5,17 +5,19 @@ use mathlib.Core.Bool.{Bool, true, false, not}
 use mathlib.Core.List.{List}
 use borrow.Author.Tests.{eq-eqb, ne-eqb}
 use lib.Dec.{eqb}
-use Rattle.message.specs.Kinds.{fatalOf, codeOf, resourcesAvailable, notificationKind, kindOf}
-use Rattle.message.specs.Reading.{readingOf}
+use Rattle.message.specs.Kinds.{fatalOf, codeOf, resourcesAvailable, notificationKind, kindFor, kindOf}
+use Rattle.message.specs.Reading.{typeOf, numberIn, bearsOf, messageOf, readingOf}
 use Rattle.message.specs.Submission.{bearsFt, acceptedAs, submissionOf}
 use Rattle.tlv.specs.declared.Field
 use Rattle.tlv.specs.declared.Field.{Field}
 use Rattle.tlv.specs.declared.Found.{Found}
+use Rattle.tlv.specs.declared.walk.Walk
+use Rattle.tlv.specs.declared.walk.Walk.{Walk}
+use Rattle.tlv.specs.Value.{fieldAt}
+use Rattle.tlv.specs.Walk.{tlvsOf}
 use Rattle.message.specs.declared.Kind
 use Rattle.message.specs.declared.Kind.{Kind}
-use Rattle.message.specs.declared.Message.{Message}
-use Rattle.message.specs.declared.Reading
-use Rattle.message.specs.declared.Reading.{Reading}
+use Rattle.message.specs.declared.MessageType.{MessageType}
 use Rattle.message.specs.declared.Submission
 use Rattle.message.specs.declared.Submission.{Submission}
 
@@ -58,18 +60,22 @@ module _ (f : Found) where
 pub ruleset fts = (ft-session, ft-protection, ft-ack)
 
 -- a submission
-module _ (m : List ℕ) (r : Reading) (rq : r ≡ readingOf m) where
-  pub judged-malformed : r ≡ Reading.Malformed → Submission.Malformed ≡ submissionOf m
-  unfolding submissionOf
-  judged-malformed e = simp (sym rq ∙ e)
+module _ (m : List ℕ) (w : Walk) (wq : w ≡ tlvsOf m) where
+  pub judged-malformed : w ≡ Walk.Malformed → Submission.Malformed ≡ submissionOf m
+  unfolding submissionOf readingOf
+  judged-malformed e = simp (sym wq ∙ e)
 
-  module _ (g : Message) (e : r ≡ Reading.Whole g) (ft : Bool) (ftq : ft ≡ bearsFt (g .found)) where
-    pub judged-ft : ft ≡ true → Submission.Refused ≡ submissionOf m
-    unfolding submissionOf
-    judged-ft h = simp (sym rq ∙ e, sym ftq ∙ h)
+  module _ (f : Found) (e : w ≡ Walk.Whole f) (t : MessageType) (tq : t ≡ typeOf (numberIn m)) (b : Bool) (bq : b ≡ bearsOf t f) where
+    pub judged-lacks : b ≡ false → Submission.Malformed ≡ submissionOf m
+    unfolding submissionOf readingOf
+    judged-lacks h = simp (sym wq ∙ e, sym tq, sym bq ∙ h)
 
-    pub judged-kind : ft ≡ false → (k : Kind) (a : Submission) → a ≡ acceptedAs k (g .label) → k ≡ kindOf g → a ≡ submissionOf m
-    unfolding submissionOf
-    judged-kind h k a aq kq = simp (aq, kq, sym rq ∙ e, sym ftq ∙ h)
+    module _ (h : b ≡ true) (ft : Bool) (ftq : ft ≡ bearsFt f) where
+      pub judged-ft : ft ≡ true → Submission.Refused ≡ submissionOf m
+      unfolding submissionOf readingOf messageOf
+      judged-ft k = simp (sym wq ∙ e, sym tq, sym bq ∙ h, sym ftq ∙ k)
 
-pub ruleset judgements = (judged-malformed, judged-ft, judged-kind)
+      pub judged-kind : ft ≡ false → (s l : Field) → s ≡ fieldAt m (f .status) → l ≡ fieldAt m (f .label)
+          → (k : Kind) (a : Submission) → k ≡ kindFor t s → a ≡ acceptedAs k l → a ≡ submissionOf m
+      unfolding submissionOf readingOf messageOf kindOf
+      judged-kind p s l sq lq k a kq aq = simp (aq, kq, sq, lq, sym wq ∙ e, sym tq, sym bq ∙ h, sym ftq ∙ p)

@@ -15,7 +15,7 @@ ghost use lib.ListN.{length};
 ghost use Rattle.tlv.specs.Walk.{headSize};
 ghost use Rattle.tlv.specs.Value.{Places};
 ghost use Rattle.message.specs.Reading.{typeOf, numberIn, idIn, bearsOf, messageOf, readingOf};
-ghost use Rattle.message.specs.Kinds.{fatalOf, codeOf, notificationKind, kindOf, kindNumber};
+ghost use Rattle.message.specs.Kinds.{fatalOf, codeOf, notificationKind, kindFor, kindOf, kindNumber};
 ghost use Rattle.message.specs.Submission.{bearsFt, labelledAs, acceptedAs, submissionOf};
 
 // The message types; Other is every number that has no name here.
@@ -195,12 +195,9 @@ fn notification_kind(status: Field) -> Kind
     }
 }
 
-// The kind of a message.
-pub fn kind_of(g: Message) -> Kind
-    ensures { λ r. ⌜ r ≡ kindOf g ⌝ }
+fn kind_for(t: MessageType, status: Field) -> Kind
+    ensures { λ r. ⌜ r ≡ kindFor t status ⌝ }
 {
-    let t = g.typename;
-    let status = g.status;
     match t {
         MessageType::Notification => notification_kind(status),
         MessageType::Initialization => Kind::NoKind,
@@ -214,6 +211,15 @@ pub fn kind_of(g: Message) -> Kind
         MessageType::Abort => Kind::NoKind,
         MessageType::Other => Kind::NoKind,
     }
+}
+
+// The kind of a message.
+pub fn kind_of(g: Message) -> Kind
+    ensures { λ r. ⌜ r ≡ kindOf g ⌝ }
+{
+    let t = g.typename;
+    let status = g.status;
+    kind_for(t, status)
 }
 
 // The kind's number in the stored image; 0 for no kind.
@@ -266,19 +272,22 @@ fn judge_kind(kind: Kind, label: Field) -> Submission
     }
 }
 
-// Submit's answers 4 and 5.
+// Submit's answers 4 and 5. Of what the message says only its type, its status and its label are read.
 pub fn judge_submission(m: &[u8]) -> Submission
     ensures { λ r. ⌜ r ≡ submissionOf (now (m .entry)) ⌝ }
 {
-    match read_message(m) {
-        Reading::Malformed => Submission::Malformed,
-        Reading::Whole(g) => {
-            let found = g.found;
+    match walk::walk_message(m) {
+        walk::Walk::Malformed => Submission::Malformed,
+        walk::Walk::Whole(found) => {
+            let t = type_of(number_in(m));
+            if !bears(t, found) {
+                return Submission::Malformed;
+            }
             if bears_ft(found) {
                 return Submission::Refused;
             }
-            let label = g.label;
-            judge_kind(kind_of(g), label)
+            let kind = kind_for(t, value::field_at(m, found.status));
+            judge_kind(kind, value::field_at(m, found.label))
         }
     }
 }

@@ -1,4 +1,4 @@
-pub mod Laid
+pub mod Room
 pub mod Puts
 pub mod Append
 pub mod Raised

@@ -5,11 +5,12 @@ use mathlib.Core.Bool.{Bool, true, false}
 use mathlib.Core.List.{List, [], _++_}
 use native.Mathlib.Nat.{add-zero}
 use native.Mathlib.Omega.{arith}
-use borrow.Author.Tests.{eq-eqb, ne-eqb, eqb-true, eqb-false}
+use borrow.Author.Tests.{eq-eqb, ne-eqb, eqb-true}
 use lib.ListN.{length}
 use lib.Dec.{eqb}
 use Rattle.octets.specs.Be.{beAt, bytes}
 use Rattle.octets.specs.Pick.{pick}
+use Rattle.octets.proofs.Choice.{where-same}
 use Rattle.ft_number.specs.declared.FtNumber.{FtNumber}
 use Rattle.tlv.specs.Tlv.{tlvOf, lengthFits, headOf, labelIn, protectionNumber, ackNumber}
 use Rattle.tlv.specs.Walk.{placeOf, placedOf, notedOf, turnOf, walkOf, headSize, tlvsOf}
@@ -64,13 +65,6 @@ ft-walk at n (FtField.Number x) f none =
     ∙ tlv-walk ackNumber Tlv.Ack (at + 8) (x .0) (placedOf f Tlv.Protection at) refl refl refl (none .ack)
 
 -- what a place says is the same in two messages that agree behind the head of the first
-where-same : {X : Type 0} (p : ℕ) (x y z : X) → ((p ≡ 0 → ⊥) → y ≡ z) → pick (eqb p 0) x y ≡ pick (eqb p 0) x z
-where-same p x y z same = go (eqb p 0) refl
-  where
-    go : (b : Bool) → eqb p 0 ≡ b → pick b x y ≡ pick b x z
-    go true q = refl
-    go false q = same (eqb-false p 0 q)
-
 module _ (m t : List ℕ) (same : (w at : ℕ) → headSize ≤ at → at + w ≤ length m → beAt w t at ≡ beAt w m at) where
   module _ (tlv : Tlv) (p : ℕ) (lies : Lies m tlv p) where
     length-same : (p ≡ 0 → ⊥) → beAt 2 t (p + 2) ≡ beAt 2 m (p + 2)
@@ -81,16 +75,16 @@ module _ (m t : List ℕ) (same : (w at : ℕ) → headSize ≤ at → at + w �
 
     part-same : partAt t p ≡ partAt m p
     unfolding partAt
-    part-same = where-same p _ _ _ (λ z. ap (λ (n : ℕ). record { start = p + 4; end = p + 4 + n }) (length-same z))
+    part-same = where-same p 0 _ _ (λ z. ap (λ (n : ℕ). record { start = p + 4; end = p + 4 + n }) (length-same z))
 
     field-same : Within m p 4 → fieldAt t p ≡ fieldAt m p
     unfolding fieldAt
-    field-same within = where-same p _ _ _ (λ z. ap Field.Value (value-same 4 0 within z))
+    field-same within = where-same p 0 _ _ (λ z. ap Field.Value (value-same 4 0 within z))
 
     parameters-same : Within m p 14 → parametersAt t p ≡ parametersAt m p
     unfolding parametersAt
     parameters-same within =
-        where-same p _ _ _ (λ z.
+        where-same p 0 _ _ (λ z.
         let a : beAt 2 t (p + 6) ≡ beAt 2 m (p + 6) = value-same 2 2 (λ y. omega (arith, within y)) z in
         let b : beAt 2 t (p + 10) ≡ beAt 2 m (p + 10) = value-same 2 6 (λ y. omega (arith, within y)) z in
         cc)
@@ -98,7 +92,7 @@ module _ (m t : List ℕ) (same : (w at : ℕ) → headSize ≤ at → at + w �
     session-same : Within m p 4 → sessionAt t p ≡ sessionAt m p
     unfolding sessionAt
     session-same within =
-        where-same p _ _ _ (λ z.
+        where-same p 0 _ _ (λ z.
         let a : beAt 4 t (p + 4) ≡ beAt 4 m (p + 4) = value-same 4 0 within z in
         let b : beAt 2 t (p + 6) ≡ beAt 2 m (p + 6) = value-same 2 2 within z in
         rw (a, b))
@@ -106,7 +100,7 @@ module _ (m t : List ℕ) (same : (w at : ℕ) → headSize ≤ at → at + w �
     fec-same : fecAt t p ≡ fecAt m p
     unfolding fecAt
     fec-same =
-        where-same p _ _ _ (λ z. ap (λ (n : ℕ). pick (eqb n 1) (pick (eqb (beAt 1 t (p + 4)) 1) Fec.Wildcard Fec.Other) Fec.Other) (length-same z) ∙ by-length (eqb (beAt 2 m (p + 2)) 1) z refl)
+        where-same p 0 _ _ (λ z. ap (λ (n : ℕ). pick (eqb n 1) (pick (eqb (beAt 1 t (p + 4)) 1) Fec.Wildcard Fec.Other) Fec.Other) (length-same z) ∙ by-length (eqb (beAt 2 m (p + 2)) 1) z refl)
       where
         by-length : (b : Bool) → (p ≡ 0 → ⊥) → eqb (beAt 2 m (p + 2)) 1 ≡ b
             → pick b (pick (eqb (beAt 1 t (p + 4)) 1) Fec.Wildcard Fec.Other) Fec.Other ≡ pick b (pick (eqb (beAt 1 m (p + 4)) 1) Fec.Wildcard Fec.Other) Fec.Other

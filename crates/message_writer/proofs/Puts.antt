@@ -8,6 +8,8 @@ use lib.ListN.{length, take, drop, length-append}
 use lib.Seq.{take-append-le, drop-append-le, drop-drop}
 use Rattle.octets.specs.Be.{putBe, bytes}
 use Rattle.octets.specs.Fill.{copied}
+use Rattle.octets.specs.Part.{laid}
+use Rattle.octets.proofs.Laid.{Laid, laid-start, then-part, then-put, laid-putBe, laid-copied, length-laid}
 use Rattle.octets.proofs.Part.{length-withPart}
 use Rattle.ft_number.specs.declared.FtNumber.{FtNumber}
 use Rattle.ft_number.specs.declared.MessageId.{MessageId}
@@ -16,11 +18,11 @@ use Rattle.tlv.specs.declared.FtField
 use Rattle.tlv.specs.declared.FtField.{FtField}
 use Rattle.message.specs.Reading.{initializationNumber}
 use Rattle.message_writer.specs.Forms.{tlvBytes, headBytes, parametersTlv, sessionTlv, initHead, ackTlv, raisedTo, raised, ftTlvs, protectedBytes}
-use Rattle.message_writer.specs.Written.{laid, writtenOf}
+use Rattle.message_writer.specs.Written.{writtenOf}
 use Rattle.message_writer.specs.declared.Written
 use Rattle.message_writer.specs.declared.Written.{Written}
 use Rattle.message_writer.specs.declared.OwnParameters.{OwnParameters}
-use Rattle.message_writer.proofs.Laid.{Laid, laid-start, then-part, then-put, laid-putBe, laid-copied, length-laid, written-whole, written-short}
+use Rattle.message_writer.proofs.Room.{written-whole, written-short}
 
 module _ (m : List ℕ) (head : 8 ≤ length m) where
   pub length-raisedTo : (size : ℕ) → length (raisedTo m size) ≡ length m

@@ -7,9 +7,10 @@ ghost use Prim.Native.Nat.{_+_, _-_, _≤_};
 ghost use mathlib.Core.List.{_++_};
 ghost use lib.ListN.{length};
 ghost use Rattle.octets.specs.Be.{bytes};
+ghost use Rattle.octets.specs.Part.{laid};
 ghost use Rattle.tlv.specs.Tlv.{protectionNumber};
 ghost use Rattle.message_writer.specs.Forms.{tlvBytes, headBytes, parametersTlv, initHead, initBytes, keepaliveBytes, raisedTo, protectedBytes};
-ghost use Rattle.message_writer.specs.Written.{laid, writtenOf};
+ghost use Rattle.message_writer.specs.Written.{writtenOf};
 
 // What our Init proposes: KeepAlive time, maximum PDU length, and the receiver's LDP identifier (LSR ID and label space).
 pub struct OwnParameters {

@@ -1,14 +1,15 @@
 -- The laws of `beAt` and `putBe`, each once over the width. Assumes nothing.
 use mathlib.Core.Path.{_≡_, refl, sym, ap, _∙_}
 use mathlib.Core.List.{List}
-use mathlib.Core.Logic.{_≢_}
+use mathlib.Core.Logic.{_≢_, ⊎-elim}
 use Prim.Native.Nat.{ℕ, zero, suc, _+_, _*_, _/_, _%_, _^_, _≤_, _<_}
-use native.Mathlib.Nat.{add-zero, pow-suc, mod-eq-of-lt, mod-one}
+use native.Mathlib.Nat.{add-zero, pow-suc, mod-eq-of-lt, mod-one, eq-or-lt-of-le, le-of-suc-le-suc}
 use native.Mathlib.Omega.{arith}
 use lib.Arith.{mod-mul}
 use lib.ListN.{length, getD, set, take, drop, length-set}
 use lib.Seq.{getD-set-same, getD-set-other, getD-take, getD-drop}
 use Rattle.octets.specs.Be.{beAt, putBe}
+use Rattle.octets.specs.Bytes.{Bytes}
 
 -- each step is uniform, the first too
 pub beAt-suc : (w : ℕ) (s : List ℕ) (at : ℕ) → beAt (suc w) s at ≡ beAt w s at * 256 + getD s (at + w) 0
@@ -67,6 +68,20 @@ beAt-part w n from at s fits =
     rw (getD-take, getD-drop) (ap (λ (i : ℕ). getD s i 0) (omega arith)))
 
 -- w bytes spell a number of that width
-pub beAt-lt : (w : ℕ) (s : List ℕ) (at : ℕ) → ((i : ℕ) → getD s i 0 < 256) → beAt w s at < 256 ^ w
+pub beAt-lt : (w : ℕ) (s : List ℕ) (at : ℕ) → Bytes s → beAt w s at < 256 ^ w
 beAt-lt zero s at byte = omega arith
 beAt-lt (suc w) s at byte = rw (beAt-suc, pow-suc) (omega (arith, byte (at + w), beAt-lt w s at byte))
+
+-- a field of bytes that are zero is zero, and so are the bytes of a field that is
+pub zeros-beAt : (w : ℕ) (s : List ℕ) (at : ℕ) → ((k : ℕ) → k < w → getD s (at + k) 0 ≡ 0) → beAt w s at ≡ 0
+zeros-beAt zero s at z = refl
+zeros-beAt (suc w) s at z = rw (beAt-suc, zeros-beAt w s at (λ k l. z k (omega arith)), z w (omega arith))
+
+pub beAt-zeros : (w : ℕ) (s : List ℕ) (at : ℕ) → beAt w s at ≡ 0 → (k : ℕ) → k < w → getD s (at + k) 0 ≡ 0
+beAt-zeros zero s at e k l = absurd (omega arith)
+beAt-zeros (suc w) s at e k l =
+    let sum : beAt w s at * 256 + getD s (at + w) 0 ≡ 0 = sym (beAt-suc w s at) ∙ e in
+    ⊎-elim
+    (λ (h : k ≡ w). rw h (omega arith))
+    (λ (h : k < w). beAt-zeros w s at (omega arith) k h)
+    (eq-or-lt-of-le (le-of-suc-le-suc l))

@@ -1,14 +1,14 @@
 -- The laws of `filled`, over any elements. Assumes nothing.
-use mathlib.Core.Path.{_≡_, refl, sym, ap, _∙_}
-use mathlib.Core.List.{List, [], _∷_}
+use mathlib.Core.Path.{_≡_, refl, sym, _∙_}
+use mathlib.Core.List.{List}
 use mathlib.Core.Logic.{_≢_, _⊎_, ⊎-elim}
-use Prim.Native.Nat.{ℕ, zero, suc, _+_, _*_, _≤_, _<_}
+use Prim.Native.Nat.{ℕ, zero, suc, _+_, _≤_, _<_}
 use native.Mathlib.Nat.{eq-or-lt-of-le, le-of-suc-le-suc}
 use native.Mathlib.Numerals.{add-one}
 use native.Mathlib.Omega.{arith}
-use lib.ListN.{length, getD, set, length-set}
+use lib.ListN.{length, getD, set, replicate, length-set, length-replicate}
 use lib.Seq.{getD-set-same, getD-set-other, ext-getD}
-use Rattle.octets.specs.Fill.{filled, copied}
+use Rattle.octets.specs.Fill.{filled, zeroed}
 
 pub filled-none : (f : ℕ → ℕ) (s : List ℕ) (at : ℕ) → filled 0 f s at ≡ s
 unfolding filled
@@ -58,11 +58,19 @@ module _ (n : ℕ) (f : ℕ → ℕ) (s₀ : List ℕ) (at : ℕ) where
   pub filling-all : {s : List ℕ} {i : ℕ} → Filling n f s₀ at s i → n ≤ i → s ≡ filled n f s₀ at
   filling-all {s} {i} w h = let e : i ≡ n = omega (arith, w .inside) in rw e at (w .done)
 
--- a copy over the whole list
-pub copied-all : (s m : List ℕ) → length s ≡ length m → copied s 0 m ≡ m
-copied-all s m e =
-    ext-getD 0 (copied s 0 m) m (length-filled (length m) (λ i. getD m i 0) s 0 ∙ e) (λ i h.
-    let inside : i < length m = omega (arith, length-filled (length m) (λ k. getD m k 0) s 0) in
-    let at : getD (copied s 0 m) (0 + i) 0 ≡ getD m i 0 = filled-at (length m) (λ k. getD m k 0) s 0 i (omega arith) inside in
-    let same : 0 + i ≡ i = omega arith in
-    rw same at at)
+-- ---- zeros
+-- said at ℕ, so that no check writes a large list out
+pub length-zeros : (n : ℕ) → length {A = ℕ} (replicate n 0) ≡ n
+length-zeros n = length-replicate n 0
+
+pub zeros-at : (n i : ℕ) → _≡_ {A = ℕ} (getD (replicate n 0) i 0) 0
+zeros-at zero i = refl
+zeros-at (suc n) zero = refl
+zeros-at (suc n) (suc i) = zeros-at n i
+
+-- a list cleared from its start to its end
+pub zeroed-all : (s : List ℕ) (n : ℕ) → length s ≡ n → zeroed s 0 n ≡ replicate n 0
+zeroed-all s n long =
+    ext-getD 0 (zeroed s 0 n) (replicate n 0) (length-filled n (λ i. 0) s 0 ∙ long ∙ sym (length-zeros n)) (λ i h.
+    let start : 0 + i ≡ i = omega arith in
+    (rw start at (filled-at n (λ k. 0) s 0 i (omega arith) (omega (arith, length-filled n (λ k. 0) s 0)))) ∙ sym (zeros-at n i))

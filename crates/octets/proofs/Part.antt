@@ -1,8 +1,7 @@
 -- Parts of lists: a part that is replaced, and the parts beside it. Assumes nothing.
-use mathlib.Core.Path.{_≡_, refl, sym, ap, _∙_}
-use mathlib.Core.List.{List, [], _∷_, _++_}
-use mathlib.Core.Logic.{_≢_}
-use Prim.Native.Nat.{ℕ, zero, suc, _+_, _-_, _*_, _≤_, _<_, min}
+use mathlib.Core.Path.{_≡_, sym, ap, _∙_}
+use mathlib.Core.List.{List, _++_}
+use Prim.Native.Nat.{ℕ, _+_, _-_, _≤_, _<_}
 use native.Mathlib.Omega.{arith}
 use lib.ListN.{length, getD, take, drop, length-take, length-drop}
 use lib.Seq.{getD-take, getD-drop, ext-getD, drop-drop, take-at, drop-at, length-take-le}
@@ -48,3 +47,10 @@ part-after s a e p b f h g l k =
     part-drop (withPart s a e p) e b f k
     ∙ ap (λ (x : List ℕ). part x (b - e) (f - e)) (drop-put a e s p h g l)
     ∙ sym (part-drop s e b f k)
+
+-- an element of a part is one of the list
+pub part-at : (s : List ℕ) (a e i : ℕ) → i < e - a → getD (part s a e) i 0 ≡ getD s (a + i) 0
+part-at s a e i inside = rw (getD-take (e - a) (drop a s) i 0, getD-drop a s i 0)
+
+pub part-inside : (s : List ℕ) (a e i : ℕ) → i < length (part s a e) → i < e - a
+part-inside s a e i l = omega (arith, simp (length-take, length-drop) at l)

@@ -1,5 +1,6 @@
 pub mod Pick
 pub mod Be
+pub mod Bytes
 pub mod Fill
 pub mod Part
 pub mod Fix

@@ -1,9 +1,7 @@
 -- The judgement of a message is the list of its cases. Assumes nothing.
-use mathlib.Core.Path.{_≡_, refl, sym, ap, _∙_}
-use mathlib.Core.Bool.{Bool, true, false}
-use mathlib.Core.List.{List}
+use mathlib.Core.Path.{_≡_, refl}
+use mathlib.Core.Bool.{Bool, true, false, true≢false, false≢true}
 use Prim.Native.Nat.{ℕ}
-use native.Mathlib.Omega.{arith}
 use Rattle.octets.specs.Pick.{pick}
 use Rattle.ft_number.specs.declared.Ack
 use Rattle.ft_number.specs.declared.Ack.{Ack}
@@ -91,6 +89,46 @@ cases s (Phase.InitWait t) rd = wrong-phase refl
 cases s (Phase.UpFT sent) rd = up-case s sent rd
 cases s Phase.UpPlain rd = plain-case s rd
 cases s Phase.Failed rd = wrong-phase refl
+
+-- ---- and each case has its answer
+pub wrong-by : (s : State) (ph : Phase) (rd : Reading) → receives ph ≡ false → receiveRule s ph rd ≡ Answer.WrongPhase
+wrong-by s Phase.Idle rd e = refl
+wrong-by s (Phase.InitWait t) rd e = refl
+wrong-by s (Phase.UpFT sent) rd e = absurd (true≢false e)
+wrong-by s Phase.UpPlain rd e = absurd (true≢false e)
+wrong-by s Phase.Failed rd e = refl
+
+-- 22 and 36 are judged alike in both phases
+alike : (s : State) (ph : Phase) (rd : Reading) (x : Answer) → receives ph ≡ true → ((rest : Message → Answer) → readRule rd (λ g. messageRule g (rest g)) ≡ x)
+    → receiveRule s ph rd ≡ x
+unfolding ftRule
+alike s Phase.Idle rd x e f = absurd (false≢true e)
+alike s (Phase.InitWait t) rd x e f = absurd (false≢true e)
+alike s (Phase.UpFT sent) rd x e f = f (λ g. pick (isZero (g .protection)) Answer.ZeroNumber (ackRule s g (ackOn (s .header) g)))
+alike s Phase.UpPlain rd x e f = f (λ g. pick (bearsFt (g .found)) Answer.FtTlvInPlain Answer.Done)
+alike s Phase.Failed rd x e f = absurd (false≢true e)
+
+-- past 30 and 34 the labels are judged, as the ACK leaves them
+acked-rule : (s : State) (sent : ℕ) (g : Message) (k : ℕ) → AckRight s g k
+    → receiveRule s (Phase.UpFT sent) (Reading.Whole g) ≡ protectedRule (wordsAfter s k) (s .header .secured .0) g (protectionRule (wordsAfter s k) g)
+unfolding ftRule messageRule labelsRule acked
+acked-rule s sent g k a = rw (a .heard .another, a .heard .mild, a .nonzero, a .acks)
+
+pub case-answer : {s : State} {ph : Phase} {rd : Reading} {a : Answer} → Case s ph rd a → receiveRule s ph rd ≡ a
+unfolding ftRule messageRule
+case-answer {s} {ph} {rd} (wrong-phase e) = wrong-by s ph rd e
+case-answer {s} {ph} (malformed e) = alike s ph Reading.Malformed Answer.MalformedReceived e (λ rest. refl)
+case-answer {s} {ph} (an-init {g = g} e i) = alike s ph (Reading.Whole g) Answer.MalformedReceived e (λ rest. rw i)
+case-answer {s} {ph} (fatal {g = g} e i f) = alike s ph (Reading.Whole g) Answer.StatusFatal e (λ rest. rw (i, f))
+case-answer (ft-tlv h b) = rw (h .another, h .mild, b)
+case-answer (passed-on h b) = rw (h .another, h .mild, b)
+case-answer (zero-number h z) = rw (h .another, h .mild, z)
+case-answer (wrong-ack h z e) = rw (h .another, h .mild, z, e)
+case-answer {s} (missing {sent} {k} {g} a e) = rw (acked-rule s sent g k a, e)
+case-answer {s} (wrong {sent} {k} {g} a e) = rw (acked-rule s sent g k a, e)
+case-answer {s} (out-of-turn {sent} {k} {g} p e) = rw (acked-rule s sent g k (p .ack), p .right, e)
+case-answer {s} (no-word {sent} {k} {g} t e) = rw (acked-rule s sent g k (t .protection .ack), t .protection .right, t .turn, e)
+case-answer {s} (taken {sent} {k} {g} t) = rw (acked-rule s sent g k (t .turn .protection .ack), t .turn .protection .right, t .turn .turn, t .room)
 
 -- ---- done in UpFT: every test is passed
 pub done-takes : {s : State} {sent : ℕ} {g : Message} → Case s (Phase.UpFT sent) (Reading.Whole g) Answer.Done → Takes s g (ackCount (ackOn (s .header) g))

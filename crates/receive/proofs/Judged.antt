@@ -4,28 +4,25 @@ use mathlib.Core.Bool.{Bool, true, false}
 use mathlib.Core.List.{List}
 use Prim.Native.Nat.{ℕ, _≤_}
 use native.Mathlib.Omega.{arith}
-use borrow.Author.Tests.{leb-true}
 use lib.ListN.{take}
 use Rattle.octets.specs.Pick.{pick}
-use Rattle.ft_number.specs.Circle.{stepsOf}
 use Rattle.ft_number.specs.Ack.{ackOf}
 use Rattle.ft_number.specs.declared.Ack
 use Rattle.ft_number.specs.declared.Ack.{Ack}
 use Rattle.ft_number.specs.declared.FtNumber.{FtNumber}
-use Rattle.ft_number.proofs.Circle.{ack-releases, Acknowledged}
 use Rattle.message.specs.Submission.{bearsFt}
 use Rattle.message.specs.declared.Message.{Message}
 use Rattle.label_events.specs.declared.Reception.{Reception}
 use Rattle.label_list.specs.declared.Protection
 use Rattle.label_list.specs.declared.Protection.{Protection}
 use Rattle.block0.specs.declared.Header.{Header}
-use Rattle.block0.specs.Fields.{atMost, Valid}
 use Rattle.image.specs.State.{State, decode}
 use Rattle.image.specs.Verdict.{IsSound}
 use Rattle.image.proofs.Sound.{sound-valid}
 use Rattle.calls.specs.Acked.{ackBorne, releasedLabels, acked}
 use Rattle.calls.specs.Outcomes.{isDone}
 use Rattle.calls.specs.Received.{isInit}
+use Rattle.call_meaning.proofs.Released.{ack-held}
 use Rattle.calls.specs.declared.Answer
 use Rattle.calls.specs.declared.Answer.{Answer}
 use Rattle.receive.specs.declared.LabelEffect.{LabelEffect}
@@ -76,14 +73,8 @@ unfolding ackOn
 ack-on h g e q = rw (← q) e
 
 -- it releases no more than is held
-within : (n : ℕ) (k : ℕ) → (r i a : ℕ) → Acknowledged r i a k → atMost n (stepsOf r i) ≡ true → k ≤ n
-within n k r i a w t = let u : atMost n (stepsOf r i) ≡ true = t in let v = rw (w .window) at u in omega (arith, w .few, leb-true (w .issued) n v)
-
 pub ack-within : (im : List ℕ) (h : Header) (a k : ℕ) {x : Ack} → IsSound im → h ≡ decode im .header → x ≡ ackOf (h .released .0) (h .issued .0) a → x ≡ Ack.Releases k → k ≤ decode im .header .held
-ack-within im h a k s eh e t =
-    within (decode im .header .held) k (decode im .header .released .0) (decode im .header .issued .0) a
-    (ack-releases (decode im .header .released .0) (decode im .header .issued .0) a k (rw (← eh) (sym e ∙ t)))
-    (sound-valid im s .window)
+ack-within im h a k s eh e t = ack-held (decode im .header) a k (sound-valid im s .window) (rw (← eh) (sym e ∙ t))
 
 module _ (s : State) (g : Message) (h : Header) {x : Ack} (e : x ≡ ackOn h g) where
   pub ack-error : {ws : List ℕ} → x ≡ Ack.SequenceError → (Answer.AckSequenceError ≡ ackRule s g (ackOn h g)) × (Answer.AckSequenceError ≡ Answer.Done → ws ≡ ackedLabels s g)

@@ -3,4 +3,6 @@ pub mod Judged
 pub mod Taken
 pub mod Cases
 pub mod Stored
+pub mod Acting
 pub mod Meaning
+pub mod Ended

@@ -1,35 +1,35 @@
--- What a received message leaves. Assumes nothing.
-use mathlib.Core.Path.{_≡_, refl, sym, ap, _∙_}
-use mathlib.Core.Bool.{Bool, true}
+-- What a received message leaves: the answer, the state where it is taken, and that it stands. Assumes nothing.
+use mathlib.Core.Path.{_≡_, refl, sym, _∙_}
 use mathlib.Core.List.{List, []}
-use Prim.Native.Nat.{ℕ, _≤_, _<_}
+use Prim.Native.Nat.{ℕ}
 use native.Mathlib.Omega.{arith}
 use Rattle.message.specs.Reading.{readingOf}
 use Rattle.message.specs.declared.Message.{Message}
 use Rattle.message.specs.declared.Reading
 use Rattle.message.specs.declared.Reading.{Reading}
-use Rattle.image.specs.State.{State, decode, store}
-use Rattle.image.proofs.Ranges.{Bytes}
+use Rattle.image.specs.State.{decode, store}
+use Rattle.octets.specs.Bytes.{Bytes}
 use Rattle.image.proofs.Sound.{parts-sound}
 use Rattle.calls.specs.declared.Answer
 use Rattle.calls.specs.declared.Answer.{Answer}
 use Rattle.calls.specs.declared.Phase
 use Rattle.calls.specs.declared.Phase.{Phase}
-use Rattle.calls.specs.Outcomes.{After, isDone, unchanged, settleOf}
-use Rattle.calls.proofs.Settled.{Admitted, admitted-is}
+use Rattle.calls.proofs.Settled.{admitted-is}
 use Rattle.calls.proofs.Ends.{settle-done}
 use Rattle.call_meaning.specs.Standing.{Standing, Stands, Stored}
-use Rattle.call_meaning.proofs.Answered.{done-is, settled-says}
+use Rattle.calls.proofs.Effects.{done-is}
+use Rattle.call_meaning.proofs.Answered.{settled-says}
 use Rattle.call_meaning.proofs.Stands.{stored-stands, settled-stands}
-use Rattle.call_meaning.proofs.Widths.{Widths, read-widths}
-use Rattle.receive.specs.Rule.{ackOn, ackCount, ftRule, readRule, receiveRule, receiveAnswer, receivedState, receivedPhase, takenFt, takenAs, receiveOf}
+use Rattle.message.proofs.Widths.{read-widths}
+use Rattle.receive.specs.Rule.{ackOn, ackCount, receiveRule, receiveAnswer, receivedState, receivedPhase, takenFt, takenAs, receiveOf}
 use Rattle.receive.specs.Cases.{Case, Takes}
-use Rattle.receive.specs.Meaning.{ReceivedFrom}
-use Rattle.receive.proofs.Cases.{cases, done-takes}
+use Rattle.receive.specs.Meaning.{ReceivedFrom, AckThenMessage, SecuresFrom}
+use Rattle.receive.proofs.Cases.{cases, case-answer, done-takes}
 use Rattle.receive.proofs.Stored.{received-stored}
+use Rattle.receive.proofs.Acting.{received-acts, taken-secures}
 
 -- what is taken is answered Done
-taken-says : (im : List ℕ) (ph : Phase) (rd : Reading) → takenAs im ph rd .outcome .answer ≡ Answer.Done
+pub taken-says : (im : List ℕ) (ph : Phase) (rd : Reading) → takenAs im ph rd .outcome .answer ≡ Answer.Done
 taken-says im Phase.Idle rd = refl
 taken-says im (Phase.InitWait t) rd = refl
 taken-says im (Phase.UpFT sent) rd = by rd
@@ -55,7 +55,20 @@ module _ (im : List ℕ) (ph : Phase) (m : List ℕ) (st : Standing im ph) where
   pub receive-case : Case (decode im) ph (readingOf m) (receiveOf im ph m .outcome .answer)
   receive-case = rw (receive-answered im ph m, receive-judged) (cases (decode im) ph (readingOf m))
 
+  -- and that of no other
+  pub receive-says : {a : Answer} → Case (decode im) ph (readingOf m) a → receiveOf im ph m .outcome .answer ≡ a
+  receive-says c = receive-answered im ph m ∙ receive-judged ∙ case-answer c
+
 -- ---- a message taken in UpFT
+-- it was read whole
+pub receive-read : (im : List ℕ) (sent : ℕ) (m : List ℕ) → Standing im (Phase.UpFT sent) → receiveOf im (Phase.UpFT sent) m .outcome .answer ≡ Answer.Done
+    → (g : Message) × (readingOf m ≡ Reading.Whole g)
+receive-read im sent m st done = by (readingOf m) (rw done at (receive-case im (Phase.UpFT sent) m st))
+  where
+    by : (rd : Reading) → Case (decode im) (Phase.UpFT sent) rd Answer.Done → (g : Message) × (rd ≡ Reading.Whole g)
+    by Reading.Malformed c = let z : Answer.MalformedReceived ≡ Answer.Done = case-answer c in let y : _≡_ {A = ℕ} 0 1 = cc in absurd (omega arith)
+    by (Reading.Whole g) c = (g, refl)
+
 module _ (im : List ℕ) (sent : ℕ) (m : List ℕ) (st : Standing im (Phase.UpFT sent)) (byte : Bytes m) (g : Message) (read : readingOf m ≡ Reading.Whole g) where
   stored : Takes (decode im) g (ackCount (ackOn (decode im .header) g)) → Stored (store im (receivedState (decode im) g)) (receivedState (decode im) g) (receivedPhase (decode im) sent g)
   stored t = received-stored im sent st g (read-widths m byte g read) (ackCount (ackOn (decode im .header) g)) (t .turn .protection .ack .acks)
@@ -71,6 +84,15 @@ module _ (im : List ℕ) (sent : ℕ) (m : List ℕ) (st : Standing im (Phase.Up
 
     pub receive-decodes : ReceivedFrom (decode im) sent g (receiveOf im (Phase.UpFT sent) m)
     receive-decodes = rw taken-is (record { answer = refl; state = stored receive-takes .decodes; phase = refl })
+
+    -- what that state is
+    pub receive-acts : AckThenMessage (decode im) g (ackCount (ackOn (decode im .header) g)) (decode (receiveOf im (Phase.UpFT sent) m .image))
+    receive-acts =
+        rw (receive-decodes .state) (received-acts (decode im) g (ackCount (ackOn (decode im .header) g)) (receive-takes .turn .protection .ack .acks))
+
+    -- S moves to the number that the message bears, the successor of S; without one it stays
+    pub receive-secures : SecuresFrom (decode im) g (decode (receiveOf im (Phase.UpFT sent) m .image))
+    receive-secures = rw (receive-decodes .state) (taken-secures (decode im) g (ackCount (ackOn (decode im .header) g)) receive-takes)
 
 -- ---- whatever the answer is, what is left stands
 taken-stands : (im : List ℕ) (ph : Phase) (m : List ℕ) → Standing im ph → Bytes m → receiveOf im ph m .outcome .answer ≡ Answer.Done → Stands (takenAs im ph (readingOf m))

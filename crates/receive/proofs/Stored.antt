@@ -1,5 +1,5 @@
 -- The state that a message leaves which is taken: stored, it is read back, sound and in range, and allows the phase. Assumes nothing.
-use mathlib.Core.Path.{_≡_, refl, sym, ap, _∙_}
+use mathlib.Core.Path.{_≡_, refl, _∙_}
 use mathlib.Core.Bool.{Bool, true}
 use mathlib.Core.List.{List}
 use Prim.Native.Nat.{ℕ, _-_, _≤_, _<_}
@@ -28,9 +28,10 @@ use Rattle.calls.specs.declared.Phase.{Phase}
 use Rattle.calls.specs.Acked.{ackBorne, withReleased, acked}
 use Rattle.calls.specs.Phases.{issuedCount}
 use Rattle.call_meaning.specs.Standing.{Standing, Stored}
-use Rattle.call_meaning.proofs.Released.{ack-held, ack-window, ack-issued, released-valid, released-words, valid-words}
-use Rattle.call_meaning.proofs.Stands.{fits-up, up-fits}
-use Rattle.call_meaning.proofs.Widths.{Widths}
+use Rattle.call_meaning.proofs.Released.{ack-held, ack-window, ack-issued, released-valid, released-words}
+use Rattle.image.proofs.Ranges.{valid-words}
+use Rattle.calls.proofs.Phasing.{fits-up, up-fits}
+use Rattle.message.proofs.Widths.{Widths}
 use Rattle.receive.specs.declared.LabelEffect
 use Rattle.receive.specs.declared.LabelEffect.{LabelEffect}
 use Rattle.receive.specs.Labels.{labelEffect, isProtected, effectLabels}
@@ -83,7 +84,7 @@ module _ (im : List ℕ) (sent : ℕ) (st : Standing im (Phase.UpFT sent)) (g : 
   borne : ackBorne h (g .ack) < 4294967296
   borne = borne-width h (fit .released) (g .ack) (w .ack)
 
-  pub few : k ≤ h .held
+  few : k ≤ h .held
   few = ack-held h (ackBorne h (g .ack)) k (valid .window) releases
 
   next-fits : Fits next

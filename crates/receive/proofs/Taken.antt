@@ -1,85 +1,38 @@
 -- What a message leaves, by its answer. Assumes nothing.
-use mathlib.Core.Path.{_≡_, refl, sym, ap, _∙_}
+use mathlib.Core.Path.{_≡_, refl, ap, _∙_}
 use mathlib.Core.Bool.{Bool, true, false}
 use mathlib.Core.List.{List, []}
-use Prim.Native.Nat.{ℕ, _+_, _-_, _%_, _≤_}
+use Prim.Native.Nat.{ℕ, _-_, _≤_}
 use native.Mathlib.Omega.{arith}
-use lib.ListN.{length}
-use Rattle.octets.specs.Pick.{pick}
 use Rattle.octets.specs.Differ.{differ}
 use Rattle.ft_number.specs.declared.Ack
 use Rattle.ft_number.specs.declared.Ack.{Ack}
-use Rattle.ft_number.specs.declared.FtNumber.{FtNumber}
 use Rattle.message.specs.Reading.{readingOf}
 use Rattle.message.specs.declared.Message.{Message}
 use Rattle.message.specs.declared.Reading
 use Rattle.message.specs.declared.Reading.{Reading}
+use Rattle.octets.proofs.Choice.{by-test}
 use Rattle.block0.specs.declared.Header.{Header}
 use Rattle.image.specs.Sizes.{block}
-use Rattle.image.specs.State.{State, decode, store0, store}
-use Rattle.image.specs.Verdict.{verdict, IsSound}
-use Rattle.image.specs.declared.Verdict
-use Rattle.image.specs.declared.Verdict.{Verdict}
+use Rattle.image.specs.State.{decode, store0, store}
+use Rattle.image.specs.Verdict.{IsSound}
 use Rattle.calls.specs.declared.Answer
 use Rattle.calls.specs.declared.Answer.{Answer}
-use Rattle.calls.specs.declared.Effect
-use Rattle.calls.specs.declared.Effect.{Effect}
 use Rattle.calls.specs.declared.Outcome.{Outcome}
 use Rattle.calls.specs.declared.Phase
 use Rattle.calls.specs.declared.Phase.{Phase}
 use Rattle.calls.specs.Answers.{effectOf}
-use Rattle.calls.specs.Phases.{phaseFits}
 use Rattle.calls.specs.Acked.{ackBorne, withReleased, acked}
-use Rattle.calls.specs.Outcomes.{After, after, isDone, refusal, unchanged, checked, admitted, settleOf}
-use Rattle.calls.proofs.Settled.{Admitted, admit-refused, admitted-is}
-use Rattle.calls.proofs.Ends.{settle-other, settle-done, settle-refusal}
+use Rattle.calls.specs.Outcomes.{After, after, isDone, refusal, unchanged, admitted, settleOf}
+use Rattle.calls.proofs.Ends.{settle-other}
+use Rattle.calls.proofs.Effects.{done-is}
+use Rattle.call_meaning.proofs.Calling.{call-refused, call-own, own-done, own-refused}
 use Rattle.receive.specs.declared.LabelEffect.{LabelEffect}
 use Rattle.receive.specs.Labels.{labelEffect, isProtected, effectLabels}
 use Rattle.receive.specs.Rule.{ackOn, ackCount, securedBy, withSecured, taken, ackedLabels, receivedState, takenFt, takenAs, readRule, ftRule, plainRule, receiveRule, receiveAnswer, receiveOf}
+use Rattle.receive.specs.Cases.{receives}
 use Rattle.receive.proofs.Judged.{ack-within}
-
--- an answer whose number is 0 is Done
-pub done-is : (a : Answer) → isDone a ≡ true → a ≡ Answer.Done
-done-is Answer.Done e = refl
-done-is Answer.WrongPhase e = let z : _≡_ {A = ℕ} 0 1 = cc in absurd (omega arith)
-done-is Answer.ZeroDistance e = let z : _≡_ {A = ℕ} 0 1 = cc in absurd (omega arith)
-done-is Answer.LengthOutOfRange e = let z : _≡_ {A = ℕ} 0 1 = cc in absurd (omega arith)
-done-is Answer.Malformed e = let z : _≡_ {A = ℕ} 0 1 = cc in absurd (omega arith)
-done-is Answer.KindNotSent e = let z : _≡_ {A = ℕ} 0 1 = cc in absurd (omega arith)
-done-is Answer.LabelNotAllowed e = let z : _≡_ {A = ℕ} 0 1 = cc in absurd (omega arith)
-done-is Answer.StoreFull e = let z : _≡_ {A = ℕ} 0 1 = cc in absurd (omega arith)
-done-is Answer.NothingUnsent e = let z : _≡_ {A = ℕ} 0 1 = cc in absurd (omega arith)
-done-is Answer.OutputTooShort e = let z : _≡_ {A = ℕ} 0 1 = cc in absurd (omega arith)
-done-is (Answer.BadBlock b) e = let z : _≡_ {A = ℕ} 0 1 = cc in absurd (omega arith)
-done-is (Answer.BadField b) e = let z : _≡_ {A = ℕ} 0 1 = cc in absurd (omega arith)
-done-is Answer.WrongSize e = let z : _≡_ {A = ℕ} 0 1 = cc in absurd (omega arith)
-done-is Answer.NoLabelWord e = let z : _≡_ {A = ℕ} 0 1 = cc in absurd (omega arith)
-done-is Answer.OutOfTurn e = let z : _≡_ {A = ℕ} 0 1 = cc in absurd (omega arith)
-done-is Answer.NoWordForMapping e = let z : _≡_ {A = ℕ} 0 1 = cc in absurd (omega arith)
-done-is Answer.MalformedReceived e = let z : _≡_ {A = ℕ} 0 1 = cc in absurd (omega arith)
-done-is Answer.BadInit e = let z : _≡_ {A = ℕ} 0 1 = cc in absurd (omega arith)
-done-is Answer.ZeroNumber e = let z : _≡_ {A = ℕ} 0 1 = cc in absurd (omega arith)
-done-is Answer.FtTlvInPlain e = let z : _≡_ {A = ℕ} 0 1 = cc in absurd (omega arith)
-done-is Answer.ProtectionWrong e = let z : _≡_ {A = ℕ} 0 1 = cc in absurd (omega arith)
-done-is Answer.ProtectionMissing e = let z : _≡_ {A = ℕ} 0 1 = cc in absurd (omega arith)
-done-is Answer.AckSequenceError e = let z : _≡_ {A = ℕ} 0 1 = cc in absurd (omega arith)
-done-is Answer.ParametersChanged e = let z : _≡_ {A = ℕ} 0 1 = cc in absurd (omega arith)
-done-is Answer.StatusFatal e = let z : _≡_ {A = ℕ} 0 1 = cc in absurd (omega arith)
-
-pub header-is : (h : Header) (k : ℕ) (g : Message) {a s : FtNumber} → a .0 ≡ ackBorne h (g .ack) → s ≡ securedBy (h .secured) (g .protection)
-    → record {
-      released = a;
-      issued = h .issued;
-      secured = s;
-      first = (h .first + k) % 64;
-      held = h .held - k;
-      timeout = h .timeout;
-      kept = h .kept;
-      keepalive = h .keepalive;
-      maxpdu = h .maxpdu;
-    }
-    ≡ withSecured (withReleased h k (ackBorne h (g .ack))) (securedBy (h .secured) (g .protection))
-header-is h k g e q = rw (← e, q)
+use Rattle.receive.proofs.Cases.{wrong-by}
 
 -- what is stored is the state that the message makes
 stored : (im : List ℕ) (g : Message) {h h′ : Header} {k : ℕ} {p : Bool} {f : LabelEffect} {ws ws′ : List ℕ}
@@ -108,81 +61,49 @@ count-within im g s = by (ackOn (decode im .header) g) refl
     by Ack.SequenceError e = omega arith
 
 -- ---- how the answer settles
-pub settled-other : (a a′ : Answer) (ph : Phase) (im : List ℕ) (d d′ : After) {x : After} → a ≡ a′ → isDone a ≡ false → x ≡ settleOf a ph im [] d → x ≡ settleOf a′ ph im [] d′
-settled-other a a′ ph im d d′ e n p = p ∙ settle-other a ph im [] d d′ n ∙ ap (λ (z : Answer). settleOf z ph im [] d′) e
+module _ (im : List ℕ) (sent : ℕ) (g : Message) {a : Answer} (e : a ≡ ftRule (decode im) g) {x : After} where
+  pub ft-settled : isDone a ≡ false → x ≡ settleOf a (Phase.UpFT sent) im [] (unchanged a (Phase.UpFT sent) im [])
+      → x ≡ settleOf (ftRule (decode im) g) (Phase.UpFT sent) im [] (takenFt im sent g)
+  ft-settled n p = rw (← e) (p ∙ settle-other a (Phase.UpFT sent) im [] (unchanged a (Phase.UpFT sent) im []) (takenFt im sent g) n)
 
-pub settled-done : (a a′ : Answer) (ph : Phase) (im : List ℕ) (d : After) {x : After} → a ≡ a′ → isDone a ≡ true → x ≡ d → x ≡ settleOf a′ ph im [] d
-settled-done a a′ ph im d e t p = p ∙ sym (ap (λ (z : Answer). settleOf z ph im [] d) (sym e ∙ done-is a t) ∙ settle-done ph im [] d)
+  pub ft-taken : isDone a ≡ true → x ≡ takenFt im sent g → x ≡ settleOf (ftRule (decode im) g) (Phase.UpFT sent) im [] (takenFt im sent g)
+  ft-taken t p = rw (← e) (own-done a (Phase.UpFT sent) im [] (takenFt im sent g) t p)
 
-pub settled-plain : (a a′ : Answer) (ph : Phase) (im : List ℕ) (x : After) → a ≡ a′ → x ≡ settleOf a ph im [] (unchanged a ph im []) → x ≡ settleOf a′ ph im [] (unchanged Answer.Done ph im [])
-settled-plain a a′ ph im x e p = by (isDone a) refl
-  where
-    by : (b : Bool) → isDone a ≡ b → x ≡ settleOf a′ ph im [] (unchanged Answer.Done ph im [])
-    by true t = p ∙ ap (λ (z : Answer). settleOf z ph im [] (unchanged z ph im [])) (done-is a t) ∙ ap (λ (z : Answer). settleOf z ph im [] (unchanged Answer.Done ph im [])) (sym (done-is a t) ∙ e)
-    by false t = settled-other a a′ ph im (unchanged a ph im []) (unchanged Answer.Done ph im []) e t p
+-- Done in UpPlain changes nothing
+pub plain-settled : (im : List ℕ) (g : Message) {a : Answer} {x : After} → a ≡ plainRule g → x ≡ settleOf a Phase.UpPlain im [] (unchanged a Phase.UpPlain im [])
+    → x ≡ settleOf (plainRule g) Phase.UpPlain im [] (unchanged Answer.Done Phase.UpPlain im [])
+plain-settled im g {a} e p =
+    rw (← e)
+    (by-test (isDone a)
+    (λ t. p ∙ ap (λ (z : Answer). settleOf a Phase.UpPlain im [] (unchanged z Phase.UpPlain im [])) (done-is a t))
+    (λ n. p ∙ settle-other a Phase.UpPlain im [] (unchanged a Phase.UpPlain im []) (unchanged Answer.Done Phase.UpPlain im []) n))
 
-module _ (im : List ℕ) (sent : ℕ) {r : Reading} {x : After} where
-  pub up-malformed : (d : After) (m : List ℕ) → r ≡ readingOf m → r ≡ Reading.Malformed → x ≡ settleOf Answer.MalformedReceived (Phase.UpFT sent) im [] d
-      → x ≡ settleOf (readRule (readingOf m) (ftRule (decode im))) (Phase.UpFT sent) im [] (takenAs im (Phase.UpFT sent) (readingOf m))
-  up-malformed d m e t p = rw (← e, t) (p ∙ settle-other Answer.MalformedReceived (Phase.UpFT sent) im [] d (unchanged Answer.Done (Phase.UpFT sent) im []) refl)
+-- what was read decides the rule
+module _ (im : List ℕ) (ph : Phase) (rule : Message → Answer) (m : List ℕ) {r : Reading} (e : r ≡ readingOf m) {x : After} where
+  pub read-malformed : (d : After) → r ≡ Reading.Malformed → x ≡ settleOf Answer.MalformedReceived ph im [] d
+      → x ≡ settleOf (readRule (readingOf m) rule) ph im [] (takenAs im ph (readingOf m))
+  read-malformed d t p = rw (← e, t) (p ∙ settle-other Answer.MalformedReceived ph im [] d (takenAs im ph Reading.Malformed) refl)
 
-  pub up-whole : (m : List ℕ) {g : Message} → r ≡ readingOf m → r ≡ Reading.Whole g → x ≡ settleOf (ftRule (decode im) g) (Phase.UpFT sent) im [] (takenFt im sent g)
-      → x ≡ settleOf (readRule (readingOf m) (ftRule (decode im))) (Phase.UpFT sent) im [] (takenAs im (Phase.UpFT sent) (readingOf m))
-  up-whole m e t p = rw (← e, t) p
-
-module _ (im : List ℕ) {r : Reading} {x : After} where
-  pub plain-malformed : (d : After) (m : List ℕ) → r ≡ readingOf m → r ≡ Reading.Malformed → x ≡ settleOf Answer.MalformedReceived Phase.UpPlain im [] d
-      → x ≡ settleOf (readRule (readingOf m) plainRule) Phase.UpPlain im [] (takenAs im Phase.UpPlain (readingOf m))
-  plain-malformed d m e t p = rw (← e, t) (p ∙ settle-other Answer.MalformedReceived Phase.UpPlain im [] d (unchanged Answer.Done Phase.UpPlain im []) refl)
-
-  pub plain-whole : (m : List ℕ) {g : Message} {a : Answer} → r ≡ readingOf m → r ≡ Reading.Whole g → a ≡ plainRule g → x ≡ settleOf a Phase.UpPlain im [] (unchanged a Phase.UpPlain im [])
-      → x ≡ settleOf (readRule (readingOf m) plainRule) Phase.UpPlain im [] (takenAs im Phase.UpPlain (readingOf m))
-  plain-whole m {g} {a} e t q p = rw (← e, t) (settled-plain a (plainRule g) Phase.UpPlain im _ q p)
+  pub read-whole : {g : Message} → r ≡ Reading.Whole g → x ≡ settleOf (rule g) ph im [] (takenAs im ph (Reading.Whole g))
+      → x ≡ settleOf (readRule (readingOf m) rule) ph im [] (takenAs im ph (readingOf m))
+  read-whole t p = rw (← e, t) p
 
 -- ---- the call
-refused-nothing : (v : Verdict) (b : Bool) → isDone (checked v (pick b Answer.Done Answer.WrongPhase)) ≡ false → effectOf (checked v (pick b Answer.Done Answer.WrongPhase)) ≡ Effect.Nothing
-unfolding effectOf
-refused-nothing Verdict.Sound true e = let z : _≡_ {A = ℕ} 0 1 = cc in absurd (omega arith)
-refused-nothing Verdict.Sound false e = refl
-refused-nothing Verdict.WrongSize b e = refl
-refused-nothing (Verdict.BadBlock k) b e = refl
-refused-nothing (Verdict.BadField k) b e = refl
-
-module _ (im : List ℕ) (ph : Phase) (m : List ℕ) where
-  pub receive-refused : {a : Answer} {r : Outcome} → a ≡ admitted im ph Answer.Done → isDone a ≡ false → r ≡ refusal a ph → after r im [] ≡ receiveOf im ph m
-  unfolding admitted receiveOf receiveAnswer
-  receive-refused {a} {r} e n p =
-      let nothing : effectOf a ≡ Effect.Nothing = ap effectOf e ∙ refused-nothing (verdict im) (phaseFits ph (decode im .header)) (ap isDone (sym e) ∙ n) in
-      ap (λ (z : Outcome). after z im []) p
-      ∙ sym (settle-refusal a ph im [] (takenAs im ph (readingOf m)) nothing)
-      ∙ ap (λ (z : Answer). settleOf z ph im [] (takenAs im ph (readingOf m))) (admit-refused im ph e (receiveRule (decode im) ph (readingOf m)) n)
-
-  received : {x : After} → Admitted im ph → x ≡ settleOf (receiveRule (decode im) ph (readingOf m)) ph im [] (takenAs im ph (readingOf m)) → x ≡ receiveOf im ph m
+module _ (im : List ℕ) (ph : Phase) (m : List ℕ) {a : Answer} (e : a ≡ admitted im ph Answer.Done) where
+  pub receive-refused : {r : Outcome} → isDone a ≡ false → r ≡ refusal a ph → after r im [] ≡ receiveOf im ph m
   unfolding receiveOf receiveAnswer
-  received d p = p ∙ ap (λ (z : Answer). settleOf z ph im [] (takenAs im ph (readingOf m))) (sym (admitted-is d (receiveRule (decode im) ph (readingOf m))))
+  receive-refused n p = call-refused im ph e [] (receiveRule (decode im) ph (readingOf m)) (takenAs im ph (readingOf m)) n p
 
-  pub receive-wrong : {r : Outcome} → Admitted im ph → receiveRule (decode im) ph (readingOf m) ≡ Answer.WrongPhase → r ≡ refusal Answer.WrongPhase ph → after r im [] ≡ receiveOf im ph m
-  unfolding effectOf
-  receive-wrong d e p = received d (rw e (ap (λ (z : Outcome). after z im []) p ∙ sym (settle-refusal Answer.WrongPhase ph im [] (takenAs im ph (readingOf m)) refl)))
+  module _ (t : isDone a ≡ true) where
+    own : {x : After} → x ≡ settleOf (receiveRule (decode im) ph (readingOf m)) ph im [] (takenAs im ph (readingOf m)) → x ≡ receiveOf im ph m
+    unfolding receiveOf receiveAnswer
+    own p = call-own im ph e [] (receiveRule (decode im) ph (readingOf m)) (takenAs im ph (readingOf m)) t p
 
-  pub receive-up-is : {sent : ℕ} {x : After} → ph ≡ Phase.UpFT sent → Admitted im ph
-      → x ≡ settleOf (readRule (readingOf m) (ftRule (decode im))) (Phase.UpFT sent) im [] (takenAs im (Phase.UpFT sent) (readingOf m)) → x ≡ receiveOf im ph m
-  receive-up-is e d p = received d (rw e p)
+    -- the phases in which nothing is received
+    pub receive-barred : {r : Outcome} → receives ph ≡ false → r ≡ refusal Answer.WrongPhase ph → after r im [] ≡ receiveOf im ph m
+    unfolding effectOf
+    receive-barred f p = own (rw (wrong-by (decode im) ph (readingOf m) f) (own-refused Answer.WrongPhase ph im [] (takenAs im ph (readingOf m)) refl p))
 
-  pub receive-plain-is : {x : After} → ph ≡ Phase.UpPlain → Admitted im ph
-      → x ≡ settleOf (readRule (readingOf m) plainRule) Phase.UpPlain im [] (takenAs im Phase.UpPlain (readingOf m)) → x ≡ receiveOf im ph m
-  receive-plain-is e d p = received d (rw e p)
-
--- the phases in which nothing is received
-pub wrong-idle : (s : State) (ph : Phase) (r : Reading) → ph ≡ Phase.Idle → receiveRule s ph r ≡ Answer.WrongPhase
-wrong-idle s ph r e = rw e
-
-pub wrong-wait : (s : State) (ph : Phase) (r : Reading) {t : ℕ} → ph ≡ Phase.InitWait t → receiveRule s ph r ≡ Answer.WrongPhase
-wrong-wait s ph r e = rw e
-
-pub wrong-failed : (s : State) (ph : Phase) (r : Reading) → ph ≡ Phase.Failed → receiveRule s ph r ≡ Answer.WrongPhase
-wrong-failed s ph r e = rw e
-
--- what was compared is block 0 as it was
-pub compared : (old x y : List ℕ) {b : Bool} → b ≡ differ old y → old ≡ x → b ≡ differ x y
-compared old x y e p = e ∙ ap (λ (k : List ℕ). differ k y) p
+    -- those in which the message is judged
+    pub receive-judges : (up : Phase) {x : After} → ph ≡ up → x ≡ settleOf (receiveRule (decode im) up (readingOf m)) up im [] (takenAs im up (readingOf m)) → x ≡ receiveOf im ph m
+    receive-judges up q p = own (rw q p)

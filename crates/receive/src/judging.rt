@@ -1,6 +1,5 @@
 // The answer to a message that was read, in 01's order.
 ghost use mathlib.Core.Path.{_≡_};
-ghost use Prim.Native.Nat.{_≤_};
 ghost use lib.ListN.{length};
 ghost use Rattle.label_list.specs.Word.{wordCount};
 ghost use Rattle.image.specs.State.{decode};
@@ -13,7 +12,6 @@ use crate::labels::label_effect;
 use crate::reading::ack_borne;
 use crate::reading::in_turn;
 use crate::reading::is_fatal;
-use crate::reading::is_init;
 use crate::reading::is_protected;
 use crate::reading::is_zero;
 use block0::Header;
@@ -29,7 +27,7 @@ pub fn judge_plain(g: Message) -> Answer
     ensures { λ r. ⌜ r ≡ plainRule g ⌝ }
 {
     let t = g.typename;
-    if is_init(t) {
+    if calls::is_init(t) {
         return Answer::MalformedReceived;
     }
     let status = g.status;
@@ -88,7 +86,7 @@ pub fn judge_ft(image: &[u8], h: Header, g: Message, words: &mut [u32]) -> Answe
     ensures { λ r. ⌜ (r ≡ ftRule (decode (now (image .entry))) g) × (r ≡ Answer.Done → now (words .exit) ≡ ackedLabels (decode (now (image .entry))) g) ⌝ }
 {
     let t = g.typename;
-    if is_init(t) {
+    if calls::is_init(t) {
         return Answer::MalformedReceived;
     }
     let status = g.status;

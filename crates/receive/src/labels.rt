@@ -2,7 +2,7 @@
 ghost use mathlib.Core.Path.{_≡_};
 ghost use mathlib.Core.Bool.{not};
 ghost use Rattle.octets.specs.Pick.{both};
-ghost use Rattle.receive.specs.Labels.{touchedBy, effectOn, labelEffect, alwaysProtected, effectProtection, protectionRule, effectReception, effectLabels, isProtected};
+ghost use Rattle.receive.specs.Labels.{touchedBy, effectOn, labelEffect, alwaysProtected, effectProtection, protectionRule, effectReception, effectLabels};
 use crate::LabelEffect;
 use crate::reading::is_protected;
 use label_events::Reception;

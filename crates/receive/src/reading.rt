@@ -1,6 +1,5 @@
 // What a received message is asked, one question a function.
 ghost use mathlib.Core.Path.{_≡_};
-ghost use Rattle.calls.specs.Received.{isInit};
 ghost use Rattle.calls.specs.Acked.{ackBorne};
 ghost use Rattle.receive.specs.Labels.{isProtected};
 ghost use Rattle.receive.specs.Rule.{isFatal, isZero, inTurn};
@@ -8,26 +7,6 @@ use block0::Header;
 use ft_number::FtNumber;
 use message::Field;
 use message::FtField;
-use message::MessageType;
-
-// Whether it is an Init.
-pub fn is_init(t: MessageType) -> bool
-    ensures { λ r. ⌜ r ≡ isInit t ⌝ }
-{
-    match t {
-        MessageType::Notification => false,
-        MessageType::Initialization => true,
-        MessageType::KeepAlive => false,
-        MessageType::Address => false,
-        MessageType::AddressWithdraw => false,
-        MessageType::Mapping => false,
-        MessageType::Request => false,
-        MessageType::Withdraw => false,
-        MessageType::Release => false,
-        MessageType::Abort => false,
-        MessageType::Other => false,
-    }
-}
 
 // Whether its Status has E set.
 pub fn is_fatal(status: Field) -> bool

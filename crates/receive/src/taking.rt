@@ -3,18 +3,12 @@ ghost use mathlib.Core.Path.{_≡_};
 ghost use mathlib.Core.List.{[]};
 ghost use Prim.Native.Nat.{_-_, _≤_, _<_};
 ghost use Rattle.message.specs.Reading.{readingOf};
-ghost use Rattle.message.specs.declared.Reading;
-ghost use lib.ListN.{length};
-ghost use Rattle.octets.specs.Differ.{differ};
-ghost use Rattle.label_list.specs.Word.{wordCount};
-ghost use Rattle.image.specs.Sizes.{imageSize, block};
-ghost use Rattle.image.specs.State.{decode, store0};
+ghost use Rattle.image.specs.State.{decode};
 ghost use Rattle.image.specs.Verdict.{IsSound};
-ghost use Rattle.calls.specs.declared.Answer;
 ghost use Rattle.calls.specs.declared.Phase;
 ghost use Rattle.calls.specs.Acked.{ackBorne, withReleased};
 ghost use Rattle.calls.specs.Outcomes.{after, settleOf};
-ghost use Rattle.receive.specs.Rule.{ackOn, ackCount, securedBy, withSecured, ackedLabels, Taken, takenFt, takenAs, readRule, ftRule, plainRule, receiveOf};
+ghost use Rattle.receive.specs.Rule.{ackOn, ackCount, securedBy, withSecured, Taken, takenFt, takenAs, readRule, ftRule, plainRule, receiveOf};
 use crate::judging::judge_ft;
 use crate::judging::judge_plain;
 use crate::labels::change_labels;
@@ -69,28 +63,9 @@ fn next_header(h: Header, k: u32, g: Message) -> Header
 {
     let ack = g.ack;
     let number = g.protection;
-    let issued = h.issued;
-    Header {
-        released: ack_borne(h, ack),
-        issued: issued,
-        secured: secured_by(h.secured, number),
-        first: ((h.first as u32 + k) % 64) as u16,
-        held: h.held - k as u16,
-        timeout: h.timeout,
-        kept: h.kept,
-        keepalive: h.keepalive,
-        maxpdu: h.maxpdu,
-    }
-}
-
-// Stores block 0; whether its bytes changed.
-fn store(image: &mut [u8], h: Header, words: &[u32]) -> bool
-    requires { ⌜ (length (now image) ≡ imageSize) × (length (now words) ≡ wordCount) ⌝ }
-    ensures { λ r. ⌜ (now (image .exit) ≡ store0 (now (image .entry)) h (now (words .entry))) × (r ≡ differ (block (now (image .entry)) 0) (block (now (image .exit)) 0)) ⌝ }
-{
-    let old = calls::copy_block0(image);
-    image::store_block0(image, h, words);
-    calls::block0_changed(&old, image)
+    let mut next = calls::released_header(h, k, ack_borne(h, ack));
+    next.secured = secured_by(h.secured, number);
+    next
 }
 
 // A message that was judged Done in UpFT: the words are those that its ACK leaves.
@@ -102,7 +77,7 @@ fn take_ft(image: &mut [u8], sent: u32, g: Message, words: &mut [u32]) -> Outcom
     let k = ack_count(h, g);
     let number = g.protection;
     change_labels(words, is_protected(number), label_effect(g));
-    let changed = store(image, next_header(h, k, g), words);
+    let changed = calls::store_changed(image, next_header(h, k, g), words);
     Outcome {
         answer: Answer::Done,
         phase: Phase::UpFT(lowered(sent, k)),
@@ -117,7 +92,7 @@ fn receive_ft(image: &mut [u8], sent: u32, g: Message) -> Outcome
     requires { ⌜ IsSound (now image) ⌝ }
     ensures { λ r. ⌜ after r (now (image .exit)) [] ≡ settleOf (ftRule (decode (now (image .entry))) g) (Phase.UpFT sent) (now (image .entry)) [] (takenFt (now (image .entry)) sent g) ⌝ }
 {
-    let mut words = [0u32; 120];
+    let mut words = [0u32; label_list::WORD_COUNT];
     let a = judge_ft(image, image::header_of(image), g, &mut words);
     if !calls::is_done(a) {
         return calls::settle(image, a, Phase::UpFT(sent));

@@ -1,15 +1,13 @@
 -- What Send next writes and stores; the premises are what the callees ensure. Assumes nothing.
-use mathlib.Core.Path.{_≡_, refl, sym, ap, _∙_}
+use mathlib.Core.Path.{_≡_, refl, sym, _∙_}
 use mathlib.Core.Bool.{Bool, true, false}
 use mathlib.Core.List.{List, []}
 use Prim.Native.Nat.{ℕ, _+_, _≤_, _<_}
-use native.Mathlib.Omega.{arith}
 use borrow.Author.Tests.{lt-ltb, le-ltb}
 use lib.Dec.{ltb}
 use lib.ListN.{length, getD}
 use Rattle.octets.specs.Differ.{differ}
 use Rattle.octets.specs.Part.{overlaid}
-use Rattle.octets.specs.Pick.{pick}
 use Rattle.octets.proofs.Differ.{differ-self}
 use Rattle.ft_number.specs.Circle.{after as successors}
 use Rattle.ft_number.specs.declared.FtNumber.{FtNumber}
@@ -18,6 +16,7 @@ use Rattle.message_writer.specs.Forms.{protectedBytes}
 use Rattle.message_writer.specs.Written.{writtenOf}
 use Rattle.message_writer.specs.declared.Written
 use Rattle.message_writer.specs.declared.Written.{Written}
+use Rattle.message_writer.proofs.Room.{too-short, long-enough}
 use Rattle.block0.specs.declared.Header.{Header}
 use Rattle.slot.specs.Layout.{shortest, longest}
 use Rattle.slot.specs.Held.{Storable}
@@ -63,34 +62,10 @@ module _ (im : List ℕ) (sent : ℕ) {h : Header} {k : ℕ} (eh : h ≡ decode 
   unfolding sendImage
   has-number l = (sym (differ-self (block im 0)), rw (← eh, ← ek, lt-ltb sent k l))
 
-  pub has-none : {old im′ ls : List ℕ} {n : FtNumber} {b : Bool} → k ≤ sent → old ≡ block im 0 → ls ≡ decode im .labels → n ≡ numberAt h sent
-      → im′ ≡ store0 im (withIssued h n) ls → b ≡ differ old (block im′ 0) → (b ≡ differ (block im 0) (block im′ 0)) × (im′ ≡ sendImage im sent)
+  pub has-none : {im′ ls : List ℕ} {n : FtNumber} {b : Bool} → k ≤ sent → ls ≡ decode im .labels → n ≡ numberAt h sent
+      → (im′ ≡ store0 im (withIssued h n) ls) × (b ≡ differ (block im 0) (block im′ 0)) → (b ≡ differ (block im 0) (block im′ 0)) × (im′ ≡ sendImage im sent)
   unfolding sendImage numbered
-  has-none l eo el en e₂ eb = (eb ∙ (rw eo), e₂ ∙ (rw (← eh, ← ek, le-ltb sent k l, en, el)))
-
--- ---- the room
-module _ (o p : List ℕ) {w : Written} {o′ : List ℕ} where
-  pub too-short : (w, o′) ≡ writtenOf o p → w ≡ Written.TooShort → (ltb (length o) (length p) ≡ true) × (o′ ≡ o)
-  unfolding writtenOf
-  too-short e t = by (ltb (length o) (length p)) e
-    where
-      by : (b : Bool) → _≡_ {A = Written × List ℕ} (w, o′) (pick b (Written.TooShort, o) (Written.Bytes (length p), overlaid o p)) → (b ≡ true) × (o′ ≡ o)
-      by true e = (refl, ap (λ x. x .1) e)
-      by false e =
-          let f : w ≡ Written.Bytes (length p) = ap (λ x. x .0) e in
-          let z : _≡_ {A = ℕ} 0 1 = cc in
-          absurd (omega arith)
-
-  pub long-enough : {n : ℕ} → (w, o′) ≡ writtenOf o p → w ≡ Written.Bytes n → (ltb (length o) (length p) ≡ false) × ((n ≡ length p) × (o′ ≡ overlaid o p))
-  unfolding writtenOf
-  long-enough {n} e t = by (ltb (length o) (length p)) e
-    where
-      by : (b : Bool) → _≡_ {A = Written × List ℕ} (w, o′) (pick b (Written.TooShort, o) (Written.Bytes (length p), overlaid o p)) → (b ≡ false) × ((n ≡ length p) × (o′ ≡ overlaid o p))
-      by true e =
-          let f : w ≡ Written.TooShort = ap (λ x. x .0) e in
-          let z : _≡_ {A = ℕ} 0 1 = cc in
-          absurd (omega arith)
-      by false e = let f : w ≡ Written.Bytes (length p) = ap (λ x. x .0) e in (refl, ((cc), ap (λ x. x .1) e))
+  has-none l el en e = (e .1, e .0 ∙ (rw (← eh, ← ek, le-ltb sent k l, en, el)))
 
 -- ---- the call
 module _ (im : List ℕ) (ph : Phase) (ask : Bool) (o : List ℕ) (d : Sendable im ph) {sent : ℕ} {w : Written} {o′ : List ℕ} (es : sent ≡ sentOf ph)

@@ -8,6 +8,7 @@ use borrow.Author.Tests.{lt-ltb, le-ltb, ltb-true}
 use lib.Dec.{ltb}
 use lib.ListN.{length}
 use Rattle.octets.specs.Pick.{pick}
+use Rattle.octets.proofs.Choice.{pick-all}
 use Rattle.block0.specs.declared.Header.{Header}
 use Rattle.image.specs.State.{decode}
 use Rattle.image.specs.Verdict.{IsSound}
@@ -20,10 +21,10 @@ use Rattle.calls.specs.declared.Outcome.{Outcome}
 use Rattle.calls.specs.declared.Phase.{Phase}
 use Rattle.calls.specs.Answers.{effectOf}
 use Rattle.calls.specs.Outcomes.{after, isDone, refusal, admitted, roomFor}
-use Rattle.calls.proofs.Settled.{Admitted, admit-refused, admit-passed, admitted-is, admitted-sound}
+use Rattle.calls.proofs.Settled.{Admitted, admitted-done, admitted-other, admit-refused, admit-passed, admitted-is, admitted-sound}
 use Rattle.calls.proofs.Ends.{settle-refusal, unchanged-is}
-use Rattle.send.specs.Rule.{isUp, sentOf, sendBytes, sendRule, sendAnswer, sendOf}
-use Rattle.call_meaning.proofs.Refusals.{Harmless, admitted-harmless, admitted-done, admitted-other}
+use Rattle.send.specs.Rule.{isUpFT, sentOf, sendBytes, sendRule, sendAnswer, sendOf}
+use Rattle.call_meaning.proofs.Refusals.{Harmless, admitted-harmless, done-harmless}
 
 -- ---- the tests; the premises are what the callees ensure
 module _ (im : List ℕ) (ph : Phase) (a : Answer) {r : Answer} (e : r ≡ admitted im ph Answer.Done) where
@@ -37,7 +38,7 @@ module _ (im : List ℕ) (ph : Phase) (a : Answer) {r : Answer} (e : r ≡ admit
     own-tests : {c : Answer} → c ≡ sendRule (decode im) ph a → c ≡ admitted im ph (sendRule (decode im) ph a)
     own-tests t = t ∙ sym (admitted-is (admit-passed im ph e d) (sendRule (decode im) ph a))
 
-    module _ {b : Bool} (eb : b ≡ isUp ph) where
+    module _ {b : Bool} (eb : b ≡ isUpFT ph) where
       pub judge-down : b ≡ false → Answer.WrongPhase ≡ admitted im ph (sendRule (decode im) ph a)
       unfolding sendRule
       judge-down f = own-tests (rw (← eb, f))
@@ -55,7 +56,7 @@ module _ (im : List ℕ) (ph : Phase) (a : Answer) {r : Answer} (e : r ≡ admit
 -- a message that is held and not sent on this connection
 pub record Sendable (im : List ℕ) (ph : Phase) : Type 0 where
   pub admitted : Admitted im ph
-  pub up : isUp ph ≡ true
+  pub up : isUpFT ph ≡ true
   pub some : sentOf ph < decode im .header .held
 
 pub sendable-sound : {im : List ℕ} {ph : Phase} → Sendable im ph → IsSound im
@@ -67,9 +68,7 @@ sendable-few {im} d = omega (arith, d .some, sound-valid im (sendable-sound d) .
 
 rule-harmless : (u l : Bool) → Harmless (pick u (pick l Answer.Done Answer.NothingUnsent) Answer.WrongPhase)
 unfolding effectOf
-rule-harmless true true = λ n. cc
-rule-harmless true false = λ n. refl
-rule-harmless false l = λ n. refl
+rule-harmless u l = pick-all Harmless u (pick-all Harmless l done-harmless (λ n. refl)) (λ n. refl)
 
 rule-other : (u l : Bool) (a : Answer) → isDone (pick u (pick l Answer.Done Answer.NothingUnsent) Answer.WrongPhase) ≡ false
     → pick u (pick l Answer.Done Answer.NothingUnsent) Answer.WrongPhase ≡ pick u (pick l a Answer.NothingUnsent) Answer.WrongPhase
@@ -86,14 +85,14 @@ pub judged-sendable : (im : List ℕ) (ph : Phase) (a : Answer) {r : Answer} →
 unfolding sendRule
 judged-sendable im ph a e t =
     let p = admitted-done im ph (sendRule (decode im) ph a) (ap isDone (sym e) ∙ t) in
-    let q = rule-done (isUp ph) (ltb (sentOf ph) (decode im .header .held)) a (p .1) in
+    let q = rule-done (isUpFT ph) (ltb (sentOf ph) (decode im .header .held)) a (p .1) in
     record { admitted = p .0; up = q .0; some = ltb-true (sentOf ph) (decode im .header .held) (q .1) }
 
 pub judged-refused : (im : List ℕ) (ph : Phase) (ask : Bool) (o : List ℕ) {r : Answer} {x : Outcome} → r ≡ admitted im ph (sendRule (decode im) ph Answer.Done)
     → isDone r ≡ false → x ≡ refusal r ph → after x im o ≡ sendOf im ph ask o
 unfolding sendRule sendAnswer sendOf
 judged-refused im ph ask o e n ex =
-    let u : Bool = isUp ph in
+    let u : Bool = isUpFT ph in
     let l : Bool = ltb (sentOf ph) (decode im .header .held) in
     let room : Answer = roomFor (sendBytes (decode im) (sentOf ph) ask) (length o) in
     let own : Answer = pick u (pick l Answer.Done Answer.NothingUnsent) Answer.WrongPhase in

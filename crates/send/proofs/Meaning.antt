@@ -4,43 +4,37 @@ use mathlib.Core.Bool.{Bool, true}
 use mathlib.Core.List.{List}
 use Prim.Native.Nat.{ℕ, _+_, _≤_, _<_}
 use native.Mathlib.Omega.{arith}
-use borrow.Author.Tests.{eq-eqb, eqb-true, lt-ltb, le-ltb, le-leb, leb-true, ltb-true}
-use lib.Dec.{eqb, leb, ltb}
+use borrow.Author.Tests.{lt-ltb, le-ltb, ltb-true}
+use lib.Dec.{ltb}
 use lib.ListN.{length}
-use Rattle.label_list.proofs.Choice.{by-test, both-true}
+use Rattle.octets.proofs.Choice.{by-test, no}
 use Rattle.block0.specs.declared.Header.{Header}
 use Rattle.block0.specs.Fields.{Fits, Valid}
 use Rattle.image.specs.State.{decode, store, InRange}
 use Rattle.image.specs.Verdict.{IsSound}
 use Rattle.image.proofs.Stored.{decode-keep}
-use Rattle.image.proofs.Sound.{sound-valid, sound-keep, parts-sound}
+use Rattle.image.proofs.Sound.{sound-valid, sound-keep}
 use Rattle.calls.specs.declared.Answer
 use Rattle.calls.specs.declared.Answer.{Answer}
 use Rattle.calls.specs.declared.Phase
 use Rattle.calls.specs.declared.Phase.{Phase}
 use Rattle.calls.specs.Phases.{phaseFits, issuedCount}
 use Rattle.calls.proofs.Ends.{settle-done}
+use Rattle.calls.proofs.Phasing.{fits-up, up-fits}
 use Rattle.call_meaning.specs.Standing.{Standing, Stands}
-use Rattle.call_meaning.proofs.Stands.{settled-stands}
-use Rattle.send.specs.Rule.{isUp, sentOf, numberAt, sendBytes, sendAnswer, withIssued, numbered, sentState, sendImage, sendOf}
+use Rattle.call_meaning.proofs.Stands.{standing-admitted, settled-stands}
+use Rattle.send.specs.Rule.{isUpFT, sentOf, numberAt, sendBytes, sendAnswer, withIssued, numbered, sentState, sendImage, sendOf}
 use Rattle.send.specs.Meaning.{SentFrom, NumberedFrom}
 use Rattle.send.proofs.Judged.{Sendable, sendable-answer, answered-sendable}
 use Rattle.send.proofs.Numbers.{number-stays, number-next, number-fits, count-numbered, window-numbered}
 
 -- what UpFT tells of the image
-up-fits : (ph : Phase) (h : Header) → isUp ph ≡ true → phaseFits ph h ≡ true → (h .kept ≡ 1) × (sentOf ph ≤ issuedCount h)
-unfolding phaseFits
-up-fits Phase.Idle h u f = let z : _≡_ {A = ℕ} 0 1 = cc in absurd (omega arith)
-up-fits (Phase.InitWait t) h u f = let z : _≡_ {A = ℕ} 0 1 = cc in absurd (omega arith)
-up-fits (Phase.UpFT sent) h u f =
-    let p = both-true (eqb (h .kept) 1) (leb sent (issuedCount h)) f in
-    (eqb-true (h .kept) 1 (p .0), leb-true sent (issuedCount h) (p .1))
-up-fits Phase.UpPlain h u f = let z : _≡_ {A = ℕ} 0 1 = cc in absurd (omega arith)
-up-fits Phase.Failed h u f = let z : _≡_ {A = ℕ} 0 1 = cc in absurd (omega arith)
-
-fits-up : (h : Header) (n : ℕ) → h .kept ≡ 1 → n ≤ issuedCount h → phaseFits (Phase.UpFT n) h ≡ true
-unfolding phaseFits
-fits-up h n k l = rw (eq-eqb (h .kept) 1 k, le-leb n (issuedCount h) l)
+ft-fits : (ph : Phase) (h : Header) → isUpFT ph ≡ true → phaseFits ph h ≡ true → (h .kept ≡ 1) × (sentOf ph ≤ issuedCount h)
+ft-fits Phase.Idle h u f = no (cc)
+ft-fits (Phase.InitWait t) h u f = no (cc)
+ft-fits (Phase.UpFT sent) h u f = up-fits h sent f
+ft-fits Phase.UpPlain h u f = no (cc)
+ft-fits Phase.Failed h u f = no (cc)
 
 -- ---- the message at place `sent` is numbered
 module _ (im : List ℕ) (s : IsSound im) (r : InRange (decode im)) (sent : ℕ) (held : sent < decode im .header .held) (kept : decode im .header .kept ≡ 1) where
@@ -114,21 +108,21 @@ unfolding sendOf
 send-keeps im ph ask out st =
     settled-stands im ph st (sendAnswer im ph ask (length out)) out _ (λ t.
     let d : Sendable im ph = answered-sendable im ph ask (length out) t in
-    image-stands im (st .sound) (st .range) (sentOf ph) (d .some) (up-fits ph (decode im .header) (d .up) (st .fits) .0))
+    image-stands im (st .sound) (st .range) (sentOf ph) (d .some) (ft-fits ph (decode im .header) (d .up) (st .fits) .0))
 
 module _ (im : List ℕ) (sent : ℕ) (st : Standing im (Phase.UpFT sent)) where
   up : (decode im .header .kept ≡ 1) × (sent ≤ issuedCount (decode im .header))
-  up = up-fits (Phase.UpFT sent) (decode im .header) refl (st .fits)
+  up = up-fits (decode im .header) sent (st .fits)
 
   -- a message unsent and enough room: it is sent
   pub send-leaves : (ask : Bool) (out : List ℕ) → sent < decode im .header .held → length (sendBytes (decode im) sent ask) ≤ length out
       → SentFrom (decode im) sent ask out (sendOf im (Phase.UpFT sent) ask out)
   unfolding sendOf sendBytes
   send-leaves ask out l room =
-      let d : Sendable im (Phase.UpFT sent) = record { admitted = record { passes = parts-sound im (st .sound); fits = st .fits }; up = refl; some = l } in
+      let d : Sendable im (Phase.UpFT sent) = record { admitted = standing-admitted st; up = refl; some = l } in
       let done : sendAnswer im (Phase.UpFT sent) ask (length out) ≡ Answer.Done = sendable-answer d ask (length out) ∙ (rw (le-ltb (length out) (length (sendBytes (decode im) sent ask)) room)) in
       rw (done, settle-done)
-      (record { answer = refl; phase = refl; state = image-decodes im (st .sound) (st .range) sent l (up .0); output = refl })
+      (record { answer = refl; phase = refl; state = image-decodes im (st .sound) (st .range) sent l (up .0); output = refl; written = refl })
 
   -- "it numbers it if it has no number"
   pub send-numbers : NumberedFrom (decode im) sent

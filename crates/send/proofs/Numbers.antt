@@ -2,7 +2,7 @@
 use mathlib.Core.Path.{_≡_, refl, sym, ap, _∙_}
 use mathlib.Core.Bool.{Bool, true, false}
 use mathlib.Core.List.{List}
-use Prim.Native.Nat.{ℕ, zero, suc, _+_, _<_}
+use Prim.Native.Nat.{ℕ, _+_, _<_}
 use native.Mathlib.Numerals.{add-one}
 use native.Mathlib.Omega.{arith}
 use borrow.Author.Tests.{le-leb}
@@ -11,7 +11,7 @@ use Rattle.octets.specs.Pick.{pick}
 use Rattle.ft_number.specs.Circle.{next, after as successors, stepsOf}
 use Rattle.ft_number.specs.declared.Steps.{Steps}
 use Rattle.ft_number.specs.declared.Steps.the-variants.{Count, Unreachable}
-use Rattle.ft_number.proofs.Circle.{after-none, after-suc, steps-reach, steps-after}
+use Rattle.ft_number.proofs.Circle.{after-suc, after-add, after-small, steps-reach, steps-after}
 use Rattle.block0.specs.declared.Header.{Header}
 use Rattle.block0.specs.Fields.{Fits, Valid, atMost}
 use Rattle.image.specs.State.{State}
@@ -19,23 +19,13 @@ use Rattle.calls.specs.Acked.{withReleased}
 use Rattle.calls.specs.Phases.{countOf, issuedCount}
 use Rattle.send.specs.Rule.{numberAt, withIssued, numbered, sentState}
 
--- ---- successors
-after-after : (j k n : ℕ) → successors j (successors k n) ≡ successors (k + j) n
-after-after zero k n = let e : k ≡ k + 0 = omega arith in after-none (successors k n) ∙ ap (λ (x : ℕ). successors x n) e
-after-after (suc j) k n =
-    let e : suc (k + j) ≡ k + suc j = omega arith in
-    after-suc j (successors k n) ∙ ap next (after-after j k n) ∙ sym (after-suc (k + j) n) ∙ ap (λ (x : ℕ). successors x n) e
-
-next-small : (k n : ℕ) → successors (k + 1) n < 4294967296
-next-small k n = rw (add-one k, after-suc k n) (omega arith)
-
 -- ---- the numbers of the queue
 -- a message keeps its number as older ones are released
 pub number-kept : (h : Header) (k place : ℕ) → numberAt (withReleased h k (successors k (h .released .0))) place ≡ numberAt h (k + place)
 unfolding numberAt
 number-kept h k place =
-    let e : k + (place + 1) ≡ k + place + 1 = omega arith in
-    let f : successors (place + 1) (successors k (h .released .0)) ≡ successors (k + place + 1) (h .released .0) = after-after (place + 1) k (h .released .0) ∙ ap (λ (x : ℕ). successors x (h .released .0)) e in
+    let e : place + 1 + k ≡ k + place + 1 = omega arith in
+    let f : successors (place + 1) (successors k (h .released .0)) ≡ successors (k + place + 1) (h .released .0) = sym (after-add (place + 1) k (h .released .0)) ∙ ap (λ (x : ℕ). successors x (h .released .0)) e in
     λ i. record { 0 = f i }
 
 -- and as one is sent
@@ -49,7 +39,7 @@ number-stays s sent place = by (ltb sent (issuedCount (s .header)))
 
 pub number-fits : (h : Header) (sent : ℕ) → numberAt h sent .0 < 4294967296
 unfolding numberAt
-number-fits h sent = next-small sent (h .released .0)
+number-fits h sent = omega (arith, after-small sent (h .released .0))
 
 count-of : (n : ℕ) (t : Steps) → atMost n t ≡ true → t ≡ Count (countOf t)
 count-of n (Count k) e = refl

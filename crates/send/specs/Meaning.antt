@@ -3,6 +3,7 @@ use mathlib.Core.Path.{_≡_}
 use mathlib.Core.Bool.{Bool}
 use mathlib.Core.List.{List}
 use Prim.Native.Nat.{ℕ, _+_, _≤_, _<_}
+use lib.ListN.{length}
 use Rattle.octets.specs.Part.{overlaid}
 use Rattle.ft_number.specs.Circle.{next}
 use Rattle.message_writer.specs.Forms.{protectedBytes}
@@ -21,6 +22,7 @@ pub record SentFrom (s : State) (sent : ℕ) (ask : Bool) (out : List ℕ) (x : 
   pub phase : x .outcome .phase ≡ Phase.UpFT (sent + 1)
   pub state : decode (x .image) ≡ sentState s sent
   pub output : x .out ≡ overlaid out (protectedBytes (nextMessage s sent) (numberAt (s .header) sent) (ackAsked ask (s .header)))
+  pub written : x .outcome .written ≡ length (protectedBytes (nextMessage s sent) (numberAt (s .header) sent) (ackAsked ask (s .header)))
 
 -- "it numbers it if it has no number"
 pub record NumberedFrom (s : State) (sent : ℕ) : Type 0 where

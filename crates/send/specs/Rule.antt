@@ -21,12 +21,12 @@ use Rattle.calls.specs.Phases.{issuedCount}
 use Rattle.calls.specs.Outcomes.{After, settleOf, admitted, roomFor, wrote}
 
 -- "Send next (UpFT)"
-abbrev pub isUp : Phase → Bool
-isUp Phase.Idle = false
-isUp (Phase.InitWait t) = false
-isUp (Phase.UpFT sent) = true
-isUp Phase.UpPlain = false
-isUp Phase.Failed = false
+abbrev pub isUpFT : Phase → Bool
+isUpFT Phase.Idle = false
+isUpFT (Phase.InitWait t) = false
+isUpFT (Phase.UpFT sent) = true
+isUpFT Phase.UpPlain = false
+isUpFT Phase.Failed = false
 
 -- the count sent on this connection; of UpFT alone
 abbrev pub sentOf : Phase → ℕ
@@ -54,7 +54,7 @@ sendBytes s sent ask = protectedBytes (nextMessage s sent) (numberAt (s .header)
 
 -- "1: wrong phase"; "8: nothing unsent"; only then the test of the room, which says `room`
 unfoldable pub sendRule : State → Phase → Answer → Answer
-sendRule s ph room = pick (isUp ph) (pick (ltb (sentOf ph) (s .header .held)) room Answer.NothingUnsent) Answer.WrongPhase
+sendRule s ph room = pick (isUpFT ph) (pick (ltb (sentOf ph) (s .header .held)) room Answer.NothingUnsent) Answer.WrongPhase
 
 -- "12, 1, 8, 9"
 unfoldable pub sendAnswer : List ℕ → Phase → Bool → ℕ → Answer

@@ -1,15 +1,14 @@
 // Send next: the oldest held message not sent on this connection, with its FT number.
 ghost use mathlib.Core.Path.{_≡_};
 ghost use Prim.Native.Nat.{_<_};
-ghost use lib.ListN.{length};
 ghost use Rattle.octets.specs.Differ.{differ};
 ghost use Rattle.message_writer.specs.Written.{writtenOf};
-ghost use Rattle.image.specs.Sizes.{imageSize, block};
+ghost use Rattle.image.specs.Sizes.{block};
 ghost use Rattle.image.specs.State.{decode};
 ghost use Rattle.image.specs.Verdict.{IsSound};
 ghost use Rattle.calls.specs.declared.Answer;
 ghost use Rattle.calls.specs.Outcomes.{after, admitted};
-ghost use Rattle.send.specs.Rule.{isUp, sentOf, numberAt, ackAsked, sendBytes, sendRule, sendImage, sendOf};
+ghost use Rattle.send.specs.Rule.{isUpFT, sentOf, numberAt, ackAsked, sendBytes, sendRule, sendImage, sendOf};
 use block0::Header;
 use calls::Answer;
 use calls::Outcome;
@@ -18,9 +17,9 @@ use ft_number::FtNumber;
 use message_writer::Written;
 use tlv::FtField;
 
-// Whether messages are sent in the phase.
-fn is_up(phase: Phase) -> bool
-    ensures { λ r. ⌜ r ≡ isUp phase ⌝ }
+// Whether the phase is UpFT: messages are sent in no other.
+fn is_up_ft(phase: Phase) -> bool
+    ensures { λ r. ⌜ r ≡ isUpFT phase ⌝ }
 {
     match phase {
         Phase::Idle => false,
@@ -52,7 +51,7 @@ fn judge_send(image: &[u8], phase: Phase) -> Answer
     if !calls::is_done(a) {
         return a;
     }
-    if !is_up(phase) {
+    if !is_up_ft(phase) {
         return Answer::WrongPhase;
     }
     let h = image::header_of(image);
@@ -93,31 +92,18 @@ fn write_next(image: &[u8], sent: u32, ack: bool, out: &mut [u8]) -> Written
 
 // Numbers the message at a place of the queue, if it has no number. Whether block 0 changed.
 fn issue(image: &mut [u8], sent: u32) -> bool
-    requires { ⌜ (length (now image) ≡ imageSize) × (sent < 65536) ⌝ }
+    requires { ⌜ IsSound (now image) × (sent < 65536) ⌝ }
     ensures { λ r. ⌜ (r ≡ differ (block (now (image .entry)) 0) (block (now (image .exit)) 0)) × (now (image .exit) ≡ sendImage (now (image .entry)) sent) ⌝ }
 {
     let h = image::header_of(image);
     if sent < calls::issued_count(h) {
         return false;
     }
-    let old = calls::copy_block0(image);
-    let mut words = [0u32; 120];
+    let mut words = [0u32; label_list::WORD_COUNT];
     image::labels_of(image, &mut words);
-    let released = h.released;
-    let secured = h.secured;
-    let next = Header {
-        released: released,
-        issued: number_at(h, sent),
-        secured: secured,
-        first: h.first,
-        held: h.held,
-        timeout: h.timeout,
-        kept: h.kept,
-        keepalive: h.keepalive,
-        maxpdu: h.maxpdu,
-    };
-    image::store_block0(image, next, &words);
-    calls::block0_changed(&old, image)
+    let mut next = h;
+    next.issued = number_at(h, sent);
+    calls::store_changed(image, next, &words)
 }
 
 // Sends the oldest message not sent on this connection; `ack` asks for FT ACK. Block 0 is stored before the output leaves.

@@ -1,6 +1,6 @@
 -- A slot with right fields, clause by clause. Assumes nothing.
-use mathlib.Core.Path.{_≡_, refl, sym, ap, _∙_}
-use mathlib.Core.Bool.{Bool, true, false}
+use mathlib.Core.Path.{_≡_, refl, sym, _∙_}
+use mathlib.Core.Bool.{true}
 use mathlib.Core.List.{List}
 use mathlib.Core.Logic.{⊎-elim}
 use Prim.Native.Nat.{ℕ, _+_, _-_, _≤_, _<_}
@@ -9,8 +9,9 @@ use borrow.Author.Tests.{leb-true, eqb-true, le-leb, eq-eqb}
 use lib.Dec.{leb, eqb}
 use lib.ListN.{length}
 use Rattle.octets.specs.Be.{beAt}
-use Rattle.octets.specs.Pick.{pick, both}
+use Rattle.octets.specs.Pick.{pick}
 use Rattle.octets.proofs.Part.{length-part}
+use Rattle.octets.proofs.Choice.{no, both-true, passed, below-or-not}
 use Rattle.message.specs.Kinds.{kindNumber}
 use Rattle.message.specs.declared.Kind.{Kind}
 use Rattle.message.specs.declared.Submission.{Submission}
@@ -20,7 +21,6 @@ use Rattle.message.proofs.Laws.{accepted, whole-label}
 use Rattle.tlv.specs.Tlv.{largestLabel}
 use Rattle.block.specs.Check.{blockSize, sound}
 use Rattle.block.specs.Zeros.{allZero}
-use Rattle.block.proofs.Tests.{no, both-true, passed, below-or-not}
 use Rattle.slot.specs.Layout.{shortest, longest, lengthOf, kindOf, labelOf, messageOf, paddingOf, slotBlock}
 use Rattle.slot.specs.Fields.{bears, slotOk, slotVerdict}
 use Rattle.slot.specs.declared.SlotVerdict.the-variants.{Good, BadCheck, BadFields}

@@ -20,9 +20,9 @@ pub enum SlotVerdict {
 }
 
 // The lengths that a held message may have.
-const SHORTEST: usize = 8;
+pub const SHORTEST: usize = 8;
 
-const LONGEST: usize = 480;
+pub const LONGEST: usize = 480;
 
 // Where the message stands, and the bytes from there to the check.
 const MESSAGE_AT: usize = 8;

@@ -2,22 +2,21 @@
 use mathlib.Core.Path.{_≡_, refl, _∙_}
 use mathlib.Core.Bool.{true}
 use mathlib.Core.List.{List}
-use Prim.Native.Nat.{ℕ, _*_, _<_}
-use native.Mathlib.Omega.{arith}
-use lib.ListN.{length, getD}
+use Prim.Native.Nat.{ℕ}
+use lib.ListN.{length}
 use Rattle.message.specs.declared.Kind
 use Rattle.message.specs.declared.Kind.{Kind}
 use Rattle.message.specs.declared.Submission
 use Rattle.message.specs.declared.Submission.{Submission}
-use Rattle.label_list.specs.Word.{wordCount, labelCount}
+use Rattle.label_list.specs.Word.{wordCount}
 use Rattle.label_list.specs.Valid.{validOf}
 use Rattle.label_list.specs.declared.LabelMessage
 use Rattle.label_list.specs.declared.LabelMessage.{LabelMessage}
 use Rattle.label_meaning.specs.Event.{Accepted, step}
 use Rattle.label_meaning.proofs.Kept.{step-length}
 use Rattle.label_meaning.proofs.Step.{step-valid}
-use Rattle.label_meaning.proofs.Meaning.{valid-means, valid-range}
 use Rattle.block.specs.Run.{Words}
+use Rattle.image.proofs.Ranges.{valid-words}
 use Rattle.submit.specs.Labels.{acceptedAs}
 use Rattle.submit.specs.Act.{acceptedLabels}
 
@@ -45,11 +44,5 @@ module _ (words : List ℕ) (valid : validOf words ≡ true) (j : Submission) wh
   labels-count : length (acceptedLabels words j) ≡ length words
   labels-count = kept (λ (ws : List ℕ). length ws ≡ length words) words refl (λ message label. step-length words (Accepted message label)) j
 
-  -- a valid word has 32 bits
   pub labels-fit : length words ≡ wordCount → Words wordCount (acceptedLabels words j)
-  labels-fit count = record {
-    count = labels-count ∙ count;
-    each = λ i.
-        let small : getD (acceptedLabels words j) i 0 < 7 * labelCount = valid-range (valid-means (acceptedLabels words j) labels-valid) i in
-        omega arith;
-  }
+  labels-fit count = valid-words (acceptedLabels words j) (labels-count ∙ count) labels-valid

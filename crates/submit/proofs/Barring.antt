@@ -1,18 +1,21 @@
 -- Whether a message of a kind and label is held: asked of one message after the other. Assumes nothing.
-use mathlib.Core.Path.{_≡_, refl, sym, _∙_}
+use mathlib.Core.Path.{_≡_, refl, sym, ap, _∙_}
 use mathlib.Core.Bool.{Bool, true, false}
 use mathlib.Core.List.{List, []}
 use Prim.Native.Nat.{ℕ, _+_, _≤_, _<_}
 use native.Mathlib.Numerals.{add-one}
 use native.Mathlib.Omega.{arith}
-use borrow.Author.Tests.{eq-eqb, ne-eqb}
+use borrow.Author.Tests.{ne-eqb}
 use lib.Dec.{eqb}
 use lib.ListN.{length, getD, drop}
 use lib.Seq.{drop-cons, drop-length}
 use Rattle.message.specs.Kinds.{kindNumber}
 use Rattle.message.specs.Submission.{submissionOf}
+use Rattle.message.specs.declared.Submission
+use Rattle.message.specs.declared.Submission.{Submission}
 use Rattle.slot.specs.Fields.{bears}
 use Rattle.slot.specs.Held.{Storable, kindIn, labelIn}
+use Rattle.slot.proofs.Judged.{bears-kind, bears-other}
 use Rattle.image.specs.State.{decode}
 use Rattle.image.proofs.Queue.{queue-length}
 use Rattle.submit.specs.Labels.{isHeld}
@@ -22,13 +25,11 @@ module _ (m : List ℕ) (s : Storable m) (kind label : ℕ) {k : ℕ} (ek : k �
   is-kind : k ≡ kindNumber (s .kind)
   is-kind = rw (s .accepted) at ek
 
-  pub bears-other : (k ≡ kind → ⊥) → false ≡ bears (submissionOf m) kind label
-  bears-other apart = rw (s .accepted, ← is-kind, ne-eqb k kind apart)
+  pub other-kind : (k ≡ kind → ⊥) → false ≡ bears (submissionOf m) kind label
+  other-kind apart = sym (ne-eqb k kind apart) ∙ bears-other (submissionOf m) (s .kind) (s .label) (s .accepted) k kind is-kind label apart
 
-  pub bears-kind : {l : ℕ} → l ≡ labelIn (submissionOf m) → k ≡ kind → eqb l label ≡ bears (submissionOf m) kind label
-  bears-kind {l} el same =
-      let is-label : l ≡ s .label = rw (s .accepted) at el in
-      rw (s .accepted, ← is-kind, eq-eqb k kind same, ← is-label)
+  pub same-kind : {l : ℕ} → l ≡ labelIn (submissionOf m) → k ≡ kind → eqb l label ≡ bears (submissionOf m) kind label
+  same-kind {l} el same = bears-kind (submissionOf m) (s .kind) l (s .accepted ∙ ap (Submission.Accepted (s .kind)) (sym (rw (s .accepted) at el))) k kind is-kind label same
 
 -- ---- all of them: none of the oldest i is of that kind and label
 pub record Searched (kind label : ℕ) (queue : List (List ℕ)) (held i : ℕ) : Type 0 where

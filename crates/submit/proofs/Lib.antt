@@ -1,4 +1,3 @@
-pub mod Refusals
 pub mod Barring
 pub mod Accepted
 pub mod Queueing

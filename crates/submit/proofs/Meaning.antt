@@ -3,12 +3,13 @@
 use mathlib.Core.Path.{_≡_, refl, sym, _∙_}
 use mathlib.Core.Bool.{true}
 use mathlib.Core.List.{List, [], _∷_}
-use mathlib.Core.Logic.{_≢_, ⊎-elim}
+use mathlib.Core.Logic.{_≢_}
 use Prim.Native.Nat.{ℕ, _≤_, _<_}
 use native.Mathlib.Omega.{arith}
 use borrow.Author.Tests.{leb-true}
 use lib.ListN.{getD, List·getD-append}
 use lib.Seq.{getD-append-seam}
+use Rattle.octets.proofs.Choice.{by-test}
 use Rattle.ft_number.specs.Circle.{stepsOf}
 use Rattle.ft_number.specs.declared.Steps.{Steps}
 use Rattle.ft_number.specs.declared.Steps.the-variants.{Count, Unreachable}
@@ -29,13 +30,14 @@ use Rattle.calls.specs.declared.Phase
 use Rattle.calls.specs.declared.Phase.{Phase}
 use Rattle.calls.specs.Answers.{effectOf}
 use Rattle.calls.specs.Phases.{countOf, issuedCount, phaseFits}
-use Rattle.calls.specs.Outcomes.{After, unchanged}
+use Rattle.calls.specs.Outcomes.{After, isDone, unchanged}
+use Rattle.calls.proofs.Effects.{done-is}
 use Rattle.calls.proofs.Settled.{admitted-sound}
 use Rattle.calls.proofs.Ends.{settle-done, settle-refusal}
 use Rattle.submit.specs.Rule.{submitAnswer}
 use Rattle.submit.specs.Act.{numbersOf, submitted, submitSlot, queued, submitOf}
 use Rattle.submit.proofs.Queueing.{image-decodes, image-sound, image-changed, image-other, in-range-submitted}
-use Rattle.submit.proofs.Passing.{done-passes, passes-storable, done-or-nothing}
+use Rattle.submit.proofs.Passing.{done-passes, passes-storable, submit-harmless}
 
 -- no more messages have a number than are held
 window-count : {n : ℕ} (k : Steps) → atMost n k ≡ true → countOf k ≤ n
@@ -65,10 +67,9 @@ module _ (im : List ℕ) (ph : Phase) (m : List ℕ) where
   -- so what holds of a call that is done, and of one that changes nothing, holds of every call
   every : (P : After → Type 0) → (submitAnswer im ph m ≡ Answer.Done → P (queued im ph m)) → P (unchanged (submitAnswer im ph m) ph im []) → P (submitOf im ph m)
   every P act still =
-      ⊎-elim
-      (λ (e : submitAnswer im ph m ≡ Answer.Done). rw (submit-done e) (act e))
-      (λ (e : effectOf (submitAnswer im ph m) ≡ Effect.Nothing). rw (submit-refusal e) still)
-      (done-or-nothing im ph m)
+      by-test (isDone (submitAnswer im ph m))
+      (λ t. let e : submitAnswer im ph m ≡ Answer.Done = done-is (submitAnswer im ph m) t in rw (submit-done e) (act e))
+      (λ n. rw (submit-refusal (submit-harmless im ph m n)) still)
 
   pub submit-phase : submitOf im ph m .outcome .phase ≡ ph
   unfolding queued

@@ -1,6 +1,5 @@
 -- Submit's answers and its tests: done or full exactly where every earlier test is passed; anything else changes nothing. Assumes nothing.
 use mathlib.Core.Path.{_≡_, refl, sym, _∙_}
-use mathlib.Core.Bool.{Bool, true, false}
 use mathlib.Core.List.{List}
 use mathlib.Core.Logic.{_⊎_, inl, inr, ⊎-elim}
 use Prim.Native.Nat.{ℕ, _≤_, _<_}
@@ -9,14 +8,13 @@ use borrow.Author.Tests.{eqb-true, leb-true, ltb-true, ltb-false}
 use lib.Dec.{eqb, leb, ltb}
 use lib.ListN.{length}
 use Rattle.octets.specs.Pick.{pick, both}
+use Rattle.octets.proofs.Choice.{pick-all, both-true, no, passed, cleared}
 use Rattle.message.specs.Submission.{submissionOf}
 use Rattle.message.specs.declared.Kind.{Kind}
 use Rattle.message.specs.declared.Submission
 use Rattle.message.specs.declared.Submission.{Submission}
 use Rattle.label_events.specs.declared.Acceptance
 use Rattle.label_events.specs.declared.Acceptance.{Acceptance}
-use Rattle.label_list.proofs.Choice.{pick-all}
-use Rattle.block.proofs.Tests.{no, passed, both-true}
 use Rattle.block0.specs.Layout.{slotCount}
 use Rattle.slot.specs.Layout.{shortest, longest}
 use Rattle.slot.specs.Held.{Storable}
@@ -27,17 +25,15 @@ use Rattle.image.specs.declared.Verdict.{Verdict}
 use Rattle.image.proofs.Sound.{sound-valid}
 use Rattle.calls.specs.declared.Answer
 use Rattle.calls.specs.declared.Answer.{Answer}
-use Rattle.calls.specs.declared.Effect
-use Rattle.calls.specs.declared.Effect.{Effect}
 use Rattle.calls.specs.declared.Phase.{Phase}
 use Rattle.calls.specs.Answers.{effectOf}
 use Rattle.calls.specs.Phases.{phaseFits}
 use Rattle.calls.specs.Outcomes.{checked, admitted}
 use Rattle.calls.proofs.Settled.{Admitted, admitted-is, admitted-sound}
+use Rattle.call_meaning.proofs.Refusals.{Harmless, admitted-harmless, done-harmless}
 use Rattle.submit.specs.Labels.{isBarred, acceptedAs}
 use Rattle.submit.specs.Rule.{roomRule, acceptanceRule, submissionRule, kindRule, submitRule, submitAnswer}
 use Rattle.submit.specs.Passed.{Fitting, Judged, Passes}
-use Rattle.submit.proofs.Refusals.{Plain, plain-admitted}
 use Rattle.submit.proofs.Answered.{submission-is, full-is, done-is}
 
 -- ---- a message that passes is queued where there is room, and only there
@@ -55,11 +51,6 @@ module _ (im : List ℕ) (ph : Phase) (m : List ℕ) (w : Passes im ph m) where
 -- such a message may be held
 pub passes-storable : {im : List ℕ} {ph : Phase} {m : List ℕ} → Passes im ph m → Storable m
 passes-storable w = record { low = w .fitting .low; short = w .fitting .high; kind = w .kind; label = w .label; accepted = w .accepted }
-
--- a test that was not met: what it would have answered is not the answer that came
-cleared : {A : Type 0} (b : Bool) (w v a : A) → (w ≡ a → _≡_ {A = ℕ} 0 1) → pick b w v ≡ a → (b ≡ false) × (v ≡ a)
-cleared true w v a bad h = no (bad h)
-cleared false w v a bad h = (refl, h)
 
 -- ---- the other way: these two answers come after every other test
 abbrev Last : Answer → Type 0
@@ -121,25 +112,26 @@ module _ (im : List ℕ) (ph : Phase) (m : List ℕ) where
       (p .0, omega arith)
 
 -- ---- every other answer changes nothing
-plain-acceptance : (s : State) (a : Acceptance) → Plain (acceptanceRule s a)
-plain-acceptance s Acceptance.Taken = pick-all Plain (ltb (s .header .held) slotCount) (inl refl) (inr refl)
-plain-acceptance s Acceptance.NotAllowed = inr refl
-plain-acceptance s Acceptance.NoRoom = inr refl
+harmless-acceptance : (s : State) (a : Acceptance) → Harmless (acceptanceRule s a)
+unfolding effectOf
+harmless-acceptance s Acceptance.Taken = pick-all Harmless (ltb (s .header .held) slotCount) done-harmless (λ n. refl)
+harmless-acceptance s Acceptance.NotAllowed = λ n. refl
+harmless-acceptance s Acceptance.NoRoom = λ n. refl
 
-plain-submission : (s : State) (j : Submission) → Plain (submissionRule s j)
-unfolding kindRule
-plain-submission s Submission.Malformed = inr refl
-plain-submission s Submission.Refused = inr refl
-plain-submission s (Submission.Accepted kind label) =
-    pick-all Plain (isBarred (s .queue) kind label) (inr refl) (plain-acceptance s (acceptedAs (s .labels) kind label .0))
+harmless-submission : (s : State) (j : Submission) → Harmless (submissionRule s j)
+unfolding kindRule effectOf
+harmless-submission s Submission.Malformed = λ n. refl
+harmless-submission s Submission.Refused = λ n. refl
+harmless-submission s (Submission.Accepted kind label) =
+    pick-all Harmless (isBarred (s .queue) kind label) (λ n. refl) (harmless-acceptance s (acceptedAs (s .labels) kind label .0))
 
-plain-rule : (s : State) (m : List ℕ) → Plain (submitRule s m)
-unfolding submitRule
-plain-rule s m =
-    pick-all Plain (eqb (s .header .kept) 1)
-    (pick-all Plain (both (leb shortest (length m)) (leb (length m) longest)) (plain-submission s (submissionOf m)) (inr refl))
-    (inr refl)
+harmless-rule : (s : State) (m : List ℕ) → Harmless (submitRule s m)
+unfolding submitRule effectOf
+harmless-rule s m =
+    pick-all Harmless (eqb (s .header .kept) 1)
+    (pick-all Harmless (both (leb shortest (length m)) (leb (length m) longest)) (harmless-submission s (submissionOf m)) (λ n. refl))
+    (λ n. refl)
 
-pub done-or-nothing : (im : List ℕ) (ph : Phase) (m : List ℕ) → (submitAnswer im ph m ≡ Answer.Done) ⊎ (effectOf (submitAnswer im ph m) ≡ Effect.Nothing)
-unfolding effectOf submitAnswer
-done-or-nothing im ph m = plain-admitted im ph (plain-rule (decode im) m)
+pub submit-harmless : (im : List ℕ) (ph : Phase) (m : List ℕ) → Harmless (submitAnswer im ph m)
+unfolding submitAnswer
+submit-harmless im ph m = admitted-harmless im ph (submitRule (decode im) m) (harmless-rule (decode im) m)

@@ -8,12 +8,12 @@ use native.Mathlib.Omega.{arith}
 use borrow.Author.Tests.{leb-true, le-leb}
 use Rattle.octets.specs.Differ.{differ}
 use Rattle.octets.proofs.Differ.{differ-false}
+use Rattle.octets.proofs.Choice.{by-test}
 use Rattle.ft_number.specs.Circle.{stepsOf}
 use Rattle.ft_number.specs.declared.Steps.{Steps}
 use Rattle.ft_number.specs.declared.Steps.the-variants.{Count, Unreachable}
 use Rattle.message.specs.Submission.{submissionOf}
 use Rattle.label_list.specs.Word.{wordCount}
-use Rattle.label_list.proofs.Choice.{by-test}
 use Rattle.block.specs.Run.{Words}
 use Rattle.block0.specs.declared.Header.{Header}
 use Rattle.block0.specs.Layout.{slotCount, headerOf}

@@ -1,9 +1,10 @@
 -- What each return of Submit leaves is what its answer leaves. Assumes nothing.
-use mathlib.Core.Path.{_≡_, sym, _∙_}
+use mathlib.Core.Path.{_≡_, refl}
 use mathlib.Core.Bool.{true, false}
 use mathlib.Core.List.{List, []}
 use Prim.Native.Nat.{ℕ, _+_, _≤_, _<_}
 use lib.ListN.{length}
+use Rattle.octets.specs.Bytes.{Bytes}
 use Rattle.message.specs.Submission.{submissionOf}
 use Rattle.message.specs.declared.Kind.{Kind}
 use Rattle.message.specs.declared.Submission
@@ -14,7 +15,7 @@ use Rattle.slot.specs.Layout.{shortest, longest}
 use Rattle.image.specs.Sizes.{blockOf}
 use Rattle.image.specs.State.{decode, storeSlot, store0}
 use Rattle.image.specs.Verdict.{IsSound}
-use Rattle.image.proofs.Ranges.{Bytes, bytes-in-range}
+use Rattle.image.proofs.Ranges.{bytes-in-range}
 use Rattle.calls.specs.declared.Answer
 use Rattle.calls.specs.declared.Answer.{Answer}
 use Rattle.calls.specs.declared.Effect
@@ -23,12 +24,12 @@ use Rattle.calls.specs.declared.Outcome.{Outcome}
 use Rattle.calls.specs.declared.Phase.{Phase}
 use Rattle.calls.specs.Answers.{answerNumber, effectBy}
 use Rattle.calls.specs.Outcomes.{After, after, refusal, isDone, admitted, settleOf}
-use Rattle.calls.proofs.Settled.{Admitted, admit-refused, admitted-is}
+use Rattle.calls.proofs.Settled.{Admitted, admitted-is}
 use Rattle.calls.proofs.Ends.{settle-done}
+use Rattle.call_meaning.proofs.Calling.{call-refused, found-refused}
 use Rattle.submit.specs.Labels.{acceptedAs}
 use Rattle.submit.specs.Rule.{submitRule, submitAnswer}
 use Rattle.submit.specs.Act.{withHeld, submitted, submitSlot, submitImage, queued, submitOf}
-use Rattle.submit.proofs.Refusals.{refused-is, admit-nothing}
 use Rattle.submit.proofs.Queueing.{image-changed}
 
 -- ---- the message is queued; the premises are what the callees ensure
@@ -55,14 +56,13 @@ module _ (im : List ℕ) (ph : Phase) (m : List ℕ) (kind : Kind) (label : ℕ)
 module _ (im : List ℕ) (ph : Phase) (m : List ℕ) where
   pub admit-is : {a : Answer} {r : Outcome} → a ≡ admitted im ph Answer.Done → isDone a ≡ false → r ≡ refusal a ph → after r im [] ≡ submitOf im ph m
   unfolding submitOf submitAnswer
-  admit-is e n p = refused-is ph im (queued im ph m) (admit-refused im ph e (submitRule (decode im) m) n) p (admit-nothing im ph e n)
+  admit-is e n p = call-refused im ph e [] (submitRule (decode im) m) (queued im ph m) n p
 
   module _ (w : Admitted im ph) where
-    pub submit-refused : {a : Answer} {r : Outcome} → a ≡ submitRule (decode im) m → r ≡ refusal a ph → effectBy (answerNumber a) ≡ Effect.Nothing
-        → after r im [] ≡ submitOf im ph m
-    unfolding submitOf submitAnswer
-    submit-refused e p n = refused-is ph im (queued im ph m) (e ∙ sym (admitted-is w (submitRule (decode im) m))) p n
-
     pub submit-judged : {a : Answer} {x : After} → a ≡ submitRule (decode im) m → x ≡ settleOf a ph im [] (queued im ph m) → x ≡ submitOf im ph m
     unfolding submitOf submitAnswer
     submit-judged e p = rw (admitted-is w (submitRule (decode im) m), ← e) p
+
+    pub submit-refused : {a : Answer} {r : Outcome} → a ≡ submitRule (decode im) m → r ≡ refusal a ph → effectBy (answerNumber a) ≡ Effect.Nothing
+        → after r im [] ≡ submitOf im ph m
+    submit-refused e p n = submit-judged e (found-refused ph im [] (queued im ph m) refl p n)

@@ -21,14 +21,6 @@ use message::Submission;
 mod labels;
 mod storing;
 
-// The lengths that a submitted message may have.
-const SHORTEST: usize = 8;
-
-const LONGEST: usize = 480;
-
-// The slots of the ring: the most messages that are held.
-const SLOT_COUNT: usize = 64;
-
 // A message that passes 3, 4 and 5, with its kind and label: 6, 13 and 7 are asked, and it is queued.
 fn submit_accepted(image: &mut [u8], phase: Phase, msg: &[u8], kind: Kind, label: u32) -> Outcome
     requires { ⌜ IsSound (now image) × (shortest ≤ length (now msg)) × (length (now msg) ≤ longest) × (submissionOf (now msg) ≡ Accepted kind label) ⌝ }
@@ -37,7 +29,7 @@ fn submit_accepted(image: &mut [u8], phase: Phase, msg: &[u8], kind: Kind, label
     if labels::is_barred(image, kind, label) {
         return calls::refuse(Answer::LabelNotAllowed, phase);
     }
-    let mut words = [0u32; 120];
+    let mut words = [0u32; label_list::WORD_COUNT];
     image::labels_of(image, &mut words);
     match labels::accept_as(&mut words, kind, label) {
         Acceptance::Taken => {}
@@ -48,7 +40,7 @@ fn submit_accepted(image: &mut [u8], phase: Phase, msg: &[u8], kind: Kind, label
             return calls::refuse(Answer::NoLabelWord, phase);
         }
     }
-    if image::header_of(image).held as usize >= SLOT_COUNT {
+    if image::header_of(image).held as usize >= image::SLOT_COUNT {
         return calls::refuse(Answer::StoreFull, phase);
     }
     let slot = storing::store_message(image, msg, kind, label, &words);
@@ -73,10 +65,10 @@ pub fn submit(image: &mut [u8], phase: Phase, msg: &[u8]) -> Outcome
     if image::header_of(image).kept != 1 {
         return calls::refuse(Answer::WrongPhase, phase);
     }
-    if msg.len() < SHORTEST {
+    if msg.len() < slot::SHORTEST {
         return calls::refuse(Answer::LengthOutOfRange, phase);
     }
-    if msg.len() > LONGEST {
+    if msg.len() > slot::LONGEST {
         return calls::refuse(Answer::LengthOutOfRange, phase);
     }
     match message::judge_submission(msg) {

@@ -17,27 +17,16 @@ use message::Kind;
 fn next_slot(h: Header) -> usize
     ensures { λ r. ⌜ (r ≡ slotAt (h .first) (h .held)) × (r < slotCount) ⌝ }
 {
-    (h.first as usize + h.held as usize) % crate::SLOT_COUNT
+    (h.first as usize + h.held as usize) % image::SLOT_COUNT
 }
 
 // The header with another count of held messages.
 fn with_held(h: Header, held: u16) -> Header
     ensures { λ r. ⌜ r ≡ withHeld h held ⌝ }
 {
-    let released = h.released;
-    let issued = h.issued;
-    let secured = h.secured;
-    Header {
-        released: released,
-        issued: issued,
-        secured: secured,
-        first: h.first,
-        held: held,
-        timeout: h.timeout,
-        kept: h.kept,
-        keepalive: h.keepalive,
-        maxpdu: h.maxpdu,
-    }
+    let mut next = h;
+    next.held = held;
+    next
 }
 
 // Stores the message as the newest held, with the label words that it leads to. The block of its slot.

@@ -6,16 +6,15 @@ use mathlib.Core.List.{List, [], _∷_, _++_}
 use native.Mathlib.Nat.{mod-eq-of-lt, pow-suc, pow-le-pow-right}
 use native.Mathlib.Numerals.{add-one}
 use native.Mathlib.Omega.{arith, by-contra}
-use borrow.Author.Tests.{lt-ltb, le-ltb, ltb-true, ltb-false}
+use borrow.Author.Tests.{lt-ltb, le-ltb, ltb-false}
 use lib.ListN.{length, take, getD, set}
 use lib.Seq.{take-suc, take-all, length-take-le}
 use lib.Dec.{ltb}
 use Rattle.io.specs.Digits.{glyph, digits, Fewest}
-use Rattle.octets.specs.Pick.{pick}
-use Rattle.octets.proofs.Fix.{Shrinks, fix-step}
 use Rattle.octets.specs.Fill.{copied}
+use Rattle.octets.proofs.Fix.{Shrinks, fix-step}
+use Rattle.octets.proofs.Copied.{copied-append, copied-two}
 use Rattle.text.specs.Text.{decimalStep, decimal, hex, Put}
-use Rattle.text.proofs.Copied.{copied-append, copied-two}
 
 -- a number of at least one digit more has a smaller tenth
 decimal-shrinks : Shrinks (λ k. k) decimalStep

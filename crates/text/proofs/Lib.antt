@@ -1,4 +1,3 @@
-pub mod Copied
 pub mod Pieces
 pub mod Digits
 pub mod Vectors

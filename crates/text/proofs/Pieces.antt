@@ -1,13 +1,13 @@
 -- Texts put one after the other are their join. Assumes nothing.
 use Prim.Native.Nat.{ℕ, _+_, _≤_}
-use mathlib.Core.Path.{_≡_, refl, sym, ap, _∙_}
+use mathlib.Core.Path.{_≡_, sym, ap, _∙_}
 use mathlib.Core.List.{List, [], _++_}
 use native.Mathlib.Omega.{arith}
 use lib.ListN.{length, take, length-append}
 use Rattle.octets.specs.Fill.{copied}
 use Rattle.octets.proofs.Fill.{filled-none}
+use Rattle.octets.proofs.Copied.{copied-append, length-copied, take-copied}
 use Rattle.text.specs.Text.{Put}
-use Rattle.text.proofs.Copied.{copied-append, length-copied, take-copied}
 
 pub put-none : (s : List ℕ) (at : ℕ) → Put s at [] s at
 put-none s at = record { bytes = sym (filled-none (λ i. 0) s at); ends = omega arith }

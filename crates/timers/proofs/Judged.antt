@@ -6,6 +6,7 @@ use Prim.Native.Nat.{ℕ}
 use lib.Dec.{leb}
 use borrow.Author.Tests.{eq-eqb, ne-eqb}
 use Rattle.octets.specs.Pick.{pick}
+use Rattle.octets.proofs.Choice.{pick-all}
 use Rattle.block0.specs.declared.Header.{Header}
 use Rattle.image.specs.State.{decode}
 use Rattle.image.specs.Verdict.{IsSound}
@@ -15,10 +16,10 @@ use Rattle.calls.specs.declared.Outcome.{Outcome}
 use Rattle.calls.specs.declared.Phase.{Phase}
 use Rattle.calls.specs.Answers.{effectOf}
 use Rattle.calls.specs.Outcomes.{After, after, isDone, refusal, unchanged, releasedWith, admitted, settleOf}
-use Rattle.calls.proofs.Settled.{admit-refused, admit-passed, admitted-is, admitted-sound}
+use Rattle.calls.proofs.Settled.{admitted-done, admit-refused, admit-passed, admitted-is, admitted-sound}
 use Rattle.calls.proofs.Ends.{settle-refusal, unchanged-is}
 use Rattle.timers.specs.Events.{eventAnswer, expired}
-use Rattle.call_meaning.proofs.Refusals.{Harmless, admitted-harmless, admitted-done, settle-does}
+use Rattle.call_meaning.proofs.Refusals.{Harmless, admitted-harmless, done-harmless, settle-does}
 
 -- ---- the first tests
 module _ (im : List ℕ) (ph : Phase) (may : Bool) {r : Answer} (e : r ≡ admitted im ph Answer.Done) where
@@ -42,8 +43,7 @@ expires h elapsed n = rw (ne-eqb (h .timeout) 0 n)
 -- ---- the event
 event-harmless : (may : Bool) → Harmless (pick may Answer.Done Answer.WrongPhase)
 unfolding effectOf
-event-harmless true = λ n. cc
-event-harmless false = λ n. refl
+event-harmless may = pick-all Harmless may done-harmless (λ n. refl)
 
 module _ (im : List ℕ) (ph : Phase) (may : Bool) {m : Bool} {r : Answer} (em : m ≡ may) (er : r ≡ eventAnswer im ph m) where
   is-answer : r ≡ eventAnswer im ph may

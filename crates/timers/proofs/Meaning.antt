@@ -5,35 +5,36 @@ use mathlib.Core.List.{List, [], map}
 use mathlib.Core.Logic.{_≢_}
 use Prim.Native.Nat.{ℕ}
 use native.Mathlib.Omega.{arith}
-use borrow.Author.Tests.{eqb-true, eqb-false, le-leb, lt-leb}
+use borrow.Author.Tests.{eqb-false, le-leb, lt-leb}
 use lib.Dec.{eqb}
 use lib.ListN.{getD, length-map, List·getD-map}
 use lib.Seq.{ext-getD}
 use Rattle.octets.specs.Pick.{pick}
+use Rattle.octets.proofs.Choice.{by-test, pick-all}
 use Rattle.label_list.specs.Word.{codeOf, wordOf}
 use Rattle.label_list.specs.Rules.{codeSwept}
 use Rattle.label_list.specs.Sweep.{wordSwept, sweptOf}
 use Rattle.label_list.specs.declared.SweepRule.the-variants.{AfterBreak}
-use Rattle.label_list.proofs.Choice.{by-test, pick-all}
 use Rattle.label_meaning.specs.Valid.{InRange, IsValid}
 use Rattle.label_meaning.proofs.Meaning.{valid-means}
 use Rattle.image.specs.State.{decode}
 use Rattle.image.proofs.Stored.{state-eq}
-use Rattle.image.proofs.Sound.{sound-valid, parts-sound}
-use Rattle.image.proofs.Changes.{release-decodes}
+use Rattle.image.proofs.Same.{word-kept}
+use Rattle.image.proofs.Sound.{sound-valid}
+use Rattle.image.proofs.Changes.{release-decodes, break-decodes}
 use Rattle.calls.specs.declared.Answer
 use Rattle.calls.specs.declared.Answer.{Answer}
 use Rattle.calls.specs.declared.Phase
 use Rattle.calls.specs.declared.Phase.{Phase}
 use Rattle.calls.specs.Outcomes.{unchanged, failedWith, releasedWith}
-use Rattle.calls.proofs.Settled.{Admitted, admitted-is}
+use Rattle.calls.proofs.Settled.{admitted-is}
 use Rattle.calls.proofs.Phasing.{resting-failed, resting-idle}
 use Rattle.timers.specs.Events.{connected, waiting, eventAnswer, connectionFailedOf, expired, timePassedOf}
 use Rattle.call_meaning.specs.Standing.{Standing, Stands}
 use Rattle.timers.specs.Meaning.{freed, failedState, FailedFrom, ReleasedFrom, TimePassed}
 use Rattle.call_meaning.proofs.Refusals.{settle-does}
 use Rattle.timers.proofs.Judged.{never-expires, expires}
-use Rattle.call_meaning.proofs.Stands.{break-decodes, failed-stands, released-stands, settled-stands}
+use Rattle.call_meaning.proofs.Stands.{standing-admitted, failed-stands, released-stands, settled-stands}
 
 -- ---- the words
 -- a word that is free or in range is freed exactly if its code is 6
@@ -42,12 +43,7 @@ unfolding wordSwept wordOf codeSwept
 word-freed w range =
     by-test (eqb (codeOf w) 6)
     (λ six. rw six)
-    (λ other. rw other (by-test (eqb (codeOf w) 0)
-    (λ z. rw z (free (eqb-true (codeOf w) 0 z)))
-    (λ z. rw z (omega arith))))
-  where
-    free : codeOf w ≡ 0 → 0 ≡ w
-    free z = by-test (eqb w 0) (λ e. sym (eqb-true w 0 e)) (λ e. let r : InRange w = range (eqb-false w 0 e) in absurd (omega arith))
+    (λ other. word-kept w range (eqb-false (codeOf w) 6 other) ∙ (rw other))
 
 words-freed : (ls : List ℕ) → IsValid ls → sweptOf ls AfterBreak ≡ map freed ls
 unfolding wordSwept wordOf codeSwept
@@ -57,13 +53,10 @@ words-freed ls v =
 
 -- ---- a failed connection
 module _ (im : List ℕ) (ph : Phase) (st : Standing im ph) where
-  admitted : Admitted im ph
-  admitted = record { passes = parts-sound im (st .sound); fits = st .fits }
-
   -- an event that may come is done
   event-comes : {may : Bool} → may ≡ true → eventAnswer im ph may ≡ Answer.Done
   unfolding eventAnswer
-  event-comes e = rw e (admitted-is admitted Answer.Done)
+  event-comes e = rw e (admitted-is (standing-admitted st) Answer.Done)
 
   pub failed-is : connected ph ≡ true → connectionFailedOf im ph ≡ failedWith Answer.Done im []
   unfolding connectionFailedOf

@@ -1,30 +1,33 @@
--- What a TLV's place says, by the test whether it stands. Assumes nothing.
-use Prim.Native.Nat.{ℕ, _+_, _≤_}
+-- What a TLV's place says: its part lies within the message, its label is one, its numbers have their widths. Assumes nothing.
+use Prim.Native.Nat.{ℕ, _+_, _≤_, _<_}
 use mathlib.Core.Path.{_≡_, refl}
 use mathlib.Core.Bool.{Bool, true, false}
 use mathlib.Core.List.{List}
 use native.Mathlib.Omega.{arith}
-use borrow.Author.Tests.{eq-eqb, ne-eqb, eqb-false}
+use borrow.Author.Tests.{eqb-false}
 use lib.ListN.{length, drop}
 use lib.Dec.{eqb}
 use Rattle.octets.specs.Be.{beAt}
+use Rattle.octets.specs.Bytes.{Bytes}
 use Rattle.octets.specs.Pick.{pick}
+use Rattle.octets.proofs.Be.{beAt-lt}
+use Rattle.octets.proofs.Bytes.{beAt-drop}
+use Rattle.octets.proofs.Choice.{cleared}
+use Rattle.ft_number.specs.declared.FtNumber.{FtNumber}
 use Rattle.tlv.specs.Tlv.{largestLabel}
-use Rattle.tlv.specs.Value.{Within, partAt, fieldAt}
+use Rattle.tlv.specs.Value.{Within, partAt, fieldAt, numberAt, parametersAt, sessionAt, topBit}
 use Rattle.tlv.specs.declared.Field
 use Rattle.tlv.specs.declared.Field.{Field}
+use Rattle.tlv.specs.declared.FtField
+use Rattle.tlv.specs.declared.FtField.{FtField}
+use Rattle.tlv.specs.declared.Parameters
+use Rattle.tlv.specs.declared.Parameters.{Parameters}
 use Rattle.tlv.specs.declared.Part.{Part}
+use Rattle.tlv.specs.declared.Session
+use Rattle.tlv.specs.declared.Session.{Session}
 use Rattle.tlv.specs.declared.walk.Tlv
 use Rattle.tlv.specs.declared.walk.Tlv.{Tlv}
-use Rattle.octets.proofs.Bytes.{beAt-drop}
 use Rattle.tlv.proofs.Places.{Lies}
-
-module _ {X : Type 0} (a b : ℕ) (x y : X) where
-  pub where-equal : a ≡ b → x ≡ pick (eqb a b) x y
-  where-equal e = simp (eq-eqb a b e)
-
-  pub where-apart : (a ≡ b → ⊥) → {z : X} → z ≡ y → z ≡ pick (eqb a b) x y
-  where-apart h e = simp (ne-eqb a b h) e
 
 -- the value's part lies within the message
 pub record InMessage (m : List ℕ) (part : Part) : Type 0 where
@@ -42,11 +45,32 @@ part-in m place within = go (eqb place 0) refl
 -- a label that was found is no higher than the largest
 pub field-low : (m : List ℕ) (place l : ℕ) → Lies m Tlv.Label place → fieldAt m place ≡ Field.Value l → l ≤ largestLabel
 unfolding fieldAt
-field-low m place l lies e = go (eqb place 0) refl e
-  where
-    go : (b : Bool) → eqb place 0 ≡ b → pick b Field.Absent (Field.Value (beAt 4 m (place + 4))) ≡ Field.Value l → l ≤ largestLabel
-    go true q h = let z : _≡_ {A = ℕ} 0 1 = cc in absurd (omega arith)
-    go false q h =
-        let value : beAt 4 m (place + 4) ≡ l = cc in
-        let low : beAt 4 (drop place m) 4 ≤ largestLabel = lies (eqb-false place 0 q) .low in
-        omega (arith, beAt-drop 4 place m 4)
+field-low m place l lies e =
+    let p = cleared (eqb place 0) Field.Absent (Field.Value (beAt 4 m (place + 4))) (Field.Value l) (λ z. cc) e in
+    let value : beAt 4 m (place + 4) ≡ l = cc (p .1) in
+    let low : beAt 4 (drop place m) 4 ≤ largestLabel = lies (eqb-false place 0 (p .0)) .low in
+    omega (arith, beAt-drop 4 place m 4)
+
+-- ---- the widths of the numbers in a message of bytes
+module _ (m : List ℕ) (byte : Bytes m) (place : ℕ) where
+  pub number-width : (a : FtNumber) → numberAt m place ≡ FtField.Number a → a .0 < 4294967296
+  unfolding numberAt
+  number-width a e =
+      let p = cleared (eqb place 0) FtField.Absent (FtField.Number (record { 0 = beAt 4 m (place + 4) })) (FtField.Number a) (λ z. cc) e in
+      let n : beAt 4 m (place + 4) ≡ a .0 = cc (p .1) in
+      rw (← n) (beAt-lt 4 m (place + 4) byte)
+
+  pub parameters-width : (ka mp : ℕ) → parametersAt m place ≡ Parameters.Given ka mp → (ka < 65536) × (mp < 65536)
+  unfolding parametersAt
+  parameters-width ka mp e =
+      let p = cleared (eqb place 0) Parameters.Absent (Parameters.Given (beAt 2 m (place + 6)) (beAt 2 m (place + 10))) (Parameters.Given ka mp) (λ z. cc) e in
+      let k : beAt 2 m (place + 6) ≡ ka = cc (p .1) in
+      let n : beAt 2 m (place + 10) ≡ mp = cc (p .1) in
+      (rw (← k) (beAt-lt 2 m (place + 6) byte), rw (← n) (beAt-lt 2 m (place + 10) byte))
+
+  pub session-width : (r : Bool) (n : ℕ) → sessionAt m place ≡ Session.Given r n → n < 65536
+  unfolding sessionAt
+  session-width r n e =
+      let p = cleared (eqb place 0) Session.Absent (Session.Given (topBit (beAt 4 m (place + 4))) (beAt 2 m (place + 6))) (Session.Given r n) (λ z. cc) e in
+      let k : beAt 2 m (place + 6) ≡ n = cc (p .1) in
+      rw (← k) (beAt-lt 2 m (place + 6) byte)

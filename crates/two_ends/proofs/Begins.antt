@@ -5,7 +5,7 @@ use mathlib.Core.Path.{_≡_, refl, _∙_}
 use mathlib.Core.Bool.{true}
 use mathlib.Core.List.{List, []}
 use Rattle.image.specs.State.{State, decode}
-use Rattle.image.proofs.Ranges.{Bytes}
+use Rattle.octets.specs.Bytes.{Bytes}
 use Rattle.calls.specs.declared.Answer
 use Rattle.calls.specs.declared.Answer.{Answer}
 use Rattle.calls.specs.declared.Phase
@@ -14,13 +14,13 @@ use Rattle.calls.specs.Outcomes.{After, isDone, releasedWith}
 use Rattle.calls.proofs.Settled.{admitted-is}
 use Rattle.call_meaning.specs.Standing.{Standing}
 use Rattle.call_meaning.proofs.Answered.{answered-released}
+use Rattle.call_meaning.proofs.Stands.{standing-admitted}
 use Rattle.init.specs.declared.Start
 use Rattle.init.specs.declared.Start.{Start}
 use Rattle.init.specs.Judged.{startAnswer}
 use Rattle.init.specs.Begun.{startState, startPhase, begunAs, initStart, initReceivedOf}
 use Rattle.init.specs.Meaning.{BegunFrom}
 use Rattle.init.proofs.Meaning.{init-decodes, init-stands}
-use Rattle.two_ends.proofs.Quiet.{standing-admitted}
 
 -- ---- what the call leaves
 module _ (im : List ℕ) (t : ℕ) (m : List ℕ) where

@@ -13,7 +13,7 @@ use Rattle.octets.specs.Pick.{pick}
 use Rattle.ft_number.specs.Timeout.{proposedOf}
 use Rattle.ft_number.proofs.Circle.{after-none}
 use Rattle.message_writer.specs.ReadBack.{AckFits}
-use Rattle.label_list.proofs.Choice.{pick-all}
+use Rattle.octets.proofs.Choice.{pick-all}
 use Rattle.block0.specs.declared.Header.{Header}
 use Rattle.image.specs.State.{decode}
 use Rattle.image.specs.Events.{released}
@@ -25,6 +25,7 @@ use Rattle.calls.specs.Outcomes.{After, roomFor, wrote}
 use Rattle.calls.proofs.Settled.{admitted-is}
 use Rattle.calls.proofs.Ends.{settle-done}
 use Rattle.call_meaning.specs.Standing.{Standing}
+use Rattle.call_meaning.proofs.Stands.{standing-admitted}
 use Rattle.connect.specs.Writers.{opens, keptAck, openOf, writerOf}
 use Rattle.connect.proofs.Written.{kept-clear}
 use Rattle.two_ends.specs.World.{none}
@@ -32,7 +33,6 @@ use Rattle.two_ends.specs.Start.{Opener, opener, firstInit, start, Sound
 use Rattle.two_ends.proofs.Half.{Half}
 use Rattle.two_ends.proofs.Packets.{Packet, first, Fine}
 use Rattle.two_ends.proofs.Invariant.{sideOf, sndOf, rcvOf, Leads, Ready, Dir, Good}
-use Rattle.two_ends.proofs.Quiet.{standing-admitted}
 use Rattle.two_ends.proofs.Opening.{seconds-small}
 
 -- the first Init of an end

@@ -13,7 +13,7 @@ use Rattle.ft_number.specs.Circle.{after, stepsOf}
 use Rattle.ft_number.specs.Ack.{ackOf}
 use Rattle.ft_number.specs.declared.Ack
 use Rattle.ft_number.specs.declared.Ack.{Ack}
-use Rattle.label_list.proofs.Choice.{by-test}
+use Rattle.octets.proofs.Choice.{by-test}
 use Rattle.calls.specs.Phases.{countOf}
 use Rattle.two_ends.proofs.Positions.{num, num-after, num-count, num-ack}
 use Rattle.two_ends.proofs.Half.{Snd, Rcv, Books}

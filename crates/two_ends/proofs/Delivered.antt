@@ -4,7 +4,7 @@ use mathlib.Core.Path.{_≡_, refl, sym, _∙_}
 use mathlib.Core.Bool.{Bool, true, false, not, true≢false}
 use mathlib.Core.List.{List, [], _∷_, map}
 use Rattle.octets.specs.Pick.{both}
-use Rattle.label_list.proofs.Choice.{both-true}
+use Rattle.octets.proofs.Choice.{both-true}
 use Rattle.image.specs.State.{decode}
 use Rattle.calls.specs.declared.Phase
 use Rattle.calls.specs.declared.Phase.{Phase}

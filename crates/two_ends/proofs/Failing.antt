@@ -19,7 +19,8 @@ use Rattle.calls.specs.Phases.{restingPhase}
 use Rattle.calls.specs.Outcomes.{failedWith}
 use Rattle.calls.proofs.Phasing.{resting-failed}
 use Rattle.call_meaning.specs.Standing.{Standing}
-use Rattle.call_meaning.proofs.Stands.{break-decodes, failed-stands}
+use Rattle.image.proofs.Changes.{break-decodes}
+use Rattle.call_meaning.proofs.Stands.{failed-stands}
 use Rattle.timers.specs.Events.{connected}
 use Rattle.two_ends.specs.World.{History, End}
 use Rattle.two_ends.proofs.Invariant.{Ready, Some}

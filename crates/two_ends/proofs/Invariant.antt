@@ -12,7 +12,7 @@ use Rattle.image.specs.Events.{released}
 use Rattle.calls.specs.declared.Phase
 use Rattle.calls.specs.declared.Phase.{Phase}
 use Rattle.call_meaning.specs.Standing.{Standing}
-use Rattle.send.specs.Rule.{isUp, sentOf}
+use Rattle.send.specs.Rule.{isUpFT, sentOf}
 use Rattle.init.specs.Begun.{awaits, proposalOf}
 use Rattle.two_ends.specs.World.{History, End, World, none}
 use Rattle.two_ends.specs.Calls.{keeps}
@@ -48,7 +48,7 @@ rcvOf s h = record { S = s .header .secured .0; secured = h .secured }
 
 -- up on the present connection
 abbrev pub live : Side → Bool
-live x = both (x .joined) (isUp (x .phase))
+live x = both (x .joined) (isUpFT (x .phase))
 
 -- ---- what stands on a line
 -- R is zero in that Init, or in ours

@@ -4,7 +4,7 @@ use mathlib.Core.Path.{_≡_, _∙_}
 use mathlib.Core.Bool.{Bool, true, false}
 use mathlib.Core.List.{List, [], _∷_}
 use borrow.Author.Tests.{eqb-true}
-use Rattle.label_list.proofs.Choice.{pick-all}
+use Rattle.octets.proofs.Choice.{pick-all}
 use Rattle.image.specs.State.{decode}
 use Rattle.calls.specs.declared.Phase.{Phase}
 use Rattle.calls.specs.Outcomes.{After, isDone}
@@ -14,8 +14,9 @@ use Rattle.connect.specs.Writers.{openOf, keepaliveOf}
 use Rattle.send.specs.Rule.{sendOf}
 use Rattle.submit.specs.Act.{submitOf}
 use Rattle.timers.specs.Events.{connectionFailedOf, timePassedOf}
+use Rattle.session.specs.Store.{slotAlone}
 use Rattle.two_ends.specs.World.{History, World, swap}
-use Rattle.two_ends.specs.Calls.{called, replaced, plainly, put, counts, accepts, submitted, wrote, on, opened, slotStored}
+use Rattle.two_ends.specs.Calls.{called, replaced, plainly, put, counts, accepts, submitted, wrote, on, opened}
 use Rattle.two_ends.specs.Runs.{Event, submits, sends, keepalives, opens, passes, delivers, breaks, notices, restarts, halts, act, step, run, AllProper}
 use Rattle.two_ends.specs.Start.{Opener, start, Sound, Afresh}
 use Rattle.two_ends.specs.Staying.{Releasing, ReleasingAt, NoneReleases, Stays}
@@ -69,7 +70,7 @@ module _ (w : World) (g : Good w) (s : Stays w) where
   act-stays breaks n = broken-stays w s
   act-stays notices n = plain-stays (connectionFailedOf im ph) (notice-moved im ph stand .terms)
   act-stays restarts n = plain-stays (restoreOf im) (restore-moved im ph stand .terms)
-  act-stays (halts m) n = plain-stays (restoreOf (slotStored im (submitOf im ph m))) (halt-moved im ph m stand .terms)
+  act-stays (halts m) n = plain-stays (restoreOf (slotAlone im (submitOf im ph m))) (halt-moved im ph m stand .terms)
 
 -- ---- over a run
 swap-stays : (w : World) → Stays w → Stays (swap w)

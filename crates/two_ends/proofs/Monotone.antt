@@ -4,12 +4,13 @@ use mathlib.Core.Path.{_≡_}
 use mathlib.Core.Bool.{Bool, true, false, not}
 use mathlib.Core.List.{List, [], _∷_}
 use Rattle.octets.specs.Pick.{pick, both}
-use Rattle.label_list.proofs.Choice.{both-true}
+use Rattle.octets.proofs.Choice.{both-true}
 use Rattle.calls.specs.Outcomes.{After, isDone}
 use Rattle.connect.specs.Writers.{openOf}
 use Rattle.init.specs.declared.Start.{Start}
 use Rattle.init.specs.Begun.{awaits, initStart, initReceivedOf}
 use Rattle.receive.specs.Rule.{receiveOf}
+use Rattle.session.specs.Store.{slotAlone}
 use Rattle.two_ends.specs.World.{End, World, swap}
 use Rattle.two_ends.specs.Calls.{broken, keeps, called, replaced, plainly, put, on, greeted, greets, anew, took, receives, delivered, delivery}
 use Rattle.two_ends.specs.Runs.{Event, submits, sends, keepalives, opens, passes, delivers, breaks, notices, restarts, halts, act, step}
@@ -19,7 +20,7 @@ use Rattle.connect.specs.Writers.{keepaliveOf}
 use Rattle.send.specs.Rule.{sendOf}
 use Rattle.submit.specs.Act.{submitOf}
 use Rattle.timers.specs.Events.{connectionFailedOf, timePassedOf}
-use Rattle.two_ends.specs.Calls.{counts, accepts, submitted, wrote, slotStored}
+use Rattle.two_ends.specs.Calls.{counts, accepts, submitted, wrote}
 
 -- ---- once a state is released it stays so
 replaced-back : (w : World) (e : End) (ab ba : List (List ℕ)) → replaced w e ab ba .kept ≡ true → w .kept ≡ true
@@ -75,7 +76,7 @@ act-back w delivers k = delivery-back w (w .a .joined) (w .ba) k
 act-back w breaks k = both-true (w .kept) (both (w .a .begun) (w .b .begun)) k .0
 act-back w notices k = plain-back w (connectionFailedOf (w .a .image) (w .a .phase)) k
 act-back w restarts k = plain-back w (restoreOf (w .a .image)) k
-act-back w (halts m) k = plain-back w (restoreOf (slotStored (w .a .image) (submitOf (w .a .image) (w .a .phase) m))) k
+act-back w (halts m) k = plain-back w (restoreOf (slotAlone (w .a .image) (submitOf (w .a .image) (w .a .phase) m))) k
 
 pub step-back : (w : World) (at : Bool) (v : Event) → step w at v .kept ≡ true → w .kept ≡ true
 step-back w true v k = act-back w v k

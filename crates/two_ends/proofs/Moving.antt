@@ -9,7 +9,7 @@ use lib.ListN.{length}
 use Rattle.ft_number.specs.declared.MessageId.{MessageId}
 use Rattle.ft_number.specs.declared.Proposal.{Proposal}
 use Rattle.message_writer.specs.declared.OwnParameters.{OwnParameters}
-use Rattle.label_list.proofs.Choice.{by-test, pick-all}
+use Rattle.octets.proofs.Choice.{by-test, pick-all}
 use Rattle.image.specs.State.{State, decode}
 use Rattle.calls.specs.declared.Answer
 use Rattle.calls.specs.declared.Answer.{Answer}
@@ -21,10 +21,9 @@ use Rattle.calls.specs.Answers.{effectOf}
 use Rattle.calls.specs.Phases.{issuedCount}
 use Rattle.calls.specs.Outcomes.{After, isDone, failedWith}
 use Rattle.call_meaning.specs.Standing.{Standing}
-use Rattle.call_meaning.proofs.Stands.{break-decodes}
+use Rattle.image.proofs.Changes.{break-decodes}
 use Rattle.submit.specs.Rule.{submitAnswer}
 use Rattle.submit.specs.Act.{submitted, submitOf}
-use Rattle.submit.proofs.Passing.{done-or-nothing}
 use Rattle.submit.proofs.Meaning.{submit-decodes, submit-refusal}
 use Rattle.send.specs.Rule.{sentOf, sendAnswer, numbered, sentState, sendOf}
 use Rattle.send.proofs.Judged.{Sendable, answered-sendable}
@@ -34,7 +33,8 @@ use Rattle.connect.specs.Writers.{openOf, keepaliveOf}
 use Rattle.connect.proofs.Meaning.{restore-passes, open-leaves, alive-leaves}
 use Rattle.timers.specs.Events.{connected, waiting, connectionFailedOf, expired, timePassedOf}
 use Rattle.timers.proofs.Meaning.{failed-is, passed-is}
-use Rattle.two_ends.specs.Calls.{slotStored}
+use Rattle.session.specs.Store.{slotAlone}
+use Rattle.two_ends.proofs.Quiet.{done-or-nothing}
 use Rattle.two_ends.proofs.Resting.{unnoticed, untimed}
 use Rattle.two_ends.proofs.Cutting.{uncut}
 use Rattle.two_ends.proofs.Sent.{unsent, sent-is}
@@ -118,9 +118,9 @@ module _ (im : List ℕ) where
       (λ t. absurd (n refl t))
       (λ f. rw (passed-is im st elapsed (sym f)) (still (decode im)))
 
-pub halt-moved : (im : List ℕ) (ph : Phase) (m : List ℕ) → Standing im ph → Moved im (restoreOf (slotStored im (submitOf im ph m))) []
+pub halt-moved : (im : List ℕ) (ph : Phase) (m : List ℕ) → Standing im ph → Moved im (restoreOf (slotAlone im (submitOf im ph m))) []
 halt-moved im ph m st =
-    let im′ = slotStored im (submitOf im ph m) in
+    let im′ = slotAlone im (submitOf im ph m) in
     let u = uncut im ph m st in
     let st′ : Standing im′ ph = record { sound = u .sound; range = rw (u .state) (st .range); fits = rw (u .state) (st .fits) } in
     rw (u .state) at (restore-moved im′ ph st′)

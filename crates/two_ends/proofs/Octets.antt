@@ -13,7 +13,7 @@ use Rattle.message_writer.specs.Forms.{tlvBytes, messageBytes, ackTlv, paramete
 use Rattle.message_writer.specs.declared.OwnParameters.{OwnParameters}
 use Rattle.ft_number.specs.declared.FtNumber.{FtNumber}
 use Rattle.ft_number.specs.declared.MessageId.{MessageId}
-use Rattle.image.proofs.Ranges.{Bytes}
+use Rattle.octets.specs.Bytes.{Bytes}
 
 pub record Octets (s : List ℕ) : Type 0 where
   pub each : Bytes s

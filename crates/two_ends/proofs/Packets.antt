@@ -10,7 +10,7 @@ use Rattle.message_writer.specs.Forms.{initBytes, keepaliveBytes, protectedByte
 use Rattle.message_writer.specs.ReadBack.{AckFits, InitFits}
 use Rattle.message_writer.specs.declared.OwnParameters.{OwnParameters}
 use Rattle.slot.specs.Held.{Storable}
-use Rattle.image.proofs.Ranges.{Bytes}
+use Rattle.octets.specs.Bytes.{Bytes}
 use Rattle.two_ends.proofs.Octets.{init-octets, alive-octets, protected-octets}
 
 -- the Init of the start, a later Init, a KeepAlive in UpFT, and a message with its number

@@ -17,7 +17,7 @@ use Rattle.message.specs.declared.Submission.{Submission}
 use Rattle.label_list.specs.Valid.{validOf}
 use Rattle.label_list.specs.declared.LabelMessage.{LabelMessage}
 use Rattle.label_list.specs.declared.LabelMessage.the-variants.{Withdraw, Release}
-use Rattle.label_list.proofs.Choice.{by-test}
+use Rattle.octets.proofs.Choice.{by-test}
 use Rattle.label_events.specs.Change.{codeAt}
 use Rattle.label_meaning.specs.Event.{Accepted, Acked, step, withdraw-acked, release-acked}
 use Rattle.label_meaning.proofs.Meaning.{valid-means}

@@ -2,20 +2,22 @@
 use mathlib.Core.Path.{_≡_, refl}
 use mathlib.Core.Bool.{Bool, true, false}
 use mathlib.Core.List.{List}
+use mathlib.Core.Logic.{_⊎_, inl, inr}
 use Prim.Native.Nat.{ℕ}
 use native.Mathlib.Omega.{arith}
 use Rattle.octets.specs.Pick.{pick, both}
-use Rattle.label_list.proofs.Choice.{by-test}
-use Rattle.image.proofs.Sound.{parts-sound}
+use Rattle.octets.proofs.Choice.{by-test}
+use Rattle.calls.specs.declared.Answer
 use Rattle.calls.specs.declared.Answer.{Answer}
 use Rattle.calls.specs.declared.Effect
 use Rattle.calls.specs.declared.Effect.{Effect}
 use Rattle.calls.specs.declared.Phase.{Phase}
 use Rattle.calls.specs.Answers.{effectOf}
 use Rattle.calls.specs.Outcomes.{After, isDone, settleOf}
-use Rattle.calls.proofs.Settled.{Admitted}
+use Rattle.calls.proofs.Effects.{done-is}
 use Rattle.calls.proofs.Ends.{settle-refusal}
-use Rattle.call_meaning.specs.Standing.{Standing}
+use Rattle.submit.specs.Rule.{submitAnswer}
+use Rattle.submit.proofs.Passing.{submit-harmless}
 use Rattle.two_ends.specs.World.{History, End}
 use Rattle.two_ends.specs.Calls.{called, put, counts}
 use Rattle.two_ends.proofs.Invariant.{Some}
@@ -34,9 +36,12 @@ pub nothing-still : (a : Answer) → effectOf a ≡ Effect.Nothing → isDone a 
 unfolding effectOf
 nothing-still a e = by-test (isDone a) (λ t. let p : Effect.Act ≡ Effect.Nothing = rw t at e in let z : _≡_ {A = ℕ} 0 1 = cc in absurd (omega arith)) (λ n. n)
 
--- an image and a phase that stand pass the first tests
-pub standing-admitted : {im : List ℕ} {ph : Phase} → Standing im ph → Admitted im ph
-standing-admitted {im} st = record { passes = parts-sound im (st .sound); fits = st .fits }
+-- Submit is done, or changes nothing
+pub done-or-nothing : (im : List ℕ) (ph : Phase) (m : List ℕ) → (submitAnswer im ph m ≡ Answer.Done) ⊎ (effectOf (submitAnswer im ph m) ≡ Effect.Nothing)
+done-or-nothing im ph m =
+    by-test (isDone (submitAnswer im ph m))
+    (λ t. inl (done-is (submitAnswer im ph m) t))
+    (λ n. inr (submit-harmless im ph m n))
 
 -- ---- it leaves the end as it was, and writes nothing
 put-by : (jo b : Bool) (line more : List (List ℕ)) → b ≡ false → pick (both jo b) more line ≡ line

@@ -4,7 +4,7 @@ use mathlib.Core.Path.{_≡_, refl, sym}
 use mathlib.Core.Bool.{Bool, true, false, true≢false}
 use mathlib.Core.List.{List, []}
 use lib.ListN.{length}
-use Rattle.label_list.proofs.Choice.{by-test}
+use Rattle.octets.proofs.Choice.{by-test}
 use Rattle.image.specs.Sizes.{imageSize}
 use Rattle.image.specs.State.{decode}
 use Rattle.image.specs.Events.{releaseOf}
@@ -21,12 +21,13 @@ use Rattle.connect.specs.Start.{restoreOf}
 use Rattle.connect.proofs.Meaning.{restore-passes}
 use Rattle.timers.specs.Events.{connected, waiting, eventAnswer, connectionFailedOf, expired, timePassedOf}
 use Rattle.timers.proofs.Meaning.{failed-is, passed-is}
+use Rattle.call_meaning.proofs.Stands.{standing-admitted}
 use Rattle.two_ends.specs.World.{History, End, World}
 use Rattle.two_ends.specs.Calls.{keeps, called, plainly}
 use Rattle.two_ends.proofs.Invariant.{Waiting, Some, Good}
 use Rattle.two_ends.proofs.Worlds.{ended, begun-else, at-replaced, settled-same, Settled}
 use Rattle.two_ends.proofs.Failing.{failing}
-use Rattle.two_ends.proofs.Quiet.{Quiet, settled-quiet, standing-admitted, quietly}
+use Rattle.two_ends.proofs.Quiet.{Quiet, settled-quiet, quietly}
 
 -- a call that touches no line
 pub at-plain : (w : World) (x : After) → Good w

@@ -7,7 +7,7 @@ use mathlib.Core.List.{List, [], _∷_, _++_}
 use mathlib.Core.Logic.{inl}
 use lib.ListN.{length, drop}
 use lib.Seq.{drop-cons}
-use Rattle.label_list.proofs.Choice.{by-test}
+use Rattle.octets.proofs.Choice.{by-test}
 use Rattle.image.specs.State.{State, decode}
 use Rattle.image.proofs.Queue.{queue-length}
 use Rattle.calls.specs.declared.Phase

@@ -10,7 +10,7 @@ use Rattle.ft_number.specs.Circle.{after}
 use Rattle.ft_number.specs.declared.FtNumber.{FtNumber}
 use Rattle.tlv.specs.declared.FtField
 use Rattle.tlv.specs.declared.FtField.{FtField}
-use Rattle.label_list.proofs.Choice.{pick-all}
+use Rattle.octets.proofs.Choice.{pick-all}
 use Rattle.image.specs.State.{State}
 use Rattle.calls.specs.declared.Phase
 use Rattle.calls.specs.declared.Phase.{Phase}

@@ -17,7 +17,7 @@ use Rattle.calls.specs.declared.Phase.{Phase}
 use Rattle.calls.specs.Answers.{effectOf}
 use Rattle.calls.specs.Outcomes.{isDone, wrote}
 use Rattle.call_meaning.proofs.Refusals.{Harmless, admitted-harmless, settle-does}
-use Rattle.send.specs.Rule.{isUp, sentOf, ackAsked, sendBytes, sendRule, sendAnswer, sendImage, sendOf}
+use Rattle.send.specs.Rule.{isUpFT, sentOf, ackAsked, sendBytes, sendRule, sendAnswer, sendImage, sendOf}
 use Rattle.two_ends.proofs.Packets.{Okay, Okays}
 use Rattle.two_ends.proofs.Quiet.{Quiet, settled-quiet}
 
@@ -33,7 +33,7 @@ pub unsent : (im : List ℕ) (ph : Phase) (ask : Bool) (out : List ℕ) → isDo
 unfolding sendOf sendAnswer sendRule
 unsent im ph ask out n =
     settled-quiet (sendAnswer im ph ask (length out)) ph im out _
-    (admitted-harmless im ph _ (rule-harmless (isUp ph) (ltb (sentOf ph) (decode im .header .held)) (ltb (length out) (length (sendBytes (decode im) (sentOf ph) ask)))) n) n
+    (admitted-harmless im ph _ (rule-harmless (isUpFT ph) (ltb (sentOf ph) (decode im .header .held)) (ltb (length out) (length (sendBytes (decode im) (sentOf ph) ask)))) n) n
 
 pub sent-is : (im : List ℕ) (ph : Phase) (ask : Bool) (out : List ℕ) → isDone (sendAnswer im ph ask (length out)) ≡ true
     → sendOf im ph ask out ≡ wrote (Phase.UpFT (sentOf ph + 1)) im (sendImage im (sentOf ph)) out (sendBytes (decode im) (sentOf ph) ask)

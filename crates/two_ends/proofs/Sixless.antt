@@ -22,7 +22,7 @@ use Rattle.label_list.specs.declared.Protection.{Protection}
 use Rattle.label_list.specs.declared.Side.{Side}
 use Rattle.label_list.specs.declared.Side.the-variants.{Used}
 use Rattle.label_list.specs.declared.SweepRule.the-variants.{AfterBreak}
-use Rattle.label_list.proofs.Choice.{by-test, pick-all}
+use Rattle.octets.proofs.Choice.{by-test, pick-all}
 use Rattle.label_list.proofs.Standing.{free-stands}
 use Rattle.label_events.specs.Change.{codeAt}
 use Rattle.label_events.specs.Protect.{protectionOf}

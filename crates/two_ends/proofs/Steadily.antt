@@ -5,7 +5,7 @@ use mathlib.Core.Bool.{Bool, true, false, true≢false}
 use mathlib.Core.List.{List, []}
 use Rattle.message_writer.specs.declared.OwnParameters.{OwnParameters}
 use borrow.Author.Tests.{eqb-true}
-use Rattle.label_list.proofs.Choice.{by-test, pick-all}
+use Rattle.octets.proofs.Choice.{by-test, pick-all}
 use Rattle.image.specs.State.{decode}
 use Rattle.calls.specs.declared.Phase
 use Rattle.calls.specs.declared.Phase.{Phase}
@@ -13,12 +13,13 @@ use Rattle.calls.specs.Outcomes.{After, isDone}
 use Rattle.call_meaning.specs.Standing.{Standing}
 use Rattle.connect.specs.Start.{restoreOf}
 use Rattle.connect.specs.Writers.{openOf, keepaliveOf}
-use Rattle.send.specs.Rule.{isUp, sendOf}
+use Rattle.send.specs.Rule.{isUpFT, sendOf}
 use Rattle.submit.specs.Act.{submitOf}
 use Rattle.timers.specs.Events.{connectionFailedOf, timePassedOf}
 use Rattle.init.specs.Begun.{awaits}
+use Rattle.session.specs.Store.{slotAlone}
 use Rattle.two_ends.specs.World.{End, World}
-use Rattle.two_ends.specs.Calls.{called, plainly, put, counts, accepts, wrote, on, opened, slotStored}
+use Rattle.two_ends.specs.Calls.{called, plainly, put, counts, accepts, wrote, on, opened}
 use Rattle.two_ends.specs.Runs.{Event, submits, sends, keepalives, opens, passes, delivers, breaks, notices, restarts, halts, Proper, act}
 use Rattle.two_ends.specs.Steady.{Mild, Steadily}
 use Rattle.two_ends.proofs.Invariant.{Waiting, Good}
@@ -32,7 +33,7 @@ use Rattle.two_ends.proofs.Undisturbed.{delivers-steady}
 pub unbegun : (o : OwnParameters) (e : End) → e .begun ≡ false → Settled o e
 unbegun o e n = record { keepalive = λ g. absurd (true≢false (sym g ∙ n)); maxpdu = λ g. absurd (true≢false (sym g ∙ n)); mild = λ g. absurd (true≢false (sym g ∙ n)) }
 
-sends-begun : (ph : Phase) → isUp ph ≡ true → awaits ph ≡ true → ⊥
+sends-begun : (ph : Phase) → isUpFT ph ≡ true → awaits ph ≡ true → ⊥
 sends-begun Phase.Idle u v = true≢false (sym u)
 sends-begun (Phase.InitWait t) u v = true≢false (sym u)
 sends-begun (Phase.UpFT sent) u v = true≢false (sym v)
@@ -76,7 +77,7 @@ module _ (oa ob : OwnParameters) (w : World) (g : Good w) (k : w .kept ≡ true)
       called-settled ob (w .a) (sendOf im ph ask out) (w .a .history) (m .terms) (moved-mild m) (s .a))
       (λ n. unbegun ob (called (w .a) (sendOf im ph ask out) (w .a .history)) n)
 
-  sending-mild : isUp ph ≡ true → All Mild (decode im .queue)
+  sending-mild : isUpFT ph ≡ true → All Mild (decode im .queue)
   sending-mild u = s .a .mild (begun-else (g k .2 .own) (λ (v : Waiting (w .a)). sends-begun ph u (v .waits)))
 
   -- ---- every event
@@ -98,4 +99,4 @@ module _ (oa ob : OwnParameters) (w : World) (g : Good w) (k : w .kept ≡ true)
   act-steady breaks p q = broken-steady oa ob w s
   act-steady notices p q = plain-steady (connectionFailedOf im ph) (notice-moved im ph stand)
   act-steady restarts p q = plain-steady (restoreOf im) (restore-moved im ph stand)
-  act-steady (halts m) p q = plain-steady (restoreOf (slotStored im (submitOf im ph m))) (halt-moved im ph m stand)
+  act-steady (halts m) p q = plain-steady (restoreOf (slotAlone im (submitOf im ph m))) (halt-moved im ph m stand)

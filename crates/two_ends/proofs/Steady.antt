@@ -12,7 +12,7 @@ use Rattle.ft_number.specs.declared.MessageId.{MessageId}
 use Rattle.ft_number.specs.declared.Proposal.{Proposal}
 use Rattle.message_writer.specs.ReadBack.{AckFits}
 use Rattle.message_writer.specs.declared.OwnParameters.{OwnParameters}
-use Rattle.label_list.proofs.Choice.{by-test}
+use Rattle.octets.proofs.Choice.{by-test}
 use Rattle.block0.specs.declared.Header.{Header}
 use Rattle.image.specs.State.{State, decode}
 use Rattle.image.proofs.Queue.{queue-length, queue-storable}
@@ -20,7 +20,7 @@ use Rattle.calls.specs.declared.Phase
 use Rattle.calls.specs.declared.Phase.{Phase}
 use Rattle.calls.specs.Outcomes.{After, isDone, wrote}
 use Rattle.call_meaning.specs.Standing.{Standing}
-use Rattle.send.specs.Rule.{isUp as isSending, sentOf, nextMessage, numberAt, ackAsked, sendBytes, sendAnswer, sendImage, sendOf}
+use Rattle.send.specs.Rule.{isUpFT as isSending, sentOf, nextMessage, numberAt, ackAsked, sendBytes, sendAnswer, sendImage, sendOf}
 use Rattle.send.proofs.Judged.{Sendable, answered-sendable}
 use Rattle.send.proofs.Numbers.{number-fits}
 use Rattle.connect.specs.Writers.{opens, keptAck, openBytes, openOf, isUp, aliveAck, aliveBytes, keepaliveOf}

@@ -11,7 +11,7 @@ use Rattle.block0.specs.Layout.{slotCount}
 use Rattle.slot.specs.Held.{Storable}
 use Rattle.image.specs.State.{decode}
 use Rattle.image.proofs.Queue.{queue-length}
-use Rattle.image.proofs.Ranges.{Bytes}
+use Rattle.octets.specs.Bytes.{Bytes}
 use Rattle.image.proofs.Sound.{sound-valid}
 use Rattle.calls.specs.declared.Answer
 use Rattle.calls.specs.declared.Answer.{Answer}
@@ -22,7 +22,7 @@ use Rattle.calls.specs.Answers.{effectOf}
 use Rattle.call_meaning.specs.Standing.{Standing}
 use Rattle.submit.specs.Rule.{submitAnswer}
 use Rattle.submit.specs.Act.{submitted, submitImage, queued, submitOf}
-use Rattle.submit.proofs.Passing.{done-passes, passes-storable, done-or-nothing}
+use Rattle.submit.proofs.Passing.{done-passes, passes-storable}
 use Rattle.submit.proofs.Queueing.{in-range-submitted, image-decodes, image-sound}
 use Rattle.submit.proofs.Meaning.{submit-fits, submit-done}
 use Rattle.two_ends.specs.World.{History, End, World}
@@ -32,7 +32,7 @@ use Rattle.two_ends.proofs.Invariant.{Ready, Some, Good}
 use Rattle.two_ends.proofs.Sides.{dir-accept, dir-accept-peer}
 use Rattle.two_ends.proofs.Tidy.{tidy-submitted}
 use Rattle.two_ends.proofs.Worlds.{ended, ready-open, at-replaced, Settled}
-use Rattle.two_ends.proofs.Quiet.{Quiet, nothing-still, settled-quiet, quietly-counts}
+use Rattle.two_ends.proofs.Quiet.{Quiet, nothing-still, settled-quiet, quietly-counts, done-or-nothing}
 
 both-same : (b : Bool) → both b true ≡ b
 both-same true = refl

@@ -13,7 +13,7 @@ use Rattle.tlv.specs.declared.FtField.{FtField}
 use Rattle.message.specs.Submission.{submissionOf}
 use Rattle.message.specs.declared.Message.{Message}
 use Rattle.label_list.specs.Valid.{validOf}
-use Rattle.label_list.proofs.Choice.{pick-all}
+use Rattle.octets.proofs.Choice.{pick-all}
 use Rattle.image.specs.State.{State}
 use Rattle.image.specs.Events.{broken}
 use Rattle.calls.specs.Acked.{releasedLabels, acked}

@@ -6,7 +6,7 @@ use mathlib.Core.List.{List, []}
 use mathlib.Core.Logic.{_⊎_, inl, ⊎-elim}
 use borrow.Author.Tests.{eqb-true}
 use Rattle.octets.specs.Pick.{pick, both}
-use Rattle.label_list.proofs.Choice.{both-true}
+use Rattle.octets.proofs.Choice.{both-true}
 use Rattle.image.specs.State.{decode}
 use Rattle.calls.specs.declared.Phase
 use Rattle.calls.specs.declared.Phase.{Phase}

@@ -23,13 +23,14 @@ use Rattle.calls.proofs.Settled.{admitted-is}
 use Rattle.calls.proofs.Ends.{settle-done}
 use Rattle.call_meaning.specs.Standing.{Standing}
 use Rattle.connect.specs.Writers.{writerOf, isUp, aliveBytes, keepaliveOf}
+use Rattle.call_meaning.proofs.Stands.{standing-admitted}
 use Rattle.two_ends.specs.World.{History, End, World}
 use Rattle.two_ends.specs.Calls.{called, put, wrote as writes}
 use Rattle.two_ends.proofs.Packets.{Packet, alive, Fine, bytesOf}
 use Rattle.two_ends.proofs.Invariant.{Waiting, Ready, Some, Good}
 use Rattle.two_ends.proofs.Sides.{dir-alive, dir-alive-peer}
 use Rattle.two_ends.proofs.Worlds.{ended, kept-one, begun-else, ready-open, at-replaced, Settled}
-use Rattle.two_ends.proofs.Quiet.{Quiet, settled-quiet, standing-admitted, quietly-puts}
+use Rattle.two_ends.proofs.Quiet.{Quiet, settled-quiet, quietly-puts}
 
 -- ---- what a writer answers: it writes where it may and has room, or changes nothing
 pub record Wrote (im : List ℕ) (may : Bool) (next : Phase) (out bytes : List ℕ) (x : After) : Type 0 where

@@ -9,7 +9,6 @@ use Rattle.message.specs.Reading.{readingOf}
 use Rattle.message.specs.declared.Reading
 use Rattle.message.specs.declared.Reading.{Reading}
 use Rattle.message_writer.specs.Payload.{payloadOf}
-use Rattle.image.specs.Sizes.{block, withBlock}
 use Rattle.image.specs.State.{decode}
 use Rattle.calls.specs.Outcomes.{After, isDone}
 use Rattle.init.specs.declared.Start
@@ -136,8 +135,3 @@ abbrev pub delivery : Bool → List (List ℕ) → World → World
 delivery false line w = w
 delivery true [] w = w
 delivery true (m ∷ rest) w = delivered w m rest
-
--- ---- "A call cut before its block 0 is stored counts as not made": "A call stores at most one slot .. and then block 0"
--- the image with the slot alone stored that the call named
-abbrev pub slotStored : List ℕ → After → List ℕ
-slotStored im x = pick (eqb (x .outcome .slot) 0) im (withBlock im (x .outcome .slot) (block (x .image) (x .outcome .slot)))

@@ -6,14 +6,15 @@ use Rattle.ft_number.specs.declared.MessageId.{MessageId}
 use Rattle.ft_number.specs.declared.Proposal
 use Rattle.ft_number.specs.declared.Proposal.{Proposal}
 use Rattle.message_writer.specs.declared.OwnParameters.{OwnParameters}
-use Rattle.image.proofs.Ranges.{Bytes}
+use Rattle.octets.specs.Bytes.{Bytes}
 use Rattle.submit.specs.Act.{submitOf}
 use Rattle.send.specs.Rule.{sendOf}
 use Rattle.connect.specs.Start.{restoreOf}
 use Rattle.connect.specs.Writers.{openOf, keepaliveOf}
 use Rattle.timers.specs.Events.{connectionFailedOf, timePassedOf}
+use Rattle.session.specs.Store.{slotAlone}
 use Rattle.two_ends.specs.World.{World, swap}
-use Rattle.two_ends.specs.Calls.{broken, plainly, submitted, wrote, opened, delivery, slotStored}
+use Rattle.two_ends.specs.Calls.{broken, plainly, submitted, wrote, opened, delivery}
 
 -- at one end: every public call with whatever its owner gives, the oldest message delivered, the connection broken, and power lost
 pub data Event : Type 0 where
@@ -28,7 +29,7 @@ pub data Event : Type 0 where
   breaks notices : Event
   -- "restarts from the stored image"; a call cut with nothing stored is this too
   restarts : Event
-  -- power is lost in a Submit that has stored its slot, and not yet block 0
+  -- "A call cut before its block 0 is stored counts as not made": power is lost in a Submit that has stored its slot, and not yet block 0
   halts : List ℕ → Event
 
 -- what the types of the calls say of their inputs: bytes, and numbers of their width
@@ -64,7 +65,7 @@ act w delivers = delivery (w .a .joined) (w .ba) w
 act w breaks = broken w
 act w notices = plainly w (connectionFailedOf (w .a .image) (w .a .phase))
 act w restarts = plainly w (restoreOf (w .a .image))
-act w (halts m) = plainly w (restoreOf (slotStored (w .a .image) (submitOf (w .a .image) (w .a .phase) m)))
+act w (halts m) = plainly w (restoreOf (slotAlone (w .a .image) (submitOf (w .a .image) (w .a .phase) m)))
 
 -- at a, or at b
 abbrev pub step : World → Bool → Event → World

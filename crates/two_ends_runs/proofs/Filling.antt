@@ -19,9 +19,10 @@ use Rattle.message.specs.declared.Submission.{Submission}
 use Rattle.image.specs.State.{State, decode}
 use Rattle.image.specs.Events.{newImage}
 use Rattle.image.proofs.Changes.{in-range-released, new-decodes, new-sound}
-use Rattle.image.proofs.Ranges.{Bytes}
+use Rattle.octets.specs.Bytes.{Bytes}
 use Rattle.calls.specs.declared.Answer
 use Rattle.calls.specs.declared.Answer.{Answer}
+use Rattle.call_meaning.proofs.Stands.{standing-admitted}
 use Rattle.submit.specs.Act.{submitted, submitOf}
 use Rattle.submit.specs.Labels.{isBarred, acceptedAs}
 use Rattle.submit.specs.Passed.{Passes}
@@ -34,7 +35,6 @@ use Rattle.two_ends.specs.Demand.{held}
 use Rattle.two_ends.specs.Runs.{submits, step, run}
 use Rattle.two_ends.specs.Staying.{Stays}
 use Rattle.two_ends.proofs.Invariant.{Good}
-use Rattle.two_ends.proofs.Quiet.{standing-admitted}
 use Rattle.two_ends.proofs.Begun.{at-start}
 use Rattle.two_ends.proofs.Theorem.{at-step, at-run}
 use Rattle.two_ends.proofs.Kept.{stand, one, step-stays}

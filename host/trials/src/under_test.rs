@@ -1,3 +1,3 @@
 //! What is tested, measured and run. One line decides it.
 
-pub use model::Model as UnderTest;
+pub use ldp_ft::Library as UnderTest;

@@ -21,8 +21,5 @@ block0-is-valid-spec =
     (λ c. omega arith)
     (λ c κs. search needs)
     (λ c. search (needs, judged))
-    (λ c. search needs)
-    (λ c κs. search needs)
-    (λ c. search needs)
     (λ c κs. search needs)
     (λ c. search (needs, judged)))

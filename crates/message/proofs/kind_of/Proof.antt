@@ -4,20 +4,9 @@ use Rattle.message.proofs.kind_of.Statement.{statement}
 use Rattle.message.proofs.kind_of.Tie as tie
 
 pub kind-of-spec : {M : Type 1} → statement M
+unfolding kindOf
 kind-of-spec =
     tie.close
     (tie.spec
-    (λ c. search needs) (λ c. search needs) (λ c. search needs) (λ c. search needs)
-    (λ c. search needs) (λ c. search needs) (λ c. search needs) (λ c. search needs)
-    (λ c. search needs) (λ c. search needs) (λ c. search needs) (λ c. search needs)
-    (λ c. unfold kindOf in rw (c .before .enum-told .given .1) (c .notification-kind .ensures))
-    (λ c. unfold kindOf in rw (c .enum-told2 .given .1))
-    (λ c. unfold kindOf in rw (c .enum-told3 .given .1))
-    (λ c. unfold kindOf in rw (c .enum-told4 .given .1))
-    (λ c. unfold kindOf in rw (c .enum-told5 .given .1))
-    (λ c. unfold kindOf in rw (c .enum-told6 .given .1))
-    (λ c. unfold kindOf in rw (c .enum-told7 .given .1))
-    (λ c. unfold kindOf in rw (c .enum-told8 .given .1))
-    (λ c. unfold kindOf in rw (c .enum-told9 .given .1))
-    (λ c. unfold kindOf in rw (c .enum-told10 .given .1))
-    (λ c. unfold kindOf in rw (c .enum-told11 .given .1)))
+    (λ c κs. search needs)
+    (λ c. c .kind-for .ensures))

@@ -1,4 +1,4 @@
-use Rattle.call_meaning.proofs.Refusals.{denied, granted}
+use Rattle.octets.proofs.Choice.{denied, granted}
 use borrow.Author.Needs.{needs}
 use borrow.Author.Tests.{not-true, not-false}
 use Rattle.calls.specs.declared.Answer
@@ -15,9 +15,9 @@ judge-send-spec =
     (λ c κs. search needs)
     (λ c. judge-first _ _ _ (c .before .before .admit .ensures) (denied (c .before .is-done .ensures) (c .if1 .taken)))
     (λ c κs. search needs)
-    (λ c. judge-down _ _ _ (c .before .before .before .before .admit .ensures) (granted (c .before .before .before .is-done .ensures) (c .before .before .if1 .left)) (c .before .is-up .ensures) (not-true (c .before .is-up .result) (c .if2 .taken)))
+    (λ c. judge-down _ _ _ (c .before .before .before .before .admit .ensures) (granted (c .before .before .before .is-done .ensures) (c .before .before .if1 .left)) (c .before .is-up-ft .ensures) (not-true (c .before .is-up-ft .result) (c .if2 .taken)))
     (λ c κs. judge-sound _ _ Answer.Done (c .before .before .before .before .admit .ensures) (granted (c .before .before .before .is-done .ensures) (c .before .before .if1 .left)) .size)
     (λ c κs. search needs)
     (λ c. search needs)
-    (λ c. judge-none _ _ _ (c .before .before .before .before .before .before .before .before .admit .ensures) (granted (c .before .before .before .before .before .before .before .is-done .ensures) (c .before .before .before .before .before .before .if1 .left)) (c .before .before .before .before .before .is-up .ensures) (not-false (c .before .before .before .before .before .is-up .result) (c .before .before .before .before .if2 .left)) (c .before .before .before .header-of .ensures) (c .before .before .sent-of .ensures) (c .if3 .taken))
-    (λ c. judge-some _ _ _ (c .before .before .before .before .before .before .before .before .admit .ensures) (granted (c .before .before .before .before .before .before .before .is-done .ensures) (c .before .before .before .before .before .before .if1 .left)) (c .before .before .before .before .before .is-up .ensures) (not-false (c .before .before .before .before .before .is-up .result) (c .before .before .before .before .if2 .left)) (c .before .before .before .header-of .ensures) (c .before .before .sent-of .ensures) (c .if3 .left)))
+    (λ c. judge-none _ _ _ (c .before .before .before .before .before .before .before .before .admit .ensures) (granted (c .before .before .before .before .before .before .before .is-done .ensures) (c .before .before .before .before .before .before .if1 .left)) (c .before .before .before .before .before .is-up-ft .ensures) (not-false (c .before .before .before .before .before .is-up-ft .result) (c .before .before .before .before .if2 .left)) (c .before .before .before .header-of .ensures) (c .before .before .sent-of .ensures) (c .if3 .taken))
+    (λ c. judge-some _ _ _ (c .before .before .before .before .before .before .before .before .admit .ensures) (granted (c .before .before .before .before .before .before .before .is-done .ensures) (c .before .before .before .before .before .before .if1 .left)) (c .before .before .before .before .before .is-up-ft .ensures) (not-false (c .before .before .before .before .before .is-up-ft .result) (c .before .before .before .before .if2 .left)) (c .before .before .before .header-of .ensures) (c .before .before .sent-of .ensures) (c .if3 .left)))

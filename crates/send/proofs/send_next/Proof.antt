@@ -1,4 +1,4 @@
-use Rattle.call_meaning.proofs.Refusals.{denied, granted}
+use Rattle.octets.proofs.Choice.{denied, granted}
 use native.Mathlib.Omega.{arith}
 use borrow.Author.Needs.{needs}
 use Rattle.send.proofs.Judged.{Sendable, sendable-sound, sendable-few, judged-sendable, judged-refused}
@@ -21,7 +21,7 @@ send-next-spec =
     (λ c κs. search needs)
     (λ c. search needs)
     (λ c. let e = c .before .before .before .before .before .before .before .before .sent-of .ensures in omega (arith, e, sendable-few (judged-sendable _ _ _ (c .before .before .before .before .before .before .before .before .before .before .before .judge-send .ensures) (granted (c .before .before .before .before .before .before .before .before .before .before .is-done .ensures) (c .before .before .before .before .before .before .before .before .before .if1 .left)))))
-    (λ c κs. (sendable-sound (judged-sendable _ _ _ (c .before .before .before .before .before .before .before .before .before .before .before .before .judge-send .ensures) (granted (c .before .before .before .before .before .before .before .before .before .before .before .is-done .ensures) (c .before .before .before .before .before .before .before .before .before .before .if1 .left))) .size, let e = c .before .before .before .before .before .before .before .before .before .sent-of .ensures in omega (arith, e, sendable-few (judged-sendable _ _ _ (c .before .before .before .before .before .before .before .before .before .before .before .before .judge-send .ensures) (granted (c .before .before .before .before .before .before .before .before .before .before .before .is-done .ensures) (c .before .before .before .before .before .before .before .before .before .before .if1 .left))))))
+    (λ c κs. (sendable-sound (judged-sendable _ _ _ (c .before .before .before .before .before .before .before .before .before .before .before .before .judge-send .ensures) (granted (c .before .before .before .before .before .before .before .before .before .before .before .is-done .ensures) (c .before .before .before .before .before .before .before .before .before .before .if1 .left))), let e = c .before .before .before .before .before .before .before .before .before .sent-of .ensures in omega (arith, e, sendable-few (judged-sendable _ _ _ (c .before .before .before .before .before .before .before .before .before .before .before .before .judge-send .ensures) (granted (c .before .before .before .before .before .before .before .before .before .before .before .is-done .ensures) (c .before .before .before .before .before .before .before .before .before .before .if1 .left))))))
     (λ c. search needs)
     (λ c. search needs)
     (λ c. send-short _ _ _ _ (judged-sendable _ _ _ (c .before .before .before .before .before .before .before .before .before .before .before .judge-send .ensures) (granted (c .before .before .before .before .before .before .before .before .before .before .is-done .ensures) (c .before .before .before .before .before .before .before .before .before .if1 .left))) (c .before .before .before .before .before .before .before .before .sent-of .ensures) (c .before .before .before .before .before .write-next .ensures) (c .before .enum-told .given .1) (c .refuse2 .ensures))

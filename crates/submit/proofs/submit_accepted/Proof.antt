@@ -2,9 +2,9 @@ use borrow.Author.Needs.{needs}
 use mathlib.Core.Path.{refl, _∙_}
 use denote.Ref.{now}
 use Rattle.image.specs.State.{decode}
+use Rattle.call_meaning.proofs.Calling.{found-refused}
 use Rattle.submit.specs.Passed.{Judged}
 use Rattle.submit.proofs.Answered.{barred-is, judged-is, acceptance-is, full-is, done-is}
-use Rattle.submit.proofs.Refusals.{refused-is}
 use Rattle.submit.proofs.Settling.{queued-is}
 use Rattle.submit.proofs.submit_accepted.Statement.{statement}
 use Rattle.submit.proofs.submit_accepted.Tie as tie
@@ -20,7 +20,7 @@ submit-accepted-spec =
     (λ c κs. search needs)
     (λ c κs. search needs)
     (λ c. search needs)
-    (λ c. refused-is _ _ _ (barred-is _ _ _ (c .before .before .is-barred .ensures) (c .before .if1 .taken)) (c .refuse .ensures) refl)
+    (λ c. found-refused _ _ _ _ (barred-is _ _ _ (c .before .before .is-barred .ensures) (c .before .if1 .taken)) (c .refuse .ensures) refl)
     (λ c. search needs)
     (λ c κs. search needs)
     (λ c. search needs)
@@ -29,16 +29,16 @@ submit-accepted-spec =
     (λ c. search needs)
     (λ c κs. search needs)
     (λ c. search needs)
-    (λ c. refused-is _ _ _ (acceptance-is (judged (c .before .before .before .before)) (c .before .enum-told2 .given .1)) (c .refuse2 .ensures) refl)
+    (λ c. found-refused _ _ _ _ (acceptance-is (judged (c .before .before .before .before)) (c .before .enum-told2 .given .1)) (c .refuse2 .ensures) refl)
     (λ c. search needs)
     (λ c κs. search needs)
     (λ c. search needs)
-    (λ c. refused-is _ _ _ (acceptance-is (judged (c .before .before .before .before)) (c .before .enum-told3 .given .1)) (c .refuse3 .ensures) refl)
+    (λ c. found-refused _ _ _ _ (acceptance-is (judged (c .before .before .before .before)) (c .before .enum-told3 .given .1)) (c .refuse3 .ensures) refl)
     (λ c κs. search needs)
     (λ c. search needs)
     (λ c κs. search needs)
     (λ c. search needs)
-    (λ c. refused-is _ _ _ (full-is (judged (c .before .before .before .before .before .before .before .before)) (c .before .before .before .before .before .enum-told .given .1) (c .before .before .before .header-of .ensures) (c .before .if2 .taken)) (c .refuse4 .ensures) refl)
+    (λ c. found-refused _ _ _ _ (full-is (judged (c .before .before .before .before .before .before .before .before)) (c .before .before .before .before .before .enum-told .given .1) (c .before .before .before .header-of .ensures) (c .before .if2 .taken)) (c .refuse4 .ensures) refl)
     (λ c. search needs)
     (λ c κs. (c .before .before .before .before .before .before .before .before .before .before .before .before .before .before .before .before .before .before .before .before .pre .0 .size, rw (c .before .before .before .before .header-of .ensures) at (c .before .before .if2 .left), c .before .before .before .before .before .before .before .before .before .before .before .before .before .before .before .before .before .before .before .before .pre .2, c .before .before .before .before .before .before .before .before .before .before .before .before .before .before .before .before .before .before .before .before .pre .3, c .before .before .before .before .before .before .before .before .before .accept-as .kept .0 ∙ c .before .before .before .before .before .before .before .before .before .before .before .before .labels-of .kept .1 .0))
     (λ c. search needs)

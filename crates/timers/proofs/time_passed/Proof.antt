@@ -1,4 +1,4 @@
-use Rattle.call_meaning.proofs.Refusals.{denied, granted}
+use Rattle.octets.proofs.Choice.{denied, granted}
 use borrow.Author.Needs.{needs}
 use borrow.Author.Tests.{not-true, not-false}
 use Rattle.timers.specs.Events.{timePassedOf}

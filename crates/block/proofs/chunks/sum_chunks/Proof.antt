@@ -3,7 +3,8 @@ use mathlib.Core.Path.{_≡_}
 use Prim.Native.Nat.{_+_}
 use native.Mathlib.Omega.{arith}
 use borrow.Author.Needs.{needs}
-use Rattle.block.proofs.Lanes.{Bytes, Read, lanes-taken, runs-room, lows-room, read-low, read-check, read-small}
+use Rattle.octets.specs.Bytes.{Bytes}
+use Rattle.block.proofs.Lanes.{Read, lanes-taken, runs-room, lows-room, read-low, read-check, read-small}
 use Rattle.block.proofs.chunks.sum_chunks.Statement.{statement}
 use Rattle.block.proofs.chunks.sum_chunks.Tie as tie
 

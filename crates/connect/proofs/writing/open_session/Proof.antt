@@ -1,6 +1,6 @@
 -- `connect::writing::open_session` meets its contract. Assumes nothing.
 use borrow.Author.Needs.{needs}
-use Rattle.call_meaning.proofs.Refusals.{denied, granted}
+use Rattle.octets.proofs.Choice.{denied, granted}
 use Rattle.calls.proofs.Settled.{admit-passed, admitted-sound}
 use Rattle.connect.proofs.Written.{open-refused, open-barred, open-wrote}
 use Rattle.connect.proofs.writing.open_session.Statement.{statement}

@@ -4,7 +4,7 @@ use native.Mathlib.Omega.{arith}
 use Prim.Native.Nat.{_-_, _≤_}
 use mathlib.Core.Path.{_≡_}
 use lib.ListN.{length}
-use Rattle.dump.proofs.Lines.{zeros-length}
+use Rattle.octets.proofs.Fill.{length-zeros}
 use Rattle.dump.specs.Line.{textRoom, largestPdu}
 use Rattle.dump.proofs.stream.dump_stream.Statement.{statement}
 use Rattle.dump.proofs.stream.dump_stream.Tie as tie
@@ -19,7 +19,7 @@ pub dump-stream-spec : {M : Type 1} → statement M
 dump-stream-spec =
     tie.close
     (tie.spec Inv-loop μ-loop
-    (λ c. (zeros-length largestPdu, zeros-length textRoom))
+    (λ c. (length-zeros largestPdu, length-zeros textRoom))
     (λ c. search needs)
     (λ c. search needs)
     (λ c. search needs)

@@ -16,7 +16,6 @@ put-counts-spec =
     (λ c. omega arith)
     (λ c κs. search needs)
     (λ c. search needs)
-    (λ c. omega arith)
     (λ c κs. search needs)
     (λ c. search needs)
-    (λ c. (put-then (c .before .before .before .before .before .before .before .before .before .before .before .before .before .before .put-line .ensures .0) (put-then (c .before .before .before .before .before .before .before .before .put-line2 .ensures .0) (c .before .before .put-line3 .ensures .0)), search needs)))
+    (λ c. (put-then (c .before .before .before .before .before .before .before .before .before .before .before .before .before .put-line .ensures .0) (put-then (c .before .before .before .before .before .before .before .put-line2 .ensures .0) (c .before .before .put-line3 .ensures .0)), search needs)))

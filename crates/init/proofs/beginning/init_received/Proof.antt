@@ -1,6 +1,6 @@
 -- `init::beginning::init_received` meets its contract. Assumes nothing.
 use borrow.Author.Needs.{needs}
-use Rattle.call_meaning.proofs.Refusals.{denied, granted}
+use Rattle.octets.proofs.Choice.{denied, granted}
 use Rattle.calls.proofs.Settled.{admit-passed, admitted-sound}
 use Rattle.init.proofs.Received.{init-refused, init-barred, init-settled, init-fits, init-begun}
 use Rattle.init.proofs.beginning.init_received.Statement.{statement}
@@ -25,7 +25,7 @@ init-received-spec =
     (λ c κs. search needs)
     (λ c κs. search needs)
     (λ c κs. search needs)
-    (λ c κs. (admitted-sound (admit-passed _ _ (c .before .before .before .before .before .before .before .before .before .before .before .before .before .admit .ensures) (granted (c .before .before .before .before .before .before .before .before .before .before .before .before .is-done .ensures) (c .before .before .before .before .before .before .before .before .before .before .before .if1 .left)))) .size)
+    (λ c κs. (admitted-sound (admit-passed _ _ (c .before .before .before .before .before .before .before .before .before .before .before .before .before .admit .ensures) (granted (c .before .before .before .before .before .before .before .before .before .before .before .before .is-done .ensures) (c .before .before .before .before .before .before .before .before .before .before .before .if1 .left)))))
     (λ c. search needs)
     (λ c. init-settled _ _ _ (c .before .before .before .before .before .before .before .before .before .before .before .before .before .before .before .before .admit .ensures) (granted (c .before .before .before .before .before .before .before .before .before .before .before .before .before .before .before .is-done .ensures) (c .before .before .before .before .before .before .before .before .before .before .before .before .before .before .if1 .left)) (granted (c .before .before .before .before .before .before .before .before .before .before .before .before .before .awaits-init .ensures) (c .before .before .before .before .before .before .before .before .before .before .before .before .if2 .left)) (c .before .before .before .before .before .before .before .before .before .before .header-of .ensures) (c .before .before .before .before .before .before .before .before .before .proposal-of .ensures) (c .before .before .before .before .before .before .before .before .read-message .ensures) (c .before .before .before .before .before .before .before .judge-start .ensures) (c .before .before .before .before .before .before .start-answer .ensures) (denied (c .before .before .before .before .before .is-done2 .ensures) (c .before .before .before .before .if3 .taken)) (c .before .before .settle .ensures))
     (λ c κs. ((admitted-sound (admit-passed _ _ (c .before .before .before .before .before .before .before .before .before .before .before .before .before .admit .ensures) (granted (c .before .before .before .before .before .before .before .before .before .before .before .before .is-done .ensures) (c .before .before .before .before .before .before .before .before .before .before .before .if1 .left)))), init-fits _ _ _ (c .before .before .before .before .before .before .before .before .before .before .before .before .before .admit .ensures) (granted (c .before .before .before .before .before .before .before .before .before .before .before .before .is-done .ensures) (c .before .before .before .before .before .before .before .before .before .before .before .if1 .left)) (granted (c .before .before .before .before .before .before .before .before .before .before .awaits-init .ensures) (c .before .before .before .before .before .before .before .before .before .if2 .left)) (c .before .before .before .before .before .before .before .header-of .ensures) (c .before .before .before .before .before .before .proposal-of .ensures) (c .before .before .before .before .before .read-message .ensures) (c .before .before .before .before .judge-start .ensures) (admitted-sound (admit-passed _ _ (c .before .before .before .before .before .before .before .before .before .before .before .before .before .admit .ensures) (granted (c .before .before .before .before .before .before .before .before .before .before .before .before .is-done .ensures) (c .before .before .before .before .before .before .before .before .before .before .before .if1 .left))))))

@@ -1,6 +1,6 @@
 -- `init::beginning::store_resumed` meets its contract. Assumes nothing.
 use borrow.Author.Needs.{needs}
-use Rattle.init.proofs.Received.{header-room, resumed-is}
+use Rattle.init.proofs.Received.{resumed-is}
 use Rattle.init.proofs.beginning.store_resumed.Statement.{statement}
 use Rattle.init.proofs.beginning.store_resumed.Tie as tie
 
@@ -13,7 +13,7 @@ store-resumed-spec =
     (λ c κs. search needs)
     (λ c. search needs)
     (λ c κs. search needs)
-    (λ c κs. header-room _ (c .before .before .before .before .before .before .before .before .before .before .before .pre .0) (c .before .before .before .before .before .before .before .before .header-of .ensures) (c .before .before .before .before .before .before .before .before .before .before .before .pre .1))
+    (λ c κs. rw (c .before .before .before .before .before .before .before .before .header-of .ensures) (c .before .before .before .before .before .before .before .before .before .before .before .pre .1))
     (λ c. search needs)
     (λ c κs. search needs)
     (λ c. search needs)

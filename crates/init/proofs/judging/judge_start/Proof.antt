@@ -1,6 +1,6 @@
 -- `init::judging::judge_start` meets its contract. Assumes nothing.
 use borrow.Author.Needs.{needs}
-use Rattle.call_meaning.proofs.Refusals.{denied, granted}
+use Rattle.octets.proofs.Choice.{denied, granted}
 use Rattle.init.proofs.Starts.{start-malformed, start-other, start-init}
 use Rattle.init.proofs.judging.judge_start.Statement.{statement}
 use Rattle.init.proofs.judging.judge_start.Tie as tie

@@ -1,8 +1,8 @@
 use Prim.Native.Nat.{_-_}
 use native.Mathlib.Omega.{arith}
 use lib.ListN.{length, length-set}
+use Rattle.octets.proofs.Map.{Mapped, mapped-none, mapped-more, mapped-all}
 use Rattle.label_list.specs.Sweep.{wordSwept}
-use Rattle.label_list.proofs.Map.{Mapped, mapped-none, mapped-more, mapped-all}
 use Rattle.label_list.proofs.sweeping.sweep.Statement.{statement}
 use Rattle.label_list.proofs.sweeping.sweep.Tie as tie
 

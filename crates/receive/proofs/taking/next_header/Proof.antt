@@ -1,5 +1,4 @@
 use borrow.Author.Needs.{needs}
-use Rattle.receive.proofs.Taken.{header-is}
 use Rattle.receive.proofs.taking.next_header.Statement.{statement}
 use Rattle.receive.proofs.taking.next_header.Tie as tie
 
@@ -9,9 +8,5 @@ next-header-spec =
     (tie.spec
     (λ c κs. search needs)
     (λ c κs. search needs)
-    (λ c. search needs)
-    (λ c. search needs)
-    (λ c. search needs)
-    (λ c. search needs)
-    (λ c. search needs)
-    (λ c. header-is (c .before .before .before .before .before .args .h) (c .before .before .before .before .before .args .k) (c .before .before .before .before .before .args .g) (c .before .before .before .ack-borne .ensures) (c .before .before .secured-by .ensures)))
+    (λ c κs. search needs)
+    (λ c. rw (c .secured-by .ensures, c .before .released-header .ensures, c .before .before .ack-borne .ensures)))

@@ -1,5 +1,5 @@
 use borrow.Author.Needs.{needs}
-use Rattle.receive.proofs.Taken.{plain-malformed, plain-whole}
+use Rattle.receive.proofs.Taken.{read-malformed, read-whole, plain-settled}
 use Rattle.receive.proofs.taking.receive_plain.Statement.{statement}
 use Rattle.receive.proofs.taking.receive_plain.Tie as tie
 
@@ -14,6 +14,6 @@ receive-plain-spec =
     (λ c κs. search needs)
     (λ c κs. search needs)
     (λ c. search needs)
-    (λ c. plain-malformed _ _ _ (c .before .before .before .before .before .before .read-message .ensures) (c .before .before .before .before .enum-told .given .1) (c .before .before .settle .ensures))
+    (λ c. read-malformed _ _ _ _ (c .before .before .before .before .before .before .read-message .ensures) _ (c .before .before .before .before .enum-told .given .1) (c .before .before .settle .ensures))
     (λ c. search needs)
-    (λ c. plain-whole _ _ (c .before .before .before .before .before .before .before .before .read-message .ensures) (c .before .before .before .before .before .before .g .given .1) (c .before .before .before .judge-plain .ensures) (c .before .before .settle2 .ensures)))
+    (λ c. read-whole _ _ _ _ (c .before .before .before .before .before .before .before .before .read-message .ensures) (c .before .before .before .before .before .before .g .given .1) (plain-settled _ _ (c .before .before .before .judge-plain .ensures) (c .before .before .settle2 .ensures))))

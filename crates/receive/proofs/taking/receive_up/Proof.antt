@@ -1,5 +1,5 @@
 use borrow.Author.Needs.{needs}
-use Rattle.receive.proofs.Taken.{up-malformed, up-whole}
+use Rattle.receive.proofs.Taken.{read-malformed, read-whole}
 use Rattle.receive.proofs.taking.receive_up.Statement.{statement}
 use Rattle.receive.proofs.taking.receive_up.Tie as tie
 
@@ -13,6 +13,6 @@ receive-up-spec =
     (λ c. search needs)
     (λ c κs. search needs)
     (λ c. search needs)
-    (λ c. up-malformed _ _ _ _ (c .before .before .before .before .before .before .read-message .ensures) (c .before .before .before .before .enum-told .given .1) (c .before .before .settle .ensures))
+    (λ c. read-malformed _ _ _ _ (c .before .before .before .before .before .before .read-message .ensures) _ (c .before .before .before .before .enum-told .given .1) (c .before .before .settle .ensures))
     (λ c. search needs)
-    (λ c. up-whole _ _ _ (c .before .before .before .before .before .before .before .read-message .ensures) (c .before .before .before .before .before .g .given .1) (c .before .before .receive-ft .ensures)))
+    (λ c. read-whole _ _ _ _ (c .before .before .before .before .before .before .before .read-message .ensures) (c .before .before .before .before .before .g .given .1) (c .before .before .receive-ft .ensures)))

@@ -17,4 +17,4 @@ take-ft-spec =
     (λ c κs. search needs)
     (λ c. search needs)
     (λ c. search needs)
-    (λ c. take-is _ _ _ (c .before .before .before .before .before .before .before .before .before .before .before .before .before .before .header-of .ensures) (c .before .before .before .before .before .before .before .before .before .before .before .before .before .ack-count .ensures) (c .before .before .before .before .before .before .before .before .before .before .before .is-protected .ensures) (c .before .before .before .before .before .before .before .before .before .before .label-effect .ensures) (c .before .before .before .before .before .before .before .before .before .before .before .before .before .before .before .before .before .before .pre .labels) (c .before .before .before .before .before .before .before .before .before .change-labels .ensures) (c .before .before .before .before .before .next-header .ensures) (c .before .before .before .store .ensures .0) (c .before .before .before .store .ensures .1) (c .lowered .ensures)))
+    (λ c. take-is _ _ _ (c .before .before .before .before .before .before .before .before .before .before .before .before .before .before .header-of .ensures) (c .before .before .before .before .before .before .before .before .before .before .before .before .before .ack-count .ensures) (c .before .before .before .before .before .before .before .before .before .before .before .is-protected .ensures) (c .before .before .before .before .before .before .before .before .before .before .label-effect .ensures) (c .before .before .before .before .before .before .before .before .before .before .before .before .before .before .before .before .before .before .pre .labels) (c .before .before .before .before .before .before .before .before .before .change-labels .ensures) (c .before .before .before .before .before .next-header .ensures) (c .before .before .before .store-changed .ensures .0) (c .before .before .before .store-changed .ensures .1) (c .lowered .ensures)))

@@ -1,6 +1,6 @@
 use mathlib.Core.Path.{refl}
 use native.Mathlib.Omega.{arith}
-use Rattle.tlv.proofs.Values.{where-equal, where-apart}
+use Rattle.octets.proofs.Choice.{where-equal, where-apart}
 use Rattle.tlv.specs.Value.{fecAt}
 use Rattle.tlv.proofs.value.fec_at.Statement.{statement}
 use Rattle.tlv.proofs.value.fec_at.Tie as tie

@@ -1,5 +1,5 @@
 use native.Mathlib.Omega.{arith}
-use Rattle.tlv.proofs.Values.{where-equal, where-apart}
+use Rattle.octets.proofs.Choice.{where-equal, where-apart}
 use Rattle.tlv.specs.Value.{fieldAt}
 use Rattle.tlv.proofs.value.field_at.Statement.{statement}
 use Rattle.tlv.proofs.value.field_at.Tie as tie

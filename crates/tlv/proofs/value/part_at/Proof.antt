@@ -1,6 +1,6 @@
 use borrow.Author.Needs.{needs}
 use native.Mathlib.Omega.{arith}
-use Rattle.tlv.proofs.Values.{where-equal, where-apart}
+use Rattle.octets.proofs.Choice.{where-equal, where-apart}
 use Rattle.tlv.specs.Value.{partAt}
 use Rattle.tlv.proofs.value.part_at.Statement.{statement}
 use Rattle.tlv.proofs.value.part_at.Tie as tie

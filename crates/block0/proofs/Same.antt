@@ -1,0 +1,30 @@
+-- A right block 0 written once more with its own numbers and label words is the same. Assumes nothing.
+use mathlib.Core.Path.{_≡_, ap, _∙_}
+use mathlib.Core.Bool.{true}
+use mathlib.Core.List.{List}
+use Prim.Native.Nat.{ℕ}
+use borrow.Author.Tests.{eqb-true}
+use Rattle.octets.specs.Be.{beAt}
+use Rattle.octets.specs.Bytes.{Bytes}
+use Rattle.octets.proofs.Choice.{both-true}
+use Rattle.label_list.specs.Word.{wordCount}
+use Rattle.block.specs.Check.{sound, sealed}
+use Rattle.block.specs.Run.{getRun, putRun, wordsAt, withWords}
+use Rattle.block.proofs.Same.{putRun-same, words-same, sealed-same}
+use Rattle.block0.specs.Layout.{widths, labelsAt, values, headerOf, labelsOf, block0}
+use Rattle.block0.specs.Fields.{fieldsOk}
+
+-- the version and the zero are those that are written
+values-same : (b : List ℕ) → fieldsOk b ≡ true → values (headerOf b) ≡ getRun widths b 0
+unfolding fieldsOk headerOf
+values-same b f =
+    let p = both-true _ _ f in
+    let q = both-true _ _ (p .1) in
+    rw (eqb-true (beAt 4 b 0) 1 (p .0), eqb-true (beAt 1 b 23) 0 (q .0))
+
+pub block0-same : (b : List ℕ) → Bytes b → sound b ≡ true → fieldsOk b ≡ true → block0 b (headerOf b) (labelsOf b) ≡ b
+unfolding block0 labelsOf
+block0-same b byte s f =
+    ap (λ (l : List ℕ). sealed (withWords wordCount (wordsAt wordCount b labelsAt) l labelsAt)) (ap (λ (v : List ℕ). putRun widths v b 0) (values-same b f) ∙ putRun-same widths b 0 byte)
+    ∙ ap sealed (words-same wordCount b labelsAt byte)
+    ∙ sealed-same b byte s

@@ -1,0 +1,18 @@
+-- `block0::read_label` meets its contract. Assumes nothing.
+use mathlib.Core.Path.{sym, _∙_}
+use borrow.Author.Needs.{needs}
+use Rattle.label_list.specs.Word.{wordCount}
+use Rattle.block.proofs.WordRun.{getD-wordsAt}
+use Rattle.block0.specs.Layout.{labelsAt, labelsOf}
+use Rattle.block0.proofs.read_label.Statement.{statement}
+use Rattle.block0.proofs.read_label.Tie as tie
+
+pub read-label-spec : {M : Type 1} → statement M
+unfolding labelsOf
+read-label-spec =
+    tie.close
+    (tie.spec
+    (λ c. search needs)
+    (λ c. search needs)
+    (λ c κs. search needs)
+    (λ c. c .get-u32 .ensures ∙ sym (getD-wordsAt wordCount _ labelsAt _ (c .before .before .pre .1))))

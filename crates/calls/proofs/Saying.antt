@@ -1,0 +1,36 @@
+-- Numbers and label words that the image says already. Assumes nothing.
+use mathlib.Core.Path.{_≡_, sym, _∙_}
+use mathlib.Core.Bool.{Bool, true, false, not}
+use mathlib.Core.List.{List}
+use Prim.Native.Nat.{ℕ}
+use borrow.Author.Tests.{not-true}
+use Rattle.octets.specs.Bytes.{Bytes}
+use Rattle.octets.specs.Differ.{differ}
+use Rattle.octets.proofs.Differ.{differ-self, differ-false}
+use Rattle.block0.specs.declared.Header.{Header}
+use Rattle.image.specs.Sizes.{block}
+use Rattle.image.specs.State.{decode, store0}
+use Rattle.image.specs.Verdict.{IsSound}
+use Rattle.image.proofs.Same.{store-same}
+
+pub header-eq : {a b : Header} → a .released .0 ≡ b .released .0 → a .issued .0 ≡ b .issued .0 → a .secured .0 ≡ b .secured .0 → a .first ≡ b .first
+    → a .held ≡ b .held → a .timeout ≡ b .timeout → a .kept ≡ b .kept → a .keepalive ≡ b .keepalive → a .maxpdu ≡ b .maxpdu → a ≡ b
+header-eq e₁ e₂ e₃ e₄ e₅ e₆ e₇ e₈ e₉ = λ i. record {
+  released = record { 0 = e₁ i };
+  issued = record { 0 = e₂ i };
+  secured = record { 0 = e₃ i };
+  first = e₄ i;
+  held = e₅ i;
+  timeout = e₆ i;
+  kept = e₇ i;
+  keepalive = e₈ i;
+  maxpdu = e₉ i;
+}
+
+-- the premises are what the callees ensure
+pub words-said : {words own ls : List ℕ} {b : Bool} → own ≡ ls → b ≡ differ words own → not b ≡ true → words ≡ ls
+words-said {words} {own} {ls} {b} eo eb t = differ-false words own (sym eb ∙ not-true b t) ∙ eo
+
+pub stored-same : (im : List ℕ) {h : Header} {words : List ℕ} → IsSound im → Bytes im → h ≡ decode im .header → words ≡ decode im .labels
+    → (im ≡ store0 im h words) × (false ≡ differ (block im 0) (block im 0))
+stored-same im s byte eh ew = (rw (eh, ew) (sym (store-same im s byte)), sym (differ-self (block im 0)))

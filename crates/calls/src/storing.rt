@@ -1,0 +1,105 @@
+// Block 0 before and after a store: the owner stores it where its bytes changed.
+ghost use mathlib.Core.Path.{_≡_};
+ghost use mathlib.Core.Bool.{true};
+ghost use lib.ListN.{length};
+ghost use Rattle.octets.specs.Differ.{differ};
+ghost use Rattle.label_list.specs.Word.{wordCount};
+ghost use Rattle.image.specs.Sizes.{imageSize, block};
+ghost use Rattle.image.specs.State.{decode, store0};
+ghost use Rattle.image.specs.Verdict.{IsSound};
+use block0::Header;
+
+// A copy of block 0, to see later whether it changed.
+pub fn copy_block0(image: &[u8]) -> [u8; block::BLOCK_SIZE]
+    requires { ⌜ length (now image) ≡ imageSize ⌝ }
+    ensures { λ r. ⌜ r ≡ block (now (image .entry)) 0 ⌝ }
+{
+    let mut old = [0u8; block::BLOCK_SIZE];
+    octets::copy_to(&mut old, 0, image::block_at(image, 0));
+    old
+}
+
+// Whether block 0 is no longer what it was.
+pub fn block0_changed(old: &[u8], image: &[u8]) -> bool
+    requires { ⌜ length (now image) ≡ imageSize ⌝ }
+    ensures { λ r. ⌜ r ≡ differ (now (old .entry)) (block (now (image .entry)) 0) ⌝ }
+{
+    octets::bytes_differ(old, image::block_at(image, 0))
+}
+
+// Whether two headers are the same.
+fn same_numbers(a: Header, b: Header) -> bool
+    ensures { λ r. ⌜ (r ≡ true → a ≡ b) ⌝ }
+{
+    if a.released.0 != b.released.0 {
+        return false;
+    }
+    if a.issued.0 != b.issued.0 {
+        return false;
+    }
+    if a.secured.0 != b.secured.0 {
+        return false;
+    }
+    if a.first != b.first {
+        return false;
+    }
+    if a.held != b.held {
+        return false;
+    }
+    if a.timeout != b.timeout {
+        return false;
+    }
+    if a.kept != b.kept {
+        return false;
+    }
+    if a.keepalive != b.keepalive {
+        return false;
+    }
+    if a.maxpdu != b.maxpdu {
+        return false;
+    }
+    true
+}
+
+// Whether two runs of words are not the same.
+fn words_differ(a: &[u32], b: &[u32]) -> bool
+    ensures { λ r. ⌜ r ≡ differ (now (a .entry)) (now (b .entry)) ⌝ }
+{
+    if a.len() != b.len() {
+        return true;
+    }
+    let mut i: usize = 0;
+    while i < a.len() {
+        if a[i] != b[i] {
+            return true;
+        }
+        i += 1;
+    }
+    false
+}
+
+// Whether the image says these numbers and words already.
+fn says(image: &[u8], h: Header, words: &[u32]) -> bool
+    requires { ⌜ length (now image) ≡ imageSize ⌝ }
+    ensures { λ r. ⌜ (r ≡ true → (h ≡ decode (now (image .entry)) .header) × (now (words .entry) ≡ decode (now (image .entry)) .labels)) ⌝ }
+{
+    if !same_numbers(h, image::header_of(image)) {
+        return false;
+    }
+    let mut own = [0u32; label_list::WORD_COUNT];
+    image::labels_of(image, &mut own);
+    !words_differ(words, &own)
+}
+
+// Stores block 0; whether its bytes changed. What the image says already is not written again.
+pub fn store_changed(image: &mut [u8], h: Header, words: &[u32]) -> bool
+    requires { ⌜ IsSound (now image) × (length (now words) ≡ wordCount) ⌝ }
+    ensures { λ r. ⌜ (now (image .exit) ≡ store0 (now (image .entry)) h (now (words .entry))) × (r ≡ differ (block (now (image .entry)) 0) (block (now (image .exit)) 0)) ⌝ }
+{
+    if says(image, h, words) {
+        return false;
+    }
+    let old = copy_block0(image);
+    image::store_block0(image, h, words);
+    block0_changed(&old, image)
+}

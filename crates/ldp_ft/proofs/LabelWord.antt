@@ -1,0 +1,47 @@
+-- A label word of an image. Assumes nothing.
+use mathlib.Core.Path.{_≡_, refl, sym, _∙_}
+use mathlib.Core.List.{List}
+use Prim.Native.Nat.{ℕ, _≤_, _<_}
+use native.Mathlib.Omega.{arith}
+use borrow.Author.Tests.{lt-ltb, le-ltb}
+use lib.ListN.{length, getD}
+use Rattle.label_list.specs.Word.{wordCount}
+use Rattle.image.specs.Sizes.{imageSize}
+use Rattle.image.specs.State.{decode}
+use Rattle.image.specs.Verdict.{verdict, verdictNumber}
+use Rattle.image.specs.declared.Verdict
+use Rattle.image.specs.declared.Verdict.{Verdict}
+use Rattle.image.proofs.Sound.{sound-parts}
+use Rattle.ldp_ft.specs.Numbers.{none, labelBy, labelAt}
+
+refused-by : (v : Verdict) (words : List ℕ) (place : ℕ) → (verdictNumber v ≡ 0 → ⊥) → none ≡ labelBy v words place
+refused-by Verdict.Sound words place n = absurd (n refl)
+refused-by Verdict.WrongSize words place n = refl
+refused-by (Verdict.BadBlock b) words place n = refl
+refused-by (Verdict.BadField b) words place n = refl
+
+sound-by : (v : Verdict) → verdictNumber v ≡ 0 → v ≡ Verdict.Sound
+sound-by Verdict.Sound e = refl
+sound-by Verdict.WrongSize e = absurd (omega (arith, e))
+sound-by (Verdict.BadBlock b) e = absurd (omega (arith, e))
+sound-by (Verdict.BadField b) e = absurd (omega (arith, e))
+
+-- v is what the checks answered, and n its number
+module _ (im : List ℕ) (place : ℕ) {v : Verdict} {n : ℕ} (ev : v ≡ verdict im) (en : n ≡ verdictNumber v) where
+  pub label-refused : (n ≡ 0 → ⊥) → none ≡ labelAt im place
+  unfolding labelAt
+  label-refused h = rw (← ev) (refused-by v (decode im .labels) place (λ e. h (en ∙ e)))
+
+  passes : n ≡ 0 → verdict im ≡ Verdict.Sound
+  passes z = sym ev ∙ sound-by v (sym en ∙ z)
+
+  pub label-past : n ≡ 0 → wordCount ≤ place → none ≡ labelAt im place
+  unfolding labelAt
+  label-past z l = rw (passes z, le-ltb place wordCount l)
+
+  pub label-size : n ≡ 0 → length im ≡ imageSize
+  label-size z = sound-parts im (passes z) .size
+
+  pub label-read : {w : ℕ} → n ≡ 0 → place < wordCount → w ≡ getD (decode im .labels) place 0 → w ≡ labelAt im place
+  unfolding labelAt
+  label-read z l e = rw (passes z, lt-ltb place wordCount l) e

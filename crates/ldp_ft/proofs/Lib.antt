@@ -1,0 +1,8 @@
+pub mod Named
+pub mod Rules
+pub mod Lengths
+pub mod Narrow
+pub mod Called
+pub mod Parts
+pub mod LabelWord
+pub mod Again

@@ -1,0 +1,12 @@
+-- `ldp_ft::message_numbers::bit_where` meets its contract. Assumes nothing.
+use borrow.Author.Tests.{eq-eqb, ne-eqb}
+use native.Mathlib.Omega.{arith}
+use Rattle.ldp_ft.proofs.message_numbers.bit_where.Statement.{statement}
+use Rattle.ldp_ft.proofs.message_numbers.bit_where.Tie as tie
+
+pub bit-where-spec : {M : Type 1} → statement M
+bit-where-spec =
+    tie.close
+    (tie.spec
+    (λ c. (rw (eq-eqb _ _ (c .if1 .taken)), omega arith))
+    (λ c. (rw (ne-eqb _ _ (c .if1 .left)), c .before .pre)))

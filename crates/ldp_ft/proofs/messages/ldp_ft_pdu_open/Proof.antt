@@ -1,0 +1,14 @@
+-- `ldp_ft::messages::ldp_ft_pdu_open` meets its contract. Assumes nothing.
+use borrow.Author.Needs.{needs}
+use Rattle.ldp_ft.proofs.messages.ldp_ft_pdu_open.Statement.{statement}
+use Rattle.ldp_ft.proofs.messages.ldp_ft_pdu_open.Tie as tie
+
+pub ldp-ft-pdu-open-spec : {M : Type 1} → statement M
+ldp-ft-pdu-open-spec =
+    tie.close
+    (tie.spec
+    (λ c κs. search needs)
+    (λ c. search needs)
+    (λ c. search needs)
+    (λ c. rw (← c .before .before .before .open-pdu .ensures, c .before .count .given .1))
+    (λ c. rw (← c .before .before .open-pdu .ensures, c .enum-told .given .1)))

@@ -1,0 +1,19 @@
+-- `ldp_ft::outcome::outcome_numbers` meets its contract. Assumes nothing.
+use borrow.Author.Needs.{needs}
+use Rattle.ldp_ft.specs.Outcome.{numbersOf}
+use Rattle.ldp_ft.proofs.outcome.outcome_numbers.Statement.{statement}
+use Rattle.ldp_ft.proofs.outcome.outcome_numbers.Tie as tie
+
+pub outcome-numbers-spec : {M : Type 1} → statement M
+unfolding numbersOf
+outcome-numbers-spec =
+    tie.close
+    (tie.spec
+    (λ c κs. search needs)
+    (λ c κs. search needs)
+    (λ c κs. search needs)
+    (λ c κs. search needs)
+    (λ c. search needs)
+    (λ c. search needs)
+    (λ c κs. search needs)
+    (λ c. simp (c .bit-of .ensures, c .before .before .before .session-left .ensures, c .before .before .before .before .effect-of .ensures, c .before .before .before .before .before .answer-block .ensures, c .before .before .before .before .before .before .answer-number .ensures)))

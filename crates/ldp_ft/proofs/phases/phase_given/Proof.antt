@@ -1,0 +1,21 @@
+-- `ldp_ft::phases::phase_given` meets its contract. Assumes nothing.
+use borrow.Author.Needs.{needs}
+use Rattle.tlv.proofs.Rows.{lookup-absent}
+use Rattle.ldp_ft.specs.Session.{phases, givenOf}
+use Rattle.ldp_ft.specs.declared.Given
+use Rattle.ldp_ft.specs.declared.Given.{Given}
+use Rattle.ldp_ft.proofs.phases.phase_given.Statement.{statement}
+use Rattle.ldp_ft.proofs.phases.phase_given.Tie as tie
+
+pub phase-given-spec : {M : Type 1} → statement M
+unfolding givenOf
+phase-given-spec =
+    tie.close
+    (tie.spec
+    (λ c κs. search needs)
+    (λ c. rw (c .match .keys1))
+    (λ c. rw (c .before .match .keys2) (c .awaiting .ensures))
+    (λ c. rw (c .match .keys3))
+    (λ c. rw (c .match .keys4))
+    (λ c. rw (c .match .keys5))
+    (λ c. lookup-absent Given.Unknown (phases (c .before .args .s .value)) (c .before .args .s .phase) (search needs)))

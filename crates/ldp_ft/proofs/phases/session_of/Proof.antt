@@ -1,0 +1,20 @@
+-- `ldp_ft::phases::session_of` meets its contract. Assumes nothing.
+use borrow.Author.Needs.{needs}
+use Rattle.ldp_ft.proofs.phases.session_of.Statement.{statement}
+use Rattle.ldp_ft.proofs.phases.session_of.Tie as tie
+
+pub session-of-spec : {M : Type 1} → statement M
+session-of-spec =
+    tie.close
+    (tie.spec
+    (λ c. search needs)
+    (λ c. search needs)
+    (λ c. search needs)
+    (λ c. search needs)
+    (λ c. search needs)
+    (λ c. search needs)
+    (λ c. rw (c .enum-told .given .1))
+    (λ c. rw (c .before .phase .given .1))
+    (λ c. rw (c .before .phase2 .given .1))
+    (λ c. rw (c .enum-told2 .given .1))
+    (λ c. rw (c .enum-told3 .given .1)))

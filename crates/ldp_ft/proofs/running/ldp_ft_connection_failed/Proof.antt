@@ -1,0 +1,21 @@
+-- `ldp_ft::running::ldp_ft_connection_failed` meets its contract. Assumes nothing.
+use borrow.Author.Needs.{needs}
+use Rattle.ldp_ft.proofs.Narrow.{connection-failed-narrow}
+use Rattle.ldp_ft.proofs.Called.{narrow-is, called-known, called-unknown}
+use Rattle.ldp_ft.proofs.running.ldp_ft_connection_failed.Statement.{statement}
+use Rattle.ldp_ft.proofs.running.ldp_ft_connection_failed.Tie as tie
+
+pub ldp-ft-connection-failed-spec : {M : Type 1} → statement M
+ldp-ft-connection-failed-spec =
+    tie.close
+    (tie.spec
+    (λ c κs. search needs)
+    (λ c. search needs)
+    (λ c κs. search needs)
+    (λ c κs. narrow-is (c .before .before .connection-failed .ensures) (connection-failed-narrow _ _))
+    (λ c. search needs)
+    (λ c κs. search needs)
+    (λ c. search needs)
+    (λ c. called-known _ _ _ _ (c .before .before .before .before .before .before .before .before .phase-given .ensures) (c .before .before .before .before .before .before .phase .given .1) (c .before .before .before .connection-failed .ensures) (c .outcome-numbers .ensures))
+    (λ c. search needs)
+    (λ c. called-unknown _ _ _ _ (c .before .before .before .before .phase-given .ensures) (c .before .before .enum-told .given .1) (c .refuse-unknown .ensures)))

@@ -1,0 +1,21 @@
+-- `ldp_ft::running::ldp_ft_submit` meets its contract. Assumes nothing.
+use borrow.Author.Needs.{needs}
+use Rattle.ldp_ft.proofs.Narrow.{submit-narrow}
+use Rattle.ldp_ft.proofs.Called.{narrow-is, called-known, called-unknown}
+use Rattle.ldp_ft.proofs.running.ldp_ft_submit.Statement.{statement}
+use Rattle.ldp_ft.proofs.running.ldp_ft_submit.Tie as tie
+
+pub ldp-ft-submit-spec : {M : Type 1} → statement M
+ldp-ft-submit-spec =
+    tie.close
+    (tie.spec
+    (λ c κs. search needs)
+    (λ c. search needs)
+    (λ c κs. search needs)
+    (λ c κs. narrow-is (c .before .before .submit .ensures) (submit-narrow _ _ _))
+    (λ c. search needs)
+    (λ c κs. search needs)
+    (λ c. search needs)
+    (λ c. called-known _ _ _ _ (c .before .before .before .before .before .before .before .before .phase-given .ensures) (c .before .before .before .before .before .before .phase .given .1) (c .before .before .before .submit .ensures) (c .outcome-numbers .ensures))
+    (λ c. search needs)
+    (λ c. called-unknown _ _ _ _ (c .before .before .before .before .phase-given .ensures) (c .before .before .enum-told .given .1) (c .refuse-unknown .ensures)))

@@ -1,0 +1,17 @@
+-- `ldp_ft::starting::ldp_ft_restore` meets its contract. Assumes nothing.
+use borrow.Author.Needs.{needs}
+use mathlib.Core.Path.{_∙_}
+use Rattle.ldp_ft.proofs.Narrow.{restore-narrow}
+use Rattle.ldp_ft.proofs.Called.{narrow-is, shown-is}
+use Rattle.ldp_ft.proofs.starting.ldp_ft_restore.Statement.{statement}
+use Rattle.ldp_ft.proofs.starting.ldp_ft_restore.Tie as tie
+
+pub ldp-ft-restore-spec : {M : Type 1} → statement M
+ldp-ft-restore-spec =
+    tie.close
+    (tie.spec
+    (λ c κs. search needs)
+    (λ c κs. search needs)
+    (λ c κs. narrow-is (c .before .before .before .restore .ensures) (restore-narrow _))
+    (λ c. search needs)
+    (λ c. shown-is _ (c .before .before .before .before .restore .ensures) (c .outcome-numbers .ensures ∙ (rw (c .before .session-of .ensures)))))

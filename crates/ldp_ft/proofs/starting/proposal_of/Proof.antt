@@ -1,0 +1,10 @@
+-- `ldp_ft::starting::proposal_of` meets its contract. Assumes nothing.
+use Rattle.ldp_ft.proofs.starting.proposal_of.Statement.{statement}
+use Rattle.ldp_ft.proofs.starting.proposal_of.Tie as tie
+
+pub proposal-of-spec : {M : Type 1} → statement M
+proposal-of-spec =
+    tie.close
+    (tie.spec
+    (λ c. rw (c .if1 .taken))
+    (λ c. rw (c .if1 .left)))

@@ -1,0 +1,5 @@
+pub mod Session
+pub mod Outcome
+pub mod Opening
+pub mod Reading
+pub mod Numbers

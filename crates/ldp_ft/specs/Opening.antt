@@ -1,0 +1,18 @@
+-- What the owner gives to Open, from its numbers.
+use Prim.Native.Nat.{ℕ}
+use mathlib.Core.Bool.{Bool, true, false}
+use Rattle.ft_number.specs.declared.MessageId.{MessageId}
+use Rattle.ft_number.specs.declared.Proposal
+use Rattle.ft_number.specs.declared.Proposal.{Proposal}
+use Rattle.message_writer.specs.declared.OwnParameters.{OwnParameters}
+
+abbrev pub idOf : ℕ → MessageId
+idOf n = record { 0 = n }
+
+abbrev pub parametersOf : ℕ → ℕ → ℕ → ℕ → OwnParameters
+parametersOf ka mp lsr space = record { keepalive = ka; pdulength = mp; lsr = lsr; space = space }
+
+-- a proposal that is not given is the default; its seconds are not read
+abbrev pub proposalOf : Bool → ℕ → Proposal
+proposalOf true seconds = Proposal.Seconds seconds
+proposalOf false seconds = Proposal.NotGiven

@@ -1,0 +1,67 @@
+-- An outcome as numbers, and what a call of the boundary leaves.
+use Prim.Native.Nat.{ℕ, _≤_}
+use mathlib.Core.Bool.{Bool, true, false}
+use mathlib.Core.List.{List}
+use Rattle.image.specs.Verdict.{verdict}
+use Rattle.calls.specs.declared.Answer
+use Rattle.calls.specs.declared.Answer.{Answer}
+use Rattle.calls.specs.declared.Outcome.{Outcome}
+use Rattle.calls.specs.declared.Phase
+use Rattle.calls.specs.declared.Phase.{Phase}
+use Rattle.calls.specs.Answers.{answerNumber, answerBlock, effectOf}
+use Rattle.calls.specs.Outcomes.{After, after, refusal, checked}
+use Rattle.ldp_ft.specs.declared.Given
+use Rattle.ldp_ft.specs.declared.Given.{Given}
+use Rattle.ldp_ft.specs.declared.OutcomeNumbers.{OutcomeNumbers}
+use Rattle.ldp_ft.specs.declared.SessionNumbers.{SessionNumbers}
+use Rattle.ldp_ft.specs.Session.{sessionOf, givenOf, sessionLeft}
+
+abbrev pub bitOf : Bool → ℕ
+bitOf true = 1
+bitOf false = 0
+
+-- the numbers of an outcome, where the session was given as s; each number is the outcome's own, none is cut to 32 bits
+unfoldable pub numbersOf : SessionNumbers → Outcome → OutcomeNumbers
+numbersOf s o = record {
+  answer = answerNumber (o .answer);
+  block = answerBlock (o .answer);
+  session = sessionLeft (effectOf (o .answer)) s (o .phase);
+  length = o .written;
+  slot = o .slot;
+  block0 = bitOf (o .block0);
+}
+
+-- an outcome whose numbers have 32 bits: 504 bytes at most are written, and an image has 65 blocks
+pub record Narrow (o : Outcome) : Type 0 where
+  pub block : answerBlock (o .answer) ≤ 64
+  pub written : o .written ≤ 504
+  pub slot : o .slot ≤ 64
+
+-- what a call leaves: the numbers returned, the image and the output; a call with no output has the empty list here
+pub record Shown : Type 0 where
+  pub numbers : OutcomeNumbers
+  pub image : List ℕ
+  pub out : List ℕ
+
+abbrev pub shown : OutcomeNumbers → List ℕ → List ℕ → Shown
+shown r im o = record { numbers = r; image = im; out = o }
+
+-- what the session's call leaves, with numbers for enums
+abbrev pub shownFrom : SessionNumbers → After → Shown
+shownFrom s x = shown (numbersOf s (x .outcome)) (x .image) (x .out)
+
+-- format and restore are given no session; where they refuse they answer Idle
+abbrev pub idle : SessionNumbers
+idle = sessionOf Phase.Idle
+
+-- "answer 1 where 1 is due": after restore's checks
+abbrev pub unknownPhase : List ℕ → Outcome
+unknownPhase im = refusal (checked (verdict im) Answer.WrongPhase) Phase.Idle
+
+-- the session's call in the phase that the numbers stand for
+abbrev pub calledIn : Given → List ℕ → List ℕ → (Phase → After) → After
+calledIn (Given.Known ph) im o call = call ph
+calledIn Given.Unknown im o call = after (unknownPhase im) im o
+
+unfoldable pub called : SessionNumbers → List ℕ → List ℕ → (Phase → After) → Shown
+called s im o call = shownFrom s (calledIn (givenOf s) im o call)

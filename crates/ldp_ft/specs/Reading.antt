@@ -1,0 +1,123 @@
+-- A PDU and a message as numbers.
+use Prim.Native.Nat.{ℕ, _+_, _≤_}
+use mathlib.Core.Bool.{true, false}
+use lib.Dec.{eqb, ltb}
+use Rattle.octets.specs.Pick.{pick}
+use Rattle.pdu.specs.declared.Opened
+use Rattle.pdu.specs.declared.Opened.{Opened}
+use Rattle.pdu.specs.declared.Place
+use Rattle.pdu.specs.declared.Place.{Place}
+use Rattle.tlv.specs.declared.Field
+use Rattle.tlv.specs.declared.Field.{Field}
+use Rattle.tlv.specs.declared.Found.{Found}
+use Rattle.tlv.specs.declared.FtField
+use Rattle.tlv.specs.declared.FtField.{FtField}
+use Rattle.tlv.specs.declared.Parameters
+use Rattle.tlv.specs.declared.Parameters.{Parameters}
+use Rattle.tlv.specs.declared.Session
+use Rattle.tlv.specs.declared.Session.{Session}
+use Rattle.message.specs.Kinds.{kindOf, kindNumber}
+use Rattle.message.specs.declared.Message.{Message}
+use Rattle.message.specs.declared.Reading
+use Rattle.message.specs.declared.Reading.{Reading}
+use Rattle.ldp_ft.specs.declared.MessageNumbers.{MessageNumbers}
+use Rattle.ldp_ft.specs.declared.PartNumbers.{PartNumbers}
+use Rattle.ldp_ft.specs.declared.PduNumbers.{PduNumbers}
+
+-- "0 or 4; number of messages"
+abbrev pub pduNumbers : Opened → PduNumbers
+pduNumbers (Opened.Whole count) = record { answer = 0; count = count }
+pduNumbers Opened.Malformed = record { answer = 4; count = 0 }
+
+-- "4, 0, 0 where none does"; so too where 32 bits do not name the place, which no PDU reaches: it has 65,539 bytes at most
+abbrev pub noPart : PartNumbers
+noPart = record { answer = 4; start = 0; end = 0 }
+
+abbrev pub partOf : ℕ → ℕ → PartNumbers
+partOf start end = pick (ltb 4294967295 end) noPart (record { answer = 0; start = start; end = end })
+
+abbrev pub partNumbers : Place → PartNumbers
+partNumbers (Place.Message start end) = partOf start end
+partNumbers Place.None = noPart
+
+-- "1 FEC, 2 label, 4 status, 8 parameters, 16 FT Session, 32 FT Protection, 64 FT ACK"; a TLV that does not stand has place 0
+abbrev pub borne : ℕ → ℕ → ℕ
+borne place bit = pick (eqb place 0) 0 bit
+
+abbrev pub hasOf : Found → ℕ
+hasOf f = borne (f .fec) 1 + borne (f .label) 2 + borne (f .status) 4 + borne (f .parameters) 8 + borne (f .session) 16 + borne (f .protection) 32 + borne (f .ack) 64
+
+-- "0 where not borne"
+abbrev pub fieldNumber : Field → ℕ
+fieldNumber Field.Absent = 0
+fieldNumber (Field.Value v) = v
+
+abbrev pub ftNumber : FtField → ℕ
+ftNumber FtField.Absent = 0
+ftNumber (FtField.Number n) = n .0
+
+-- "FT Session: R and seconds"
+abbrev pub reconnectOf : Session → ℕ
+reconnectOf Session.Absent = 0
+reconnectOf (Session.Given true seconds) = 1
+reconnectOf (Session.Given false seconds) = 0
+
+abbrev pub secondsOf : Session → ℕ
+secondsOf Session.Absent = 0
+secondsOf (Session.Given reconnect seconds) = seconds
+
+abbrev pub keepaliveOf : Parameters → ℕ
+keepaliveOf Parameters.Absent = 0
+keepaliveOf (Parameters.Given ka mp) = ka
+
+abbrev pub maxpduOf : Parameters → ℕ
+maxpduOf Parameters.Absent = 0
+maxpduOf (Parameters.Given ka mp) = mp
+
+-- a message whose parts have 32 bits: a message has 65,539 bytes at most
+pub record NarrowMessage (g : Message) : Type 0 where
+  pub start : g .fecvalue .start ≤ 65539
+  pub end : g .fecvalue .end ≤ 65539
+
+-- "22 where malformed; then all else is 0"
+abbrev pub noMessage : MessageNumbers
+noMessage = record {
+  answer = 22;
+  typenumber = 0;
+  id = 0;
+  kind = 0;
+  has = 0;
+  fecstart = 0;
+  fecend = 0;
+  label = 0;
+  status = 0;
+  number = 0;
+  ack = 0;
+  reconnect = 0;
+  timeout = 0;
+  keepalive = 0;
+  maxpdu = 0;
+}
+
+unfoldable pub wholeMessage : Message → MessageNumbers
+wholeMessage g = record {
+  answer = 0;
+  typenumber = g .typenumber;
+  id = g .id .0;
+  kind = kindNumber (kindOf g);
+  has = hasOf (g .found);
+  fecstart = g .fecvalue .start;
+  fecend = g .fecvalue .end;
+  label = fieldNumber (g .label);
+  status = fieldNumber (g .status);
+  number = ftNumber (g .protection);
+  ack = ftNumber (g .ack);
+  reconnect = reconnectOf (g .session);
+  timeout = secondsOf (g .session);
+  keepalive = keepaliveOf (g .parameters);
+  maxpdu = maxpduOf (g .parameters);
+}
+
+abbrev pub messageNumbers : Reading → MessageNumbers
+messageNumbers Reading.Malformed = noMessage
+messageNumbers (Reading.Whole g) = wholeMessage g

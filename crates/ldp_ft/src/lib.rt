@@ -1,0 +1,75 @@
+// The C boundary: the session's calls with numbers for enums, as include/ldp_ft.h declares them.
+mod message_numbers;
+mod messages;
+mod numbers;
+mod outcome;
+mod phases;
+mod running;
+mod starting;
+mod stored;
+
+// The phase and its value: InitWait's proposed timeout, UpFT's count sent, else 0.
+#[repr(C)]
+pub struct SessionNumbers {
+    pub phase: u32,
+    pub value: u32,
+}
+
+// The phase that two numbers stand for, or that there is none.
+pub enum Given {
+    Known(calls::Phase),
+    Unknown,
+}
+
+// An outcome: its answer's number and block, the session afterwards, the bytes written, the slot's block and block 0 to be stored.
+#[repr(C)]
+pub struct OutcomeNumbers {
+    pub answer: u32,
+    pub block: u32,
+    pub session: SessionNumbers,
+    pub length: u32,
+    pub slot: u32,
+    pub block0: u32,
+}
+
+// A whole PDU: 0 or 4, and how many messages.
+#[repr(C)]
+pub struct PduNumbers {
+    pub answer: u32,
+    pub count: u32,
+}
+
+// Where a message lies in its PDU: 0, or 4 and no place.
+#[repr(C)]
+pub struct PartNumbers {
+    pub answer: u32,
+    pub start: u32,
+    pub end: u32,
+}
+
+// A message that was read: 0, or 22 and all else 0.
+#[repr(C)]
+pub struct MessageNumbers {
+    pub answer: u32,
+    pub typenumber: u32,
+    pub id: u32,
+    pub kind: u32,
+    pub has: u32,
+    pub fecstart: u32,
+    pub fecend: u32,
+    pub label: u32,
+    pub status: u32,
+    pub number: u32,
+    pub ack: u32,
+    pub reconnect: u32,
+    pub timeout: u32,
+    pub keepalive: u32,
+    pub maxpdu: u32,
+}
+
+// A signed distance: 0, or 2 and no steps.
+#[repr(C)]
+pub struct DistanceNumbers {
+    pub answer: u32,
+    pub steps: i32,
+}

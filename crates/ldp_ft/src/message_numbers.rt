@@ -1,0 +1,155 @@
+// A message as numbers.
+ghost use mathlib.Core.Path.{_≡_};
+ghost use Prim.Native.Nat.{_≤_};
+ghost use Rattle.ldp_ft.specs.Reading.{borne, hasOf, fieldNumber, ftNumber, reconnectOf, secondsOf, keepaliveOf, maxpduOf, NarrowMessage, noMessage, wholeMessage};
+use crate::MessageNumbers;
+use message::Field;
+use message::Found;
+use message::FtField;
+use message::Message;
+use message::Parameters;
+use message::Session;
+
+// The bit of a TLV that was found.
+fn bit_where(place: usize, bit: u32) -> u32
+    requires { ⌜ bit ≤ 64 ⌝ }
+    ensures { λ r. ⌜ (r ≡ borne place bit) × (r ≤ 64) ⌝ }
+{
+    if place == 0 {
+        return 0;
+    }
+    bit
+}
+
+fn has_of(found: Found) -> u32
+    ensures { λ r. ⌜ r ≡ hasOf found ⌝ }
+{
+    bit_where(found.fec, 1)
+        + bit_where(found.label, 2)
+        + bit_where(found.status, 4)
+        + bit_where(found.parameters, 8)
+        + bit_where(found.session, 16)
+        + bit_where(found.protection, 32)
+        + bit_where(found.ack, 64)
+}
+
+fn field_number(field: Field) -> u32
+    ensures { λ r. ⌜ r ≡ fieldNumber field ⌝ }
+{
+    match field {
+        Field::Absent => 0,
+        Field::Value(v) => v,
+    }
+}
+
+fn ft_number(field: FtField) -> u32
+    ensures { λ r. ⌜ r ≡ ftNumber field ⌝ }
+{
+    match field {
+        FtField::Absent => 0,
+        FtField::Number(n) => n.0,
+    }
+}
+
+fn reconnect_of(session: Session) -> u32
+    ensures { λ r. ⌜ r ≡ reconnectOf session ⌝ }
+{
+    match session {
+        Session::Absent => 0,
+        Session::Given { reconnect, seconds } => {
+            if reconnect {
+                return 1;
+            }
+            0
+        }
+    }
+}
+
+fn seconds_of(session: Session) -> u32
+    ensures { λ r. ⌜ r ≡ secondsOf session ⌝ }
+{
+    match session {
+        Session::Absent => 0,
+        Session::Given { reconnect, seconds } => seconds as u32,
+    }
+}
+
+fn keepalive_of(parameters: Parameters) -> u32
+    ensures { λ r. ⌜ r ≡ keepaliveOf parameters ⌝ }
+{
+    match parameters {
+        Parameters::Absent => 0,
+        Parameters::Given {
+            keepalive,
+            pdulength,
+        } => keepalive as u32,
+    }
+}
+
+fn maxpdu_of(parameters: Parameters) -> u32
+    ensures { λ r. ⌜ r ≡ maxpduOf parameters ⌝ }
+{
+    match parameters {
+        Parameters::Absent => 0,
+        Parameters::Given {
+            keepalive,
+            pdulength,
+        } => pdulength as u32,
+    }
+}
+
+// A malformed message.
+pub fn no_message() -> MessageNumbers
+    ensures { λ r. ⌜ r ≡ noMessage ⌝ }
+{
+    MessageNumbers {
+        answer: 22,
+        typenumber: 0,
+        id: 0,
+        kind: 0,
+        has: 0,
+        fecstart: 0,
+        fecend: 0,
+        label: 0,
+        status: 0,
+        number: 0,
+        ack: 0,
+        reconnect: 0,
+        timeout: 0,
+        keepalive: 0,
+        maxpdu: 0,
+    }
+}
+
+// A well-formed message.
+pub fn whole_message(g: Message) -> MessageNumbers
+    requires { ⌜ NarrowMessage g ⌝ }
+    ensures { λ r. ⌜ r ≡ wholeMessage g ⌝ }
+{
+    let id = g.id;
+    let found = g.found;
+    let part = g.fecvalue;
+    let label = g.label;
+    let status = g.status;
+    let session = g.session;
+    let parameters = g.parameters;
+    let number = g.protection;
+    let ack = g.ack;
+    MessageNumbers {
+        answer: 0,
+        typenumber: g.typenumber as u32,
+        id: id.0,
+        kind: message::kind_number(message::kind_of(g)) as u32,
+        has: has_of(found),
+        fecstart: part.start as u32,
+        fecend: part.end as u32,
+        label: field_number(label),
+        status: field_number(status),
+        number: ft_number(number),
+        ack: ft_number(ack),
+        reconnect: reconnect_of(session),
+        timeout: seconds_of(session),
+        keepalive: keepalive_of(parameters),
+        maxpdu: maxpdu_of(parameters),
+    }
+}

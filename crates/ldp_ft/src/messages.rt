@@ -1,0 +1,76 @@
+// PDUs and messages, read.
+ghost use mathlib.Core.Path.{_≡_};
+ghost use Prim.Native.Nat.{_≤_};
+ghost use Rattle.pdu.specs.Pdu.{placeOf, openedOf};
+ghost use Rattle.message.specs.Reading.{readingOf};
+ghost use Rattle.ldp_ft.specs.Reading.{pduNumbers, partOf, partNumbers, messageNumbers};
+use crate::MessageNumbers;
+use crate::PartNumbers;
+use crate::PduNumbers;
+use crate::message_numbers::no_message;
+use crate::message_numbers::whole_message;
+use message::Reading;
+use pdu::Opened;
+use pdu::Place;
+
+// A whole PDU, judged.
+#[no_mangle]
+pub extern "C" fn ldp_ft_pdu_open(pdu: &[u8]) -> PduNumbers
+    ensures { λ r. ⌜ r ≡ pduNumbers (openedOf (now (pdu .entry))) ⌝ }
+{
+    match pdu::open_pdu(pdu) {
+        Opened::Whole(count) => PduNumbers {
+            answer: 0,
+            count: count,
+        },
+        Opened::Malformed => PduNumbers {
+            answer: 4,
+            count: 0,
+        },
+    }
+}
+
+// A place that 32 bits can name.
+fn part_numbers(start: usize, end: usize) -> PartNumbers
+    requires { ⌜ start ≤ end ⌝ }
+    ensures { λ r. ⌜ r ≡ partOf start end ⌝ }
+{
+    if 4294967295 < end {
+        return PartNumbers {
+            answer: 4,
+            start: 0,
+            end: 0,
+        };
+    }
+    PartNumbers {
+        answer: 0,
+        start: start as u32,
+        end: end as u32,
+    }
+}
+
+// Where the message lies that starts at `at`.
+#[no_mangle]
+pub extern "C" fn ldp_ft_pdu_message(pdu: &[u8], at: usize) -> PartNumbers
+    ensures { λ r. ⌜ r ≡ partNumbers (placeOf (now (pdu .entry)) at) ⌝ }
+{
+    match pdu::message_at(pdu, at) {
+        Place::Message(start, end) => part_numbers(start, end),
+        Place::None => PartNumbers {
+            answer: 4,
+            start: 0,
+            end: 0,
+        },
+    }
+}
+
+// A message, read.
+#[no_mangle]
+pub extern "C" fn ldp_ft_message_read(msg: &[u8]) -> MessageNumbers
+    ensures { λ r. ⌜ r ≡ messageNumbers (readingOf (now (msg .entry))) ⌝ }
+{
+    match message::read_message(msg) {
+        Reading::Malformed => no_message(),
+        Reading::Whole(g) => whole_message(g),
+    }
+}

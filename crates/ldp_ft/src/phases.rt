@@ -1,0 +1,62 @@
+// A phase and its two numbers, both ways.
+ghost use mathlib.Core.Path.{_≡_};
+ghost use Rattle.ldp_ft.specs.Session.{sessionOf, awaitingOf, givenOf, sessionLeft};
+use crate::Given;
+use crate::SessionNumbers;
+use calls::Effect;
+use calls::Phase;
+
+// The numbers of a phase.
+pub fn session_of(phase: Phase) -> SessionNumbers
+    ensures { λ r. ⌜ r ≡ sessionOf phase ⌝ }
+{
+    match phase {
+        Phase::Idle => SessionNumbers { phase: 0, value: 0 },
+        Phase::InitWait(seconds) => SessionNumbers {
+            phase: 1,
+            value: seconds as u32,
+        },
+        Phase::UpFT(sent) => SessionNumbers {
+            phase: 2,
+            value: sent,
+        },
+        Phase::UpPlain => SessionNumbers { phase: 3, value: 0 },
+        Phase::Failed => SessionNumbers { phase: 4, value: 0 },
+    }
+}
+
+fn awaiting(value: u32) -> Given
+    ensures { λ r. ⌜ r ≡ awaitingOf value ⌝ }
+{
+    if 65535 < value {
+        return Given::Unknown;
+    }
+    Given::Known(Phase::InitWait(value as u16))
+}
+
+// The phase that the numbers stand for.
+pub fn phase_given(s: SessionNumbers) -> Given
+    ensures { λ r. ⌜ r ≡ givenOf s ⌝ }
+{
+    let phase = s.phase;
+    match phase {
+        0 => Given::Known(Phase::Idle),
+        1 => awaiting(s.value),
+        2 => Given::Known(Phase::UpFT(s.value)),
+        3 => Given::Known(Phase::UpPlain),
+        4 => Given::Known(Phase::Failed),
+        _ => Given::Unknown,
+    }
+}
+
+// The session after an answer: as it was given where the answer leaves nothing changed.
+pub fn session_left(effect: Effect, s: SessionNumbers, phase: Phase) -> SessionNumbers
+    ensures { λ r. ⌜ r ≡ sessionLeft effect s phase ⌝ }
+{
+    match effect {
+        Effect::Nothing => s,
+        Effect::Fail => session_of(phase),
+        Effect::Release => session_of(phase),
+        Effect::Act => session_of(phase),
+    }
+}

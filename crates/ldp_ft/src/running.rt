@@ -1,0 +1,115 @@
+// A session that has begun: messages submitted, sent and received, KeepAlives, and the two events.
+ghost use mathlib.Core.Path.{_≡_};
+ghost use mathlib.Core.List.{[]};
+ghost use Rattle.connect.specs.Writers.{keepaliveOf};
+ghost use Rattle.timers.specs.Events.{connectionFailedOf, timePassedOf};
+ghost use Rattle.submit.specs.Act.{submitOf};
+ghost use Rattle.send.specs.Rule.{sendOf};
+ghost use Rattle.receive.specs.Rule.{receiveOf};
+ghost use Rattle.ldp_ft.specs.Outcome.{shown, called};
+ghost use Rattle.ldp_ft.specs.Opening.{idOf};
+use crate::Given;
+use crate::OutcomeNumbers;
+use crate::SessionNumbers;
+use crate::outcome::outcome_numbers;
+use crate::outcome::refuse_unknown;
+use crate::phases::phase_given;
+use ft_number::MessageId;
+
+// The connection has failed.
+#[no_mangle]
+pub extern "C" fn ldp_ft_connection_failed(image: &mut [u8], s: SessionNumbers) -> OutcomeNumbers
+    ensures { λ r. ⌜ shown r (now (image .exit)) [] ≡ called s (now (image .entry)) [] (λ ph. connectionFailedOf (now (image .entry)) ph) ⌝ }
+{
+    match phase_given(s) {
+        Given::Known(phase) => {
+            let o = session::connection_failed(image, phase);
+            outcome_numbers(s, o)
+        }
+        Given::Unknown => refuse_unknown(image, s),
+    }
+}
+
+// So many seconds have passed since the connection failed.
+#[no_mangle]
+pub extern "C" fn ldp_ft_time_passed(
+    image: &mut [u8],
+    s: SessionNumbers,
+    elapsed: u32,
+) -> OutcomeNumbers
+    ensures { λ r. ⌜ shown r (now (image .exit)) [] ≡ called s (now (image .entry)) [] (λ ph. timePassedOf (now (image .entry)) ph elapsed) ⌝ }
+{
+    match phase_given(s) {
+        Given::Known(phase) => {
+            let o = session::time_passed(image, phase, elapsed);
+            outcome_numbers(s, o)
+        }
+        Given::Unknown => refuse_unknown(image, s),
+    }
+}
+
+// A message to be sent.
+#[no_mangle]
+pub extern "C" fn ldp_ft_submit(image: &mut [u8], s: SessionNumbers, msg: &[u8]) -> OutcomeNumbers
+    ensures { λ r. ⌜ shown r (now (image .exit)) [] ≡ called s (now (image .entry)) [] (λ ph. submitOf (now (image .entry)) ph (now (msg .entry))) ⌝ }
+{
+    match phase_given(s) {
+        Given::Known(phase) => {
+            let o = session::submit(image, phase, msg);
+            outcome_numbers(s, o)
+        }
+        Given::Unknown => refuse_unknown(image, s),
+    }
+}
+
+// The next message to send.
+#[no_mangle]
+pub extern "C" fn ldp_ft_send_next(
+    image: &mut [u8],
+    s: SessionNumbers,
+    ack: bool,
+    out: &mut [u8],
+) -> OutcomeNumbers
+    ensures { λ r. ⌜ shown r (now (image .exit)) (now (out .exit)) ≡ called s (now (image .entry)) (now (out .entry)) (λ ph. sendOf (now (image .entry)) ph ack (now (out .entry))) ⌝ }
+{
+    match phase_given(s) {
+        Given::Known(phase) => {
+            let o = session::send_next(image, phase, ack, out);
+            outcome_numbers(s, o)
+        }
+        Given::Unknown => refuse_unknown(image, s),
+    }
+}
+
+// A KeepAlive.
+#[no_mangle]
+pub extern "C" fn ldp_ft_keepalive(
+    image: &mut [u8],
+    s: SessionNumbers,
+    id: u32,
+    out: &mut [u8],
+) -> OutcomeNumbers
+    ensures { λ r. ⌜ shown r (now (image .exit)) (now (out .exit)) ≡ called s (now (image .entry)) (now (out .entry)) (λ ph. keepaliveOf (now (image .entry)) ph (idOf id) (now (out .entry))) ⌝ }
+{
+    match phase_given(s) {
+        Given::Known(phase) => {
+            let o = session::keepalive(image, phase, MessageId(id), out);
+            outcome_numbers(s, o)
+        }
+        Given::Unknown => refuse_unknown(image, s),
+    }
+}
+
+// A message of the peer's.
+#[no_mangle]
+pub extern "C" fn ldp_ft_receive(image: &mut [u8], s: SessionNumbers, msg: &[u8]) -> OutcomeNumbers
+    ensures { λ r. ⌜ shown r (now (image .exit)) [] ≡ called s (now (image .entry)) [] (λ ph. receiveOf (now (image .entry)) ph (now (msg .entry))) ⌝ }
+{
+    match phase_given(s) {
+        Given::Known(phase) => {
+            let o = session::receive(image, phase, msg);
+            outcome_numbers(s, o)
+        }
+        Given::Unknown => refuse_unknown(image, s),
+    }
+}

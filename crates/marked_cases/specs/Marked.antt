@@ -1,0 +1,71 @@
+-- 01's marked cases, P1 to P12, as one list: "Proved together, as one list and one theorem". Each entry is a definition that the shipped contracts
+-- cite, applied to the paper's values, beside the paper's result.
+use Prim.Native.Nat.{ℕ}
+use mathlib.Core.List.{List, [], _∷_, map}
+use lib.IntN.{pos, negℤ}
+use lib.ListN.{replicate}
+use Rattle.octets.specs.Be.{bytes}
+use Rattle.ft_number.specs.Ack.{ackOf}
+use Rattle.ft_number.specs.Distance.{distanceOf}
+use Rattle.ft_number.specs.Timeout.{lesserOf}
+use Rattle.ft_number.specs.declared.Ack
+use Rattle.ft_number.specs.declared.Ack.{Ack}
+use Rattle.ft_number.specs.declared.Distance
+use Rattle.ft_number.specs.declared.Distance.{Distance}
+use Rattle.tlv.specs.declared.FtField
+use Rattle.tlv.specs.declared.FtField.{FtField}
+use Rattle.message.specs.declared.Message.{Message}
+use Rattle.message_writer.specs.Forms.{sessionValue, sessionTlv, ftTlvs}
+use Rattle.block.specs.Check.{checkAt, checkOf}
+use Rattle.image.specs.State.{State}
+use Rattle.calls.specs.Answers.{answerNumber}
+use Rattle.receive.specs.Rule.{ackRule}
+
+-- what a case is about
+pub data Result : Type 0 where
+  seconds : ℕ → Result
+  acknowledges : Ack → Result
+  answers : ℕ → Result
+  lies : Distance → Result
+  octets : List ℕ → Result
+
+pub record Marked : Type 0 where
+  pub defined : Result
+  pub paper : Result
+
+abbrev case : Result → Result → Marked
+case d p = record { defined = d; paper = p }
+
+-- what acknowledging a does, with R=0xFFFFFFFE and I=1
+abbrev acks : ℕ → Ack
+acks a = ackOf 0xFFFFFFFE 1 a
+
+-- s and g: an ACK that is a sequence error is answered so whatever the state and the rest of the message
+abbrev pub cases : State → Message → List Marked
+cases s g =
+    -- P1 to P3: "lesser of 0 and 5 is 5; 0 and 0 is 0; 65,535 and 0 is 65,535"
+    case (seconds (lesserOf 0 5)) (seconds 5)
+    ∷ case (seconds (lesserOf 0 0)) (seconds 0)
+    ∷ case (seconds (lesserOf 65535 0)) (seconds 65535)
+    -- P4 to P7: "ACK 1 releases 2; ACK 0 is 34; ACK 2 is 34; ACK 0xFFFFFFFE releases none"
+    ∷ case (acknowledges (acks 1)) (acknowledges (Ack.Releases 2))
+    ∷ case (answers (answerNumber (ackRule s g (acks 0)))) (answers 34)
+    ∷ case (answers (answerNumber (ackRule s g (acks 2)))) (answers 34)
+    ∷ case (acknowledges (acks 0xFFFFFFFE)) (acknowledges (Ack.Releases 0))
+    -- P8, P9: "Distance 0xFFFFFFFF to 1 is 1; 1 to 0x80000001 is -2,147,483,647"
+    ∷ case (lies (distanceOf 0xFFFFFFFF 1)) (lies (Distance.Steps (pos 1)))
+    ∷ case (lies (distanceOf 1 0x80000001)) (lies (Distance.Steps (negℤ (pos 2147483647))))
+    -- P10: "R set, 5 s: 85 03 00 04 80 00 00 05"; R is set where our Init bears an ACK
+    ∷ case (octets (sessionTlv (sessionValue (FtField.Number (record { 0 = 1 })) 5))) (octets (0x85 ∷ 0x03 ∷ 0x00 ∷ 0x04 ∷ 0x80 ∷ 0x00 ∷ 0x00 ∷ 0x05 ∷ []))
+    -- P11: "Number 27: 02 03 00 04 00 00 00 1B"
+    ∷ case (octets (ftTlvs (record { 0 = 27 }) FtField.Absent)) (octets (0x02 ∷ 0x03 ∷ 0x00 ∷ 0x04 ∷ 0x00 ∷ 0x00 ∷ 0x00 ∷ 0x1B ∷ []))
+    -- P12: "Check of a zero block: 00 01 00 FE"
+    ∷ case (octets (bytes 4 (checkOf (replicate checkAt 0)))) (octets (0x00 ∷ 0x01 ∷ 0x00 ∷ 0xFE ∷ []))
+    ∷ []
+
+-- what the definitions say, and what the paper says, case by case
+abbrev pub defined : List Marked → List Result
+defined cs = map (λ (c : Marked). c .defined) cs
+
+abbrev pub paper : List Marked → List Result
+paper cs = map (λ (c : Marked). c .paper) cs

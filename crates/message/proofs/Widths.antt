@@ -1,0 +1,49 @@
+-- The numbers that a message of bytes bears have their widths. Assumes nothing.
+use mathlib.Core.Path.{_≡_}
+use mathlib.Core.Bool.{Bool}
+use mathlib.Core.List.{List}
+use Prim.Native.Nat.{ℕ, _<_}
+use Rattle.octets.specs.Bytes.{Bytes}
+use Rattle.octets.proofs.Choice.{no, passed}
+use Rattle.ft_number.specs.declared.FtNumber.{FtNumber}
+use Rattle.tlv.specs.Walk.{tlvsOf}
+use Rattle.tlv.specs.declared.Found.{Found}
+use Rattle.tlv.specs.declared.FtField
+use Rattle.tlv.specs.declared.FtField.{FtField}
+use Rattle.tlv.specs.declared.Parameters
+use Rattle.tlv.specs.declared.Parameters.{Parameters}
+use Rattle.tlv.specs.declared.Session
+use Rattle.tlv.specs.declared.Session.{Session}
+use Rattle.tlv.specs.declared.walk.Walk
+use Rattle.tlv.specs.declared.walk.Walk.{Walk}
+use Rattle.tlv.proofs.Values.{number-width, parameters-width, session-width}
+use Rattle.message.specs.Reading.{typeOf, numberIn, bearsOf, messageOf, readingBy, readingOf}
+use Rattle.message.specs.declared.Message.{Message}
+use Rattle.message.specs.declared.Reading
+use Rattle.message.specs.declared.Reading.{Reading}
+
+pub record Widths (g : Message) : Type 0 where
+  pub ack : (a : FtNumber) → g .ack ≡ FtField.Number a → a .0 < 4294967296
+  pub protection : (a : FtNumber) → g .protection ≡ FtField.Number a → a .0 < 4294967296
+  pub parameters : (ka mp : ℕ) → g .parameters ≡ Parameters.Given ka mp → (ka < 65536) × (mp < 65536)
+  pub session : (r : Bool) (n : ℕ) → g .session ≡ Session.Given r n → n < 65536
+
+message-widths : (m : List ℕ) → Bytes m → (f : Found) → Widths (messageOf m f)
+unfolding messageOf
+message-widths m byte f = record {
+  ack = number-width m byte (f .ack);
+  protection = number-width m byte (f .protection);
+  parameters = parameters-width m byte (f .parameters);
+  session = session-width m byte (f .session);
+}
+
+pub read-widths : (m : List ℕ) → Bytes m → (g : Message) → readingOf m ≡ Reading.Whole g → Widths g
+unfolding readingOf
+read-widths m byte g e = by (tlvsOf m) e
+  where
+    by : (w : Walk) → readingBy m w ≡ Reading.Whole g → Widths g
+    by Walk.Malformed e = no (cc)
+    by (Walk.Whole f) e =
+        let p = passed (bearsOf (typeOf (numberIn m)) f) (Reading.Whole (messageOf m f)) Reading.Malformed (Reading.Whole g) (λ z. cc) e in
+        let same : messageOf m f ≡ g = cc (p .1) in
+        rw (← same) (message-widths m byte f)

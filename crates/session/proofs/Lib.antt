@@ -1,0 +1,9 @@
+pub mod Settles
+pub mod Answers
+pub mod Told
+pub mod Slots
+pub mod Cut
+pub mod Stands
+pub mod Sample
+pub mod Second
+pub mod Keepers

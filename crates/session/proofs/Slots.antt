@@ -1,0 +1,162 @@
+-- The slots that a call stores: at most one, one that is not live; every other keeps its bytes. Assumes nothing.
+use mathlib.Core.Path.{_≡_, refl, sym, ap, _∙_}
+use mathlib.Core.Bool.{true, false, true≢false}
+use mathlib.Core.List.{List, []}
+use mathlib.Core.Logic.{_≢_}
+use Prim.Native.Nat.{ℕ, _<_}
+use native.Mathlib.Omega.{arith}
+use lib.Dec.{ltb}
+use lib.ListN.{length}
+use Rattle.label_list.specs.Word.{wordCount}
+use Rattle.octets.proofs.Choice.{pick-all}
+use Rattle.message.specs.Reading.{readingOf}
+use Rattle.message.specs.declared.Reading
+use Rattle.message.specs.declared.Reading.{Reading}
+use Rattle.block.specs.Check.{blockSize}
+use Rattle.block.specs.Run.{putRun, withWords}
+use Rattle.block.proofs.Sealed.{length-sealed}
+use Rattle.block.proofs.Run.{length-putRun}
+use Rattle.block.proofs.WordRun.{length-withWords}
+use Rattle.block0.specs.declared.Header.{Header}
+use Rattle.block0.specs.Layout.{widths, labelsAt, values, block0, slotCount}
+use Rattle.image.specs.Sizes.{imageSize, block}
+use Rattle.image.specs.State.{decode, storeSlot, store0}
+use Rattle.image.specs.Events.{releaseOf, breakOf}
+use Rattle.image.specs.Verdict.{verdict, IsSound}
+use Rattle.image.specs.declared.Verdict
+use Rattle.image.specs.declared.Verdict.{Verdict}
+use Rattle.image.proofs.Blocks.{length-block, block-other}
+use Rattle.image.proofs.Stored.{Idle, length-storeSlot, slot-other}
+use Rattle.image.proofs.Sound.{sound-parts}
+use Rattle.calls.specs.declared.Answer
+use Rattle.calls.specs.declared.Answer.{Answer}
+use Rattle.calls.specs.declared.Effect
+use Rattle.calls.specs.declared.Effect.{Effect}
+use Rattle.calls.specs.declared.Phase
+use Rattle.calls.specs.declared.Phase.{Phase}
+use Rattle.calls.specs.Answers.{effectOf}
+use Rattle.calls.specs.Phases.{issuedCount}
+use Rattle.calls.specs.Outcomes.{After, unchanged, failedWith, releasedWith, checked, admitted}
+use Rattle.timers.specs.Events.{expired}
+use Rattle.init.specs.declared.Start
+use Rattle.init.specs.declared.Start.{Start}
+use Rattle.init.specs.Begun.{startImage, initStart, begunAs}
+use Rattle.submit.specs.Rule.{submitAnswer}
+use Rattle.submit.specs.Act.{submitSlot, submitImage, queued}
+use Rattle.submit.proofs.Passing.{done-passes, passes-storable}
+use Rattle.send.specs.Rule.{sentOf, sendImage}
+use Rattle.receive.specs.Rule.{takenAs}
+use Rattle.session.specs.Call.{Call, format, restore, connection-failed, open-session, init-received, time-passed, submit, send-next, keepalive, receive, leaves, judged, done, makesImage}
+use Rattle.session.proofs.Settles.{ends}
+
+-- every block but block 0 and the slot that the outcome names keeps its bytes
+abbrev pub Kept : List ℕ → After → Type 0
+Kept im x = (k : ℕ) → k ≢ 0 → k ≢ x .outcome .slot → block (x .image) k ≡ block im k
+
+-- storing block 0 leaves every slot, whatever is stored
+module _ (im : List ℕ) (size : length im ≡ imageSize) (h : Header) (ls : List ℕ) where
+  long : length (block0 (block im 0) h ls) ≡ blockSize
+  unfolding block0
+  long =
+      length-sealed (withWords wordCount ls (putRun widths (values h) (block im 0) 0) labelsAt)
+      ∙ length-withWords wordCount ls (putRun widths (values h) (block im 0) 0) labelsAt
+      ∙ length-putRun widths (values h) (block im 0) 0
+      ∙ length-block im 0 (omega arith)
+
+  pub store-other : (k : ℕ) → k ≢ 0 → block (store0 im h ls) k ≡ block im k
+  unfolding store0
+  store-other k apart = block-other im 0 (block0 (block im 0) h ls) (omega arith) long k apart
+
+module _ (im : List ℕ) (size : length im ≡ imageSize) where
+  failed-kept : (a : Answer) (o : List ℕ) → Kept im (failedWith a im o)
+  unfolding failedWith breakOf
+  failed-kept a o k zero slot = store-other im size _ _ k zero
+
+  released-kept : (a : Answer) (o : List ℕ) → Kept im (releasedWith a im o)
+  unfolding releasedWith releaseOf
+  released-kept a o k zero slot = store-other im size _ _ k zero
+
+  begun-kept : (ph : Phase) (st : Start) → Kept im (begunAs im ph st)
+  unfolding begunAs startImage releaseOf
+  begun-kept ph (Start.Refused a) k zero slot = refl
+  begun-kept ph Start.Plain k zero slot = store-other im size _ _ k zero
+  begun-kept ph (Start.Fresh t) k zero slot = store-other im size _ _ k zero
+  begun-kept ph (Start.Resumed t n a) k zero slot = store-other im size _ _ k zero
+
+  taken-kept : (ph : Phase) (r : Reading) → Kept im (takenAs im ph r)
+  taken-kept Phase.Idle r k zero slot = refl
+  taken-kept (Phase.InitWait t) r k zero slot = refl
+  taken-kept (Phase.UpFT sent) Reading.Malformed k zero slot = refl
+  taken-kept (Phase.UpFT sent) (Reading.Whole g) k zero slot = store-other im size _ _ k zero
+  taken-kept Phase.UpPlain r k zero slot = refl
+  taken-kept Phase.Failed r k zero slot = refl
+
+  sent-kept : (sent k : ℕ) → k ≢ 0 → block (sendImage im sent) k ≡ block im k
+  unfolding sendImage
+  sent-kept sent k zero =
+      pick-all (λ (x : List ℕ). block x k ≡ block im k) (ltb sent (issuedCount (decode im .header)))
+      refl
+      (store-other im size _ _ k zero)
+
+  -- Submit alone writes a slot
+  queued-kept : (m : List ℕ) (ph : Phase) → submitAnswer im ph m ≡ Answer.Done → Kept im (queued im ph m)
+  unfolding queued submitImage
+  queued-kept m ph e k zero slot =
+      let p = done-passes im ph m e in
+      let low : submitSlot (decode im) < slotCount = omega arith in
+      store-other (storeSlot im (submitSlot (decode im)) m) (length-storeSlot im size (submitSlot (decode im)) low m (passes-storable (p .0))) _ _ k zero
+      ∙ slot-other im size (submitSlot (decode im)) low m (passes-storable (p .0)) k slot
+
+  done-kept : (c : Call) (ph : Phase) → makesImage c ≡ false → judged c im ph ≡ Answer.Done → Kept im (done c im ph)
+  unfolding done judged submitAnswer
+  done-kept format ph other e = absurd (true≢false other)
+  done-kept restore ph other e = failed-kept Answer.Done []
+  done-kept connection-failed ph other e = failed-kept Answer.Done []
+  done-kept (open-session id own proposal out) ph other e = λ k zero slot. refl
+  done-kept (init-received m) ph other e = begun-kept ph (initStart im ph m)
+  done-kept (time-passed elapsed) ph other e =
+      pick-all (Kept im) (expired (decode im .header) elapsed) {x = releasedWith Answer.Done im []} {y = unchanged Answer.Done ph im []}
+      (released-kept Answer.Done []) (λ k zero slot. refl)
+  done-kept (submit m) ph other e = queued-kept m ph e
+  done-kept (send-next ask out) ph other e = λ k zero slot. sent-kept (sentOf ph) k zero
+  done-kept (keepalive id out) ph other e = λ k zero slot. refl
+  done-kept (receive m) ph other e = taken-kept ph (readingOf m)
+
+-- ---- a call that does more than refuse was given a sound image
+checks-passed : (v : Verdict) (a : Answer) → (effectOf (checked v a) ≡ Effect.Nothing → ⊥) → v ≡ Verdict.Sound
+unfolding effectOf
+checks-passed Verdict.Sound a more = refl
+checks-passed Verdict.WrongSize a more = absurd (more refl)
+checks-passed (Verdict.BadBlock b) a more = absurd (more refl)
+checks-passed (Verdict.BadField b) a more = absurd (more refl)
+
+admitted-sound : (im : List ℕ) (ph : Phase) (a : Answer) → (effectOf (admitted im ph a) ≡ Effect.Nothing → ⊥) → IsSound im
+unfolding admitted
+admitted-sound im ph a more = sound-parts im (checks-passed (verdict im) _ more)
+
+pub more-sound : (c : Call) (im : List ℕ) (ph : Phase) → makesImage c ≡ false → (effectOf (judged c im ph) ≡ Effect.Nothing → ⊥) → IsSound im
+unfolding judged
+more-sound format im ph other more = absurd (true≢false other)
+more-sound restore im ph other more = sound-parts im (checks-passed (verdict im) Answer.Done more)
+more-sound connection-failed im ph other more = admitted-sound im ph _ more
+more-sound (open-session id own proposal out) im ph other more = admitted-sound im ph _ more
+more-sound (init-received m) im ph other more = admitted-sound im ph _ more
+more-sound (time-passed elapsed) im ph other more = admitted-sound im ph _ more
+more-sound (submit m) im ph other more = admitted-sound im ph _ more
+more-sound (send-next ask out) im ph other more = admitted-sound im ph _ more
+more-sound (keepalive id out) im ph other more = admitted-sound im ph _ more
+more-sound (receive m) im ph other more = admitted-sound im ph _ more
+
+module _ (c : Call) (im : List ℕ) (ph : Phase) (other : makesImage c ≡ false) where
+  sized : {f : Effect} → (f ≡ Effect.Nothing → _≡_ {A = ℕ} 0 1) → effectOf (judged c im ph) ≡ f → length im ≡ imageSize
+  sized apart e = more-sound c im ph other (λ n. let z : _≡_ {A = ℕ} 0 1 = apart (sym e ∙ n) in omega arith) .size
+
+  -- "A call stores at most one slot": every block but that and block 0 keeps its bytes
+  pub others-kept : Kept im (leaves c im ph)
+  unfolding effectOf
+  others-kept =
+      ends c im ph (Kept im)
+      (λ e k zero slot. refl)
+      (λ e. failed-kept im (sized (λ z. cc) e) (judged c im ph) _)
+      (λ e. released-kept im (sized (λ z. cc) e) (judged c im ph) _)
+      (λ d. done-kept im (sized (λ z. cc) (ap effectOf d)) c ph other d)

@@ -1,0 +1,11 @@
+-- The owner's store: "A call stores at most one slot, one that isn't live, and then block 0."
+use Prim.Native.Nat.{ℕ}
+use mathlib.Core.List.{List}
+use lib.Dec.{eqb}
+use Rattle.octets.specs.Pick.{pick}
+use Rattle.image.specs.Sizes.{block, withBlock}
+use Rattle.calls.specs.Outcomes.{After}
+
+-- what is stored where the power goes between the two: the slot that the outcome names, and not yet block 0
+unfoldable pub slotAlone : List ℕ → After → List ℕ
+slotAlone im x = pick (eqb (x .outcome .slot) 0) im (withBlock im (x .outcome .slot) (block (x .image) (x .outcome .slot)))

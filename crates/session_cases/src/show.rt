@@ -1,0 +1,134 @@
+// What a call answered, and what an image counts, as lines on standard output.
+use calls::Answer;
+use calls::Outcome;
+use calls::Phase;
+use image_report::Counts;
+use image_report::Report;
+
+const STDOUT: i32 = 1;
+
+pub fn say(s: &[u8]) {
+    io::write_all(STDOUT, s);
+}
+
+pub fn number(name: &[u8], n: u64) {
+    say(name);
+    io::print_decimal(STDOUT, n);
+}
+
+// The first `count` bytes, or all where there are fewer.
+pub fn first(bytes: &[u8], count: usize) -> &[u8] {
+    if count > bytes.len() {
+        return bytes;
+    }
+    &bytes[..count]
+}
+
+// Bytes in hexadecimal: a block at most, and no message is longer.
+fn hex(bytes: &[u8]) {
+    if bytes.len() > 512 {
+        return;
+    }
+    let mut line = [0u8; 1024];
+    let end = text::put_hex(&mut line, 0, bytes);
+    say(first(&line, end));
+}
+
+// A name, and bytes in hexadecimal.
+pub fn say_bytes(name: &[u8], bytes: &[u8]) {
+    say(name);
+    hex(bytes);
+}
+
+// The answer's number, and the block that a refused image names.
+fn show_answer(answer: Answer) {
+    number(b": ", calls::answer_number(answer) as u64);
+    match answer {
+        Answer::BadBlock(b) => number(b" block ", b as u64),
+        Answer::BadField(b) => number(b" block ", b as u64),
+        _ => {}
+    }
+}
+
+fn show_phase(phase: Phase) {
+    match phase {
+        Phase::Idle => say(b", Idle"),
+        Phase::InitWait(seconds) => number(b", InitWait ", seconds as u64),
+        Phase::UpFT(sent) => number(b", UpFT ", sent as u64),
+        Phase::UpPlain => say(b", UpPlain"),
+        Phase::Failed => say(b", Failed"),
+    }
+}
+
+// The check of a block: four bytes that stand for all its bytes.
+fn show_check(image: &[u8], block: usize) {
+    if block > 64 {
+        return;
+    }
+    let at = block * 512 + 508;
+    let end = at + 4;
+    if image.len() < end {
+        return;
+    }
+    say(b" ");
+    hex(&image[at..end]);
+}
+
+// What the owner has to store, each block with its check.
+fn show_stores(image: &[u8], slot: usize, block0: bool) {
+    number(b", slot ", slot as u64);
+    if slot != 0 {
+        show_check(image, slot);
+    }
+    if !block0 {
+        say(b", block0 false\n");
+        return;
+    }
+    say(b", block0 true");
+    show_check(image, 0);
+    say(b"\n");
+}
+
+// The output, on a line of its own; the bytes after it are not printed.
+fn show_output(out: &[u8], written: usize) {
+    if written == 0 {
+        return;
+    }
+    say(b"  ");
+    hex(first(out, written));
+    say(b"\n");
+}
+
+// A step: its name, the outcome, and the output on a line of its own.
+pub fn show_step(name: &[u8], o: Outcome, image: &[u8], out: &[u8]) {
+    say(name);
+    let answer = o.answer;
+    let phase = o.phase;
+    show_answer(answer);
+    show_phase(phase);
+    number(b", written ", o.written as u64);
+    show_stores(image, o.slot, o.block0);
+    show_output(out, o.written);
+}
+
+fn show_numbers(c: Counts) {
+    number(b" released ", c.released.0 as u64);
+    number(b" issued ", c.issued.0 as u64);
+    number(b" secured ", c.secured.0 as u64);
+    number(b" held ", c.held as u64);
+    number(b" pended ", c.pended as u64);
+    number(b" labels ", c.labels as u64);
+}
+
+// The counts of an image.
+pub fn show_counts(name: &[u8], image: &[u8]) {
+    say(name);
+    match image_report::report_of(image) {
+        Report::Counted(c) => show_numbers(c),
+        Report::Refused(answer, block) => {
+            number(b" refused ", answer as u64);
+            number(b" block ", block as u64);
+        }
+    }
+    say(b"\n");
+}
