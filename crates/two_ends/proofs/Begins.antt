@@ -14,12 +14,12 @@ use Rattle.calls.specs.Outcomes.{After, isDone, releasedWith}
 use Rattle.calls.proofs.Settled.{admitted-is}
 use Rattle.call_meaning.specs.Standing.{Standing}
 use Rattle.call_meaning.proofs.Answered.{answered-released}
-use Rattle.call_meaning.proofs.Stands.{standing-admitted}
 use Rattle.init.specs.declared.Start
 use Rattle.init.specs.declared.Start.{Start}
 use Rattle.init.specs.Judged.{startAnswer}
 use Rattle.init.specs.Begun.{startState, startPhase, begunAs, initStart, initReceivedOf}
 use Rattle.init.specs.Meaning.{BegunFrom}
+use Rattle.call_meaning.proofs.Stands.{standing-admitted}
 use Rattle.init.proofs.Meaning.{init-decodes, init-stands}
 
 -- ---- what the call leaves

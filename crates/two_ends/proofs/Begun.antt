@@ -25,9 +25,9 @@ use Rattle.calls.specs.Outcomes.{After, roomFor, wrote}
 use Rattle.calls.proofs.Settled.{admitted-is}
 use Rattle.calls.proofs.Ends.{settle-done}
 use Rattle.call_meaning.specs.Standing.{Standing}
-use Rattle.call_meaning.proofs.Stands.{standing-admitted}
 use Rattle.connect.specs.Writers.{opens, keptAck, openOf, writerOf}
 use Rattle.connect.proofs.Written.{kept-clear}
+use Rattle.call_meaning.proofs.Stands.{standing-admitted}
 use Rattle.two_ends.specs.World.{none}
 use Rattle.two_ends.specs.Start.{Opener, opener, firstInit, start, Sound, RZero, Afresh}
 use Rattle.two_ends.proofs.Half.{Half}

@@ -13,8 +13,8 @@ use Rattle.submit.specs.Act.{submitOf}
 use Rattle.connect.specs.Start.{restoreOf}
 use Rattle.connect.proofs.Meaning.{restore-passes}
 use Rattle.session.specs.Call.{submit, leaves}
-use Rattle.session.specs.Store.{slotAlone}
 use Rattle.session.proofs.Cut.{Same, alone-same}
+use Rattle.session.specs.Store.{slotAlone}
 use Rattle.two_ends.specs.World.{History, End, World}
 use Rattle.two_ends.specs.Calls.{plainly}
 use Rattle.two_ends.proofs.Invariant.{Some, Good}

@@ -6,21 +6,19 @@ use mathlib.Core.List.{List, [], _∷_}
 use Rattle.octets.specs.Pick.{pick, both}
 use Rattle.octets.proofs.Choice.{both-true}
 use Rattle.calls.specs.Outcomes.{After, isDone}
-use Rattle.connect.specs.Writers.{openOf}
+use Rattle.connect.specs.Writers.{openOf, keepaliveOf}
 use Rattle.init.specs.declared.Start.{Start}
 use Rattle.init.specs.Begun.{awaits, initStart, initReceivedOf}
 use Rattle.receive.specs.Rule.{receiveOf}
 use Rattle.session.specs.Store.{slotAlone}
 use Rattle.two_ends.specs.World.{End, World, swap}
-use Rattle.two_ends.specs.Calls.{broken, keeps, called, replaced, plainly, put, on, greeted, greets, anew, took, receives, delivered, delivery}
+use Rattle.two_ends.specs.Calls.{broken, keeps, called, replaced, plainly, put, on, greeted, greets, anew, took, receives, delivered, delivery, counts, accepts, submitted, wrote}
 use Rattle.two_ends.specs.Runs.{Event, submits, sends, keepalives, opens, passes, delivers, breaks, notices, restarts, halts, act, step}
 use Rattle.two_ends.proofs.Worlds.{closes, next}
 use Rattle.connect.specs.Start.{restoreOf}
-use Rattle.connect.specs.Writers.{keepaliveOf}
 use Rattle.send.specs.Rule.{sendOf}
 use Rattle.submit.specs.Act.{submitOf}
 use Rattle.timers.specs.Events.{connectionFailedOf, timePassedOf}
-use Rattle.two_ends.specs.Calls.{counts, accepts, submitted, wrote}
 
 -- ---- once a state is released it stays so
 replaced-back : (w : World) (e : End) (ab ba : List (List ℕ)) → replaced w e ab ba .kept ≡ true → w .kept ≡ true

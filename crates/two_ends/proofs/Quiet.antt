@@ -2,7 +2,6 @@
 use mathlib.Core.Path.{_≡_, refl}
 use mathlib.Core.Bool.{Bool, true, false}
 use mathlib.Core.List.{List}
-use mathlib.Core.Logic.{_⊎_, inl, inr}
 use Prim.Native.Nat.{ℕ}
 use native.Mathlib.Omega.{arith}
 use Rattle.octets.specs.Pick.{pick, both}
@@ -14,8 +13,9 @@ use Rattle.calls.specs.declared.Effect.{Effect}
 use Rattle.calls.specs.declared.Phase.{Phase}
 use Rattle.calls.specs.Answers.{effectOf}
 use Rattle.calls.specs.Outcomes.{After, isDone, settleOf}
-use Rattle.calls.proofs.Effects.{done-is}
 use Rattle.calls.proofs.Ends.{settle-refusal}
+use mathlib.Core.Logic.{_⊎_, inl, inr}
+use Rattle.calls.proofs.Effects.{done-is}
 use Rattle.submit.specs.Rule.{submitAnswer}
 use Rattle.submit.proofs.Passing.{submit-harmless}
 use Rattle.two_ends.specs.World.{History, End}

@@ -20,7 +20,7 @@ use Rattle.calls.specs.declared.Phase
 use Rattle.calls.specs.declared.Phase.{Phase}
 use Rattle.calls.specs.Outcomes.{After, isDone, wrote}
 use Rattle.call_meaning.specs.Standing.{Standing}
-use Rattle.send.specs.Rule.{isUpFT as isSending, sentOf, nextMessage, numberAt, ackAsked, sendBytes, sendAnswer, sendImage, sendOf}
+use Rattle.send.specs.Rule.{isUpFT, sentOf, nextMessage, numberAt, ackAsked, sendBytes, sendAnswer, sendImage, sendOf}
 use Rattle.send.proofs.Judged.{Sendable, answered-sendable}
 use Rattle.send.proofs.Numbers.{number-fits}
 use Rattle.connect.specs.Writers.{opens, keptAck, openBytes, openOf, isUp, aliveAck, aliveBytes, keepaliveOf}
@@ -127,7 +127,7 @@ module _ (o : OwnParameters) (im : List ℕ) (ph : Phase) (st : Standing im ph) 
       }) k l)
 
   -- a message of the store
-  pub send-line : (ask : Bool) (out : List ℕ) → (isSending ph ≡ true → All Mild (decode im .queue)) → All (Says o) (put jo line (sendOf im ph ask out))
+  pub send-line : (ask : Bool) (out : List ℕ) → (isUpFT ph ≡ true → All Mild (decode im .queue)) → All (Says o) (put jo line (sendOf im ph ask out))
   unfolding sendBytes
   send-line ask out mild =
       by-test (isDone (sendAnswer im ph ask (length out)))

@@ -29,7 +29,7 @@ pub data Event : Type 0 where
   breaks notices : Event
   -- "restarts from the stored image"; a call cut with nothing stored is this too
   restarts : Event
-  -- "A call cut before its block 0 is stored counts as not made": power is lost in a Submit that has stored its slot, and not yet block 0
+  -- power is lost in a Submit that has stored its slot, and not yet block 0
   halts : List ℕ → Event
 
 -- what the types of the calls say of their inputs: bytes, and numbers of their width

@@ -22,12 +22,12 @@ use Rattle.image.proofs.Changes.{in-range-released, new-decodes, new-sound}
 use Rattle.octets.specs.Bytes.{Bytes}
 use Rattle.calls.specs.declared.Answer
 use Rattle.calls.specs.declared.Answer.{Answer}
-use Rattle.call_meaning.proofs.Stands.{standing-admitted}
 use Rattle.submit.specs.Act.{submitted, submitOf}
 use Rattle.submit.specs.Labels.{isBarred, acceptedAs}
 use Rattle.submit.specs.Passed.{Passes}
 use Rattle.submit.proofs.Passing.{passes-done}
 use Rattle.submit.proofs.Meaning.{submit-decodes}
+use Rattle.call_meaning.proofs.Stands.{standing-admitted}
 use Rattle.two_ends.specs.World.{End, World}
 use Rattle.two_ends.specs.Start.{start, Sound, Afresh}
 use Rattle.two_ends.specs.Calls.{called, counts, accepts}

@@ -51,8 +51,8 @@ use Rattle.connect.specs.Writers.{keepaliveOf, keptAck, openOf, writerOf}
 use Rattle.init.specs.Begun.{begunAs, fresh, initReceivedOf, resumed, startImage}
 use Rattle.init.specs.Judged.{bothSet, startOf}
 use Rattle.receive.specs.Labels.{labelEffect, protectionRule}
-use Rattle.receive.specs.Rule.{ackOn, ackedLabels, ftRule, labelsRule, messageRule, receiveAnswer, receiveOf, receivedState, taken}
 use Rattle.session.specs.Store.{slotAlone}
+use Rattle.receive.specs.Rule.{ackOn, ackedLabels, ftRule, labelsRule, messageRule, receiveAnswer, receiveOf, receivedState, taken}
 
 -- to unfold this is to unfold all of them
 unfoldable pub everything : ℕ
