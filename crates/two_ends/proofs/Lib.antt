@@ -50,3 +50,4 @@ pub mod Undisturbed
 pub mod Steadily
 pub mod Monotone
 pub mod Enduring
+pub mod Codes
