@@ -51,3 +51,4 @@ pub mod Steadily
 pub mod Monotone
 pub mod Enduring
 pub mod Codes
+pub mod Agreeing
