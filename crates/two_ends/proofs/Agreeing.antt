@@ -37,7 +37,7 @@ use Rattle.two_ends.proofs.Owed.{held-more, held-last}
 use Rattle.two_ends.proofs.Codes.{fit, mapping-used, used-codeBy, fit-after, after-snoc, five-zero}
 
 -- what an event makes of a label's code on a side
-moved : (ls : List ℕ) → validOf ls ≡ true → (e : Event) (side : Side) (l : ℕ)
+pub moved : (ls : List ℕ) → validOf ls ≡ true → (e : Event) (side : Side) (l : ℕ)
     → (codeAt (step ls e) side l ≡ codeAt ls side l) ⊎ Moves e side l (codeAt ls side l) (codeAt (step ls e) side l)
 moved ls v e side l = every-move ls (valid-means ls v) e side l
 

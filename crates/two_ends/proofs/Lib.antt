@@ -52,3 +52,4 @@ pub mod Monotone
 pub mod Enduring
 pub mod Codes
 pub mod Agreeing
+pub mod Acking
