@@ -50,3 +50,6 @@ pub mod Undisturbed
 pub mod Steadily
 pub mod Monotone
 pub mod Enduring
+pub mod Codes
+pub mod Agreeing
+pub mod Acking
