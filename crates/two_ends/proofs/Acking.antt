@@ -32,7 +32,7 @@ given-acked withdraw-acked = refl
 used-acked : {m : LabelMessage} {k l c d : ℕ} → Moves (Acked m k) Used l c d → (c ≡ 5) × (d ≡ 0)
 used-acked release-acked = (refl, refl)
 
-none-given : {P : Type 0} {c : ℕ} → c ≡ 0 → IsGiven c → P
+pub none-given : {P : Type 0} {c : ℕ} → c ≡ 0 → IsGiven c → P
 none-given z g = ⊎-elim (λ (e : _ ≡ 1). absurd (omega arith)) (λ (e : _ ≡ 2). absurd (omega arith)) g
 
 module _ (ls : List ℕ) (v : validOf ls ≡ true) (l : ℕ) where

@@ -53,3 +53,5 @@ pub mod Enduring
 pub mod Codes
 pub mod Agreeing
 pub mod Acking
+pub mod Getting
+pub mod Sharing
