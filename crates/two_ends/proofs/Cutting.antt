@@ -56,6 +56,8 @@ some-uncut im im′ ph jo bg h u s =
         peer = i .peer;
         out = rw (u .state) (i .out);
         back = rw (u .state) (i .back);
+        ours = rw (u .state) (i .ours);
+        theirs = rw (u .state) (i .theirs);
       },
     )
 

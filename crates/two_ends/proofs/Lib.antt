@@ -10,6 +10,11 @@ pub mod Sixless
 pub mod Owed
 pub mod Paid
 pub mod Tidy
+pub mod Codes
+pub mod Agreeing
+pub mod Acking
+pub mod Getting
+pub mod Sharing
 pub mod Invariant
 pub mod Sides
 pub mod Sends
@@ -50,8 +55,3 @@ pub mod Undisturbed
 pub mod Steadily
 pub mod Monotone
 pub mod Enduring
-pub mod Codes
-pub mod Agreeing
-pub mod Acking
-pub mod Getting
-pub mod Sharing
