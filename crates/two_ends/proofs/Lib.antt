@@ -48,6 +48,7 @@ pub mod Unreleased
 pub mod Staying
 pub mod Kept
 pub mod Listing
+pub mod Giving
 pub mod Saying
 pub mod Steady
 pub mod Calm

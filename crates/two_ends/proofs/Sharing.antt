@@ -64,7 +64,7 @@ module _ {xl : List ℕ} {xh : History} {yl : List ℕ} {yh : History} where
         take-user xl (releasedLabels ms yl) out back m (ack-user xl yl (m ∷ out) back a ms v) (released-valid ms yl v) k n e is says room }
 
 -- ---- a message is accepted
-cancel : (xs ys zs : List (List ℕ)) → xs ++ ys ≡ xs ++ zs → ys ≡ zs
+pub cancel : (xs ys zs : List (List ℕ)) → xs ++ ys ≡ xs ++ zs → ys ≡ zs
 cancel [] ys zs e = e
 cancel (x ∷ xs) ys zs e = let t : xs ++ ys ≡ xs ++ zs = cc in cancel xs ys zs t
 

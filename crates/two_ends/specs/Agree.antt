@@ -16,7 +16,9 @@ use Rattle.label_list.specs.Rules.{codeReceived}
 use Rattle.label_list.specs.declared.LabelMessage.the-variants.{Mapping, Withdraw}
 use Rattle.label_list.specs.declared.Side.the-variants.{Given, Used}
 use Rattle.label_events.specs.Change.{codeAt}
+use Rattle.image.specs.State.{decode}
 use Rattle.submit.specs.Labels.{isHeld}
+use Rattle.two_ends.specs.World.{End}
 
 -- the code of label l at its user, after a protected message with that submission
 abbrev pub codeBy : ℕ → ℕ → Submission → ℕ
@@ -47,3 +49,7 @@ IsUsed c = (c ≡ 3) ⊎ (c ≡ 4)
 abbrev pub Agree : List ℕ → List ℕ → List (List ℕ) → List (List ℕ) → Type 0
 Agree giver user out back =
     (l : ℕ) → listable l ≡ true → IsGiven (codeAt giver Given l) → isHeld 3 l back ≡ false → IsUsed (codeAfter l (codeAt user Used l) out)
+
+-- every label that x lists as given or withdrawing is in use or asked back at y
+abbrev pub InUse : End → End → Type 0
+InUse x y = (l : ℕ) → listable l ≡ true → IsGiven (codeAt (decode (x .image) .labels) Given l) → IsUsed (codeAt (decode (y .image) .labels) Used l)
