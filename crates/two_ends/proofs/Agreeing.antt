@@ -1,40 +1,33 @@
 -- What is given is in use or asked back, as either end accepts a message or an acknowledgement comes. Assumes nothing.
-use Prim.Native.Nat.{ℕ, zero, suc}
+use Prim.Native.Nat.{ℕ}
 use native.Mathlib.Omega.{arith}
 use mathlib.Core.Path.{_≡_, refl, sym, ap, _∙_}
-use mathlib.Core.Bool.{Bool, true, false, true≢false}
+use mathlib.Core.Bool.{true, false, true≢false}
 use mathlib.Core.List.{List, [], _∷_, _++_}
 use mathlib.Core.Logic.{_⊎_, inl, inr, ⊎-elim}
 use borrow.Author.Tests.{eq-eqb}
-use lib.Dec.{eqb}
-use Rattle.octets.specs.Pick.{pick}
-use Rattle.octets.proofs.Choice.{by-test, pick-all}
+use Rattle.octets.proofs.Choice.{by-test}
 use Rattle.message.specs.Submission.{submissionOf}
 use Rattle.message.specs.declared.Kind
 use Rattle.message.specs.declared.Kind.{Kind}
 use Rattle.message.specs.declared.Submission
 use Rattle.message.specs.declared.Submission.{Submission}
-use Rattle.label_list.specs.Sweep.{sweptOf}
 use Rattle.label_list.specs.Valid.{validOf}
 use Rattle.label_list.specs.declared.LabelMessage.{LabelMessage}
 use Rattle.label_list.specs.declared.LabelMessage.the-variants.{Mapping, Withdraw, Release}
 use Rattle.label_list.specs.declared.Side.{Side}
 use Rattle.label_list.specs.declared.Side.the-variants.{Given, Used}
-use Rattle.label_list.specs.declared.SweepRule.the-variants.{AfterBreak}
 use Rattle.label_events.specs.Change.{codeAt}
-use Rattle.label_meaning.specs.Event.{Event, Accepted, Acked, Broken, step, Moves, given, withdrawn, released, returned, withdraw-acked, release-acked, bare-lost}
+use Rattle.label_meaning.specs.Event.{Event, Accepted, step, Moves, given, withdrawn, released, returned}
 use Rattle.label_meaning.proofs.Meaning.{valid-means}
 use Rattle.label_meaning.proofs.Moved.{every-move}
 use Rattle.slot.specs.Fields.{bears}
-use Rattle.slot.specs.Held.{kindIn, labelIn}
-use Rattle.calls.specs.Acked.{releasedKind, releasedLabels}
-use Rattle.call_meaning.proofs.Released.{released-valid}
 use Rattle.submit.specs.Act.{acceptedLabels}
 use Rattle.submit.specs.Labels.{isHeld, acceptedAs}
-use Rattle.two_ends.specs.Agree.{codeBy, codeAfter, IsGiven, IsUsed, Agree}
+use Rattle.two_ends.specs.Agree.{codeAfter, Agree}
 use Rattle.two_ends.proofs.Sixless.{NoSix}
 use Rattle.two_ends.proofs.Owed.{held-more, held-last}
-use Rattle.two_ends.proofs.Codes.{fit, mapping-used, used-codeBy, fit-after, after-snoc, five-zero}
+use Rattle.two_ends.proofs.Codes.{fit, mapping-used, used-codeBy, fit-after, after-snoc}
 
 -- what an event makes of a label's code on a side
 pub moved : (ls : List ℕ) → validOf ls ≡ true → (e : Event) (side : Side) (l : ℕ)

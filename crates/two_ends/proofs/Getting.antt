@@ -1,14 +1,14 @@
 -- What is given is in use or asked back, as either end takes a message with its number. Assumes nothing.
-use Prim.Native.Nat.{ℕ, _≤_, _<_}
+use Prim.Native.Nat.{ℕ, _≤_}
 use native.Mathlib.Omega.{arith}
-use mathlib.Core.Path.{_≡_, refl, sym, ap, _∙_}
-use mathlib.Core.Bool.{Bool, true, false, true≢false}
-use mathlib.Core.List.{List, [], _∷_}
-use mathlib.Core.Logic.{_⊎_, _≢_, inl, inr, ⊎-elim}
+use mathlib.Core.Path.{_≡_, refl, sym, _∙_}
+use mathlib.Core.Bool.{true, false, true≢false}
+use mathlib.Core.List.{List, _∷_}
+use mathlib.Core.Logic.{_⊎_, _≢_, ⊎-elim}
 use borrow.Author.Tests.{eqb-true, eq-eqb}
 use lib.Dec.{eqb}
-use Rattle.octets.specs.Pick.{pick, both}
-use Rattle.octets.proofs.Choice.{by-test, pick-all, both-true}
+use Rattle.octets.specs.Pick.{pick}
+use Rattle.octets.proofs.Choice.{by-test, pick-all}
 use Rattle.tlv.specs.declared.Fec.{Fec}
 use Rattle.tlv.specs.declared.Field
 use Rattle.tlv.specs.declared.Field.{Field}
@@ -20,7 +20,7 @@ use Rattle.message.specs.declared.MessageType
 use Rattle.message.specs.declared.MessageType.{MessageType}
 use Rattle.message.specs.declared.Submission
 use Rattle.message.specs.declared.Submission.{Submission}
-use Rattle.label_list.specs.Word.{listable, labelCount}
+use Rattle.label_list.specs.Word.{listable}
 use Rattle.label_list.specs.Valid.{validOf}
 use Rattle.label_list.specs.Rules.{receivedSide, codeReceived}
 use Rattle.label_list.specs.declared.LabelMessage.{LabelMessage}

@@ -19,7 +19,7 @@ use Rattle.call_meaning.proofs.Released.{released-valid}
 use Rattle.submit.specs.Act.{acceptedLabels}
 use Rattle.receive.specs.declared.LabelEffect.{LabelEffect}
 use Rattle.receive.specs.Labels.{effectReception, effectLabels}
-use Rattle.two_ends.specs.World.{History, none}
+use Rattle.two_ends.specs.World.{History}
 use Rattle.two_ends.specs.Calls.{accepts, takes}
 use Rattle.two_ends.specs.Agree.{Agree}
 use Rattle.two_ends.proofs.Sixless.{NoSix, none-code}
@@ -53,15 +53,19 @@ module _ {xl : List ℕ} {xh : History} {yl : List ℕ} {yh : History} where
   -- ---- and a message is taken
   module _ (ms : List (List ℕ)) (m : List ℕ) (k : Kind) (n : ℕ) (e : LabelEffect) (is : submissionOf m ≡ Submission.Accepted k n) (says : Says k n e) where
     pub shared-taken : validOf xl ≡ true → Shared xl xh yl yh → Shared (effectLabels (releasedLabels ms xl) true e) (takes ms (m ∷ []) xh) yl yh
-    shared-taken v s = record { agree = λ out back p q.
-        let a : Agree xl yl out (m ∷ back) = s .agree out (m ∷ back) p (q ∙ append-assoc (xh .secured) (m ∷ []) back) in
-        take-giver (releasedLabels ms xl) yl out back m (ack-giver xl yl out (m ∷ back) a ms v) (released-valid ms xl v) k n e is says }
+    shared-taken v s = record {
+      agree = λ out back p q.
+          let a : Agree xl yl out (m ∷ back) = s .agree out (m ∷ back) p (q ∙ append-assoc (xh .secured) (m ∷ []) back) in
+          take-giver (releasedLabels ms xl) yl out back m (ack-giver xl yl out (m ∷ back) a ms v) (released-valid ms xl v) k n e is says;
+    }
 
     pub shared-taken-peer : validOf yl ≡ true → effectReception (releasedLabels ms yl) true e ≡ Reception.Taken → Shared xl xh yl yh
         → Shared xl xh (effectLabels (releasedLabels ms yl) true e) (takes ms (m ∷ []) yh)
-    shared-taken-peer v room s = record { agree = λ out back p q.
-        let a : Agree xl yl (m ∷ out) back = s .agree (m ∷ out) back (p ∙ append-assoc (yh .secured) (m ∷ []) out) q in
-        take-user xl (releasedLabels ms yl) out back m (ack-user xl yl (m ∷ out) back a ms v) (released-valid ms yl v) k n e is says room }
+    shared-taken-peer v room s = record {
+      agree = λ out back p q.
+          let a : Agree xl yl (m ∷ out) back = s .agree (m ∷ out) back (p ∙ append-assoc (yh .secured) (m ∷ []) out) q in
+          take-user xl (releasedLabels ms yl) out back m (ack-user xl yl (m ∷ out) back a ms v) (released-valid ms yl v) k n e is says room;
+    }
 
 -- ---- a message is accepted
 pub cancel : (xs ys zs : List (List ℕ)) → xs ++ ys ≡ xs ++ zs → ys ≡ zs
