@@ -4,7 +4,7 @@ use native.Mathlib.Omega.{arith}
 use mathlib.Core.Path.{_≡_, refl, ap}
 use mathlib.Core.Bool.{true, false}
 use mathlib.Core.List.{List, [], _∷_, map}
-use lib.ListN.{length}
+use lib.ListN.{length, take}
 use Rattle.ft_number.specs.declared.Ack
 use Rattle.ft_number.specs.declared.Ack.{Ack}
 use Rattle.ft_number.specs.declared.FtNumber.{FtNumber}
@@ -35,11 +35,14 @@ use Rattle.two_ends.proofs.Direction.{half-turn}
 use Rattle.two_ends.proofs.Freeing.{half-ack}
 use Rattle.two_ends.proofs.Packets.{Packet, alive, carried, bytesOf, Fine, fine-bytes}
 use Rattle.two_ends.proofs.Invariant.{sideOf, Inv}
-use Rattle.two_ends.proofs.Takes.{arrives, dir-took-alive, dir-took-carried}
+use Rattle.two_ends.proofs.Takes.{taken-labels, arrives, dir-took-alive, dir-took-carried}
 use Rattle.two_ends.proofs.Tidy.{Tidy, tidy-words, tidy-bare, tidy-protected}
 use Rattle.two_ends.proofs.Worlds.{ended, Settled}
-use Rattle.two_ends.proofs.Judging.{Fair, fair-done, fair-full, fair-fatal, InOrder, order-fair, Plain, plain-done, not-init}
+use Rattle.two_ends.proofs.Judging.{Fair, fair-done, fair-full, fair-fatal, InOrder, order-fair, Plain, plain-done, not-init, has-room}
 use Rattle.two_ends.proofs.Receiving.{judged, takes-none, takes-end, takes-it}
+use Rattle.label_list.specs.Valid.{validOf}
+use Rattle.two_ends.proofs.Getting.{Says, says}
+use Rattle.two_ends.proofs.Sharing.{shared-freed, shared-freed-peer, shared-taken, shared-taken-peer}
 
 -- ---- a KeepAlive
 module _ (im : List ℕ) (sent : ℕ) (h : History) (id : MessageId) (n : FtNumber) where
@@ -54,6 +57,9 @@ module _ (im : List ℕ) (sent : ℕ) (h : History) (id : MessageId) (n : FtNumb
   plain j acks = record { another = refl; mild = refl; bare = refl; acks = acks; effect = refl; free = λ ls. refl }
 
   module _ {b : End} {ab ba : List (List ℕ)} {pa qs : List Packet} (i : Inv (ended im (Phase.UpFT sent) true true h) b ab ba pa (alive id n ∷ qs)) where
+    valid : validOf (decode im .labels) ≡ true
+    valid = sound-valid im (i .own .stand .sound) .labels
+
     pub alive-read : readingOf m₁ ≡ Reading.Whole g₁
     alive-read = keepalive-reads id (FtField.Number n) (i .back .fines .0 .0) (i .back .fines .0 .1)
 
@@ -73,6 +79,8 @@ module _ (im : List ℕ) (sent : ℕ) (h : History) (id : MessageId) (n : FtNumb
         let free = half-ack (i .out .half) in
         takes-it im sent m₁ (i .own .stand) g₁ alive-read h i (fine-bytes (alive id n) (i .back .fines .0)) (free .0) (free .1 .right) (free .1) (alive-tidy (free .0) (free .1 .right)) [] (rw alive-read) alive-done k
         (dir-took-alive (decode im) sent h g₁ (free .0) (free .1 .right) refl id n (i .back))
+        (rw (taken-labels (decode im) g₁ (free .0) (free .1 .right), plain (free .0) (free .1 .right) .effect) (shared-freed valid (take (free .0) (decode im .queue)) (i .ours)))
+        (rw (taken-labels (decode im) g₁ (free .0) (free .1 .right), plain (free .0) (free .1 .right) .effect) (shared-freed-peer valid (take (free .0) (decode im .queue)) (i .theirs)))
 
 -- ---- a message with its number
 module _ (im : List ℕ) (sent : ℕ) (h : History) (m : List ℕ) (n : FtNumber) (ack : FtField) where
@@ -117,6 +125,17 @@ module _ (im : List ℕ) (sent : ℕ) (h : History) (m : List ℕ) (n : FtNumber
         let free = arrives (decode im) h sent (sideOf b) pa qs m n ack (i .out .half) in
         order-fair (free .0) n (in-order (free .0) (free .1 .right)) (judged im sent m₂ (i .own .stand) g₂ carried-read)
 
+    whole : validOf (decode im .labels) ≡ true
+    whole = sound-valid im (i .own .stand .sound) .labels
+
+    carried-says : Says (f .0 .storable .kind) (f .0 .storable .label) (labelEffect g₂)
+    unfolding labelEffect kindOf
+    carried-says =
+        let k = f .0 .storable .kind in
+        let l = f .0 .storable .label in
+        let e = f .0 .storable .accepted in
+        says (g₂ .typename) (g₂ .status) (g₂ .label) (g₂ .fec) k l (sent-kind m k l e n ack short) (accepted m k l e .labelled .label)
+
     secures : securing m₂ ≡ m ∷ []
     secures =
         let e = sent-payload m (f .0 .storable .kind) (f .0 .storable .label) (f .0 .storable .accepted) n ack short (f .0 .bytes 3) in
@@ -132,5 +151,10 @@ module _ (im : List ℕ) (sent : ℕ) (h : History) (m : List ℕ) (n : FtNumber
             let free = arrives (decode im) h sent (sideOf b) pa qs m n ack (i .out .half) in
             takes-it im sent m₂ (i .own .stand) g₂ carried-read h i (fine-bytes (carried m n ack) f) (free .0) (free .1 .right) (free .1) (carried-tidy (free .0) (free .1 .right)) (m ∷ []) secures e k
             (dir-took-carried (decode im) sent h g₂ (free .0) (free .1 .right) m n ack refl (i .back))
+            (rw (taken-labels (decode im) g₂ (free .0) (free .1 .right))
+            (shared-taken (take (free .0) (decode im .queue)) m (f .0 .storable .kind) (f .0 .storable .label) (labelEffect g₂) (f .0 .storable .accepted) carried-says whole (i .ours)))
+            (rw (taken-labels (decode im) g₂ (free .0) (free .1 .right))
+            (shared-taken-peer (take (free .0) (decode im .queue)) m (f .0 .storable .kind) (f .0 .storable .label) (labelEffect g₂) (f .0 .storable .accepted) carried-says whole
+            (has-room (free .0) (free .1 .right) (rw e at (judged im sent m₂ (i .own .stand) g₂ carried-read))) (i .theirs)))
         by Answer.NoWordForMapping e fair-full = takes-none im sent m₂ (i .own .stand) g₂ carried-read h i e
         by Answer.StatusFatal e fair-fatal = takes-end im sent m₂ (i .own .stand) g₂ carried-read h i Answer.StatusFatal e (omega arith) k

@@ -34,6 +34,8 @@ use Rattle.two_ends.proofs.Half.{Half}
 use Rattle.two_ends.proofs.Packets.{Packet, first, Fine}
 use Rattle.two_ends.proofs.Invariant.{sideOf, sndOf, rcvOf, Leads, Ready, Dir, Good}
 use Rattle.two_ends.proofs.Opening.{seconds-small}
+use Rattle.two_ends.proofs.Sharing.{shared-none}
+use Rattle.block0.specs.Layout.{noLabels}
 
 -- the first Init of an end
 abbrev packet : Opener → Packet
@@ -112,6 +114,8 @@ at-start x y sx sy f k = (
     peer = ready y sy;
     out = direction x y sx (leads x y f);
     back = direction y x sy (leads y x (other x y f));
+    ours = shared-none noLabels none none;
+    theirs = shared-none noLabels none none;
   },
 )
 

@@ -6,8 +6,6 @@ use mathlib.Core.List.{List}
 use Rattle.image.specs.State.{decode}
 use Rattle.image.specs.Verdict.{IsSound}
 use Rattle.image.proofs.Sound.{sound-parts, parts-sound}
-use Rattle.calls.specs.declared.Answer
-use Rattle.calls.specs.declared.Effect
 use Rattle.calls.specs.declared.Phase.{Phase}
 use Rattle.calls.specs.Outcomes.{failedWith}
 use Rattle.call_meaning.specs.Standing.{Standing}
@@ -58,6 +56,8 @@ some-uncut im im′ ph jo bg h u s =
         peer = i .peer;
         out = rw (u .state) (i .out);
         back = rw (u .state) (i .back);
+        ours = rw (u .state) (i .ours);
+        theirs = rw (u .state) (i .theirs);
       },
     )
 

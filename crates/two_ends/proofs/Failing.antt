@@ -27,6 +27,7 @@ use Rattle.two_ends.proofs.Invariant.{Ready, Some}
 use Rattle.two_ends.proofs.Sides.{dir-failed, dir-failed-peer, dir-rest, dir-rest-peer}
 use Rattle.two_ends.proofs.Tidy.{tidy-broken}
 use Rattle.two_ends.proofs.Worlds.{ended, kept-one, ready-off, Settled}
+use Rattle.two_ends.proofs.Sharing.{shared-broken, shared-broken-peer}
 
 resting-off : (h : Header) → connected (restingPhase h) ≡ false
 unfolding restingPhase
@@ -75,6 +76,8 @@ failing-on im ph true h {b} s rest more =
           peer = ready-off (i .peer) gb;
           out = rw (break-decodes im (st .sound) (st .range), resting im ph true h (i .own)) (dir-failed (i .out) gb);
           back = rw (break-decodes im (st .sound) (st .range), resting im ph true h (i .own)) (dir-failed-peer (i .back) ga);
+          ours = rw (break-decodes im (st .sound) (st .range)) (shared-broken (sound-valid im (st .sound) .labels) (i .own .tidy refl .sixless) (i .ours));
+          theirs = rw (break-decodes im (st .sound) (st .range)) (shared-broken-peer (sound-valid im (st .sound) .labels) (i .own .tidy refl .sixless) (i .theirs));
         },
       ),
     )
@@ -99,6 +102,8 @@ failing im ph false true h s =
           peer = i .peer;
           out = rw (break-decodes im (st .sound) (st .range), resting im ph false h (i .own)) (dir-rest (decode im) (decode im .header .kept) ph true h (i .out));
           back = rw (break-decodes im (st .sound) (st .range), resting im ph false h (i .own)) (dir-rest-peer (decode im) (decode im .header .kept) ph true h (i .back));
+          ours = rw (break-decodes im (st .sound) (st .range)) (shared-broken (sound-valid im (st .sound) .labels) (i .own .tidy refl .sixless) (i .ours));
+          theirs = rw (break-decodes im (st .sound) (st .range)) (shared-broken-peer (sound-valid im (st .sound) .labels) (i .own .tidy refl .sixless) (i .theirs));
         },
       ),
     )

@@ -20,7 +20,7 @@ use Rattle.two_ends.specs.World.{History, End, none}
 use Rattle.two_ends.specs.Calls.{keeps, greeted}
 use Rattle.two_ends.proofs.Packets.{Packet, first, bytesOf, Fine, fine-bytes}
 use Rattle.two_ends.proofs.Invariant.{Leads, Ready, Inv}
-use Rattle.two_ends.proofs.Takes.{dir-fresh, dir-fresh-peer}
+use Rattle.two_ends.proofs.Takes.{fresh-labels, dir-fresh, dir-fresh-peer}
 use Rattle.two_ends.proofs.Worlds.{ended, Settled}
 use Rattle.two_ends.proofs.Begins.{Begins, begins}
 use Rattle.two_ends.proofs.Tidy.{tidy-fresh}
@@ -76,6 +76,8 @@ module _ (im : List ℕ) (t : ℕ) (h : History) (id : MessageId) (p : OwnParame
               peer = i .peer;
               out = rw (d .state, nothing) (dir-fresh (decode im .header .kept) t ts (fresh ts .header .kept) id p seconds ack (rw nothing at (i .out)));
               back = rw (d .state, nothing) (dir-fresh-peer (decode im .header .kept) t ts (fresh ts .header .kept) id p seconds ack (rw nothing at (i .back)));
+              ours = rw (d .state, fresh-labels ts) (i .ours);
+              theirs = rw (d .state, fresh-labels ts) (i .theirs);
             },
           ),
         ))

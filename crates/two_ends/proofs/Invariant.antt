@@ -19,6 +19,7 @@ use Rattle.two_ends.specs.Calls.{keeps}
 use Rattle.two_ends.proofs.Half.{Snd, Rcv, Half}
 use Rattle.two_ends.proofs.Tidy.{Tidy}
 use Rattle.two_ends.proofs.Packets.{Packet, first, again, alive, carried, bytesOf, Okays, Fines, NoInit, datas, acksOf}
+use Rattle.two_ends.proofs.Sharing.{Shared}
 
 -- ---- an end as the other one sees it
 -- the state that counts: before its own fresh UpFT it is as released; and the kept of its image
@@ -107,6 +108,8 @@ pub record Inv (a b : End) (ab ba : List (List ℕ)) (pa pb : List Packet) : Typ
   pub peer : Ready b
   pub out : Dir (sideOf a) (sideOf b) pa pb
   pub back : Dir (sideOf b) (sideOf a) pb pa
+  pub ours : Shared (sideOf a .state .labels) (a .history) (sideOf b .state .labels) (b .history)
+  pub theirs : Shared (sideOf b .state .labels) (b .history) (sideOf a .state .labels) (a .history)
 
 abbrev pub Some : End → End → List (List ℕ) → List (List ℕ) → Type 0
 Some a b ab ba = (pa : List Packet) × (pb : List Packet) × Inv a b ab ba pa pb

@@ -123,3 +123,11 @@ init-else MessageType.Other status l = refl
 pub not-init : (g : Message) → 1 ≤ kindNumber (kindOf g) → isInit (g .typename) ≡ false
 unfolding kindOf
 not-init g l = init-else (g .typename) (g .status) l
+
+-- ---- a message that is taken has room
+pub has-room : {s : State} {sent : ℕ} {g : Message} (j : ℕ) → ackOn (s .header) g ≡ Ack.Releases j → Case s (Phase.UpFT sent) (Reading.Whole g) Answer.Done
+    → effectReception (wordsAfter s j) (isProtected (g .protection)) (labelEffect g) ≡ Reception.Taken
+has-room {s} {g = g} j acks (taken {k = k} t) =
+    let one : Ack.Releases k ≡ Ack.Releases j = sym (t .turn .protection .ack .acks) ∙ acks in
+    let same : k ≡ j = cc in
+    rw same at (t .room)

@@ -10,6 +10,11 @@ pub mod Sixless
 pub mod Owed
 pub mod Paid
 pub mod Tidy
+pub mod Codes
+pub mod Agreeing
+pub mod Acking
+pub mod Getting
+pub mod Sharing
 pub mod Invariant
 pub mod Sides
 pub mod Sends
@@ -43,6 +48,7 @@ pub mod Unreleased
 pub mod Staying
 pub mod Kept
 pub mod Listing
+pub mod Giving
 pub mod Saying
 pub mod Steady
 pub mod Calm

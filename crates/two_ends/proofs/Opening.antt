@@ -85,6 +85,8 @@ module _ (im : List ℕ) (h : History) (id : MessageId) (p : OwnParameters) (t :
             peer = i .peer;
             out = dir-open (decode im) (decode im .header .kept) (proposedOf t) h id p (init-fits im id p t widths seconds st) (rw none at (i .out));
             back = dir-open-peer (decode im) (decode im .header .kept) (proposedOf t) h id p (rw none at (i .back));
+            ours = i .ours;
+            theirs = i .theirs;
           },
         ),
       )

@@ -38,12 +38,12 @@ held-by : (b : Bool) {c d : Bool} → (c ≡ true → d ≡ true) → pick b tru
 held-by true f e = refl
 held-by false f e = f e
 
-held-more : (kind l : ℕ) (q r : List (List ℕ)) → isHeld kind l q ≡ true → isHeld kind l (q ++ r) ≡ true
+pub held-more : (kind l : ℕ) (q r : List (List ℕ)) → isHeld kind l q ≡ true → isHeld kind l (q ++ r) ≡ true
 unfolding isHeld
 held-more kind l [] r e = absurd (true≢false (sym e))
 held-more kind l (m ∷ q) r e = held-by (bears (submissionOf m) kind l) (λ f. held-more kind l q r f) e
 
-held-last : (kind l : ℕ) (q : List (List ℕ)) (m : List ℕ) → bears (submissionOf m) kind l ≡ true → isHeld kind l (q ++ (m ∷ [])) ≡ true
+pub held-last : (kind l : ℕ) (q : List (List ℕ)) (m : List ℕ) → bears (submissionOf m) kind l ≡ true → isHeld kind l (q ++ (m ∷ [])) ≡ true
 unfolding isHeld
 held-last kind l [] m e = rw e
 held-last kind l (x ∷ q) m e = pick-all (λ (b : Bool). b ≡ true) (bears (submissionOf x) kind l) refl (held-last kind l q m e)

@@ -40,6 +40,7 @@ use Rattle.two_ends.proofs.Worlds.{ended, Settled}
 use Rattle.two_ends.proofs.Failing.{failing-on}
 use Rattle.two_ends.proofs.Resting.{released-ends}
 use Rattle.two_ends.proofs.Delivering.{let-go}
+use Rattle.two_ends.proofs.Sharing.{Shared}
 
 module _ (im : List ℕ) (sent : ℕ) (m : List ℕ) (stand : Standing im (Phase.UpFT sent)) (g : Message) (read : readingOf m ≡ Reading.Whole g) where
   abbrev ph : Phase
@@ -85,8 +86,10 @@ module _ (im : List ℕ) (sent : ℕ) (m : List ℕ) (stand : Standing im (Phase
 
       pub takes-it : Tidy s → (got : List (List ℕ)) → securing m ≡ got → receiveAnswer im ph m ≡ Answer.Done → keeps (took (ended im ph true true h) m x) ≡ true
           → Dir (sideOf b) (side s (s .header .kept) (Phase.UpFT (sent - j)) true true (takes (take j (decode im .queue)) got h)) qs pa
+          → Shared (s .labels) (takes (take j (decode im .queue)) got h) (sideOf b .state .labels) (b .history)
+          → Shared (sideOf b .state .labels) (b .history) (s .labels) (takes (take j (decode im .queue)) got h)
           → Settled (took (ended im ph true true h) m x) b ab (map bytesOf qs)
-      takes-it tidy got secured e k back =
+      takes-it tidy got secured e k back ours theirs =
           let done : x .outcome .answer ≡ Answer.Done = receive-answered im ph m ∙ e in
           let d : ReceivedFrom (decode im) sent g x = receive-decodes im sent m stand byte g read done in
           let up : x .outcome .phase ≡ Phase.UpFT (sent - j) = rw acks at (d .phase) in
@@ -113,6 +116,8 @@ module _ (im : List ℕ) (sent : ℕ) (m : List ℕ) (stand : Standing im (Phase
                 peer = i .peer;
                 out = rw (d .state) (dir-took (decode im) sent h g j acks got qs f (i .out));
                 back = rw (d .state) back;
+                ours = rw (d .state) ours;
+                theirs = rw (d .state) theirs;
               },
             ),
           ))

@@ -28,7 +28,7 @@ use Rattle.two_ends.specs.Calls.{keeps, takes}
 use Rattle.two_ends.proofs.Freeing.{Freed, half-init}
 use Rattle.two_ends.proofs.Packets.{Packet, again, bytesOf, Fine, datas, acksOf, fine-bytes}
 use Rattle.two_ends.proofs.Invariant.{sideOf, sndOf, rcvOf, Ready, Inv}
-use Rattle.two_ends.proofs.Takes.{dir-resume, dir-resume-peer}
+use Rattle.two_ends.proofs.Takes.{resumed-labels, dir-resume, dir-resume-peer}
 use Rattle.two_ends.proofs.Worlds.{ended, kept-one, Settled}
 use Rattle.two_ends.proofs.Resting.{released-ends}
 use Rattle.two_ends.proofs.Delivering.{let-go}
@@ -36,6 +36,7 @@ use Rattle.two_ends.proofs.Begins.{Begins, begins, changed}
 use Rattle.two_ends.proofs.Tidy.{tidy-resumed}
 use Rattle.two_ends.proofs.Starting.{terms, starts-again}
 use Rattle.two_ends.proofs.Greeted.{greetedBy}
+use Rattle.two_ends.proofs.Sharing.{shared-freed, shared-freed-peer}
 
 -- ---- a later Init
 module _ (im : List ℕ) (t : ℕ) (h : History) (id : MessageId) (p : OwnParameters) (seconds : ℕ) (a : FtNumber) where
@@ -96,6 +97,8 @@ module _ (im : List ℕ) (t : ℕ) (h : History) (id : MessageId) (p : OwnParame
               peer = i .peer;
               out = rw (d .state) (dir-resume (decode im) t h a ts j id p seconds free (i .out));
               back = rw (d .state) (dir-resume-peer (decode im) t h a ts j id p seconds (i .back));
+              ours = rw (d .state, resumed-labels (decode im) ts j (a .0)) (shared-freed (sound-valid im (stand .sound) .labels) (take j (decode im .queue)) (i .ours));
+              theirs = rw (d .state, resumed-labels (decode im) ts j (a .0)) (shared-freed-peer (sound-valid im (stand .sound) .labels) (take j (decode im .queue)) (i .theirs));
             },
           ),
         ))

@@ -23,7 +23,7 @@ use Rattle.two_ends.specs.Calls.{keeps, called, put, wrote as writes}
 use Rattle.two_ends.proofs.Direction.{half-place}
 use Rattle.two_ends.proofs.Packets.{Packet, carried, bytesOf, Fine}
 use Rattle.two_ends.proofs.Invariant.{Ready, Some, Good}
-use Rattle.two_ends.proofs.Sends.{dir-send, dir-send-lost, dir-send-peer, dir-send-lost-peer}
+use Rattle.two_ends.proofs.Sends.{sent-labels, dir-send, dir-send-lost, dir-send-peer, dir-send-lost-peer}
 use Rattle.two_ends.proofs.Tidy.{tidy-sent}
 use Rattle.two_ends.proofs.Worlds.{ended, kept-one, ready-open, at-replaced, Settled}
 use Rattle.two_ends.proofs.Quiet.{quietly-puts}
@@ -87,6 +87,8 @@ module _ (im : List ℕ) (sent : ℕ) (h : History) (ask : Bool) (out : List ℕ
               peer = i .peer;
               out = rw (decodes st one) (dir-send s sent true h m (drop (suc sent) (s .queue)) at-place (ackAsked ask (s .header)) fine (i .out));
               back = rw (decodes st one) (dir-send-peer s sent true h ask m (numberAt (s .header) sent) (i .back));
+              ours = rw (decodes st one, sent-labels s sent) (i .ours);
+              theirs = rw (decodes st one, sent-labels s sent) (i .theirs);
             },
           ),
         )
@@ -107,6 +109,8 @@ module _ (im : List ℕ) (sent : ℕ) (h : History) (ask : Bool) (out : List ℕ
               peer = i .peer;
               out = rw (decodes st one) (dir-send-lost s sent true h m (drop (suc sent) (s .queue)) at-place (i .out));
               back = rw (decodes st one) (dir-send-lost-peer s sent true h (i .back));
+              ours = rw (decodes st one, sent-labels s sent) (i .ours);
+              theirs = rw (decodes st one, sent-labels s sent) (i .theirs);
             },
           ),
         )

@@ -51,6 +51,10 @@ pub sent-kept : (s : State) (sent : ℕ) → sentState s sent .header .kept ≡ 
 unfolding sentState numbered
 sent-kept s sent = pick-all (λ (t : State). t .header .kept ≡ s .header .kept) (ltb sent (issuedCount (s .header))) refl refl
 
+pub sent-labels : (s : State) (sent : ℕ) → sentState s sent .labels ≡ s .labels
+unfolding sentState numbered
+sent-labels s sent = pick-all (λ (t : State). t .labels ≡ s .labels) (ltb sent (issuedCount (s .header))) refl refl
+
 abbrev before-sending : State → ℕ → Bool → Bool → History → Side
 before-sending s sent jo bg h = side s (s .header .kept) (Phase.UpFT sent) jo bg h
 

@@ -3,9 +3,9 @@ use Prim.Native.Nat.{ℕ, _<_}
 use native.Mathlib.Omega.{arith}
 use mathlib.Core.Path.{_≡_, refl, sym}
 use mathlib.Core.Bool.{Bool, true, false, true≢false}
-use mathlib.Core.List.{List, []}
+use mathlib.Core.List.{List, [], _++_}
 use mathlib.Core.Logic.{_⊎_, inl, ⊎-elim}
-use lib.ListN.{length}
+use lib.ListN.{length, drop, take-append-drop}
 use Rattle.octets.specs.Pick.{pick, both}
 use Rattle.block0.specs.Layout.{slotCount}
 use Rattle.slot.specs.Held.{Storable}
@@ -31,8 +31,9 @@ use Rattle.two_ends.proofs.Packets.{okays-snoc}
 use Rattle.two_ends.proofs.Invariant.{Ready, Some, Good}
 use Rattle.two_ends.proofs.Sides.{dir-accept, dir-accept-peer}
 use Rattle.two_ends.proofs.Tidy.{tidy-submitted}
-use Rattle.two_ends.proofs.Worlds.{ended, ready-open, at-replaced, Settled}
+use Rattle.two_ends.proofs.Worlds.{ended, sixless-side, ready-open, at-replaced, Settled}
 use Rattle.two_ends.proofs.Quiet.{Quiet, nothing-still, settled-quiet, quietly-counts, done-or-nothing}
+use Rattle.two_ends.proofs.Sharing.{shared-accepted, shared-accepted-peer}
 
 both-same : (b : Bool) → both b true ≡ b
 both-same true = refl
@@ -73,6 +74,8 @@ module _ (im : List ℕ) (ph : Phase) (m : List ℕ) (st : Standing im ph) (done
           waiting = λ q. absurd (true≢false q);
           linked = i .own .linked;
         } in
+        let rest : List (List ℕ) = drop (i .out .half .s) (h .accepted) in
+        let pre : h .accepted ≡ b .history .secured ++ rest = rw (i .out .half .books .sec) (sym (take-append-drop (i .out .half .s) (h .accepted))) in
         let few : length (decode im .queue) < 64 = omega (arith, room, queue-length im) in
         inl (
           ready-open own,
@@ -86,6 +89,8 @@ module _ (im : List ℕ) (ph : Phase) (m : List ℕ) (st : Standing im ph) (done
               peer = i .peer;
               out = rw decodes (dir-accept (decode im) (decode im .header .kept) ph jo true h m few (i .out));
               back = rw decodes (dir-accept-peer (decode im) (decode im .header .kept) ph jo true h m (i .back));
+              ours = rw decodes (shared-accepted rest m pre (sound-valid im (st .sound) .labels) (sixless-side (i .peer)) (i .ours));
+              theirs = rw decodes (shared-accepted-peer rest m pre (sound-valid im (st .sound) .labels) (i .theirs));
             },
           ),
         )
@@ -113,6 +118,8 @@ module _ (im : List ℕ) (ph : Phase) (m : List ℕ) (st : Standing im ph) (done
               peer = i .peer;
               out = rw decodes (i .out);
               back = rw decodes (i .back);
+              ours = i .ours;
+              theirs = i .theirs;
             },
           ),
         )

@@ -1,7 +1,7 @@
 -- The two directions after the oldest message of a line is taken. Assumes nothing.
 use Prim.Native.Nat.{ℕ, _-_}
 use native.Mathlib.Omega.{arith}
-use mathlib.Core.Path.{_≡_}
+use mathlib.Core.Path.{_≡_, refl}
 use mathlib.Core.Bool.{Bool, true, false}
 use mathlib.Core.List.{List, [], _∷_, append-nil}
 use lib.ListN.{take}
@@ -19,7 +19,7 @@ use Rattle.image.specs.State.{State}
 use Rattle.image.specs.Events.{released}
 use Rattle.calls.specs.declared.Phase
 use Rattle.calls.specs.declared.Phase.{Phase}
-use Rattle.calls.specs.Acked.{ackBorne, acked}
+use Rattle.calls.specs.Acked.{releasedLabels, ackBorne, acked}
 use Rattle.init.specs.declared.Terms.{Terms}
 use Rattle.init.specs.Begun.{fresh, resumed}
 use Rattle.receive.specs.Rule.{ackOn, taken, receivedState}
@@ -31,9 +31,25 @@ use Rattle.two_ends.proofs.Freeing.{Freed, half-none, half-ack, half-in
 use Rattle.two_ends.proofs.Packets.{Packet, first, again, alive, carried, datas, acksOf}
 use Rattle.two_ends.proofs.Invariant.{Side, sndOf, rcvOf, Headed, Shape, Dir}
 use Rattle.two_ends.proofs.Sides.{side}
+use Rattle.receive.specs.Labels.{labelEffect, isProtected, effectLabels}
+use Rattle.block0.specs.Layout.{noLabels}
 
 pub nil-cons : {P : Type 0} {p : Packet} {ps : List Packet} → p ∷ ps ≡ [] → P
 nil-cons e = let z : _≡_ {A = ℕ} 0 1 = cc in absurd (omega arith)
+
+-- ---- the label words after it
+pub fresh-labels : (t : Terms) → fresh t .labels ≡ noLabels
+unfolding fresh
+fresh-labels t = refl
+
+pub resumed-labels : (s : State) (t : Terms) (j a : ℕ) → resumed s t j a .labels ≡ releasedLabels (take j (s .queue)) (s .labels)
+unfolding resumed acked
+resumed-labels s t j a = refl
+
+pub taken-labels : (s : State) (g : Message) (j : ℕ) → ackOn (s .header) g ≡ Ack.Releases j
+    → receivedState s g .labels ≡ effectLabels (releasedLabels (take j (s .queue)) (s .labels)) (isProtected (g .protection)) (labelEffect g)
+unfolding receivedState taken acked
+taken-labels s g j acks = rw acks
 
 -- ---- the peer's first Init
 -- a reader that is not up: the sender's Init comes first

@@ -52,7 +52,7 @@ opening n l = record { rest = drop n l; whole = take-append-drop n l }
 begun-store : (x : End) → x .begun ≡ true → sideOf x .state .queue ≡ store x
 begun-store x g = rw g
 
-safe : {x y : End} {to fro : List Packet} → Ready x → Dir (sideOf x) (sideOf y) to fro → Safe x y
+pub safe : {x y : End} {to fro : List Packet} → Ready x → Dir (sideOf x) (sideOf y) to fro → Safe x y
 safe {x} r d =
     let p = d .half in
     let b = p .books in

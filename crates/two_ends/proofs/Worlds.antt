@@ -8,14 +8,17 @@ use borrow.Author.Tests.{eqb-true}
 use Rattle.octets.specs.Pick.{pick, both}
 use Rattle.octets.proofs.Choice.{both-true}
 use Rattle.image.specs.State.{decode}
+use Rattle.image.specs.Events.{released}
 use Rattle.calls.specs.declared.Phase
 use Rattle.calls.specs.declared.Phase.{Phase}
 use Rattle.calls.specs.Outcomes.{After}
 use Rattle.timers.specs.Events.{connected}
 use Rattle.two_ends.specs.World.{History, End, World, swap}
 use Rattle.two_ends.specs.Calls.{off, broken, keeps, called, replaced}
-use Rattle.two_ends.proofs.Invariant.{Waiting, linkable, Ready, Some, Good}
+use Rattle.two_ends.proofs.Invariant.{sideOf, Waiting, linkable, Ready, Some, Good}
 use Rattle.two_ends.proofs.Sides.{dir-lost}
+use Rattle.two_ends.proofs.Sixless.{NoSix, none-sixless}
+use Rattle.two_ends.proofs.Tidy.{Tidy}
 
 -- an end by its parts
 abbrev pub ended : List ℕ → Phase → Bool → Bool → History → End
@@ -27,6 +30,14 @@ never e = absurd (true≢false e)
 -- ---- one end
 pub kept-one : {im : List ℕ} {ph : Phase} {jo : Bool} {h : History} → Ready (ended im ph jo true h) → decode im .header .kept ≡ 1
 kept-one {im} r = eqb-true (decode im .header .kept) 1 (r .keeping)
+
+-- no label of it is in use without protection
+pub sixless-side : {e : End} → Ready e → NoSix (sideOf e .state .labels)
+sixless-side {e} r = by (e .begun) (r .tidy)
+  where
+    by : (b : Bool) → (b ≡ true → Tidy (decode (e .image))) → NoSix (pick b (decode (e .image)) released .labels)
+    by true t = t refl .sixless
+    by false t = none-sixless
 
 -- one that does not await an Init has begun
 pub begun-else : {e : End} → Ready e → (Waiting e → ⊥) → e .begun ≡ true
@@ -78,6 +89,8 @@ some-off s ga gb =
         peer = ready-off (i .peer) gb;
         out = dir-lost (i .out) gb;
         back = dir-lost (i .back) ga;
+        ours = i .ours;
+        theirs = i .theirs;
       },
     )
 
@@ -91,7 +104,7 @@ pub at-swap : (w : World) → Good w → Good (swap w)
 at-swap w g k =
     let s = g k in
     let i = s .2 in
-    (s .1, s .0, record { lineA = i .lineB; lineB = i .lineA; own = i .peer; peer = i .own; out = i .back; back = i .out })
+    (s .1, s .0, record { lineA = i .lineB; lineB = i .lineA; own = i .peer; peer = i .own; out = i .back; back = i .out; ours = i .theirs; theirs = i .ours })
 
 -- ---- what a call leaves: the end is on the connection as before, or has closed it
 abbrev pub Settled : End → End → List (List ℕ) → List (List ℕ) → Type 0

@@ -104,6 +104,8 @@ module _ (im : List ℕ) (h : History) (id : MessageId) (small : id .0 < 4294967
             peer = i .peer;
             out = dir-alive (decode im) (decode im .header .kept) sent true h id fine (i .out);
             back = dir-alive-peer (decode im) (decode im .header .kept) sent true h id (i .back);
+            ours = i .ours;
+            theirs = i .theirs;
           },
         ),
       )

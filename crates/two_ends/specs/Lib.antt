@@ -7,3 +7,4 @@ pub mod Answers
 pub mod Staying
 pub mod Labels
 pub mod Steady
+pub mod Agree
