@@ -2,7 +2,6 @@
 use mathlib.Core.Path.{_≡_, refl, sym, _∙_}
 use mathlib.Core.List.{List}
 use Prim.Native.Nat.{ℕ, _≤_, _<_}
-use native.Mathlib.Omega.{arith}
 use borrow.Author.Tests.{lt-ltb, le-ltb}
 use lib.ListN.{length, getD}
 use Rattle.label_list.specs.Word.{wordCount}
@@ -11,6 +10,7 @@ use Rattle.image.specs.State.{decode}
 use Rattle.image.specs.Verdict.{verdict, verdictNumber}
 use Rattle.image.specs.declared.Verdict
 use Rattle.image.specs.declared.Verdict.{Verdict}
+use Rattle.image.proofs.Scans.{number-sound}
 use Rattle.image.proofs.Sound.{sound-parts}
 use Rattle.ldp_ft.specs.Numbers.{none, labelBy, labelAt}
 
@@ -20,12 +20,6 @@ refused-by Verdict.WrongSize words place n = refl
 refused-by (Verdict.BadBlock b) words place n = refl
 refused-by (Verdict.BadField b) words place n = refl
 
-sound-by : (v : Verdict) → verdictNumber v ≡ 0 → v ≡ Verdict.Sound
-sound-by Verdict.Sound e = refl
-sound-by Verdict.WrongSize e = absurd (omega (arith, e))
-sound-by (Verdict.BadBlock b) e = absurd (omega (arith, e))
-sound-by (Verdict.BadField b) e = absurd (omega (arith, e))
-
 -- v is what the checks answered, and n its number
 module _ (im : List ℕ) (place : ℕ) {v : Verdict} {n : ℕ} (ev : v ≡ verdict im) (en : n ≡ verdictNumber v) where
   pub label-refused : (n ≡ 0 → ⊥) → none ≡ labelAt im place
@@ -33,7 +27,7 @@ module _ (im : List ℕ) (place : ℕ) {v : Verdict} {n : ℕ} (ev : v ≡ verdi
   label-refused h = rw (← ev) (refused-by v (decode im .labels) place (λ e. h (en ∙ e)))
 
   passes : n ≡ 0 → verdict im ≡ Verdict.Sound
-  passes z = sym ev ∙ sound-by v (sym en ∙ z)
+  passes z = sym ev ∙ number-sound v (sym en ∙ z)
 
   pub label-past : n ≡ 0 → wordCount ≤ place → none ≡ labelAt im place
   unfolding labelAt

@@ -53,16 +53,16 @@ module _ (c : Call) (im : List ℕ) (ph : Phase) where
       ∙ ap (λ (a : Answer). unchanged a (given c ph) im (lent c)) (sym answer-is)
 
   -- "20 .. 23: as connection failed, ACK unapplied": of the image as it was given
-  pub failure-breaks : 20 ≤ answerNumber (leaves c im ph .outcome .answer) → answerNumber (leaves c im ph .outcome .answer) ≤ 23
+  pub failure-is : 20 ≤ answerNumber (leaves c im ph .outcome .answer) → answerNumber (leaves c im ph .outcome .answer) ≤ 23
       → leaves c im ph ≡ failedWith (leaves c im ph .outcome .answer) im (lent c)
-  failure-breaks l u =
+  failure-is l u =
       settles c im ph
       ∙ answered-failed (judged c im ph) (given c ph) im (lent c) (done c im ph) (omega (arith, number-is)) (omega (arith, number-is))
       ∙ ap (λ (a : Answer). failedWith a im (lent c)) (sym answer-is)
 
   -- "30 .. 36: released, Idle"
-  pub late-releases : 30 ≤ answerNumber (leaves c im ph .outcome .answer) → leaves c im ph ≡ releasedWith (leaves c im ph .outcome .answer) im (lent c)
-  late-releases l =
+  pub release-is : 30 ≤ answerNumber (leaves c im ph .outcome .answer) → leaves c im ph ≡ releasedWith (leaves c im ph .outcome .answer) im (lent c)
+  release-is l =
       settles c im ph
       ∙ answered-released (judged c im ph) (given c ph) im (lent c) (done c im ph) (omega (arith, number-is))
       ∙ ap (λ (a : Answer). releasedWith a im (lent c)) (sym answer-is)
@@ -70,10 +70,10 @@ module _ (c : Call) (im : List ℕ) (ph : Phase) where
   -- the same, of the state
   module _ (st : Standing im ph) where
     pub failure-leaves : 20 ≤ answerNumber (leaves c im ph .outcome .answer) → answerNumber (leaves c im ph .outcome .answer) ≤ 23 → Unapplied im (leaves c im ph)
-    failure-leaves l u = rw (failure-breaks l u) (failed-unapplied im ph st (leaves c im ph .outcome .answer) (lent c))
+    failure-leaves l u = rw (failure-is l u) (failed-unapplied im ph st (leaves c im ph .outcome .answer) (lent c))
 
     pub release-leaves : 30 ≤ answerNumber (leaves c im ph .outcome .answer) → ReleasedIdle im (leaves c im ph)
-    release-leaves l = rw (late-releases l) (released-idle im ph st (leaves c im ph .outcome .answer) (lent c))
+    release-leaves l = rw (release-is l) (released-idle im ph st (leaves c im ph .outcome .answer) (lent c))
 
   -- "Every answer except 0 writes no output byte"
   pub only-done-writes : answerNumber (leaves c im ph .outcome .answer) ≢ 0 → (leaves c im ph .out ≡ lent c) × (leaves c im ph .outcome .written ≡ 0)

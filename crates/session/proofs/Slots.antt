@@ -23,8 +23,6 @@ use Rattle.image.specs.Sizes.{imageSize, block}
 use Rattle.image.specs.State.{decode, storeSlot, store0}
 use Rattle.image.specs.Events.{releaseOf, breakOf}
 use Rattle.image.specs.Verdict.{verdict, IsSound}
-use Rattle.image.specs.declared.Verdict
-use Rattle.image.specs.declared.Verdict.{Verdict}
 use Rattle.image.proofs.Blocks.{length-block, block-other}
 use Rattle.image.proofs.Stored.{Idle, length-storeSlot, slot-other}
 use Rattle.image.proofs.Sound.{sound-parts}
@@ -34,9 +32,11 @@ use Rattle.calls.specs.declared.Effect
 use Rattle.calls.specs.declared.Effect.{Effect}
 use Rattle.calls.specs.declared.Phase
 use Rattle.calls.specs.declared.Phase.{Phase}
-use Rattle.calls.specs.Answers.{effectOf}
+use Rattle.calls.specs.Answers.{answerNumber, effectOf}
 use Rattle.calls.specs.Phases.{issuedCount}
-use Rattle.calls.specs.Outcomes.{After, unchanged, failedWith, releasedWith, checked, admitted}
+use Rattle.calls.specs.Outcomes.{After, unchanged, failedWith, releasedWith, admitted}
+use Rattle.calls.proofs.Effects.{effect-nothing}
+use Rattle.calls.proofs.Settled.{checked-all, admitted-all}
 use Rattle.timers.specs.Events.{expired}
 use Rattle.init.specs.declared.Start
 use Rattle.init.specs.declared.Start.{Start}
@@ -123,21 +123,18 @@ module _ (im : List ℕ) (size : length im ≡ imageSize) where
   done-kept (receive m) ph other e = taken-kept ph (readingOf m)
 
 -- ---- a call that does more than refuse was given a sound image
-checks-passed : (v : Verdict) (a : Answer) → (effectOf (checked v a) ≡ Effect.Nothing → ⊥) → v ≡ Verdict.Sound
-unfolding effectOf
-checks-passed Verdict.Sound a more = refl
-checks-passed Verdict.WrongSize a more = absurd (more refl)
-checks-passed (Verdict.BadBlock b) a more = absurd (more refl)
-checks-passed (Verdict.BadField b) a more = absurd (more refl)
+-- it is no refusal by the first tests
+refused : {P : Type 0} (x : Answer) → 0 < answerNumber x → answerNumber x < 20 → (effectOf x ≡ Effect.Nothing → ⊥) → P
+refused x low high more = absurd (more (sym (effect-nothing x (answerNumber x) refl low high)))
 
 admitted-sound : (im : List ℕ) (ph : Phase) (a : Answer) → (effectOf (admitted im ph a) ≡ Effect.Nothing → ⊥) → IsSound im
-unfolding admitted
-admitted-sound im ph a more = sound-parts im (checks-passed (verdict im) _ more)
+admitted-sound im ph a = admitted-all (λ (x : Answer). (effectOf x ≡ Effect.Nothing → ⊥) → IsSound im) refused im ph (λ d more. sound-parts im (d .passes))
 
 pub more-sound : (c : Call) (im : List ℕ) (ph : Phase) → makesImage c ≡ false → (effectOf (judged c im ph) ≡ Effect.Nothing → ⊥) → IsSound im
 unfolding judged
 more-sound format im ph other more = absurd (true≢false other)
-more-sound restore im ph other more = sound-parts im (checks-passed (verdict im) Answer.Done more)
+more-sound restore im ph other more =
+    checked-all (λ (x : Answer). (effectOf x ≡ Effect.Nothing → ⊥) → IsSound im) refused (verdict im) (λ s n. sound-parts im s) more
 more-sound connection-failed im ph other more = admitted-sound im ph _ more
 more-sound (open-session id own proposal out) im ph other more = admitted-sound im ph _ more
 more-sound (init-received m) im ph other more = admitted-sound im ph _ more

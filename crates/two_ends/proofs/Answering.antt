@@ -90,9 +90,9 @@ good-comes w k g m rest on line =
     some-comes (w .a .image) (w .a .phase) (w .a .joined) (w .a .begun) (w .a .history) (w .b) (w .ab) m rest on (rw line at (g k))
 
 -- ---- over every run, at both ends
-pub no-error : (x y : Opener) → Sound x → Sound y → Afresh x y → (vs : List (Bool × Event)) → AllProper vs → run (start x y) vs .kept ≡ true
+pub only-these-come : (x y : Opener) → Sound x → Sound y → Afresh x y → (vs : List (Bool × Event)) → AllProper vs → run (start x y) vs .kept ≡ true
     → AllCome (run (start x y) vs) × AllCome (swap (run (start x y) vs))
-no-error x y sx sy f vs p k =
+only-these-come x y sx sy f vs p k =
     let w = run (start x y) vs in
     let g = at-run (start x y) vs p (at-start x y sx sy f) in
     (good-comes w k g, good-comes (swap w) k (at-swap w g))

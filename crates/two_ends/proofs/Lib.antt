@@ -1,3 +1,4 @@
+-- the circle, one direction, and what lies on a line
 pub mod Positions
 pub mod Half
 pub mod Books
@@ -6,6 +7,7 @@ pub mod Direction
 pub mod Freeing
 pub mod Octets
 pub mod Packets
+-- labels: no code 6, what is owed for them, and what is given and in use
 pub mod Sixless
 pub mod Owed
 pub mod Paid
@@ -15,11 +17,13 @@ pub mod Agreeing
 pub mod Acking
 pub mod Getting
 pub mod Sharing
+-- the invariant, and both directions after an event
 pub mod Invariant
 pub mod Sides
 pub mod Sends
 pub mod Takes
 pub mod Worlds
+-- each event keeps it: an end that fails, restarts, submits, is cut, writes, opens, sends
 pub mod Failing
 pub mod Quiet
 pub mod Resting
@@ -29,6 +33,7 @@ pub mod Writing
 pub mod Opening
 pub mod Sent
 pub mod Sending
+-- .. and the oldest message delivered: the peer's Init, a message in UpFT
 pub mod Delivering
 pub mod Starting
 pub mod Begins
@@ -39,16 +44,19 @@ pub mod Judging
 pub mod Receiving
 pub mod Arriving
 pub mod Delivered
+-- the theorem, the answers that come, room in the store
 pub mod Begun
 pub mod Theorem
 pub mod Answering
 pub mod Room
+-- when a state is released, and what holds of labels over a run
 pub mod Moving
 pub mod Unreleased
 pub mod Staying
 pub mod Kept
 pub mod Listing
 pub mod Giving
+-- steady owners
 pub mod Saying
 pub mod Steady
 pub mod Calm
