@@ -1,5 +1,5 @@
 -- The returns of `init_received`, and of the functions that store the state. Assumes nothing.
-use mathlib.Core.Path.{_≡_, refl, _∙_}
+use mathlib.Core.Path.{_≡_, refl, _∙_, sym, ap}
 use mathlib.Core.Bool.{Bool, true, false}
 use mathlib.Core.List.{List, []}
 use Prim.Native.Nat.{ℕ}
@@ -11,6 +11,7 @@ use Rattle.message.specs.declared.Reading.{Reading}
 use Rattle.block0.specs.declared.Header.{Header}
 use Rattle.image.specs.Sizes.{block}
 use Rattle.image.specs.State.{decode, store0, store}
+use Rattle.image.specs.Events.{releaseOf}
 use Rattle.image.specs.Verdict.{IsSound}
 use Rattle.image.proofs.Sound.{sound-valid}
 use Rattle.calls.specs.declared.Answer
@@ -19,7 +20,7 @@ use Rattle.calls.specs.declared.Outcome.{Outcome}
 use Rattle.calls.specs.declared.Phase.{Phase}
 use Rattle.calls.specs.Answers.{effectOf}
 use Rattle.calls.specs.Acked.{releasedLabels, withReleased, acked}
-use Rattle.calls.specs.Outcomes.{After, after, isDone, refusal, unchanged, admitted, settleOf}
+use Rattle.calls.specs.Outcomes.{After, after, isDone, refusal, unchanged, releasedWith, admitted, settleOf}
 use Rattle.calls.proofs.Ends.{settle-other}
 use Rattle.call_meaning.proofs.Calling.{call-refused, call-own, own-done, own-refused}
 use Rattle.init.specs.declared.Start.{Start}
@@ -35,11 +36,16 @@ pub resumed-is : (im : List ℕ) (t : Terms) (k a : ℕ) {h h₂ : Header} {ls l
 unfolding resumed acked
 resumed-is im t k a eh el ek en e = rw (e, en, eh, ek, el)
 
-pub begun-is : (im : List ℕ) (ph : Phase) (st : Start) {old im′ : List ℕ} {next : Phase} {b : Bool} → old ≡ block im 0 → im′ ≡ startImage im st
-    → next ≡ startPhase ph st → b ≡ differ old (block im′ 0)
+pub released-is : (im : List ℕ) {o : Outcome} {im′ : List ℕ} → after o im′ [] ≡ releasedWith Answer.Done im []
+    → (im′ ≡ releaseOf im) × (o .block0 ≡ differ (block im 0) (block im′ 0))
+unfolding releasedWith
+released-is im e = (ap (λ x. x .image) e, ap (λ x. x .outcome .block0) e ∙ ap (λ x. differ (block im 0) (block x 0)) (sym (ap (λ x. x .image) e)))
+
+pub begun-is : (im : List ℕ) (ph : Phase) (st : Start) {im′ : List ℕ} {next : Phase} {b : Bool} → im′ ≡ startImage im st
+    → next ≡ startPhase ph st → b ≡ differ (block im 0) (block im′ 0)
     → after (record { answer = Answer.Done; phase = next; written = 0; slot = 0; block0 = b }) im′ [] ≡ begunAs im ph st
 unfolding begunAs
-begun-is im ph st eo ei en eb = rw (eb, eo, ei, en)
+begun-is im ph st ei en eb = rw (eb, ei, en)
 
 -- ---- the call
 module _ (im : List ℕ) (ph : Phase) (m : List ℕ) {r : Answer} (e : r ≡ admitted im ph Answer.Done) where

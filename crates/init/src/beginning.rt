@@ -2,9 +2,10 @@
 ghost use mathlib.Core.Path.{_≡_};
 ghost use mathlib.Core.List.{[]};
 ghost use Prim.Native.Nat.{_≤_};
-ghost use lib.ListN.{length};
-ghost use Rattle.image.specs.Sizes.{imageSize};
+ghost use Rattle.octets.specs.Differ.{differ};
+ghost use Rattle.image.specs.Sizes.{block};
 ghost use Rattle.image.specs.State.{decode, store};
+ghost use Rattle.image.specs.Events.{releaseOf};
 ghost use Rattle.image.specs.Verdict.{IsSound};
 ghost use Rattle.calls.specs.Outcomes.{after};
 ghost use Rattle.init.specs.Begun.{StartFits, fresh, resumed, startImage, startPhase, begunAs, awaits, proposalOf, initReceivedOf};
@@ -44,10 +45,10 @@ fn proposal_of(phase: Phase) -> u16
     }
 }
 
-// A fresh session: kept 1, the terms, and nothing else.
-fn store_fresh(image: &mut [u8], terms: Terms)
-    requires { ⌜ length (now image) ≡ imageSize ⌝ }
-    ensures { λ _. ⌜ now (image .exit) ≡ store (now (image .entry)) (fresh terms) ⌝ }
+// A fresh session: kept 1, the terms, and nothing else. Whether block 0 changed.
+fn store_fresh(image: &mut [u8], terms: Terms) -> bool
+    requires { ⌜ IsSound (now image) ⌝ }
+    ensures { λ r. ⌜ (now (image .exit) ≡ store (now (image .entry)) (fresh terms)) × (r ≡ differ (block (now (image .entry)) 0) (block (now (image .exit)) 0)) ⌝ }
 {
     let h = Header {
         released: FtNumber(0),
@@ -61,13 +62,13 @@ fn store_fresh(image: &mut [u8], terms: Terms)
         maxpdu: terms.maxpdu,
     };
     let labels = [0u32; label_list::WORD_COUNT];
-    image::store_block0(image, h, &labels);
+    calls::store_changed(image, h, &labels)
 }
 
-// A resumed session: the peer's ACK is applied, and the timeout is the newly agreed one.
-fn store_resumed(image: &mut [u8], terms: Terms, count: u32, ack: FtNumber)
+// A resumed session: the peer's ACK is applied, and the timeout is the newly agreed one. Whether block 0 changed.
+fn store_resumed(image: &mut [u8], terms: Terms, count: u32, ack: FtNumber) -> bool
     requires { ⌜ IsSound (now image) × (count ≤ decode (now image) .header .held) ⌝ }
-    ensures { λ _. ⌜ now (image .exit) ≡ store (now (image .entry)) (resumed (decode (now (image .entry))) terms count (ack .0)) ⌝ }
+    ensures { λ r. ⌜ (now (image .exit) ≡ store (now (image .entry)) (resumed (decode (now (image .entry))) terms count (ack .0))) × (r ≡ differ (block (now (image .entry)) 0) (block (now (image .exit)) 0)) ⌝ }
 {
     let h = image::header_of(image);
     let mut words = [0u32; label_list::WORD_COUNT];
@@ -75,17 +76,26 @@ fn store_resumed(image: &mut [u8], terms: Terms, count: u32, ack: FtNumber)
     calls::release_labels(image, count as usize, &mut words);
     let mut next = calls::released_header(h, count, ack);
     next.timeout = terms.timeout;
-    image::store_block0(image, next, &words);
+    calls::store_changed(image, next, &words)
 }
 
-// Stores the state that a start leads to; a refusal leaves the image as it is.
-fn store_start(image: &mut [u8], start: Start)
+// The state released. Whether block 0 changed.
+fn store_released(image: &mut [u8]) -> bool
+    requires { ⌜ IsSound (now image) ⌝ }
+    ensures { λ r. ⌜ (now (image .exit) ≡ releaseOf (now (image .entry))) × (r ≡ differ (block (now (image .entry)) 0) (block (now (image .exit)) 0)) ⌝ }
+{
+    let o = calls::release(image, Answer::Done);
+    o.block0
+}
+
+// Stores the state that a start leads to; a refusal leaves the image as it is. Whether block 0 changed.
+fn store_start(image: &mut [u8], start: Start) -> bool
     requires { ⌜ IsSound (now image) × StartFits (decode (now image) .header .held) start ⌝ }
-    ensures { λ _. ⌜ now (image .exit) ≡ startImage (now (image .entry)) start ⌝ }
+    ensures { λ r. ⌜ (now (image .exit) ≡ startImage (now (image .entry)) start) × (r ≡ differ (block (now (image .entry)) 0) (block (now (image .exit)) 0)) ⌝ }
 {
     match start {
-        Start::Refused(_) => {}
-        Start::Plain => image::release(image),
+        Start::Refused(_) => false,
+        Start::Plain => store_released(image),
         Start::Fresh(terms) => store_fresh(image, terms),
         Start::Resumed(terms, count, ack) => store_resumed(image, terms, count, ack),
     }
@@ -108,14 +118,12 @@ fn begin(image: &mut [u8], phase: Phase, start: Start) -> Outcome
     requires { ⌜ IsSound (now image) × StartFits (decode (now image) .header .held) start ⌝ }
     ensures { λ r. ⌜ after r (now (image .exit)) [] ≡ begunAs (now (image .entry)) phase start ⌝ }
 {
-    let old = calls::copy_block0(image);
-    store_start(image, start);
     Outcome {
         answer: Answer::Done,
         phase: start_phase(start, phase),
         written: 0,
         slot: 0,
-        block0: calls::block0_changed(&old, image),
+        block0: store_start(image, start),
     }
 }
 

@@ -10,8 +10,5 @@ begin-spec =
     (tie.spec
     (λ c κs. search needs)
     (λ c κs. search needs)
-    (λ c κs. search needs)
     (λ c. search needs)
-    (λ c κs. search needs)
-    (λ c. search needs)
-    (λ c. begun-is _ _ _ (c .before .before .before .before .before .before .before .before .copy-block0 .ensures) (c .before .before .before .before .before .before .store-start .ensures) (c .before .before .before .start-phase .ensures) (c .block0-changed .ensures)))
+    (λ c. begun-is _ _ _ (c .before .before .store-start .ensures .0) (c .before .before .before .before .start-phase .ensures) (c .before .before .store-start .ensures .1)))

@@ -12,4 +12,4 @@ store-fresh-spec =
     (λ c. search needs)
     (λ c κs. search needs)
     (λ c. search needs)
-    (λ c. cc))
+    (λ c. c .before .before .store-changed .ensures))

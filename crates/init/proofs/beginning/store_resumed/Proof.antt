@@ -17,4 +17,4 @@ store-resumed-spec =
     (λ c. search needs)
     (λ c κs. search needs)
     (λ c. search needs)
-    (λ c. resumed-is _ _ _ _ (c .before .before .before .before .before .before .before .before .before .before .before .before .before .before .header-of .ensures) (c .before .before .before .before .before .before .before .before .before .before .before .labels-of .ensures) (c .before .before .before .before .before .before .before .release-labels .ensures) (c .before .before .before .before .before .released-header .ensures) (c .before .before .store-block0 .ensures)))
+    (λ c. (resumed-is _ _ _ _ (c .before .before .before .before .before .before .before .before .before .before .before .before .before .before .header-of .ensures) (c .before .before .before .before .before .before .before .before .before .before .before .labels-of .ensures) (c .before .before .before .before .before .before .before .release-labels .ensures) (c .before .before .before .before .before .released-header .ensures) (c .before .before .store-changed .ensures .0), c .before .before .store-changed .ensures .1)))
