@@ -9,25 +9,25 @@ use mathlib.Core.Bool.{true}
 use lib.ListN.{length, getD, drop, drop-of-length-le}
 use Rattle.octets.specs.Bytes.{Bytes}
 use Rattle.block.specs.Check.{checkOf, checkAt}
-use Rattle.block.specs.Rows.{leAt, paired, four, later, odds, sumRows, runRows, InRows, Room}
+use Rattle.block.specs.Rows.{leAt, paired, four, later, odds, sumBy, runBy, InRows}
 use Rattle.block.specs.Zeros.{allZero}
 use Rattle.block.proofs.Le.{word-low}
 use Rattle.block.proofs.ZeroBytes.{zero-from, allZero-none}
-use Rattle.block.proofs.Weights.{total, weighted, total-zeros, weighted-zeros, check-is}
+use Rattle.block.proofs.Weights.{sum-zeros, run-zeros, check-is}
 
 -- ---- one row more, two sums in a number
-sum-more : (f g : ℕ → ℕ) (n x r : ℕ) → x ≡ paired (sumRows f n) (sumRows g n) → r ≡ paired (f (n * 16)) (g (n * 16))
-    → x + r ≡ paired (sumRows f (n + 1)) (sumRows g (n + 1))
-unfolding sumRows
+sum-more : (f g : ℕ → ℕ) (n x r : ℕ) → x ≡ paired (sumBy 16 f n) (sumBy 16 g n) → r ≡ paired (f (n * 16)) (g (n * 16))
+    → x + r ≡ paired (sumBy 16 f (n + 1)) (sumBy 16 g (n + 1))
+unfolding sumBy
 sum-more f g n x r h e = rw (add-one n) (omega arith)
 
-run-more : (f g : ℕ → ℕ) (n x r : ℕ) → x ≡ paired (runRows f n) (runRows g n) → r ≡ paired (sumRows f (n + 1)) (sumRows g (n + 1))
-    → x + r ≡ paired (runRows f (n + 1)) (runRows g (n + 1))
-unfolding runRows
+run-more : (f g : ℕ → ℕ) (n x r : ℕ) → x ≡ paired (runBy 16 f n) (runBy 16 g n) → r ≡ paired (sumBy 16 f (n + 1)) (sumBy 16 g (n + 1))
+    → x + r ≡ paired (runBy 16 f (n + 1)) (runBy 16 g (n + 1))
+unfolding runBy
 run-more f g n x r h e = rw (add-one n) (omega (arith, rw (add-one n) at e))
 
 pub rows-none : (w : ℕ → ℕ) → InRows w 0 0 0 0 0
-unfolding sumRows runRows
+unfolding sumBy runBy
 rows-none w = record { all = refl; second = refl; odd = refl; running = refl }
 
 -- the words at `at` and four bytes on, as the row has them
@@ -59,13 +59,13 @@ module _ (w : ℕ → ℕ) (n : ℕ) {all second odd running e o f p all' second
 
 -- ---- the sums are small
 module _ (f : ℕ → ℕ) (low : (at : ℕ) → f at ≤ 262140) where
-  sum-low : (n : ℕ) → sumRows f n ≤ 262140 * n
-  unfolding sumRows
+  sum-low : (n : ℕ) → sumBy 16 f n ≤ 262140 * n
+  unfolding sumBy
   sum-low zero = omega arith
   sum-low (suc n) = omega (arith, sum-low n, low (n * 16))
 
-  run-low : (n : ℕ) → n ≤ 32 → runRows f n ≤ 8388480 * n
-  unfolding runRows
+  run-low : (n : ℕ) → n ≤ 32 → runBy 16 f n ≤ 8388480 * n
+  unfolding runBy
   run-low zero l = omega arith
   run-low (suc n) l = omega (arith, run-low n (omega arith), sum-low (suc n))
 
@@ -80,16 +80,16 @@ module _ (w : ℕ → ℕ) (low : (at : ℕ) → w at ≤ 65535) (o : ℕ) where
   odds-low at = omega (arith, low (at + (2 + o)), low (at + (10 + o)))
 
 module _ (f g : ℕ → ℕ) (f-low : (at : ℕ) → f at ≤ 262140) (g-low : (at : ℕ) → g at ≤ 262140) (n : ℕ) (few : n ≤ 32) (x : ℕ) where
-  pair-room : x ≡ paired (sumRows f n) (sumRows g n) → x ≤ 2 ^ 62
+  pair-room : x ≡ paired (sumBy 16 f n) (sumBy 16 g n) → x ≤ 2 ^ 62
   pair-room e = omega (arith, sum-low f f-low n, sum-low g g-low n)
 
-  pair-halves : x ≡ paired (sumRows f n) (sumRows g n) → (x / 4294967296 ≡ sumRows g n) × (x / 4294967296 + x % 4294967296 ≡ sumRows f n + sumRows g n)
+  pair-halves : x ≡ paired (sumBy 16 f n) (sumBy 16 g n) → (x / 4294967296 ≡ sumBy 16 g n) × (x / 4294967296 + x % 4294967296 ≡ sumBy 16 f n + sumBy 16 g n)
   pair-halves e = let l = sum-low f f-low n in (omega arith, omega arith)
 
-  run-room : x ≡ paired (runRows f n) (runRows g n) → x ≤ 2 ^ 62
+  run-room : x ≡ paired (runBy 16 f n) (runBy 16 g n) → x ≤ 2 ^ 62
   run-room e = omega (arith, run-low f f-low n few, run-low g g-low n few)
 
-  run-halves : x ≡ paired (runRows f n) (runRows g n) → x / 4294967296 + x % 4294967296 ≡ runRows f n + runRows g n
+  run-halves : x ≡ paired (runBy 16 f n) (runBy 16 g n) → x / 4294967296 + x % 4294967296 ≡ runBy 16 f n + runBy 16 g n
   run-halves e = let l = run-low f f-low n few in omega arith
 
 -- a row more has room
@@ -122,14 +122,14 @@ last-word s long at x l e = let none = word-past (at + 4) (omega arith) in omega
 -- ---- the rows' words, one by one
 -- what the words of a row lack of eight times the row's weight
 abbrev lack : (ℕ → ℕ) → ℕ → ℕ
-lack w n = sumRows (odds w 0) n + sumRows (odds w 4) n + 2 * sumRows (four w 4) n + 4 * (sumRows (later w 0) n + sumRows (later w 4) n)
+lack w n = sumBy 16 (odds w 0) n + sumBy 16 (odds w 4) n + 2 * sumBy 16 (four w 4) n + 4 * (sumBy 16 (later w 0) n + sumBy 16 (later w 4) n)
 
 module _ (w : ℕ → ℕ) where
   word : (n j k : ℕ) → k ≡ j + n * 8 → w (k * 2) ≡ w (n * 16 + j * 2)
   word n j k e = ap w (omega arith)
 
-  rows-words : (n : ℕ) → (total w (n * 8) ≡ sumRows (four w 0) n + sumRows (four w 4) n) × (weighted w (n * 8) + lack w n ≡ 8 * (runRows (four w 0) n + runRows (four w 4) n))
-  unfolding total weighted sumRows runRows
+  rows-words : (n : ℕ) → (sumBy 2 w (n * 8) ≡ sumBy 16 (four w 0) n + sumBy 16 (four w 4) n) × (runBy 2 w (n * 8) + lack w n ≡ 8 * (runBy 16 (four w 0) n + runBy 16 (four w 4) n))
+  unfolding sumBy runBy
   rows-words zero = (refl, refl)
   rows-words (suc n) =
       let k : ℕ = n * 8 in
@@ -156,7 +156,7 @@ module _ (s : List ℕ) (byte : Bytes s) (long : length s ≡ checkAt) (n : ℕ)
   abbrev w : ℕ → ℕ
   w = leAt 2 s
 
-  summed : (all ≡ total w (n * 8)) × (8 * run ≡ weighted w (n * 8) + (odd + 2 * high + 4 * second))
+  summed : (all ≡ sumBy 2 w (n * 8)) × (8 * run ≡ runBy 2 w (n * 8) + (odd + 2 * high + 4 * second))
   summed =
       let low = word-low s byte in
       let a' = pair-halves (four w 0) (four w 4) (four-low w low 0) (four-low w low 4) n few a (h .all) in
@@ -166,15 +166,15 @@ module _ (s : List ℕ) (byte : Bytes s) (long : length s ≡ checkAt) (n : ℕ)
       let t = rows-words w n in
       (all-is ∙ a' .1 ∙ sym (t .0), omega (arith, a' .0, b' .1, o' .1, r', t .1))
 
-  whole : (total w 254 ≡ all) × (8 * run + (256 - 8 * n) * all ≡ weighted w 254 + (odd + 2 * high + 4 * second + 2 * all))
+  whole : (sumBy 2 w 254 ≡ all) × (8 * run + (256 - 8 * n) * all ≡ runBy 2 w 254 + (odd + 2 * high + 4 * second + 2 * all))
   whole =
       let end : 256 - 8 * n + n * 8 ≡ 256 = omega arith in
       let past : allZero (drop 508 s) ≡ true = rw (drop-of-length-le s {i = 508} (omega arith)) allZero-none in
       let rest = word-zero s (n * 16) clear in
-      let t = rw end at (total-zeros w (n * 8) (λ i l. rest i (omega arith)) (256 - 8 * n)) in
-      let v = rw end at (weighted-zeros w (n * 8) (λ i l. rest i (omega arith)) (256 - 8 * n)) in
-      let t' = total-zeros w 254 (λ i l. word-zero s 508 past i (omega arith)) 2 in
-      let v' = weighted-zeros w 254 (λ i l. word-zero s 508 past i (omega arith)) 2 in
+      let t = rw end at (sum-zeros w (n * 8) (λ i l. rest i (omega arith)) (256 - 8 * n)) in
+      let v = rw end at (run-zeros w (n * 8) (λ i l. rest i (omega arith)) (256 - 8 * n)) in
+      let t' = sum-zeros w 254 (λ i l. word-zero s 508 past i (omega arith)) 2 in
+      let v' = run-zeros w 254 (λ i l. word-zero s 508 past i (omega arith)) 2 in
       let e = sym t' ∙ t ∙ sym (summed .0) in
       (e, joined _ _ _ _ _ _ (summed .1) (sym v' ∙ v ∙ rw (← summed .0) refl) e)
     where

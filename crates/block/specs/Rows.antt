@@ -26,21 +26,21 @@ later w o at = w (at + (8 + o)) + w (at + (10 + o))
 abbrev pub odds : (ℕ → ℕ) → ℕ → ℕ → ℕ
 odds w o at = w (at + (2 + o)) + w (at + (10 + o))
 
--- the sum of such over n rows, and the sum of the sums after each row
-unfoldable pub sumRows : (ℕ → ℕ) → ℕ → ℕ
-sumRows f zero = 0
-sumRows f (suc n) = sumRows f n + f (n * 16)
+-- the sum of f at n places that stand k bytes apart, and the sum of the sums after each
+unfoldable pub sumBy : ℕ → (ℕ → ℕ) → ℕ → ℕ
+sumBy k f zero = 0
+sumBy k f (suc n) = sumBy k f n + f (n * k)
 
-unfoldable pub runRows : (ℕ → ℕ) → ℕ → ℕ
-runRows f zero = 0
-runRows f (suc n) = runRows f n + sumRows f (suc n)
+unfoldable pub runBy : ℕ → (ℕ → ℕ) → ℕ → ℕ
+runBy k f zero = 0
+runBy k f (suc n) = runBy k f n + sumBy k f (suc n)
 
 -- the four sums after n rows, two to a number
 pub record InRows (w : ℕ → ℕ) (n a b o r : ℕ) : Type 0 where
-  pub all : a ≡ paired (sumRows (four w 0) n) (sumRows (four w 4) n)
-  pub second : b ≡ paired (sumRows (later w 0) n) (sumRows (later w 4) n)
-  pub odd : o ≡ paired (sumRows (odds w 0) n) (sumRows (odds w 4) n)
-  pub running : r ≡ paired (runRows (four w 0) n) (runRows (four w 4) n)
+  pub all : a ≡ paired (sumBy 16 (four w 0) n) (sumBy 16 (four w 4) n)
+  pub second : b ≡ paired (sumBy 16 (later w 0) n) (sumBy 16 (later w 4) n)
+  pub odd : o ≡ paired (sumBy 16 (odds w 0) n) (sumBy 16 (odds w 4) n)
+  pub running : r ≡ paired (runBy 16 (four w 0) n) (runBy 16 (four w 4) n)
 
 -- the four sums have room for a row of the four numbers
 pub record Room (a b o r e p f q : ℕ) : Type 0 where

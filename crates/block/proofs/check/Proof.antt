@@ -1,6 +1,5 @@
 -- `block::check` meets its contract: nothing is behind the rows. Assumes nothing.
 use native.Mathlib.Omega.{arith}
-use borrow.Author.Needs.{needs}
 use lib.ListN.{drop-of-length-le}
 use Rattle.block.proofs.ZeroBytes.{allZero-none}
 use Rattle.block.proofs.check.Statement.{statement}
