@@ -1,18 +1,18 @@
 -- The sums of a block's words in rows: how they grow, what they make of the check. Assumes nothing.
 use mathlib.Core.Path.{_≡_, refl, sym, ap, _∙_}
+use mathlib.Core.Bool.{true}
 use mathlib.Core.List.{List}
 use Prim.Native.Nat.{ℕ, zero, suc, _+_, _-_, _*_, _/_, _%_, _^_, _≤_, _<_}
 use native.Mathlib.Nat.{mul-le-mul}
 use native.Mathlib.Numerals.{add-one}
 use native.Mathlib.Omega.{arith}
-use mathlib.Core.Bool.{true}
-use lib.ListN.{length, getD, drop, drop-of-length-le}
+use lib.ListN.{length, drop}
 use Rattle.octets.specs.Bytes.{Bytes}
 use Rattle.block.specs.Check.{checkOf, checkAt}
 use Rattle.block.specs.Rows.{leAt, paired, four, later, odds, sumBy, runBy, InRows}
 use Rattle.block.specs.Zeros.{allZero}
 use Rattle.block.proofs.Le.{word-low}
-use Rattle.block.proofs.ZeroBytes.{zero-from, allZero-none}
+use Rattle.block.proofs.ZeroBytes.{zero-from, zero-past}
 use Rattle.block.proofs.Weights.{sum-zeros, run-zeros, check-is}
 
 -- ---- one row more, two sums in a number
@@ -109,15 +109,13 @@ two-low s byte at x e = small _ _ (word-low s byte at) (word-low s byte (at + 4)
     small : (a b : ℕ) → a ≤ 65535 → b ≤ 65535 → x ≡ paired a b → x ≤ 2 ^ 48
     small a b p q r = omega arith
 
+-- words that are zero
+word-zero : (s : List ℕ) (k : ℕ) → allZero (drop k s) ≡ true → (at : ℕ) → k ≤ at → leAt 2 s at ≡ 0
+word-zero s k z at l = rw (zero-from s k z at l, zero-from s k z (at + 1) (omega arith)) refl
+
 -- the last two words of the last row are past the end
 pub last-word : (s : List ℕ) → length s ≡ checkAt → (at x : ℕ) → 504 ≤ at → x ≡ leAt 2 s at → x ≡ paired (leAt 2 s at) (leAt 2 s (at + 4))
-last-word s long at x l e = let none = word-past (at + 4) (omega arith) in omega arith
-  where
-    past : (i : ℕ) → 508 ≤ i → getD s i 0 ≡ 0
-    past i h = zero-from s 508 (rw (drop-of-length-le s {i = 508} (omega arith)) allZero-none) i h
-
-    word-past : (i : ℕ) → 508 ≤ i → leAt 2 s i ≡ 0
-    word-past i h = rw (past i h, past (i + 1) (omega arith)) refl
+last-word s long at x l e = let none = word-zero s 508 (zero-past s 508 (omega arith)) (at + 4) (omega arith) in omega arith
 
 -- ---- the rows' words, one by one
 -- what the words of a row lack of eight times the row's weight
@@ -146,9 +144,6 @@ module _ (w : ℕ → ℕ) where
       rw next (omega (arith, before .0), omega (arith, before .0, before .1))
 
 -- ---- what the code reads off the sums of n rows, after which there are zeros
-word-zero : (s : List ℕ) (k : ℕ) → allZero (drop k s) ≡ true → (i : ℕ) → k ≤ i * 2 → leAt 2 s (i * 2) ≡ 0
-word-zero s k z i l = rw (zero-from s k z (i * 2) l, zero-from s k z (i * 2 + 1) (omega arith)) refl
-
 module _ (s : List ℕ) (byte : Bytes s) (long : length s ≡ checkAt) (n : ℕ) (few : n ≤ 32) (clear : allZero (drop (n * 16) s) ≡ true)
     {a b o r all second odd high run : ℕ} (h : InRows (leAt 2 s) n a b o r) (all-is : all ≡ a / 4294967296 + a % 4294967296)
     (odd-is : odd ≡ o / 4294967296 + o % 4294967296) (high-is : high ≡ a / 4294967296) (second-is : second ≡ b / 4294967296 + b % 4294967296)
@@ -169,12 +164,12 @@ module _ (s : List ℕ) (byte : Bytes s) (long : length s ≡ checkAt) (n : ℕ)
   whole : (sumBy 2 w 254 ≡ all) × (8 * run + (256 - 8 * n) * all ≡ runBy 2 w 254 + (odd + 2 * high + 4 * second + 2 * all))
   whole =
       let end : 256 - 8 * n + n * 8 ≡ 256 = omega arith in
-      let past : allZero (drop 508 s) ≡ true = rw (drop-of-length-le s {i = 508} (omega arith)) allZero-none in
       let rest = word-zero s (n * 16) clear in
-      let t = rw end at (sum-zeros w (n * 8) (λ i l. rest i (omega arith)) (256 - 8 * n)) in
-      let v = rw end at (run-zeros w (n * 8) (λ i l. rest i (omega arith)) (256 - 8 * n)) in
-      let t' = sum-zeros w 254 (λ i l. word-zero s 508 past i (omega arith)) 2 in
-      let v' = run-zeros w 254 (λ i l. word-zero s 508 past i (omega arith)) 2 in
+      let past = word-zero s 508 (zero-past s 508 (omega arith)) in
+      let t = rw end at (sum-zeros w (n * 8) (λ i l. rest (i * 2) (omega arith)) (256 - 8 * n)) in
+      let v = rw end at (run-zeros w (n * 8) (λ i l. rest (i * 2) (omega arith)) (256 - 8 * n)) in
+      let t' = sum-zeros w 254 (λ i l. past (i * 2) (omega arith)) 2 in
+      let v' = run-zeros w 254 (λ i l. past (i * 2) (omega arith)) 2 in
       let e = sym t' ∙ t ∙ sym (summed .0) in
       (e, joined _ _ _ _ _ _ (summed .1) (sym v' ∙ v ∙ rw (← summed .0) refl) e)
     where

@@ -7,7 +7,7 @@ use native.Mathlib.Numerals.{add-one}
 use native.Mathlib.Omega.{arith}
 use borrow.Author.Tests.{eqb-true, eq-eqb}
 use lib.Dec.{eqb}
-use lib.ListN.{length, getD, take, drop, length-take, length-drop}
+use lib.ListN.{length, getD, take, drop, length-take, length-drop, drop-of-length-le}
 use lib.Seq.{drop-cons, getD-drop, getD-take}
 use Rattle.octets.specs.Part.{part}
 use Rattle.octets.specs.Pick.{both}
@@ -42,6 +42,10 @@ pub zero-from : (s : List ℕ) (k : ℕ) → allZero (drop k s) ≡ true → (i 
 zero-from s k z i l =
     let place : k + (i - k) ≡ i = omega arith in
     rw place at (sym (getD-drop k s (i - k) 0) ∙ zero-bytes (drop k s) z (i - k))
+
+-- past the end there are only zeros
+pub zero-past : (s : List ℕ) (k : ℕ) → length s ≤ k → allZero (drop k s) ≡ true
+zero-past s k l = rw (drop-of-length-le s {i = k} l) allZero-none
 
 -- of a block's bytes up to its check
 pub body-zero : (b : List ℕ) (end k : ℕ) → end ≤ k → allZero (part b end checkAt) ≡ true → allZero (drop k (take checkAt b)) ≡ true

@@ -14,11 +14,11 @@ const HALF: u64 = 4294967296;
 const LOW_WORDS: u64 = 0x0000FFFF0000FFFF;
 
 // The sums of all words, of those in the later eight bytes of their rows, of those at odd places, and of the first sum after each row.
-pub struct Rows {
-    pub all: u64,
-    pub second: u64,
-    pub odd: u64,
-    pub running: u64,
+struct Rows {
+    all: u64,
+    second: u64,
+    odd: u64,
+    running: u64,
 }
 
 fn wide(x: u8) -> u64
@@ -27,19 +27,20 @@ fn wide(x: u8) -> u64
     x as u64
 }
 
-// Eight bytes: at constant places, the compiler reads them at once.
+// The four bytes from `at` on.
+fn four(s: &[u8], at: usize) -> u64
+    requires { ⌜ at + 4 ≤ length (now s) ⌝ }
+    ensures { λ r. ⌜ (r ≡ leAt 4 (now (s .entry)) at) × (r < 4294967296) ⌝ }
+{
+    wide(s[at]) + wide(s[at + 1]) * 256 + wide(s[at + 2]) * 65536 + wide(s[at + 3]) * 16777216
+}
+
+// Eight bytes: at constant places the compiler reads them at once.
 fn eight(s: &[u8]) -> u64
     requires { ⌜ length (now s) ≡ 8 ⌝ }
     ensures { λ r. ⌜ r ≡ leAt 8 (now (s .entry)) 0 ⌝ }
 {
-    wide(s[0])
-        + wide(s[1]) * 256
-        + wide(s[2]) * 65536
-        + wide(s[3]) * 16777216
-        + wide(s[4]) * 4294967296
-        + wide(s[5]) * 1099511627776
-        + wide(s[6]) * 281474976710656
-        + wide(s[7]) * 72057594037927936
+    four(s, 0) + four(s, 4) * HALF
 }
 
 // The eight bytes from `at` on.
@@ -81,7 +82,7 @@ fn add_row(sums: Rows, even: u64, odd: u64, even2: u64, odd2: u64) -> Rows
     }
 }
 
-// The sums of rows that are whole.
+// The sums of so many rows, which are whole.
 fn whole_rows(s: &[u8], rows: usize) -> Rows
     requires { ⌜ (rows ≤ 31) × (length (now s) ≡ checkAt) ⌝ }
     ensures { λ r. ⌜ InRows (leAt 2 (now (s .entry))) rows (r .all) (r .second) (r .odd) (r .running) ⌝ }
@@ -107,7 +108,7 @@ fn whole_rows(s: &[u8], rows: usize) -> Rows
     sums
 }
 
-// The sums of so many rows, of which the 32nd lacks its last two words.
+// The same where the 32nd, which lacks its last two words, may be among them.
 fn sum_rows(s: &[u8], rows: usize) -> Rows
     requires { ⌜ (rows ≤ 32) × (length (now s) ≡ checkAt) ⌝ }
     ensures { λ r. ⌜ InRows (leAt 2 (now (s .entry))) rows (r .all) (r .second) (r .odd) (r .running) ⌝ }
@@ -137,7 +138,7 @@ fn halves(x: u64) -> u64
     x / HALF + x % HALF
 }
 
-// The check by the sum of the words and their sum by weight, 254 for the first word down to 1 for the last; A's start of 1 has weight 254.
+// The check by the sum of the words and their sum by weight, both of swapped words; the 1 that A starts from counts 254 times in B.
 fn check_by(a: u64, b: u64) -> u32
     requires { ⌜ (a < 281474976710656) × (b < 281474976710656) ⌝ }
     ensures { λ r. ⌜ r ≡ (1 + 256 * a) % 65535 * 65536 + (254 + 256 * b) % 65535 ⌝ }
@@ -145,7 +146,8 @@ fn check_by(a: u64, b: u64) -> u32
     ((1 + 256 * a) % 65535 * 65536 + (254 + 256 * b) % 65535) as u32
 }
 
-// The check of bytes that are zero after so many rows: eight times the running sum weighs a row's first word by what is left of the rows.
+// The check of bytes that are zero after so many rows. Word p of row j counts 254 - 8j - p times in B: 8 (rows - j) times by the running sum,
+// less its place p, and rest - 2 times for the words behind the rows.
 pub fn check_rows(s: &[u8], rows: usize) -> u32
     requires { ⌜ (rows ≤ 32) × (length (now s) ≡ checkAt) × (allZero (drop (rows * 16) (now s)) ≡ true) ⌝ }
     ensures { λ r. ⌜ r ≡ checkOf (now (s .entry)) ⌝ }
