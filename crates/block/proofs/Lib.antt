@@ -3,7 +3,8 @@ pub mod Sealed
 pub mod ZeroBytes
 pub mod Run
 pub mod WordRun
-pub mod Lanes
-pub mod Ends
-pub mod ZeroPairs
+pub mod Le
+pub mod Weights
+pub mod RowSums
+pub mod ZeroParts
 pub mod Same

@@ -1,16 +1,19 @@
 -- Bytes that are all zero, one by one. Assumes nothing.
-use mathlib.Core.Path.{_≡_, refl}
+use mathlib.Core.Path.{_≡_, refl, sym, _∙_}
 use mathlib.Core.Bool.{true}
 use mathlib.Core.List.{List, [], _∷_}
-use Prim.Native.Nat.{ℕ, zero, suc, _+_, _<_}
+use Prim.Native.Nat.{ℕ, zero, suc, _+_, _-_, _≤_, _<_}
 use native.Mathlib.Numerals.{add-one}
 use native.Mathlib.Omega.{arith}
 use borrow.Author.Tests.{eqb-true, eq-eqb}
 use lib.Dec.{eqb}
-use lib.ListN.{length, getD, drop}
-use lib.Seq.{drop-cons}
+use lib.ListN.{length, getD, take, drop, length-take, length-drop, drop-of-length-le}
+use lib.Seq.{drop-cons, getD-drop, getD-take}
+use Rattle.octets.specs.Part.{part}
 use Rattle.octets.specs.Pick.{both}
 use Rattle.octets.proofs.Choice.{both-true}
+use Rattle.octets.proofs.Part.{part-at}
+use Rattle.block.specs.Check.{checkAt}
 use Rattle.block.specs.Zeros.{allZero}
 
 pub allZero-none : allZero [] ≡ true
@@ -33,3 +36,23 @@ zero-bytes (x ∷ rest) h (suc i) = zero-bytes rest (both-true (eqb x 0) (allZer
 pub bytes-zero : (s : List ℕ) → ((i : ℕ) → i < length s → getD s i 0 ≡ 0) → allZero s ≡ true
 bytes-zero [] z = allZero-none
 bytes-zero (x ∷ rest) z = simp (allZero-one, eq-eqb x 0 (z 0 (omega arith)), bytes-zero rest (λ i l. z (suc i) (omega arith)))
+
+-- zeros from some byte on
+pub zero-from : (s : List ℕ) (k : ℕ) → allZero (drop k s) ≡ true → (i : ℕ) → k ≤ i → getD s i 0 ≡ 0
+zero-from s k z i l =
+    let place : k + (i - k) ≡ i = omega arith in
+    rw place at (sym (getD-drop k s (i - k) 0) ∙ zero-bytes (drop k s) z (i - k))
+
+-- past the end there are only zeros
+pub zero-past : (s : List ℕ) (k : ℕ) → length s ≤ k → allZero (drop k s) ≡ true
+zero-past s k l = rw (drop-of-length-le s {i = k} l) allZero-none
+
+-- of a block's bytes up to its check
+pub body-zero : (b : List ℕ) (end k : ℕ) → end ≤ k → allZero (part b end checkAt) ≡ true → allZero (drop k (take checkAt b)) ≡ true
+body-zero b end k h z =
+    bytes-zero (drop k (take checkAt b)) (λ i l.
+    let inside : k + i < 508 = omega (arith, simp (length-take, length-drop) at l) in
+    let place : end + (k + i - end) ≡ k + i = omega arith in
+    getD-drop k (take checkAt b) i 0
+    ∙ getD-take 508 b (k + i) 0 inside
+    ∙ rw place at (sym (part-at b end checkAt (k + i - end) (omega arith)) ∙ zero-bytes (part b end checkAt) z (k + i - end)))

@@ -1,20 +1,31 @@
-// Bytes that are all zero, looked at sixteen at a time; the last sixteen may overlap those before them.
+// Bytes that are all zero, looked at 64 at a time; the last 64 may overlap those before them.
 ghost use mathlib.Core.Path.{_≡_};
-ghost use Prim.Native.Nat.{_+_, _≤_};
+ghost use Prim.Native.Nat.{_+_, _≤_, _<_};
 ghost use lib.Dec.{eqb};
-ghost use lib.ListN.{length};
-ghost use Rattle.block.specs.Zeros.{allZero, pairSum};
-use crate::chunks;
+ghost use lib.ListN.{length, take, drop};
+ghost use Rattle.block.specs.Zeros.{allZero};
+use crate::rows;
 
-// Whether the sixteen bytes from `at` on are zero.
-fn pair_is_zero(s: &[u8], at: usize) -> bool
+// Sixteen bytes from `at` on in one number, zero where they all are.
+fn sixteen(s: &[u8], at: usize) -> u64
     requires { ⌜ at + 16 ≤ length (now s) ⌝ }
-    ensures { λ r. ⌜ r ≡ eqb (pairSum (now (s .entry)) at) 0 ⌝ }
+    ensures { λ r. ⌜ eqb r 0 ≡ allZero (take 16 (drop at (now (s .entry)))) ⌝ }
 {
-    if chunks::get_chunk(s, at) != 0 {
-        return false;
-    }
-    chunks::get_chunk(s, at + 8) == 0
+    rows::get_eight(s, at) | rows::get_eight(s, at + 8)
+}
+
+fn thirty_two(s: &[u8], at: usize) -> u64
+    requires { ⌜ at + 32 ≤ length (now s) ⌝ }
+    ensures { λ r. ⌜ eqb r 0 ≡ allZero (take 32 (drop at (now (s .entry)))) ⌝ }
+{
+    sixteen(s, at) | sixteen(s, at + 16)
+}
+
+fn sixty_four(s: &[u8], at: usize) -> u64
+    requires { ⌜ at + 64 ≤ length (now s) ⌝ }
+    ensures { λ r. ⌜ eqb r 0 ≡ allZero (take 64 (drop at (now (s .entry)))) ⌝ }
+{
+    thirty_two(s, at) | thirty_two(s, at + 32)
 }
 
 // Whether every byte is zero, byte by byte.
@@ -31,19 +42,33 @@ fn each_is_zero(s: &[u8]) -> bool
     true
 }
 
-// Whether every byte is zero.
-pub fn all_zero(s: &[u8]) -> bool
+// The same for fewer than 64 bytes: the first sixteen or 32 and the last, which may overlap.
+fn few_are_zero(s: &[u8]) -> bool
+    requires { ⌜ length (now s) < 64 ⌝ }
     ensures { λ r. ⌜ r ≡ allZero (now (s .entry)) ⌝ }
 {
     if s.len() < 16 {
         return each_is_zero(s);
     }
+    if s.len() < 32 {
+        return sixteen(s, 0) | sixteen(s, s.len() - 16) == 0;
+    }
+    thirty_two(s, 0) | thirty_two(s, s.len() - 32) == 0
+}
+
+// Whether every byte is zero.
+pub fn all_zero(s: &[u8]) -> bool
+    ensures { λ r. ⌜ r ≡ allZero (now (s .entry)) ⌝ }
+{
+    if s.len() < 64 {
+        return few_are_zero(s);
+    }
     let mut i: usize = 0;
-    while i < s.len() / 16 {
-        if !pair_is_zero(s, i * 16) {
+    while i < s.len() / 64 {
+        if sixty_four(s, i * 64) != 0 {
             return false;
         }
         i += 1;
     }
-    pair_is_zero(s, s.len() - 16)
+    sixty_four(s, s.len() - 64) == 0
 }

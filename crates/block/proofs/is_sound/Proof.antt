@@ -1,6 +1,8 @@
 -- `block::is_sound` meets its contract, by the definition. Assumes nothing.
+use mathlib.Core.Path.{ap₂}
 use native.Mathlib.Omega.{arith}
 use borrow.Author.Needs.{needs}
+use lib.Dec.{eqb}
 use Rattle.block.specs.Check.{sound}
 use Rattle.block.proofs.is_sound.Statement.{statement}
 use Rattle.block.proofs.is_sound.Tie as tie
@@ -15,4 +17,4 @@ is-sound-spec =
     (λ c. omega arith)
     (λ c. omega arith)
     (λ c κs. search needs)
-    (λ c. cc))
+    (λ c. ap₂ eqb (c .before .before .get-u32 .ensures) (c .check .ensures)))

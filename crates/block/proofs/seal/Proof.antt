@@ -1,6 +1,8 @@
 -- `block::seal` meets its contract, by the definition. Assumes nothing.
+use mathlib.Core.Path.{ap, _∙_}
 use native.Mathlib.Omega.{arith}
 use borrow.Author.Needs.{needs}
+use Rattle.octets.specs.Be.{putBe}
 use Rattle.block.specs.Check.{sealed}
 use Rattle.block.proofs.seal.Statement.{statement}
 use Rattle.block.proofs.seal.Tie as tie
@@ -16,4 +18,4 @@ seal-spec =
     (λ c κs. search needs)
     (λ c κs. omega arith)
     (λ c. search needs)
-    (λ c. cc))
+    (λ c. c .before .before .put-u32 .ensures ∙ ap (putBe 4 (c .before .before .before .before .before .before .before .before .args .block .now) 508) (c .before .before .before .before .check .ensures)))
