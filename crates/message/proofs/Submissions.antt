@@ -26,7 +26,7 @@ use Rattle.message.specs.declared.Kind.{Kind}
 use Rattle.message.specs.declared.MessageType.{MessageType}
 use Rattle.message.specs.declared.Submission
 use Rattle.message.specs.declared.Submission.{Submission}
-use Rattle.message.proofs.Readings.{reading-head, reading-places}
+use Rattle.message.proofs.Readings.{tlvs-head, tlvs-places}
 
 -- the kind of a Notification
 module _ (status : Field) where
@@ -87,11 +87,11 @@ module _ (m : List ℕ) (w : Walk) (wq : w ≡ tlvsOf m) where
 
   module _ (f : Found) (e : w ≡ Walk.Whole f) where
     pub judged-status : Within m (f .status) 4
-    judged-status = reading-places m w wq f e .status
+    judged-status = tlvs-places m w wq f e .status
 
     module _ (q : f .label ≡ 0 → ⊥) where
       pub judged-room : f .label + 4 + 4 ≤ length m
-      judged-room = reading-places m w wq f e .label q
+      judged-room = tlvs-places m w wq f e .label q
 
       pub judged-fits : length m < 2 ^ 64 → Fits w64 (f .label + 4)
       judged-fits h = let x = judged-room in omega arith
@@ -131,4 +131,4 @@ module _ (m : List ℕ) (w : Walk) (wq : w ≡ tlvsOf m) where
               judged-label q v vq = judged-as (Submission.Accepted k v) (simp (ne-eqb n 0 z, le-ltb 3 n l, ne-eqb (f .label) 0 q, vq))
 
 pub ruleset judgements =
-    (reading-head, judged-malformed, judged-status, judged-room, judged-fits, judged-lacks, judged-ft, judged-none, judged-plain, judged-absent, judged-label)
+    (tlvs-head, judged-malformed, judged-status, judged-room, judged-fits, judged-lacks, judged-ft, judged-none, judged-plain, judged-absent, judged-label)

@@ -14,7 +14,7 @@ ghost use Prim.Native.Nat.{_≤_};
 ghost use lib.ListN.{length};
 ghost use Rattle.tlv.specs.Walk.{headSize};
 ghost use Rattle.tlv.specs.Value.{Places};
-ghost use Rattle.message.specs.Reading.{typeOf, numberIn, idIn, bearsOf, messageOf, readingOf};
+ghost use Rattle.message.specs.Reading.{typeOf, numberIn, idIn, bearsOf, placesOf, messageOf, readingOf};
 ghost use Rattle.message.specs.Kinds.{fatalOf, codeOf, notificationKind, kindFor, kindOf, kindNumber};
 ghost use Rattle.message.specs.Submission.{bearsFt, submissionOf};
 
@@ -149,18 +149,28 @@ fn message_at(m: &[u8], found: Found) -> Message
     }
 }
 
+// The places of a well-formed message's TLVs.
+pub fn places_in(m: &[u8]) -> walk::Walk
+    ensures { λ r. ⌜ r ≡ placesOf (now (m .entry)) ⌝ }
+{
+    match walk::walk_message(m) {
+        walk::Walk::Malformed => walk::Walk::Malformed,
+        walk::Walk::Whole(found) => {
+            if !bears(type_of(number_in(m)), found) {
+                return walk::Walk::Malformed;
+            }
+            walk::Walk::Whole(found)
+        }
+    }
+}
+
 // Reads one message.
 pub fn read_message(m: &[u8]) -> Reading
     ensures { λ r. ⌜ r ≡ readingOf (now (m .entry)) ⌝ }
 {
-    match walk::walk_message(m) {
+    match places_in(m) {
         walk::Walk::Malformed => Reading::Malformed,
-        walk::Walk::Whole(found) => {
-            if !bears(type_of(number_in(m)), found) {
-                return Reading::Malformed;
-            }
-            Reading::Whole(message_at(m, found))
-        }
+        walk::Walk::Whole(found) => Reading::Whole(message_at(m, found)),
     }
 }
 
@@ -195,7 +205,8 @@ fn notification_kind(status: Field) -> Kind
     }
 }
 
-fn kind_for(t: MessageType, status: Field) -> Kind
+// The kind of a message of that type and status.
+pub fn kind_for(t: MessageType, status: Field) -> Kind
     ensures { λ r. ⌜ r ≡ kindFor t status ⌝ }
 {
     match t {
