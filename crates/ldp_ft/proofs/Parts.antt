@@ -8,8 +8,11 @@ use Rattle.pdu.specs.Pdu.{placeOf}
 use Rattle.pdu.specs.declared.Place
 use Rattle.pdu.specs.declared.Place.{Place}
 use Rattle.pdu.proofs.Message.{place-within}
+use Rattle.tlv.specs.Value.{partAt}
+use Rattle.tlv.specs.declared.Found.{Found}
+use Rattle.tlv.specs.declared.Part.{Part}
 use Rattle.tlv.proofs.Values.{InMessage}
-use Rattle.message.specs.Reading.{readingOf}
+use Rattle.message.specs.Reading.{messageOf, readingOf}
 use Rattle.message.specs.declared.Message.{Message}
 use Rattle.message.specs.declared.Reading
 use Rattle.message.specs.declared.Reading.{Reading}
@@ -24,6 +27,11 @@ message-narrow m byte g e =
     let small = beAt-lt 2 m 2 byte in
     let in-it : InMessage m (g .fecvalue) = whole-fec m g e in
     record { start = omega (arith, size, small, in-it .starts, in-it .ends); end = omega (arith, size, small, in-it .ends) }
+
+-- so are the ends of its FEC, read where it stands
+pub part-narrow : (m : List ℕ) (f : Found) → NarrowMessage (messageOf m f) → (p : Part) → p ≡ partAt m (f .fec) → (p .start ≤ 65539) × (p .end ≤ 65539)
+unfolding messageOf
+part-narrow m f n p e = (rw e (n .start), rw e (n .end))
 
 pub place-ordered : (pdu : List ℕ) (at start end : ℕ) → placeOf pdu at ≡ Place.Message start end → start ≤ end
 place-ordered pdu at start end e = let w = place-within pdu at start end e in omega (arith, w .starts, w .least)

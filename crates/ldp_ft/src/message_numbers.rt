@@ -1,14 +1,16 @@
 // A message as numbers.
 ghost use mathlib.Core.Path.{_≡_};
 ghost use Prim.Native.Nat.{_≤_};
+ghost use Rattle.tlv.specs.Value.{Places};
+ghost use Rattle.message.specs.Reading.{messageOf};
 ghost use Rattle.ldp_ft.specs.Reading.{borne, hasOf, fieldNumber, ftNumber, reconnectOf, secondsOf, keepaliveOf, maxpduOf, NarrowMessage, noMessage, wholeMessage};
 use crate::MessageNumbers;
 use message::Field;
 use message::Found;
 use message::FtField;
-use message::Message;
 use message::Parameters;
 use message::Session;
+use tlv::value;
 
 // The bit of a TLV that was found.
 fn bit_where(place: usize, bit: u32) -> u32
@@ -121,32 +123,30 @@ pub fn no_message() -> MessageNumbers
     }
 }
 
-// A well-formed message.
-pub fn whole_message(g: Message) -> MessageNumbers
-    requires { ⌜ NarrowMessage g ⌝ }
-    ensures { λ r. ⌜ r ≡ wholeMessage g ⌝ }
+// A well-formed message, whose TLVs stand at those places. Each number is read where it stands: the message as one value is not made.
+pub fn whole_message(m: &[u8], found: Found) -> MessageNumbers
+    requires { ⌜ Places (now m) found × NarrowMessage (messageOf (now m) found) ⌝ }
+    ensures { λ r. ⌜ r ≡ wholeMessage (messageOf (now (m .entry)) found) ⌝ }
 {
-    let id = g.id;
-    let found = g.found;
-    let part = g.fecvalue;
-    let label = g.label;
-    let status = g.status;
-    let session = g.session;
-    let parameters = g.parameters;
-    let number = g.protection;
-    let ack = g.ack;
+    let has = has_of(found);
+    let number = message::number_in(m);
+    let id = message::id_in(m);
+    let kind = message::kind_for(message::type_of(number), value::field_at(m, found.status));
+    let part = value::part_at(m, found.fec);
+    let session = value::session_at(m, found.session);
+    let parameters = value::parameters_at(m, found.parameters);
     MessageNumbers {
         answer: 0,
-        typenumber: g.typenumber as u32,
+        typenumber: number as u32,
         id: id.0,
-        kind: message::kind_number(message::kind_of(g)) as u32,
-        has: has_of(found),
+        kind: message::kind_number(kind) as u32,
+        has: has,
         fecstart: part.start as u32,
         fecend: part.end as u32,
-        label: field_number(label),
-        status: field_number(status),
-        number: ft_number(number),
-        ack: ft_number(ack),
+        label: field_number(value::field_at(m, found.label)),
+        status: field_number(value::field_at(m, found.status)),
+        number: ft_number(value::number_at(m, found.protection)),
+        ack: ft_number(value::number_at(m, found.ack)),
         reconnect: reconnect_of(session),
         timeout: seconds_of(session),
         keepalive: keepalive_of(parameters),

@@ -9,9 +9,9 @@ use crate::PartNumbers;
 use crate::PduNumbers;
 use crate::message_numbers::no_message;
 use crate::message_numbers::whole_message;
-use message::Reading;
 use pdu::Opened;
 use pdu::Place;
+use tlv::walk::Walk;
 
 // A whole PDU, judged.
 #[no_mangle]
@@ -69,8 +69,8 @@ pub extern "C" fn ldp_ft_pdu_message(pdu: &[u8], at: usize) -> PartNumbers
 pub extern "C" fn ldp_ft_message_read(msg: &[u8]) -> MessageNumbers
     ensures { λ r. ⌜ r ≡ messageNumbers (readingOf (now (msg .entry))) ⌝ }
 {
-    match message::read_message(msg) {
-        Reading::Malformed => no_message(),
-        Reading::Whole(g) => whole_message(g),
+    match message::places_in(msg) {
+        Walk::Malformed => no_message(),
+        Walk::Whole(found) => whole_message(msg, found),
     }
 }

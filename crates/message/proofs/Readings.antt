@@ -1,13 +1,15 @@
 -- A message read, by the tests and the calls of the code. Assumes nothing.
 use Prim.Native.Nat.{ℕ, _≤_}
-use mathlib.Core.Path.{_≡_, sym, _∙_}
+use mathlib.Core.Path.{_≡_, refl, sym, _∙_, ap}
 use mathlib.Core.Bool.{Bool, true, false, not}
 use mathlib.Core.List.{List}
 use borrow.Author.Tests.{not-true, not-false}
 use lib.ListN.{length}
+use Rattle.octets.specs.Pick.{pick}
+use Rattle.octets.proofs.Choice.{no, passed}
 use Rattle.tlv.specs.Value.{Places}
 use Rattle.tlv.specs.Walk.{headSize, tlvsOf}
-use Rattle.message.specs.Reading.{typeOf, numberIn, bearsOf, messageOf, readingOf}
+use Rattle.message.specs.Reading.{typeOf, numberIn, bearsOf, placesBy, placesOf, messageOf, readingBy, readingOf}
 use Rattle.tlv.specs.declared.Found.{Found}
 use Rattle.message.specs.declared.Message.{Message}
 use Rattle.message.specs.declared.MessageType.{MessageType}
@@ -17,25 +19,67 @@ use Rattle.tlv.specs.declared.walk.Walk
 use Rattle.tlv.specs.declared.walk.Walk.{Walk}
 use Rattle.tlv.proofs.Places.{places}
 
+-- the places of a well-formed message's TLVs
 module _ (m : List ℕ) (w : Walk) (wq : w ≡ tlvsOf m) where
+  pub placed-malformed : w ≡ Walk.Malformed → Walk.Malformed ≡ placesOf m
+  unfolding placesOf
+  placed-malformed e = simp (sym wq ∙ e)
+
+  module _ (f : Found) (e : w ≡ Walk.Whole f) where
+    pub tlvs-places : Places m f
+    tlvs-places = places m f (sym wq ∙ e)
+
+    pub tlvs-head : headSize ≤ length m
+    tlvs-head = tlvs-places .head
+
+    module _ (n : ℕ) (t : MessageType) (b : Bool) (bq : b ≡ bearsOf t f) (tq : t ≡ typeOf n) (nq : n ≡ numberIn m) where
+      pub placed-lacks : not b ≡ true → Walk.Malformed ≡ placesOf m
+      unfolding placesOf
+      placed-lacks h = simp (sym wq ∙ e, sym nq, sym tq, sym bq ∙ not-true b h)
+
+      pub placed-whole : not b ≡ false → Walk.Whole f ≡ placesOf m
+      unfolding placesOf
+      placed-whole h = simp (sym wq ∙ e, sym nq, sym tq, sym bq ∙ not-false b h)
+
+pub ruleset placings = (placed-malformed, tlvs-head, placed-lacks, placed-whole)
+
+-- a message read, by where its TLVs stand
+abbrev pub readingFrom : List ℕ → Walk → Reading
+readingFrom m Walk.Malformed = Reading.Malformed
+readingFrom m (Walk.Whole f) = Reading.Whole (messageOf m f)
+
+pub reading-from : (m : List ℕ) → readingFrom m (placesOf m) ≡ readingOf m
+unfolding placesOf readingOf
+reading-from m = by-walk (tlvsOf m)
+  where
+    by-bears : (f : Found) (b : Bool) → readingFrom m (pick b (Walk.Whole f) Walk.Malformed) ≡ pick b (Reading.Whole (messageOf m f)) Reading.Malformed
+    by-bears f true = refl
+    by-bears f false = refl
+
+    by-walk : (w : Walk) → readingFrom m (placesBy m w) ≡ readingBy m w
+    by-walk Walk.Malformed = refl
+    by-walk (Walk.Whole f) = by-bears f (bearsOf (typeOf (numberIn m)) f)
+
+-- the places of a well-formed message are those that the walk found
+pub places-tlvs : (m : List ℕ) (f : Found) → placesOf m ≡ Walk.Whole f → tlvsOf m ≡ Walk.Whole f
+unfolding placesOf
+places-tlvs m f e = by-walk (tlvsOf m) refl e
+  where
+    by-walk : (w : Walk) → tlvsOf m ≡ w → placesBy m w ≡ Walk.Whole f → tlvsOf m ≡ Walk.Whole f
+    by-walk Walk.Malformed q h = no (cc)
+    by-walk (Walk.Whole g) q h =
+        let p = passed (bearsOf (typeOf (numberIn m)) g) (Walk.Whole g) Walk.Malformed (Walk.Whole f) (λ z. cc) h in
+        q ∙ p .1
+
+module _ (m : List ℕ) (w : Walk) (wq : w ≡ placesOf m) where
   pub reading-malformed : w ≡ Walk.Malformed → Reading.Malformed ≡ readingOf m
-  unfolding readingOf
-  reading-malformed e = simp (sym wq ∙ e)
+  reading-malformed e = ap (readingFrom m) (sym e ∙ wq) ∙ reading-from m
 
   module _ (f : Found) (e : w ≡ Walk.Whole f) where
     pub reading-places : Places m f
-    reading-places = places m f (sym wq ∙ e)
+    reading-places = places m f (places-tlvs m f (sym wq ∙ e))
 
-    pub reading-head : headSize ≤ length m
-    reading-head = reading-places .head
+    pub reading-whole : (g : Message) → g ≡ messageOf m f → Reading.Whole g ≡ readingOf m
+    reading-whole g gq = ap Reading.Whole gq ∙ ap (readingFrom m) (sym e ∙ wq) ∙ reading-from m
 
-    module _ (n : ℕ) (t : MessageType) (b : Bool) (bq : b ≡ bearsOf t f) (tq : t ≡ typeOf n) (nq : n ≡ numberIn m) where
-      pub reading-lacks : not b ≡ true → Reading.Malformed ≡ readingOf m
-      unfolding readingOf
-      reading-lacks h = simp (sym wq ∙ e, sym nq, sym tq, sym bq ∙ not-true b h)
-
-      pub reading-whole : not b ≡ false → (g : Message) → g ≡ messageOf m f → Reading.Whole g ≡ readingOf m
-      unfolding readingOf
-      reading-whole h g gq = simp (gq, sym wq ∙ e, sym nq, sym tq, sym bq ∙ not-false b h)
-
-pub ruleset readings = (reading-malformed, reading-places, reading-head, reading-lacks, reading-whole)
+pub ruleset readings = (reading-malformed, reading-places, reading-whole)

@@ -1,25 +1,32 @@
 -- A message's kind and a submission judged, by the tests and the calls of the code. Assumes nothing.
-use Prim.Native.Nat.{ℕ}
-use mathlib.Core.Path.{_≡_, sym, _∙_}
+use Prim.Native.Nat.{ℕ, _+_, _≤_, _<_, _^_}
+use mathlib.Core.Path.{_≡_, refl, sym, _∙_}
 use mathlib.Core.Bool.{Bool, true, false, not}
 use mathlib.Core.List.{List}
-use borrow.Author.Tests.{eq-eqb, ne-eqb}
-use lib.Dec.{eqb}
-use Rattle.message.specs.Kinds.{fatalOf, codeOf, resourcesAvailable, notificationKind, kindFor, kindOf}
+use native.Mathlib.Omega.{arith}
+use mir.Syntax.{w64}
+use mir.Val.{Fits}
+use borrow.Author.Tests.{eq-eqb, ne-eqb, lt-ltb, le-ltb, not-true, not-false}
+use lib.ListN.{length}
+use lib.Dec.{eqb, ltb}
+use Rattle.octets.specs.Be.{beAt}
+use Rattle.octets.specs.Pick.{pick}
+use Rattle.message.specs.Kinds.{fatalOf, codeOf, resourcesAvailable, notificationKind, kindFor, kindOf, kindNumber}
 use Rattle.message.specs.Reading.{typeOf, numberIn, bearsOf, messageOf, readingOf}
-use Rattle.message.specs.Submission.{bearsFt, acceptedAs, submissionOf}
+use Rattle.message.specs.Submission.{bearsFt, noLabel, labelledAs, acceptedAs, submissionOf}
 use Rattle.tlv.specs.declared.Field
 use Rattle.tlv.specs.declared.Field.{Field}
 use Rattle.tlv.specs.declared.Found.{Found}
 use Rattle.tlv.specs.declared.walk.Walk
 use Rattle.tlv.specs.declared.walk.Walk.{Walk}
-use Rattle.tlv.specs.Value.{fieldAt}
+use Rattle.tlv.specs.Value.{Within, fieldAt}
 use Rattle.tlv.specs.Walk.{tlvsOf}
 use Rattle.message.specs.declared.Kind
 use Rattle.message.specs.declared.Kind.{Kind}
 use Rattle.message.specs.declared.MessageType.{MessageType}
 use Rattle.message.specs.declared.Submission
 use Rattle.message.specs.declared.Submission.{Submission}
+use Rattle.message.proofs.Readings.{tlvs-head, tlvs-places}
 
 -- the kind of a Notification
 module _ (status : Field) where
@@ -59,23 +66,69 @@ module _ (f : Found) where
 
 pub ruleset fts = (ft-session, ft-protection, ft-ack)
 
--- a submission
+-- what a kind is accepted with, by its number: none, a kind without a label, a kind with one
+abbrev byNumber : ℕ → Kind → Field → Submission
+byNumber n k label = pick (eqb n 0) Submission.Refused (pick (ltb 3 n) (Submission.Accepted k noLabel) (labelledAs k label))
+
+accepted-by : (k : Kind) (label : Field) → acceptedAs k label ≡ byNumber (kindNumber k) k label
+accepted-by Kind.Mapping label = refl
+accepted-by Kind.Withdraw label = refl
+accepted-by Kind.Release label = refl
+accepted-by Kind.Address label = refl
+accepted-by Kind.AddressWithdraw label = refl
+accepted-by Kind.ResourcesAvailable label = refl
+accepted-by Kind.NoKind label = refl
+
+-- a submission, by the tests and the calls of the code
 module _ (m : List ℕ) (w : Walk) (wq : w ≡ tlvsOf m) where
   pub judged-malformed : w ≡ Walk.Malformed → Submission.Malformed ≡ submissionOf m
   unfolding submissionOf readingOf
   judged-malformed e = simp (sym wq ∙ e)
 
-  module _ (f : Found) (e : w ≡ Walk.Whole f) (t : MessageType) (tq : t ≡ typeOf (numberIn m)) (b : Bool) (bq : b ≡ bearsOf t f) where
-    pub judged-lacks : b ≡ false → Submission.Malformed ≡ submissionOf m
-    unfolding submissionOf readingOf
-    judged-lacks h = simp (sym wq ∙ e, sym tq, sym bq ∙ h)
+  module _ (f : Found) (e : w ≡ Walk.Whole f) where
+    pub judged-status : Within m (f .status) 4
+    judged-status = tlvs-places m w wq f e .status
 
-    module _ (h : b ≡ true) (ft : Bool) (ftq : ft ≡ bearsFt f) where
-      pub judged-ft : ft ≡ true → Submission.Refused ≡ submissionOf m
-      unfolding submissionOf readingOf messageOf
-      judged-ft k = simp (sym wq ∙ e, sym tq, sym bq ∙ h, sym ftq ∙ k)
+    module _ (q : f .label ≡ 0 → ⊥) where
+      pub judged-room : f .label + 4 + 4 ≤ length m
+      judged-room = tlvs-places m w wq f e .label q
 
-      pub judged-kind : ft ≡ false → (s l : Field) → s ≡ fieldAt m (f .status) → l ≡ fieldAt m (f .label)
-          → (k : Kind) (a : Submission) → k ≡ kindFor t s → a ≡ acceptedAs k l → a ≡ submissionOf m
-      unfolding submissionOf readingOf messageOf kindOf
-      judged-kind p s l sq lq k a kq aq = simp (aq, kq, sq, lq, sym wq ∙ e, sym tq, sym bq ∙ h, sym ftq ∙ p)
+      pub judged-fits : length m < 2 ^ 64 → Fits w64 (f .label + 4)
+      judged-fits h = let x = judged-room in omega arith
+
+    module _ (c : ℕ) (t : MessageType) (b : Bool) (bq : b ≡ bearsOf t f) (tq : t ≡ typeOf c) (cq : c ≡ numberIn m) where
+      pub judged-lacks : not b ≡ true → Submission.Malformed ≡ submissionOf m
+      unfolding submissionOf readingOf
+      judged-lacks h = simp (sym wq ∙ e, sym cq, sym tq, sym bq ∙ not-true b h)
+
+      module _ (h : not b ≡ false) (ft : Bool) (ftq : ft ≡ bearsFt f) where
+        pub judged-ft : ft ≡ true → Submission.Refused ≡ submissionOf m
+        unfolding submissionOf readingOf messageOf
+        judged-ft p = simp (sym wq ∙ e, sym cq, sym tq, sym bq ∙ not-false b h, sym ftq ∙ p)
+
+        module _ (p : ft ≡ false) (s : Field) (sq : s ≡ fieldAt m (f .status)) (k : Kind) (kq : k ≡ kindFor t s) (n : ℕ) (nq : n ≡ kindNumber k) where
+          judged-as : (a : Submission) → a ≡ byNumber n k (fieldAt m (f .label)) → a ≡ submissionOf m
+          unfolding submissionOf readingOf messageOf kindOf
+          judged-as a aq =
+              let accepted : byNumber n k (fieldAt m (f .label)) ≡ acceptedAs k (fieldAt m (f .label)) = rw nq (sym (accepted-by k (fieldAt m (f .label)))) in
+              let all : acceptedAs k (fieldAt m (f .label)) ≡ submissionOf m = simp (kq, sq, sym wq ∙ e, sym cq, sym tq, sym bq ∙ not-false b h, sym ftq ∙ p) in
+              aq ∙ accepted ∙ all
+
+          pub judged-none : n ≡ 0 → Submission.Refused ≡ submissionOf m
+          judged-none z = judged-as Submission.Refused (simp (eq-eqb n 0 z))
+
+          module _ (z : n ≡ 0 → ⊥) where
+            pub judged-plain : 3 < n → Submission.Accepted k noLabel ≡ submissionOf m
+            judged-plain l = judged-as (Submission.Accepted k noLabel) (simp (ne-eqb n 0 z, lt-ltb 3 n l))
+
+            module _ (l : n ≤ 3) where
+              pub judged-absent : f .label ≡ 0 → Submission.Refused ≡ submissionOf m
+              unfolding fieldAt
+              judged-absent q = judged-as Submission.Refused (simp (ne-eqb n 0 z, le-ltb 3 n l, eq-eqb (f .label) 0 q))
+
+              pub judged-label : (f .label ≡ 0 → ⊥) → (v : ℕ) → v ≡ beAt 4 m (f .label + 4) → Submission.Accepted k v ≡ submissionOf m
+              unfolding fieldAt
+              judged-label q v vq = judged-as (Submission.Accepted k v) (simp (ne-eqb n 0 z, le-ltb 3 n l, ne-eqb (f .label) 0 q, vq))
+
+pub ruleset judgements =
+    (tlvs-head, judged-malformed, judged-status, judged-room, judged-fits, judged-lacks, judged-ft, judged-none, judged-plain, judged-absent, judged-label)

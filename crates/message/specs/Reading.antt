@@ -68,6 +68,14 @@ bearsBy MessageType.Other fec label = true
 abbrev pub bearsOf : MessageType → Found → Bool
 bearsOf t f = bearsBy t (not (eqb (f .fec) 0)) (not (eqb (f .label) 0))
 
+-- where the TLVs of a well-formed message stand
+abbrev pub placesBy : List ℕ → Walk → Walk
+placesBy m Walk.Malformed = Walk.Malformed
+placesBy m (Walk.Whole f) = pick (bearsOf (typeOf (numberIn m)) f) (Walk.Whole f) Walk.Malformed
+
+unfoldable pub placesOf : List ℕ → Walk
+placesOf m = placesBy m (tlvsOf m)
+
 -- the message m, whose TLVs were found at the places f
 unfoldable pub messageOf : List ℕ → Found → Message
 messageOf m f = record {

@@ -14,9 +14,9 @@ ghost use Prim.Native.Nat.{_≤_};
 ghost use lib.ListN.{length};
 ghost use Rattle.tlv.specs.Walk.{headSize};
 ghost use Rattle.tlv.specs.Value.{Places};
-ghost use Rattle.message.specs.Reading.{typeOf, numberIn, idIn, bearsOf, messageOf, readingOf};
+ghost use Rattle.message.specs.Reading.{typeOf, numberIn, idIn, bearsOf, placesOf, messageOf, readingOf};
 ghost use Rattle.message.specs.Kinds.{fatalOf, codeOf, notificationKind, kindFor, kindOf, kindNumber};
-ghost use Rattle.message.specs.Submission.{bearsFt, labelledAs, acceptedAs, submissionOf};
+ghost use Rattle.message.specs.Submission.{bearsFt, submissionOf};
 
 // The message types; Other is every number that has no name here.
 pub enum MessageType {
@@ -135,7 +135,6 @@ fn message_at(m: &[u8], found: Found) -> Message
     Message {
         typename: type_of(number),
         typenumber: number,
-        id: id_in(m),
         found: found,
         fec: value::fec_at(m, found.fec),
         fecvalue: value::part_at(m, found.fec),
@@ -146,6 +145,22 @@ fn message_at(m: &[u8], found: Found) -> Message
         session: value::session_at(m, found.session),
         protection: value::number_at(m, found.protection),
         ack: value::number_at(m, found.ack),
+        id: id_in(m),
+    }
+}
+
+// The places of a well-formed message's TLVs.
+pub fn places_in(m: &[u8]) -> walk::Walk
+    ensures { λ r. ⌜ r ≡ placesOf (now (m .entry)) ⌝ }
+{
+    match walk::walk_message(m) {
+        walk::Walk::Malformed => walk::Walk::Malformed,
+        walk::Walk::Whole(found) => {
+            if !bears(type_of(number_in(m)), found) {
+                return walk::Walk::Malformed;
+            }
+            walk::Walk::Whole(found)
+        }
     }
 }
 
@@ -153,14 +168,9 @@ fn message_at(m: &[u8], found: Found) -> Message
 pub fn read_message(m: &[u8]) -> Reading
     ensures { λ r. ⌜ r ≡ readingOf (now (m .entry)) ⌝ }
 {
-    match walk::walk_message(m) {
+    match places_in(m) {
         walk::Walk::Malformed => Reading::Malformed,
-        walk::Walk::Whole(found) => {
-            if !bears(type_of(number_in(m)), found) {
-                return Reading::Malformed;
-            }
-            Reading::Whole(message_at(m, found))
-        }
+        walk::Walk::Whole(found) => Reading::Whole(message_at(m, found)),
     }
 }
 
@@ -195,7 +205,8 @@ fn notification_kind(status: Field) -> Kind
     }
 }
 
-fn kind_for(t: MessageType, status: Field) -> Kind
+// The kind of a message of that type and status.
+pub fn kind_for(t: MessageType, status: Field) -> Kind
     ensures { λ r. ⌜ r ≡ kindFor t status ⌝ }
 {
     match t {
@@ -249,45 +260,34 @@ pub fn bears_ft(found: Found) -> bool
     found.ack != 0
 }
 
-fn labelled(kind: Kind, label: Field) -> Submission
-    ensures { λ r. ⌜ r ≡ labelledAs kind label ⌝ }
-{
-    match label {
-        Field::Absent => Submission::Refused,
-        Field::Value(l) => Submission::Accepted(kind, l),
-    }
-}
-
-fn judge_kind(kind: Kind, label: Field) -> Submission
-    ensures { λ r. ⌜ r ≡ acceptedAs kind label ⌝ }
-{
-    match kind {
-        Kind::Mapping => labelled(Kind::Mapping, label),
-        Kind::Withdraw => labelled(Kind::Withdraw, label),
-        Kind::Release => labelled(Kind::Release, label),
-        Kind::Address => Submission::Accepted(Kind::Address, 0xFFFFFFFF),
-        Kind::AddressWithdraw => Submission::Accepted(Kind::AddressWithdraw, 0xFFFFFFFF),
-        Kind::ResourcesAvailable => Submission::Accepted(Kind::ResourcesAvailable, 0xFFFFFFFF),
-        Kind::NoKind => Submission::Refused,
-    }
-}
-
-// Submit's answers 4 and 5. Of what the message says only its type, its status and its label are read.
+// Submit's answers 4 and 5. Of what the message says only its type, its status and its label are read; the label of kinds 1 to 3.
 pub fn judge_submission(m: &[u8]) -> Submission
     ensures { λ r. ⌜ r ≡ submissionOf (now (m .entry)) ⌝ }
 {
     match walk::walk_message(m) {
         walk::Walk::Malformed => Submission::Malformed,
         walk::Walk::Whole(found) => {
+            let status = value::field_at(m, found.status);
             let t = type_of(number_in(m));
             if !bears(t, found) {
                 return Submission::Malformed;
             }
+            let kind = kind_for(t, status);
             if bears_ft(found) {
                 return Submission::Refused;
             }
-            let kind = kind_for(t, value::field_at(m, found.status));
-            judge_kind(kind, value::field_at(m, found.label))
+            let number = kind_number(kind);
+            if number == 0 {
+                return Submission::Refused;
+            }
+            if 3 < number {
+                return Submission::Accepted(kind, 0xFFFFFFFF);
+            }
+            let label = found.label;
+            if label == 0 {
+                return Submission::Refused;
+            }
+            Submission::Accepted(kind, octets::get_u32(m, label + 4))
         }
     }
 }

@@ -1,11 +1,12 @@
 -- What one TLV makes of the places found before it, and the head of a message, by the tests and the calls of the code. Assumes nothing.
 use Prim.Native.Nat.{ℕ, _+_, _-_, _≤_, _<_}
-use mathlib.Core.Path.{_≡_, sym, _∙_}
+use mathlib.Core.Path.{_≡_, sym, _∙_, ap}
 use mathlib.Core.Bool.{Bool, true, false, not}
 use mathlib.Core.List.{List}
 use native.Mathlib.Omega.{arith}
 use borrow.Author.Tests.{eq-eqb, ne-eqb, lt-ltb, le-ltb, eqb-true, not-true, not-false}
-use lib.ListN.{length, drop}
+use lib.ListN.{length, take, drop}
+use lib.Seq.{take-all}
 use Rattle.octets.specs.Be.{beAt}
 use Rattle.tlv.specs.Tlv.{lengthFits, labelIn, largestLabel}
 use Rattle.tlv.specs.Walk.{placeOf, placedOf, notedOf, walkOf, noneFound, headSize, tlvsOf}
@@ -64,5 +65,9 @@ module _ (m : List ℕ) where
     pub head-whole : n + 4 ≡ length m → (w : Walk) → w ≡ walkOf headSize (drop headSize m) noneFound → w ≡ tlvsOf m
     unfolding tlvsOf
     head-whole e w is = simp (le-ltb (length m) headSize h, sym nq, eq-eqb (n + 4) (length m) e, is)
+
+  -- a message that is lent on from its start is the message
+  pub lent-on : (w : Walk) → w ≡ tlvsOf (take (length m - 0) (drop 0 m)) → w ≡ tlvsOf m
+  lent-on w is = is ∙ ap tlvsOf (take-all (length m - 0) m (omega arith))
 
 pub ruleset heads = (head-short, head-wrong, head-whole)

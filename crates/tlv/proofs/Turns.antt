@@ -18,7 +18,6 @@ use Rattle.octets.proofs.Bytes.{beAt-drop}
 use Rattle.tlv.specs.Tlv.{tlvOf, headOf, sizeOf}
 use Rattle.tlv.specs.Walk.{notedOf, takenOf, turnOf, Rest, leftOf, onTurn, stepOf, walkOf}
 use Rattle.tlv.specs.declared.Found.{Found}
-use Rattle.tlv.specs.declared.walk.Tlv.{Tlv}
 use Rattle.tlv.specs.declared.walk.Turn
 use Rattle.tlv.specs.declared.walk.Turn.{Turn}
 use Rattle.tlv.specs.declared.walk.Walk
@@ -115,9 +114,9 @@ module _ (s : List ℕ) (at : ℕ) (f : Found) where
     pub at-over : length s - at < 4 + n → Turn.Malformed ≡ turnOf f at (drop at s)
     at-over h = at-is n _ nq refl (simp (length-drop, ne-eqb (length s - at) 0 z, lt-ltb (length s - at) (4 + n) h))
 
-    module _ (t : ℕ) (k : Tlv) (w : Walk) (wq : w ≡ notedOf f k n at (drop at s)) (kq : k ≡ tlvOf (t % 16384)) (tq : t ≡ beAt 2 s at) (h : 4 + n ≤ length s - at) where
+    module _ (t : ℕ) (w : Walk) (wq : w ≡ notedOf f (tlvOf (t % 16384)) n at (drop at s)) (tq : t ≡ beAt 2 s at) (h : 4 + n ≤ length s - at) where
       at-tlv : takenOf w (4 + n) ≡ turnOf f at (drop at s)
-      at-tlv = at-is n t nq tq (simp (wq, kq, length-drop, ne-eqb (length s - at) 0 z, le-ltb (length s - at) (4 + n) h))
+      at-tlv = at-is n t nq tq (simp (wq, length-drop, ne-eqb (length s - at) 0 z, le-ltb (length s - at) (4 + n) h))
 
       pub at-whole : (g : Found) → w ≡ Walk.Whole g → Turn.Next g (4 + n) ≡ turnOf f at (drop at s)
       at-whole g e = rw e at at-tlv

@@ -32,22 +32,6 @@ pub enum Turn {
     Next(Found, usize),
 }
 
-// The TLV of a type number, U and F masked off.
-fn tlv_of(number: u16) -> Tlv
-    ensures { λ r. ⌜ r ≡ tlvOf number ⌝ }
-{
-    match number {
-        0x0100 => Tlv::Fec,
-        0x0200 => Tlv::Label,
-        0x0300 => Tlv::Status,
-        0x0500 => Tlv::Parameters,
-        0x0503 => Tlv::Session,
-        0x0203 => Tlv::Protection,
-        0x0504 => Tlv::Ack,
-        _ => Tlv::Other,
-    }
-}
-
 fn length_fits(tlv: Tlv, n: usize) -> bool
     ensures { λ r. ⌜ r ≡ lengthFits tlv n ⌝ }
 {
@@ -129,6 +113,23 @@ fn noted(found: Found, s: &[u8], tlv: Tlv, n: usize, at: usize) -> Walk
     Walk::Whole(placed(found, tlv, at))
 }
 
+// The same by the TLV's type number, U and F masked off: looked at once, so that each TLV's tests and place are its own code.
+fn noted_by(found: Found, s: &[u8], number: u16, n: usize, at: usize) -> Walk
+    requires { ⌜ 4 + n ≤ length (now s) - at ⌝ }
+    ensures { λ r. ⌜ r ≡ notedOf found (tlvOf number) n at (drop at (now (s .entry))) ⌝ }
+{
+    match number {
+        0x0100 => noted(found, s, Tlv::Fec, n, at),
+        0x0200 => noted(found, s, Tlv::Label, n, at),
+        0x0300 => noted(found, s, Tlv::Status, n, at),
+        0x0500 => noted(found, s, Tlv::Parameters, n, at),
+        0x0503 => noted(found, s, Tlv::Session, n, at),
+        0x0203 => noted(found, s, Tlv::Protection, n, at),
+        0x0504 => noted(found, s, Tlv::Ack, n, at),
+        _ => noted(found, s, Tlv::Other, n, at),
+    }
+}
+
 fn turn_at(found: Found, s: &[u8], at: usize) -> Turn
     requires { ⌜ at ≤ length (now s) ⌝ }
     ensures { λ r. ⌜ r ≡ turnOf found at (drop at (now (s .entry))) ⌝ }
@@ -145,7 +146,7 @@ fn turn_at(found: Found, s: &[u8], at: usize) -> Turn
     if left < 4 + n {
         return Turn::Malformed;
     }
-    match noted(found, s, tlv_of(number), n, at) {
+    match noted_by(found, s, number, n, at) {
         Walk::Malformed => Turn::Malformed,
         Walk::Whole(f) => Turn::Next(f, 4 + n),
     }
@@ -182,8 +183,7 @@ fn walk_tlvs(s: &[u8]) -> Walk
     answer
 }
 
-// The TLVs of a whole message, behind a head whose length says what follows.
-pub fn walk_message(m: &[u8]) -> Walk
+fn walk_whole(m: &[u8]) -> Walk
     ensures { λ r. ⌜ r ≡ tlvsOf (now (m .entry)) ⌝ }
 {
     if m.len() < 8 {
@@ -193,4 +193,12 @@ pub fn walk_message(m: &[u8]) -> Walk
         return Walk::Malformed;
     }
     walk_tlvs(m)
+}
+
+// The TLVs of a whole message, behind a head whose length says what follows. The bytes are lent on from their start: then the
+// compiler hands address and length over in registers, and no caller copies the pair through memory.
+pub fn walk_message(m: &[u8]) -> Walk
+    ensures { λ r. ⌜ r ≡ tlvsOf (now (m .entry)) ⌝ }
+{
+    walk_whole(&m[0..])
 }

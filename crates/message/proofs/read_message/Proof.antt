@@ -7,6 +7,9 @@ pub read-message-spec : {M : Type 1} → statement M
 read-message-spec =
     tie.close
     (tie.spec
-    (λ c. search (needs, readings)) (λ c. search (needs, readings)) (λ c. search (needs, readings)) (λ c. search (needs, readings))
-    (λ c. search (needs, readings)) (λ c. search (needs, readings)) (λ c. search (needs, readings)) (λ c. search (needs, readings))
-    (λ c. search (needs, readings)) (λ c. search (needs, readings)))
+    (λ c. search (needs, readings))
+    (λ c. search (needs, readings))
+    (λ c. search (needs, readings))
+    (λ c. search (needs, readings))
+    (λ c. search (needs, readings))
+    (λ c. search (needs, readings)))

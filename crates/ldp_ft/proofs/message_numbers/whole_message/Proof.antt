@@ -1,27 +1,42 @@
 -- `ldp_ft::message_numbers::whole_message` meets its contract. Assumes nothing.
 use borrow.Author.Needs.{needs}
+use native.Mathlib.Omega.{arith}
+use Rattle.message.specs.Kinds.{kindOf}
+use Rattle.message.specs.Reading.{messageOf}
 use Rattle.ldp_ft.specs.Reading.{wholeMessage}
+use Rattle.ldp_ft.proofs.Parts.{part-narrow}
 use Rattle.ldp_ft.proofs.message_numbers.whole_message.Statement.{statement}
 use Rattle.ldp_ft.proofs.message_numbers.whole_message.Tie as tie
 
 pub whole-message-spec : {M : Type 1} → statement M
-unfolding wholeMessage
+unfolding wholeMessage messageOf kindOf
 whole-message-spec =
     tie.close
     (tie.spec
+    (λ c κs. search needs)
+    (λ c κs. search needs)
+    (λ c κs. search needs)
+    (λ c κs. search needs)
+    (λ c κs. search needs)
+    (λ c κs. search needs)
+    (λ c κs. search needs)
+    (λ c κs. search needs)
+    (λ c κs. search needs)
     (λ c. search needs)
     (λ c κs. search needs)
-    (λ c κs. search needs)
     (λ c. search needs)
-    (λ c κs. search needs)
-    (λ c. search needs)
-    (λ c. search needs)
-    (λ c κs. search needs)
+    (λ c. omega (arith, part-narrow _ _ (c .before .before .before .before .before .before .before .before .before .before .before .before .pre .1) _ (c .before .before .before .before .part-at .ensures) .0))
+    (λ c. omega (arith, part-narrow _ _ (c .before .before .before .before .before .before .before .before .before .before .before .before .before .pre .1) _ (c .before .before .before .before .before .part-at .ensures) .1))
     (λ c κs. search needs)
     (λ c κs. search needs)
     (λ c κs. search needs)
     (λ c κs. search needs)
+    (λ c κs. c .before .before .before .before .before .before .before .before .before .before .before .before .before .before .before .before .before .pre .0 .protection)
+    (λ c κs. search needs)
+    (λ c κs. c .before .before .before .before .before .before .before .before .before .before .before .before .before .before .before .before .before .before .before .pre .0 .ack)
     (λ c κs. search needs)
     (λ c κs. search needs)
     (λ c κs. search needs)
-    (λ c. simp (c .before .before .before .before .before .before .before .before .before .before .before .kind-number .ensures, c .before .before .before .before .before .before .before .before .before .before .before .before .kind-of .ensures, c .before .before .before .before .before .before .before .before .before .before .has-of .ensures, c .before .before .before .before .before .before .before .field-number .ensures, c .before .before .before .before .before .before .field-number2 .ensures, c .before .before .before .before .before .ft-number .ensures, c .before .before .before .before .ft-number2 .ensures, c .before .before .before .reconnect-of .ensures, c .before .before .seconds-of .ensures, c .before .keepalive-of .ensures, c .maxpdu-of .ensures)))
+    (λ c κs. search needs)
+    (λ c κs. search needs)
+    (λ c. simp (c .maxpdu-of .ensures, c .before .keepalive-of .ensures, c .before .before .seconds-of .ensures, c .before .before .before .reconnect-of .ensures, c .before .before .before .before .ft-number2 .ensures, c .before .before .before .before .before .number-at2 .ensures, c .before .before .before .before .before .before .ft-number .ensures, c .before .before .before .before .before .before .before .number-at .ensures, c .before .before .before .before .before .before .before .before .field-number2 .ensures, c .before .before .before .before .before .before .before .before .before .field-at3 .ensures, c .before .before .before .before .before .before .before .before .before .before .field-number .ensures, c .before .before .before .before .before .before .before .before .before .before .before .field-at2 .ensures, c .before .before .before .before .before .before .before .before .before .before .before .before .before .before .kind-number .ensures, c .before .before .before .before .before .before .before .before .before .before .before .before .before .before .before .parameters-at .ensures, c .before .before .before .before .before .before .before .before .before .before .before .before .before .before .before .before .session-at .ensures, c .before .before .before .before .before .before .before .before .before .before .before .before .before .before .before .before .before .part-at .ensures, c .before .before .before .before .before .before .before .before .before .before .before .before .before .before .before .before .before .before .kind-for .ensures, c .before .before .before .before .before .before .before .before .before .before .before .before .before .before .before .before .before .before .before .field-at .ensures, c .before .before .before .before .before .before .before .before .before .before .before .before .before .before .before .before .before .before .before .before .type-of .ensures, c .before .before .before .before .before .before .before .before .before .before .before .before .before .before .before .before .before .before .before .before .before .id-in .ensures, c .before .before .before .before .before .before .before .before .before .before .before .before .before .before .before .before .before .before .before .before .before .before .number-in .ensures, c .before .before .before .before .before .before .before .before .before .before .before .before .before .before .before .before .before .before .before .before .before .before .before .has-of .ensures)))

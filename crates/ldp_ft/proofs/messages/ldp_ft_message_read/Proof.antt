@@ -1,6 +1,7 @@
 -- `ldp_ft::messages::ldp_ft_message_read` meets its contract. Assumes nothing.
 use borrow.Author.Needs.{needs}
-use mathlib.Core.Path.{sym, _∙_}
+use mathlib.Core.Path.{refl, sym}
+use Rattle.message.proofs.Readings.{reading-malformed, reading-places, reading-whole}
 use Rattle.ldp_ft.proofs.Parts.{message-narrow}
 use Rattle.ldp_ft.proofs.messages.ldp_ft_message_read.Statement.{statement}
 use Rattle.ldp_ft.proofs.messages.ldp_ft_message_read.Tie as tie
@@ -13,6 +14,9 @@ ldp-ft-message-read-spec =
     (λ c. search needs)
     (λ c κs. search needs)
     (λ c. search needs)
-    (λ c κs. message-narrow _ (λ k. c .before .before .before .before .shared-slice-known .given k .fits) _ (sym (c .before .before .before .read-message .ensures) ∙ c .before .g .given .1))
-    (λ c. rw (← c .before .before .before .read-message .ensures, c .before .enum-told .given .1) (c .no-message .ensures))
-    (λ c. rw (← c .before .before .before .before .read-message .ensures, c .before .before .g .given .1) (c .whole-message .ensures)))
+    (λ c κs. (
+      reading-places _ _ (c .before .before .before .places-in .ensures) _ (c .before .found .given .1),
+      message-narrow _ (λ k. c .before .before .before .before .shared-slice-known .given k .fits) _ (sym (reading-whole _ _ (c .before .before .before .places-in .ensures) _ (c .before .found .given .1) _ refl)),
+    ))
+    (λ c. rw (← reading-malformed _ _ (c .before .before .before .places-in .ensures) (c .before .enum-told .given .1)) (c .no-message .ensures))
+    (λ c. rw (← reading-whole _ _ (c .before .before .before .before .places-in .ensures) _ (c .before .before .found .given .1) _ refl) (c .whole-message .ensures)))

@@ -11,4 +11,4 @@ turn-at-spec =
     (λ c. search (needs, turns)) (λ c. search (needs, turns)) (λ c. search (needs, turns)) (λ c. search (needs, turns))
     (λ c. search (needs, turns)) (λ c. search (needs, turns)) (λ c. search (needs, turns)) (λ c. search (needs, turns))
     (λ c. search (needs, turns)) (λ c. search (needs, turns)) (λ c. search (needs, turns)) (λ c. search (needs, turns))
-    (λ c. search (needs, turns)) (λ c. search (needs, turns)) (λ c. search (needs, turns)) (λ c. search (needs, turns)))
+    (λ c. search (needs, turns)) (λ c. search (needs, turns)) (λ c. search (needs, turns)))

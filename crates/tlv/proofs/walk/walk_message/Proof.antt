@@ -1,5 +1,5 @@
 use borrow.Author.Needs.{needs}
-use Rattle.tlv.proofs.Noted.{heads}
+use Rattle.tlv.proofs.Noted.{lent-on}
 use Rattle.tlv.proofs.walk.walk_message.Statement.{statement}
 use Rattle.tlv.proofs.walk.walk_message.Tie as tie
 
@@ -7,5 +7,5 @@ pub walk-message-spec : {M : Type 1} → statement M
 walk-message-spec =
     tie.close
     (tie.spec
-    (λ c. search (needs, heads)) (λ c. search (needs, heads)) (λ c. search (needs, heads)) (λ c. search (needs, heads))
-    (λ c. search (needs, heads)) (λ c. search (needs, heads)) (λ c. search (needs, heads)))
+    (λ c. search needs) (λ c. search needs) (λ c. search needs) (λ c κs. search needs)
+    (λ c. lent-on _ _ (c .walk-whole .ensures)))
