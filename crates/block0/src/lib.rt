@@ -102,6 +102,16 @@ pub fn write_block0(block: &mut [u8], h: Header, labels: &[u32])
     block::seal(block);
 }
 
+// Writes the fields and the check: the label words stay.
+pub fn write_header(block: &mut [u8], h: Header)
+    requires { ⌜ length (now block) ≡ blockSize ⌝ }
+    ensures { λ _. ⌜ now (block .exit) ≡ block0 (now (block .entry)) h (labelsOf (now (block .entry))) ⌝ }
+{
+    put_numbers(block, h);
+    put_rest(block, h);
+    block::seal(block);
+}
+
 // R to I no longer than held, and I not zero unless R is.
 fn issued_are_held(h: Header) -> bool
     ensures { λ r. ⌜ r ≡ atMost (h .held) (stepsOf (h .released .0) (h .issued .0)) ⌝ }

@@ -25,6 +25,7 @@ pub use receiving::is_init;
 pub use storing::block0_changed;
 pub use storing::copy_block0;
 pub use storing::store_changed;
+pub use storing::store_numbers;
 
 // 01's phases. InitWait bears our proposed timeout, UpFT the count sent on this connection.
 pub enum Phase {

@@ -103,3 +103,16 @@ pub fn store_changed(image: &mut [u8], h: Header, words: &[u32]) -> bool
     image::store_block0(image, h, words);
     block0_changed(&old, image)
 }
+
+// The same where the label words stay.
+pub fn store_numbers(image: &mut [u8], h: Header) -> bool
+    requires { ⌜ IsSound (now image) ⌝ }
+    ensures { λ r. ⌜ (now (image .exit) ≡ store0 (now (image .entry)) h (decode (now (image .entry)) .labels)) × (r ≡ differ (block (now (image .entry)) 0) (block (now (image .exit)) 0)) ⌝ }
+{
+    if same_numbers(h, image::header_of(image)) {
+        return false;
+    }
+    let old = copy_block0(image);
+    image::store_header(image, h);
+    block0_changed(&old, image)
+}

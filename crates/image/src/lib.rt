@@ -162,3 +162,11 @@ pub fn store_block0(image: &mut [u8], h: Header, labels: &[u32])
 {
     block0::write_block0(&mut image[0..block::BLOCK_SIZE], h, labels);
 }
+
+// The second stage where the label words stay.
+pub fn store_header(image: &mut [u8], h: Header)
+    requires { ⌜ length (now image) ≡ imageSize ⌝ }
+    ensures { λ _. ⌜ now (image .exit) ≡ store0 (now (image .entry)) h (decode (now (image .entry)) .labels) ⌝ }
+{
+    block0::write_header(&mut image[0..block::BLOCK_SIZE], h);
+}

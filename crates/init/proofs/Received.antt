@@ -36,6 +36,12 @@ pub resumed-is : (im : List ℕ) (t : Terms) (k a : ℕ) {h h₂ : Header} {ls l
 unfolding resumed acked
 resumed-is im t k a eh el ek en e = rw (e, en, eh, ek, el)
 
+-- nothing released frees no label
+pub resumed-none : (im : List ℕ) (t : Terms) (k a : ℕ) {h h₂ : Header} {im′ : List ℕ} → k ≡ 0 → h ≡ decode im .header → h₂ ≡ withReleased h k a
+    → im′ ≡ store0 im (withTimeout h₂ (t .timeout)) (decode im .labels) → im′ ≡ store im (resumed (decode im) t k a)
+unfolding resumed acked releasedLabels
+resumed-none im t k a ek eh en e = rw (e, en, eh, ek)
+
 pub released-is : (im : List ℕ) {o : Outcome} {im′ : List ℕ} → after o im′ [] ≡ releasedWith Answer.Done im []
     → (im′ ≡ releaseOf im) × (o .block0 ≡ differ (block im 0) (block im′ 0))
 unfolding releasedWith

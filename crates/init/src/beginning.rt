@@ -71,11 +71,15 @@ fn store_resumed(image: &mut [u8], terms: Terms, count: u32, ack: FtNumber) -> b
     ensures { λ r. ⌜ (now (image .exit) ≡ store (now (image .entry)) (resumed (decode (now (image .entry))) terms count (ack .0))) × (r ≡ differ (block (now (image .entry)) 0) (block (now (image .exit)) 0)) ⌝ }
 {
     let h = image::header_of(image);
+    let mut next = calls::released_header(h, count, ack);
+    next.timeout = terms.timeout;
+    // Nothing is released, so no label is freed.
+    if count == 0 {
+        return calls::store_numbers(image, next);
+    }
     let mut words = [0u32; label_list::WORD_COUNT];
     image::labels_of(image, &mut words);
     calls::release_labels(image, count as usize, &mut words);
-    let mut next = calls::released_header(h, count, ack);
-    next.timeout = terms.timeout;
     calls::store_changed(image, next, &words)
 }
 

@@ -46,16 +46,6 @@ fn acceptance(change: Change) -> Acceptance
     }
 }
 
-// Whether the message may be sent, as the list stands.
-pub fn judge_accept(words: &[u32], message: LabelMessage, label: u32) -> Acceptance
-    ensures { λ r. ⌜ r ≡ acceptedOf (now (words .entry)) message label .0 ⌝ }
-{
-    match plan_accept(words, message, label) {
-        Plan::Allowed(change) => acceptance(change),
-        Plan::Refused => Acceptance::NotAllowed,
-    }
-}
-
 // Accepts the message for sending; a refusal leaves the list as it was.
 pub fn accept(words: &mut [u32], message: LabelMessage, label: u32) -> Acceptance
     ensures { λ r. ⌜ (r ≡ acceptedOf (now (words .entry)) message label .0) × (now (words .exit) ≡ acceptedOf (now (words .entry)) message label .1) ⌝ }

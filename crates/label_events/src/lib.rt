@@ -1,16 +1,14 @@
 // What messages make of the label list: ours, accepted for sending and released by an ACK, and the peer's, received.
 //
-// Each is planned on the lent words first; a judgement reads the plan, and the act writes it.
+// Each is planned on the lent words first, and then written: an answer that refuses leaves them as they were.
 mod accepting;
 mod changing;
 mod protecting;
 mod receiving;
 
 pub use accepting::accept;
-pub use accepting::judge_accept;
 pub use accepting::release_by_ack;
 pub use protecting::judge_protection;
-pub use receiving::judge_received;
 pub use receiving::receive;
 
 // What an event makes of the list: nothing, one word written at an index, or a word is needed and none is free.

@@ -51,22 +51,6 @@ fn receive_every(words: &mut [u32], message: LabelMessage)
     }
 }
 
-// Whether the list has room for what the message makes of it.
-pub fn judge_received(
-    words: &[u32],
-    message: LabelMessage,
-    protected: bool,
-    touched: Touched,
-) -> Reception
-    ensures { λ r. ⌜ r ≡ receivedOf (now (words .entry)) message protected touched .0 ⌝ }
-{
-    match touched {
-        Touched::Label(label) => reception(plan_received(words, message, protected, label)),
-        Touched::Every => Reception::Taken,
-        Touched::Nothing => Reception::Taken,
-    }
-}
-
 // Receives the message; where there is no room the list stays as it was.
 pub fn receive(
     words: &mut [u32],

@@ -34,8 +34,9 @@ pub fn on_side(side: Side, code: u32) -> bool
 pub fn stands_for(side: Side, label: u32, word: u32) -> bool
     ensures { λ r. ⌜ r ≡ standsFor side label word ⌝ }
 {
-    if on_side(side, word / LABEL_COUNT) {
-        return word % LABEL_COUNT == label;
+    // Few words have the label, so it is looked at first.
+    if word % LABEL_COUNT == label {
+        return on_side(side, word / LABEL_COUNT);
     }
     false
 }

@@ -18,6 +18,12 @@ pub pick-all : {X : Type 0} (P : X → Type 0) (b : Bool) {x y : X} → P x → 
 pick-all P true p q = p
 pick-all P false p q = q
 
+pub both-commutes : (a b : Bool) → both a b ≡ both b a
+both-commutes true true = refl
+both-commutes true false = refl
+both-commutes false true = refl
+both-commutes false false = refl
+
 -- of two tests that hold together each holds
 pub both-true : (a b : Bool) → both a b ≡ true → (a ≡ true) × (b ≡ true)
 both-true true b e = (refl, e)

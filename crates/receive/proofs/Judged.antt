@@ -26,8 +26,8 @@ use Rattle.call_meaning.proofs.Released.{ack-held}
 use Rattle.calls.specs.declared.Answer
 use Rattle.calls.specs.declared.Answer.{Answer}
 use Rattle.receive.specs.declared.LabelEffect.{LabelEffect}
-use Rattle.receive.specs.Labels.{labelEffect, isProtected, protectionRule, effectReception}
-use Rattle.receive.specs.Rule.{isFatal, messageRule, plainRule, isZero, inTurn, receptionRule, protectedRule, labelsRule, ackRule, ackOn, ftRule, ackCount, ackedLabels}
+use Rattle.receive.specs.Labels.{labelEffect, isProtected, protectionRule, effectReception, effectLabels}
+use Rattle.receive.specs.Rule.{isFatal, messageRule, plainRule, isZero, inTurn, receptionRule, protectedRule, labelsRule, ackRule, ackOn, ftRule, ackCount, messageLabels, afterAck, taken, receivedState}
 
 -- an answer that is not Done tells nothing of the words
 pub never : {P : Type 0} (a : Answer) → isDone a ≡ false → a ≡ Answer.Done → P
@@ -54,18 +54,21 @@ module _ (g : Message) {b f t : Bool} (eb : b ≡ isInit (g .typename)) (nb : b 
   plain-done u = message-rest g _ eb nb ef nf (rw (← et, u))
 
 module _ (ls : List ℕ) (s : ℕ) (g : Message) {p : Protection} (e : p ≡ protectionRule ls g) where
-  pub labels-protection : {q : Protection} → p ≡ q → protectedRule ls s g q ≡ labelsRule ls s g
+  pub labels-protection : {q : Protection} {ws : List ℕ} → isDone (protectedRule ls s g q) ≡ false → p ≡ q
+      → (protectedRule ls s g q ≡ labelsRule ls s g) × (protectedRule ls s g q ≡ Answer.Done → ws ≡ messageLabels ls g)
   unfolding labelsRule
-  labels-protection t = rw (← e, t)
+  labels-protection {q} n t = (rw (← e, t), never (protectedRule ls s g q) n)
 
-  pub labels-turn : {b : Bool} → p ≡ Protection.Right → b ≡ inTurn s (g .protection) → b ≡ false → Answer.OutOfTurn ≡ labelsRule ls s g
+  pub labels-turn : {b : Bool} {ws : List ℕ} → p ≡ Protection.Right → b ≡ inTurn s (g .protection) → b ≡ false
+      → (Answer.OutOfTurn ≡ labelsRule ls s g) × (Answer.OutOfTurn ≡ Answer.Done → ws ≡ messageLabels ls g)
   unfolding labelsRule
-  labels-turn t q n = rw (← e, t, ← q, n)
+  labels-turn t q n = (rw (← e, t, ← q, n), never Answer.OutOfTurn refl)
 
-  pub labels-reception : {b d : Bool} {f : LabelEffect} {r r′ : Reception} → p ≡ Protection.Right → b ≡ inTurn s (g .protection) → b ≡ true
-      → d ≡ isProtected (g .protection) → f ≡ labelEffect g → r ≡ effectReception ls d f → r ≡ r′ → receptionRule r′ ≡ labelsRule ls s g
+  pub labels-reception : {b d : Bool} {f : LabelEffect} {r r′ : Reception} {ws : List ℕ} → p ≡ Protection.Right → b ≡ inTurn s (g .protection) → b ≡ true
+      → d ≡ isProtected (g .protection) → f ≡ labelEffect g → (r ≡ effectReception ls d f) × (ws ≡ effectLabels ls d f) → r ≡ r′
+      → (receptionRule r′ ≡ labelsRule ls s g) × (receptionRule r′ ≡ Answer.Done → ws ≡ messageLabels ls g)
   unfolding labelsRule
-  labels-reception t q n ed ef er u = rw (← e, t, ← q, n, ← ed, ← ef, ← er, u)
+  labels-reception t q n ed ef er u = (rw (← e, t, ← q, n, ← ed, ← ef, ← (er .0), u), λ d. rw (← ed, ← ef) (er .1))
 
 -- the ACK as it was decided
 pub ack-on : (h : Header) (g : Message) {x : Ack} {n : FtNumber} → x ≡ ackOf (h .released .0) (h .issued .0) (n .0) → n .0 ≡ ackBorne h (g .ack) → x ≡ ackOn h g
@@ -77,17 +80,20 @@ pub ack-within : (im : List ℕ) (h : Header) (a k : ℕ) {x : Ack} → IsSound 
 ack-within im h a k s eh e t = ack-held (decode im .header) a k (sound-valid im s .window) (rw (← eh) (sym e ∙ t))
 
 module _ (s : State) (g : Message) (h : Header) {x : Ack} (e : x ≡ ackOn h g) where
-  pub ack-error : {ws : List ℕ} → x ≡ Ack.SequenceError → (Answer.AckSequenceError ≡ ackRule s g (ackOn h g)) × (Answer.AckSequenceError ≡ Answer.Done → ws ≡ ackedLabels s g)
+  pub ack-error : {ws : List ℕ} → x ≡ Ack.SequenceError → (Answer.AckSequenceError ≡ ackRule s g (ackOn h g)) × (Answer.AckSequenceError ≡ Answer.Done → ws ≡ receivedState s g .labels)
   ack-error t = (rw (← e, t), never Answer.AckSequenceError refl)
 
-  pub ack-right : {k : ℕ} {ws₁ ws₂ : List ℕ} {r : Answer} → h ≡ s .header → x ≡ Ack.Releases k → ws₁ ≡ s .labels → ws₂ ≡ releasedLabels (take k (s .queue)) ws₁
-      → r ≡ labelsRule ws₂ (h .secured .0) g → (r ≡ ackRule s g (ackOn h g)) × (r ≡ Answer.Done → ws₂ ≡ ackedLabels s g)
-  unfolding acked ackedLabels
-  ack-right {k} eh t e₁ e₂ er = (rw (← e, t) (er ∙ rw (e₂, e₁, eh)), λ d. rw (← eh, ← e, t) (rw e₁ at e₂))
+  pub ack-right : {k : ℕ} {ws₁ ws₂ ws₃ : List ℕ} {r : Answer} → h ≡ s .header → x ≡ Ack.Releases k → ws₁ ≡ s .labels → ws₂ ≡ releasedLabels (take k (s .queue)) ws₁
+      → (r ≡ labelsRule ws₂ (h .secured .0) g) × (r ≡ Answer.Done → ws₃ ≡ messageLabels ws₂ g)
+      → (r ≡ ackRule s g (ackOn h g)) × (r ≡ Answer.Done → ws₃ ≡ receivedState s g .labels)
+  unfolding acked taken receivedState
+  ack-right {ws₂} eh t e₁ e₂ er =
+      let w : ws₂ ≡ afterAck s g .labels = rw (← eh, ← e, t) (rw e₁ at e₂) in
+      (rw (← e, t) (er .0 ∙ rw (e₂, e₁, eh)), λ d. er .1 d ∙ ap (λ (l : List ℕ). messageLabels l g) w)
 
 module _ (s : State) (g : Message) {ws : List ℕ} where
   -- a test before the ACK refuses
-  pub ft-refused : {x : Answer} → isDone x ≡ false → x ≡ ftRule s g → (x ≡ ftRule s g) × (x ≡ Answer.Done → ws ≡ ackedLabels s g)
+  pub ft-refused : {x : Answer} → isDone x ≡ false → x ≡ ftRule s g → (x ≡ ftRule s g) × (x ≡ Answer.Done → ws ≡ receivedState s g .labels)
   ft-refused {x} n e = (e, never x n)
 
 pub ft-is : (s : State) (g : Message) {x : Answer} → x ≡ messageRule g (pick (isZero (g .protection)) Answer.ZeroNumber (ackRule s g (ackOn (s .header) g))) → x ≡ ftRule s g

@@ -27,28 +27,26 @@ use Rattle.calls.specs.Outcomes.{After, after, isDone, refusal, unchanged, admi
 use Rattle.calls.proofs.Ends.{settle-other}
 use Rattle.calls.proofs.Effects.{done-is}
 use Rattle.call_meaning.proofs.Calling.{call-refused, call-own, own-done, own-refused}
-use Rattle.receive.specs.declared.LabelEffect.{LabelEffect}
-use Rattle.receive.specs.Labels.{labelEffect, isProtected, effectLabels}
-use Rattle.receive.specs.Rule.{ackOn, ackCount, securedBy, withSecured, taken, ackedLabels, receivedState, takenFt, takenAs, readRule, ftRule, plainRule, receiveRule, receiveAnswer, receiveOf}
+use Rattle.receive.specs.Rule.{ackOn, ackCount, securedBy, withSecured, taken, receivedState, takenFt, takenAs, readRule, ftRule, plainRule, receiveRule, receiveAnswer, receiveOf}
 use Rattle.receive.specs.Cases.{receives}
 use Rattle.receive.proofs.Judged.{ack-within}
 use Rattle.receive.proofs.Cases.{wrong-by}
 
 -- what is stored is the state that the message makes
-stored : (im : List ℕ) (g : Message) {h h′ : Header} {k : ℕ} {p : Bool} {f : LabelEffect} {ws ws′ : List ℕ}
-    → h ≡ decode im .header → k ≡ ackCount (ackOn h g) → p ≡ isProtected (g .protection) → f ≡ labelEffect g → ws ≡ ackedLabels (decode im) g
-    → ws′ ≡ effectLabels ws p f → h′ ≡ withSecured (withReleased h k (ackBorne h (g .ack))) (securedBy (h .secured) (g .protection))
-    → store0 im h′ ws′ ≡ store im (receivedState (decode im) g)
-unfolding receivedState taken acked ackedLabels
-stored im g eh ek ep ef ew ew′ eh′ = rw (eh′, ew′, ew, ep, ef, ek, eh)
+stored : (im : List ℕ) (g : Message) {h h′ : Header} {k : ℕ} {ws : List ℕ}
+    → h ≡ decode im .header → k ≡ ackCount (ackOn h g) → ws ≡ receivedState (decode im) g .labels
+    → h′ ≡ withSecured (withReleased h k (ackBorne h (g .ack))) (securedBy (h .secured) (g .protection))
+    → store0 im h′ ws ≡ store im (receivedState (decode im) g)
+unfolding receivedState taken acked
+stored im g eh ek ew eh′ = rw (eh′, ew, ek, eh)
 
-pub take-is : (im : List ℕ) (sent : ℕ) (g : Message) {im′ : List ℕ} {h h′ : Header} {k n : ℕ} {p b : Bool} {f : LabelEffect} {ws ws′ : List ℕ}
-    → h ≡ decode im .header → k ≡ ackCount (ackOn h g) → p ≡ isProtected (g .protection) → f ≡ labelEffect g → ws ≡ ackedLabels (decode im) g
-    → ws′ ≡ effectLabels ws p f → h′ ≡ withSecured (withReleased h k (ackBorne h (g .ack))) (securedBy (h .secured) (g .protection))
-    → im′ ≡ store0 im h′ ws′ → b ≡ differ (block im 0) (block im′ 0) → n ≡ sent - k
+pub take-is : (im : List ℕ) (sent : ℕ) (g : Message) {im′ : List ℕ} {h h′ : Header} {k n : ℕ} {b : Bool} {ws : List ℕ}
+    → h ≡ decode im .header → k ≡ ackCount (ackOn h g) → ws ≡ receivedState (decode im) g .labels
+    → h′ ≡ withSecured (withReleased h k (ackBorne h (g .ack))) (securedBy (h .secured) (g .protection))
+    → im′ ≡ store0 im h′ ws → b ≡ differ (block im 0) (block im′ 0) → n ≡ sent - k
     → after (record { answer = Answer.Done; phase = Phase.UpFT n; written = 0; slot = 0; block0 = b }) im′ [] ≡ takenFt im sent g
-take-is im sent g eh ek ep ef ew ew′ eh′ ei eb en =
-    let e = ei ∙ stored im g eh ek ep ef ew ew′ eh′ in
+take-is im sent g eh ek ew eh′ ei eb en =
+    let e = ei ∙ stored im g eh ek ew eh′ in
     rw (eb, e, en, ek, eh)
 
 -- the ACK releases no more than is held, whatever it is

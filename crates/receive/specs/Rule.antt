@@ -120,11 +120,15 @@ withSecured h n = record {
   maxpdu = h .maxpdu;
 }
 
+-- the label words that a message leaves
+abbrev pub messageLabels : List ℕ → Message → List ℕ
+messageLabels ls g = effectLabels ls (isProtected (g .protection)) (labelEffect g)
+
 -- then the message: the state s as the ACK leaves it
 unfoldable pub taken : State → Message → State
 taken s g = record {
   header = withSecured (s .header) (securedBy (s .header .secured) (g .protection));
-  labels = effectLabels (s .labels) (isProtected (g .protection)) (labelEffect g);
+  labels = messageLabels (s .labels) g;
   queue = s .queue;
 }
 
@@ -133,12 +137,9 @@ abbrev pub ackCount : Ack → ℕ
 ackCount (Ack.Releases k) = k
 ackCount Ack.SequenceError = 0
 
--- the state as the ACK leaves it, and its label words
+-- the state as the ACK leaves it
 abbrev pub afterAck : State → Message → State
 afterAck s g = acked s (ackCount (ackOn (s .header) g)) (ackBorne (s .header) (g .ack))
-
-unfoldable pub ackedLabels : State → Message → List ℕ
-ackedLabels s g = afterAck s g .labels
 
 unfoldable pub receivedState : State → Message → State
 receivedState s g = taken (afterAck s g) g
@@ -170,5 +171,5 @@ receiveOf im ph m = settleOf (receiveAnswer im ph m) ph im [] (takenAs im ph (re
 pub record Taken (im : List ℕ) (g : Message) (words : List ℕ) : Type 0 where
   pub sound : IsSound im
   pub within : ackCount (ackOn (decode im .header) g) ≤ decode im .header .held
-  pub labels : words ≡ ackedLabels (decode im) g
+  pub labels : words ≡ receivedState (decode im) g .labels
   pub count : length words ≡ wordCount

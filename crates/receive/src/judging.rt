@@ -5,9 +5,9 @@ ghost use Rattle.label_list.specs.Word.{wordCount};
 ghost use Rattle.image.specs.State.{decode};
 ghost use Rattle.image.specs.Verdict.{IsSound};
 ghost use Rattle.calls.specs.declared.Answer;
-ghost use Rattle.receive.specs.Rule.{plainRule, labelsRule, ackOn, ackRule, ftRule, ackedLabels};
+ghost use Rattle.receive.specs.Rule.{plainRule, labelsRule, ackOn, ackRule, ftRule, messageLabels, receivedState};
+use crate::labels::change_labels;
 use crate::labels::judge_protection;
-use crate::labels::judge_reception;
 use crate::labels::label_effect;
 use crate::reading::ack_borne;
 use crate::reading::in_turn;
@@ -41,9 +41,9 @@ pub fn judge_plain(g: Message) -> Answer
     Answer::Done
 }
 
-// 33, 32, 20, 21: a message over the label words as its ACK leaves them.
-fn judge_labels(words: &[u32], secured: FtNumber, g: Message) -> Answer
-    ensures { λ r. ⌜ r ≡ labelsRule (now (words .entry)) (secured .0) g ⌝ }
+// 33, 32, 20, 21: a message over the label words as its ACK leaves them. Where the answer is Done, the message has changed them.
+fn judge_labels(words: &mut [u32], secured: FtNumber, g: Message) -> Answer
+    ensures { λ r. ⌜ (r ≡ labelsRule (now (words .entry)) (secured .0) g) × (r ≡ Answer.Done → now (words .exit) ≡ messageLabels (now (words .entry)) g) ⌝ }
 {
     match judge_protection(words, g) {
         Protection::Missing => {
@@ -58,16 +58,16 @@ fn judge_labels(words: &[u32], secured: FtNumber, g: Message) -> Answer
     if !in_turn(secured, number) {
         return Answer::OutOfTurn;
     }
-    match judge_reception(words, is_protected(number), label_effect(g)) {
+    match change_labels(words, is_protected(number), label_effect(g)) {
         Reception::Taken => Answer::Done,
         Reception::NoRoom => Answer::NoWordForMapping,
     }
 }
 
-// 34 and later: the ACK, and then the message. Where the answer is Done, the words are those that the ACK leaves.
+// 34 and later: the ACK, and then the message. Where the answer is Done, the words are those that both leave.
 fn judge_ack(image: &[u8], h: Header, g: Message, words: &mut [u32]) -> Answer
     requires { ⌜ IsSound (now image) × (h ≡ decode (now image) .header) × (length (now words) ≡ wordCount) ⌝ }
-    ensures { λ r. ⌜ (r ≡ ackRule (decode (now (image .entry))) g (ackOn h g)) × (r ≡ Answer.Done → now (words .exit) ≡ ackedLabels (decode (now (image .entry))) g) ⌝ }
+    ensures { λ r. ⌜ (r ≡ ackRule (decode (now (image .entry))) g (ackOn h g)) × (r ≡ Answer.Done → now (words .exit) ≡ receivedState (decode (now (image .entry))) g .labels) ⌝ }
 {
     let ack = g.ack;
     match ft_number::acknowledge(h.released, h.issued, ack_borne(h, ack)) {
@@ -83,7 +83,7 @@ fn judge_ack(image: &[u8], h: Header, g: Message, words: &mut [u32]) -> Answer
 // 22, 36, 30, and then the ACK: a message in UpFT.
 pub fn judge_ft(image: &[u8], h: Header, g: Message, words: &mut [u32]) -> Answer
     requires { ⌜ IsSound (now image) × (h ≡ decode (now image) .header) × (length (now words) ≡ wordCount) ⌝ }
-    ensures { λ r. ⌜ (r ≡ ftRule (decode (now (image .entry))) g) × (r ≡ Answer.Done → now (words .exit) ≡ ackedLabels (decode (now (image .entry))) g) ⌝ }
+    ensures { λ r. ⌜ (r ≡ ftRule (decode (now (image .entry))) g) × (r ≡ Answer.Done → now (words .exit) ≡ receivedState (decode (now (image .entry))) g .labels) ⌝ }
 {
     let t = g.typename;
     if calls::is_init(t) {

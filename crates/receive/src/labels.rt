@@ -103,24 +103,12 @@ pub fn judge_protection(words: &[u32], g: Message) -> Protection
     judge_effect(words, protected, label_effect(g))
 }
 
-// Whether there is a word for what the message lists.
-pub fn judge_reception(words: &[u32], protected: bool, effect: LabelEffect) -> Reception
-    ensures { λ r. ⌜ r ≡ effectReception (now (words .entry)) protected effect ⌝ }
+// The label words after the message, and whether there was a word for what it lists.
+pub fn change_labels(words: &mut [u32], protected: bool, effect: LabelEffect) -> Reception
+    ensures { λ r. ⌜ (r ≡ effectReception (now (words .entry)) protected effect) × (now (words .exit) ≡ effectLabels (now (words .entry)) protected effect) ⌝ }
 {
     match effect {
         LabelEffect::Nothing => Reception::Taken,
-        LabelEffect::Change(m, t) => label_events::judge_received(words, m, protected, t),
-    }
-}
-
-// The label words after the message.
-pub fn change_labels(words: &mut [u32], protected: bool, effect: LabelEffect)
-    ensures { λ _. ⌜ now (words .exit) ≡ effectLabels (now (words .entry)) protected effect ⌝ }
-{
-    match effect {
-        LabelEffect::Nothing => {}
-        LabelEffect::Change(m, t) => {
-            label_events::receive(words, m, protected, t);
-        }
+        LabelEffect::Change(m, t) => label_events::receive(words, m, protected, t),
     }
 }

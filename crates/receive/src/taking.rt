@@ -11,10 +11,7 @@ ghost use Rattle.calls.specs.Outcomes.{after, settleOf};
 ghost use Rattle.receive.specs.Rule.{ackOn, ackCount, securedBy, withSecured, Taken, takenFt, takenAs, readRule, ftRule, plainRule, receiveOf};
 use crate::judging::judge_ft;
 use crate::judging::judge_plain;
-use crate::labels::change_labels;
-use crate::labels::label_effect;
 use crate::reading::ack_borne;
-use crate::reading::is_protected;
 use block0::Header;
 use calls::Answer;
 use calls::Outcome;
@@ -68,15 +65,13 @@ fn next_header(h: Header, k: u32, g: Message) -> Header
     next
 }
 
-// A message that was judged Done in UpFT: the words are those that its ACK leaves.
-fn take_ft(image: &mut [u8], sent: u32, g: Message, words: &mut [u32]) -> Outcome
+// A message that was judged Done in UpFT: the words are those that its ACK and the message leave.
+fn take_ft(image: &mut [u8], sent: u32, g: Message, words: &[u32]) -> Outcome
     requires { ⌜ Taken (now image) g (now words) ⌝ }
     ensures { λ r. ⌜ after r (now (image .exit)) [] ≡ takenFt (now (image .entry)) sent g ⌝ }
 {
     let h = image::header_of(image);
     let k = ack_count(h, g);
-    let number = g.protection;
-    change_labels(words, is_protected(number), label_effect(g));
     let changed = calls::store_changed(image, next_header(h, k, g), words);
     Outcome {
         answer: Answer::Done,
@@ -97,7 +92,7 @@ fn receive_ft(image: &mut [u8], sent: u32, g: Message) -> Outcome
     if !calls::is_done(a) {
         return calls::settle(image, a, Phase::UpFT(sent));
     }
-    take_ft(image, sent, g, &mut words)
+    take_ft(image, sent, g, &words)
 }
 
 fn receive_up(image: &mut [u8], sent: u32, msg: &[u8]) -> Outcome

@@ -62,10 +62,10 @@ module _ (im : List ℕ) (sent : ℕ) {h : Header} {k : ℕ} (eh : h ≡ decode 
   unfolding sendImage
   has-number l = (sym (differ-self (block im 0)), rw (← eh, ← ek, lt-ltb sent k l))
 
-  pub has-none : {im′ ls : List ℕ} {n : FtNumber} {b : Bool} → k ≤ sent → ls ≡ decode im .labels → n ≡ numberAt h sent
-      → (im′ ≡ store0 im (withIssued h n) ls) × (b ≡ differ (block im 0) (block im′ 0)) → (b ≡ differ (block im 0) (block im′ 0)) × (im′ ≡ sendImage im sent)
+  pub has-none : {im′ : List ℕ} {n : FtNumber} {b : Bool} → k ≤ sent → n ≡ numberAt h sent
+      → (im′ ≡ store0 im (withIssued h n) (decode im .labels)) × (b ≡ differ (block im 0) (block im′ 0)) → (b ≡ differ (block im 0) (block im′ 0)) × (im′ ≡ sendImage im sent)
   unfolding sendImage numbered
-  has-none l el en e = (e .1, e .0 ∙ (rw (← eh, ← ek, le-ltb sent k l, en, el)))
+  has-none l en e = (e .1, e .0 ∙ (rw (← eh, ← ek, le-ltb sent k l, en)))
 
 -- ---- the call
 module _ (im : List ℕ) (ph : Phase) (ask : Bool) (o : List ℕ) (d : Sendable im ph) {sent : ℕ} {w : Written} {o′ : List ℕ} (es : sent ≡ sentOf ph)

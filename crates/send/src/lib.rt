@@ -99,11 +99,9 @@ fn issue(image: &mut [u8], sent: u32) -> bool
     if sent < calls::issued_count(h) {
         return false;
     }
-    let mut words = [0u32; label_list::WORD_COUNT];
-    image::labels_of(image, &mut words);
     let mut next = h;
     next.issued = number_at(h, sent);
-    calls::store_changed(image, next, &words)
+    calls::store_numbers(image, next)
 }
 
 // Sends the oldest message not sent on this connection; `ack` asks for FT ACK. Block 0 is stored before the output leaves.

@@ -52,9 +52,9 @@ use Rattle.init.specs.Begun.{begunAs, fresh, initReceivedOf, resumed, startImag
 use Rattle.init.specs.Judged.{bothSet, startOf}
 use Rattle.receive.specs.Labels.{labelEffect, protectionRule}
 use Rattle.session.specs.Store.{slotAlone}
-use Rattle.receive.specs.Rule.{ackOn, ackedLabels, ftRule, labelsRule, messageRule, receiveAnswer, receiveOf, receivedState, taken}
+use Rattle.receive.specs.Rule.{ackOn, ftRule, labelsRule, messageRule, receiveAnswer, receiveOf, receivedState, taken}
 
 -- to unfold this is to unfold all of them
 unfoldable pub everything : ℕ
-unfolding differ filled fix steps ackOf after stepsOf lesserOf tlvOf fecAt fieldAt numberAt-tlv parametersAt partAt sessionAt notedOf tlvsOf turnOf walkOf kindOf messageOf-message readingOf typeOf bearsFt submissionOf raised keptOf payloadOf any findOf barsProtection codeProtection needsProtection codeAccepted codeAcked codeReceived codeSwept receivedSide sentSide wordSwept validOf validWord isFree onSide standsFor wordOf acceptedOf planOf ackedAt changeAt changed codeIn protectionOf receivedChange receivedOf checkOf sealed sound sums withWords wordsAt allZero fieldsOk headerOk block0 headerOf labelsOf slotOk slotVerdict slotFor messageOf-slot paddingOf slotBlock breakOf newImage releaseOf ring decode slotsOf store0 storeSlot scan verdict acked releasedKind releasedLabels effectOf admitted failedWith releasedWith settleOf issuedCount phaseFits restingPhase queued submitImage submitOf submitted acceptedAs isBarred isHeld kindRule submitAnswer submitRule ackAsked numberAt-send numbered sendAnswer sendBytes sendImage sendOf sendRule connectionFailedOf eventAnswer restoreOf keepaliveOf keptAck openOf writerOf begunAs fresh initReceivedOf resumed startImage bothSet startOf labelEffect protectionRule ackOn ackedLabels ftRule labelsRule messageRule receiveAnswer receiveOf receivedState taken slotAlone
+unfolding differ filled fix steps ackOf after stepsOf lesserOf tlvOf fecAt fieldAt numberAt-tlv parametersAt partAt sessionAt notedOf tlvsOf turnOf walkOf kindOf messageOf-message readingOf typeOf bearsFt submissionOf raised keptOf payloadOf any findOf barsProtection codeProtection needsProtection codeAccepted codeAcked codeReceived codeSwept receivedSide sentSide wordSwept validOf validWord isFree onSide standsFor wordOf acceptedOf planOf ackedAt changeAt changed codeIn protectionOf receivedChange receivedOf checkOf sealed sound sums withWords wordsAt allZero fieldsOk headerOk block0 headerOf labelsOf slotOk slotVerdict slotFor messageOf-slot paddingOf slotBlock breakOf newImage releaseOf ring decode slotsOf store0 storeSlot scan verdict acked releasedKind releasedLabels effectOf admitted failedWith releasedWith settleOf issuedCount phaseFits restingPhase queued submitImage submitOf submitted acceptedAs isBarred isHeld kindRule submitAnswer submitRule ackAsked numberAt-send numbered sendAnswer sendBytes sendImage sendOf sendRule connectionFailedOf eventAnswer restoreOf keepaliveOf keptAck openOf writerOf begunAs fresh initReceivedOf resumed startImage bothSet startOf labelEffect protectionRule ackOn ftRule labelsRule messageRule receiveAnswer receiveOf receivedState taken slotAlone
 everything = 0

@@ -1,3 +1,5 @@
+use borrow.Author.Tests.{eq-eqb, ne-eqb}
+use Rattle.octets.proofs.Choice.{both-commutes}
 use Rattle.label_list.specs.Word.{standsFor}
 use Rattle.label_list.proofs.word.stands_for.Statement.{statement}
 use Rattle.label_list.proofs.word.stands_for.Tie as tie
@@ -8,5 +10,5 @@ stands-for-spec =
     tie.close
     (tie.spec
     (λ c κs. tt)
-    (λ c. rw (← c .before .on-side .ensures, c .if1 .taken))
-    (λ c. rw (← c .before .on-side .ensures, c .if1 .left)))
+    (λ c. rw (both-commutes _ _, eq-eqb _ _ (c .before .if1 .taken)) (c .on-side .ensures))
+    (λ c. rw (both-commutes _ _, ne-eqb _ _ (c .if1 .left))))

@@ -17,4 +17,4 @@ judge-ack-spec =
     (λ c κs. search needs)
     (λ c. ack-error _ _ _ (ack-on _ _ (c .before .before .acknowledge .ensures) (c .before .before .before .ack-borne .ensures)) (c .enum-told .given .1))
     (λ c. search needs)
-    (λ c. ack-right _ _ _ (ack-on _ _ (c .before .before .before .before .before .before .before .before .before .before .before .before .before .acknowledge .ensures) (c .before .before .before .before .before .before .before .before .before .before .before .before .before .before .ack-borne .ensures)) (c .before .before .before .before .before .before .before .before .before .before .before .before .before .before .before .before .before .pre .1) (c .before .before .before .before .before .before .before .before .before .before .before .k .given .1) (c .before .before .before .before .before .before .before .before .labels-of .ensures) (c .before .before .before .before .release-labels .ensures) (c .judge-labels .ensures)))
+    (λ c. ack-right _ _ _ (ack-on _ _ (c .before .before .before .before .before .before .before .before .before .before .before .before .before .before .before .acknowledge .ensures) (c .before .before .before .before .before .before .before .before .before .before .before .before .before .before .before .before .ack-borne .ensures)) (c .before .before .before .before .before .before .before .before .before .before .before .before .before .before .before .before .before .before .before .pre .1) (c .before .before .before .before .before .before .before .before .before .before .before .before .before .k .given .1) (c .before .before .before .before .before .before .before .before .before .before .labels-of .ensures) (c .before .before .before .before .before .before .release-labels .ensures) (c .before .before .judge-labels .ensures)))

@@ -11,4 +11,4 @@ change-labels-spec =
     (λ c κs. search needs)
     (λ c. search needs)
     (λ c. search needs)
-    (λ c. rw (c .before .before .before .before .before .effect .given .1) (c .before .before .receive .ensures .1)))
+    (λ c. rw (c .before .before .before .before .before .effect .given .1) (c .before .before .receive .ensures)))

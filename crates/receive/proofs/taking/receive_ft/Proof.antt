@@ -20,4 +20,4 @@ receive-ft-spec =
     (λ c. search needs)
     (λ c κs. record { sound = c .before .before .before .before .before .before .before .before .before .before .pre; within = count-within _ _ (c .before .before .before .before .before .before .before .before .before .before .pre); labels = c .before .before .before .before .before .judge-ft .ensures .1 (done-is _ (granted (c .before .before .before .is-done .ensures) (c .before .before .if1 .left))); count = search needs })
     (λ c. search needs)
-    (λ c. ft-taken _ _ _ (c .before .before .before .before .before .before .before .before .before .judge-ft .ensures .0) (granted (c .before .before .before .before .before .before .before .is-done .ensures) (c .before .before .before .before .before .before .if1 .left)) (c .before .before .before .take-ft .ensures)))
+    (λ c. ft-taken _ _ _ (c .before .before .before .before .before .before .before .before .judge-ft .ensures .0) (granted (c .before .before .before .before .before .before .is-done .ensures) (c .before .before .before .before .before .if1 .left)) (c .before .before .take-ft .ensures)))

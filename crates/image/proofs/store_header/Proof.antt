@@ -1,0 +1,18 @@
+-- `image::store_header` meets its contract, by the definition. Assumes nothing.
+use native.Mathlib.Omega.{arith}
+use borrow.Author.Needs.{needs}
+use Rattle.image.specs.State.{store0, decode}
+use Rattle.image.proofs.store_header.Statement.{statement}
+use Rattle.image.proofs.store_header.Tie as tie
+
+pub store-header-spec : {M : Type 1} → statement M
+unfolding store0 decode
+store-header-spec =
+    tie.close
+    (tie.spec
+    (λ c. omega arith)
+    (λ c. omega arith)
+    (λ c. omega arith)
+    (λ c κs. search needs)
+    (λ c. search needs)
+    (λ c. rw (c .before .before .write-header .ensures)))
