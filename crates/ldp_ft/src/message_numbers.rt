@@ -128,6 +128,7 @@ pub fn whole_message(m: &[u8], found: Found) -> MessageNumbers
     requires { ⌜ Places (now m) found × NarrowMessage (messageOf (now m) found) ⌝ }
     ensures { λ r. ⌜ r ≡ wholeMessage (messageOf (now (m .entry)) found) ⌝ }
 {
+    // Made first, so that the compiler does not load the places in pairs (DECISIONS 116).
     let has = has_of(found);
     let number = message::number_in(m);
     let id = message::id_in(m);

@@ -1,0 +1,159 @@
+#!/usr/bin/env python3
+"""docs/STRENGTH.md: of every public function where its promise is stated and proved, and the wrong answers that are tried on it.
+
+    tools/strength.py            writes the file from the sources and the must-fail edits
+    tools/strength.py --check    fails where the stored file is another, or a call has fewer wrong answers than it should
+"""
+import pathlib
+import re
+import sys
+
+sys.dont_write_bytecode = True
+from refusals import HEADING, ROOT  # noqa: E402
+
+PAGE = ROOT / "docs" / "STRENGTH.md"
+# what an owner or a reader of captures builds on: at least two wrong answers are tried on each public function of these
+TWICE = {"ft_number", "pdu", "message", "label_list", "image", "connect", "init", "submit", "send", "timers", "receive"}
+HEAD = """# Strength of the promises
+
+Made by `tools/strength.py` from the sources and the must-fail edits; the gate checks that it is up to date.
+
+Each public function, the definitions that its contract cites, where its proof stands ("search": the prover finds it by itself), and
+the wrong answers that are tried on it. A wrong answer is a change of code or of a definition in `crates/NAME/must-fail/*.edit`; the gate
+applies it, the prover must refuse it, and `tools/refusals.py` looks that it is refused by itself and for a false fact. Where a change
+is made in a helper, or refused in a law, that is named in brackets. The promises in words are in docs/PROMISES.md.
+
+"""
+FUNCTION = re.compile(r"^(pub )?(?:extern \"C\" )?fn (\w+)\(", re.M)
+GHOST_USE = re.compile(r"^ghost use Rattle·(\w+)(?:·specs\.specs|\.specs)\.([\w.]+?)(?:\.\{([^}]*)\})?;", re.M)
+ENSURES = re.compile(r"ensures [^{]*\{(.*)\}\s*$", re.M)
+
+
+class Function:
+    def __init__(self, crate, path, public, name, text, cited):
+        self.crate, self.public, self.name, self.text = crate, public, name, text
+        inside = path.relative_to(crate / "src").with_suffix("").as_posix()
+        self.module = "" if inside in ("lib", "main") else inside + "/"
+        clauses = " ".join(ENSURES.findall(text))
+        self.cites = [f"`{word}` ({place})" for word, place in cited.items() if re.search(rf"(?<![\w-]){re.escape(word)}(?![\w-])", clauses)]
+
+    def proof(self):
+        place = f"proofs/{self.module}{self.name}"
+        return f"`{place}`" if (self.crate / place / "Proof.antt").is_file() else "search"
+
+
+def definitions(crate, source):
+    """The names that a file's contracts may cite, each with the file that defines it."""
+    cited = {}
+    for library, module, names in GHOST_USE.findall(source):
+        place = f"specs/{module.replace('.', '/')}.antt"
+        place = place if library == crate.name else f"{library}/{place}"
+        for name in names.split(",") if names and "declared" not in module else []:
+            cited[name.strip()] = place
+    return cited
+
+
+def functions(crate):
+    """The functions of a crate by name; public are those that another crate can call."""
+    found = {}
+    root = crate / "src" / "lib.rt"
+    exported = re.findall(r"^pub use \w+(?:::\w+)*::(\w+);", root.read_text(), re.M) if root.is_file() else []
+    open_modules = re.findall(r"^pub mod (\w+);", root.read_text(), re.M) if root.is_file() else []
+    for path in sorted((crate / "src").rglob("*.rt")):
+        source = path.read_text()
+        starts = list(FUNCTION.finditer(source)) + [None]
+        for this, following in zip(starts, starts[1:]):
+            text = source[this.start() : following.start() if following else len(source)]
+            seen = path == root or path.stem in open_modules or this[2] in exported
+            found[this[2]] = Function(crate, path, bool(this[1]) and seen, this[2], text, definitions(crate, source))
+    return found
+
+
+def reached(name, all_of_crate):
+    """The functions of the crate that a function's body reaches, itself included."""
+    seen, todo = {name}, [name]
+    while todo:
+        text = all_of_crate[todo.pop()].text
+        body = text[text.find("\n{") :]
+        for other in all_of_crate:
+            if other not in seen and re.search(rf"\b{other}\(", body):
+                seen.add(other)
+                todo.append(other)
+    return seen
+
+
+def wrong_answers(crate):
+    """Label, name that is refused, and words, of every wrong answer that is tried in a crate."""
+    found = []
+    for edit in sorted((crate / "must-fail").glob("*.edit")):
+        for line in edit.read_text().splitlines():
+            if HEADING.match(line):
+                label, name, words = re.match(r"# (\w+) \(([\w-]+)\): (.*)", line).groups()
+                found.append((label, name, words))
+    return sorted(found)
+
+
+def tried_on(function, here, tried, alone):
+    """The wrong answers on a function: its own, those of helpers that only it is reached by, and, where it is alone, those of laws."""
+    near = reached(function.name, here)
+    helpers = {name for name in near if name == function.name or not here[name].public}
+    return [(label, name, words) for label, name, words in tried if name in helpers or (alone and name not in here)]
+
+
+def cell(answers, own):
+    said = [f"`{label}`{'' if name == own else f' ({name})'}: {words}" for label, name, words in answers]
+    return "; ".join(said).replace("|", "\\|") or "none"
+
+
+def section(crate, faults):
+    here = functions(crate)
+    tried = wrong_answers(crate)
+    public = [f for f in here.values() if f.public]
+    if not public and not tried:
+        return ""
+    rows, shown = [], set()
+    for function in public:
+        answers = tried_on(function, here, tried, len(public) == 1)
+        shown.update(answers)
+        if crate.name in TWICE and len(answers) < 2:
+            faults.append(f"{crate.name}::{function.name}: {len(answers)} wrong answers tried, two wanted")
+        rows.append(f"| `{function.name}` | {', '.join(function.cites) or '-'} | {function.proof()} | {cell(answers, function.name)} |")
+    lines = [f"## {crate.name}\n"]
+    if rows:
+        lines += ["| function | stated | proved | wrong answers tried |", "|---|---|---|---|", *rows, ""]
+    laws = [answer for answer in tried if answer not in shown]
+    if laws:
+        lines += ["| refused in | wrong answer tried |", "|---|---|"]
+        lines += [f"| `{name}` | `{label}`: {words} |" for label, name, words in laws] + [""]
+    return "\n".join(lines) + "\n"
+
+
+def cited_in_coverage(tried):
+    """The wrong answers that docs/COVERAGE.md names and nobody tries."""
+    page = (ROOT / "docs" / "COVERAGE.md").read_text()
+    named = {(crate, label) for crate, label in re.findall(r"`(\w+)/(\w+)`", page) if (ROOT / "crates" / crate).is_dir()}
+    return sorted(f"docs/COVERAGE.md names {crate}/{label}, which is not tried" for crate, label in named - tried)
+
+
+def crates():
+    """The crates in the order of crates.txt."""
+    lines = (ROOT / "crates.txt").read_text().splitlines()
+    return [ROOT / "crates" / line.split(":")[0] for line in lines if ":" in line and not line.startswith("#")]
+
+
+def main(check):
+    faults = []
+    libraries = [crate for crate in crates() if (crate / "src" / "lib.rt").is_file()]
+    made = HEAD + "".join(section(crate, faults) for crate in libraries)
+    faults += cited_in_coverage({(crate.name, label) for crate in libraries for label, _, _ in wrong_answers(crate)})
+    if not check:
+        PAGE.write_text(made)
+    elif not PAGE.is_file() or PAGE.read_text() != made:
+        faults.append("docs/STRENGTH.md is not what tools/strength.py makes")
+    for fault in faults:
+        print(fault)
+    return 1 if faults else 0
+
+
+if __name__ == "__main__":
+    sys.exit(main(sys.argv[1:] == ["--check"]))
