@@ -1,63 +1,34 @@
-// Plays the public calls with two cabinets, P1 and P2, and prints every answer, every output and what is to be stored.
-// The expected lines are made by tests/session/make.py.
+// Plays the script on standard input: the public calls on five images, and prints every outcome. tests/session/make.py writes the
+// script and, by a cabinet of its own, the expected lines.
+//
+// A line of the script is a title, which begins with '#' and is printed as it is, or
+//     NAME: WORD NUMBERS: HEX
+// NAME is printed in front of what came of it and may be empty; the words and their numbers stand in words.rt; the last part is a message.
 use calls::Phase;
-use ends::Ends;
-use playing::play;
-use scripts::Script;
+use places::Cabinet;
+use places::Cabinets;
 
-mod ends;
-mod example;
-mod faults;
-mod inits;
-mod lengths;
-mod limits;
-mod messages;
+mod calling;
+mod places;
 mod playing;
-mod refusals;
-mod scripts;
+mod script;
 mod show;
-mod steps;
-mod stored;
-mod wire;
-
-fn idle() -> Ends {
-    Ends {
-        own: Phase::Idle,
-        other: Phase::Idle,
-        actor: 1,
-    }
-}
-
-fn example_and_restart() {
-    let mut p1 = [0u8; 33280];
-    let mut p2 = [0u8; 33280];
-    let e = play(&mut p1, &mut p2, idle(), Script::Before);
-    let e = play(&mut p1, &mut p2, e, Script::Example);
-    let e = play(&mut p1, &mut p2, e, Script::Recovery);
-    stored::restart(&mut p1, &mut p2, e);
-}
-
-fn run_cases() {
-    let mut p1 = [0u8; 33280];
-    let mut p2 = [0u8; 33280];
-    play(&mut p1, &mut p2, idle(), Script::Timeouts);
-    lengths::lengths(&mut p1, &mut p2);
-    play(&mut p1, &mut p2, idle(), Script::FullStore);
-    play(&mut p1, &mut p2, idle(), Script::FullLabels);
-}
-
-fn wrong_things() {
-    let mut p1 = [0u8; 33280];
-    let mut p2 = [0u8; 33280];
-    let e = play(&mut p1, &mut p2, idle(), Script::Prepared);
-    let up = e.own;
-    faults::faults(&p1, up);
-    inits::beginnings(&mut p1, up);
-    inits::plain_session();
-}
+mod words;
 
 fn main() {
-    example_and_restart();
-    run_cases();
-    wrong_things();
+    let mut text = [0u8; 200000];
+    let size = io::read_full(libc::STDIN_FILENO, &mut text);
+    let mut images = [0u8; 5 * image::IMAGE_SIZE];
+    let mut outputs = [0u8; 5 * 512];
+    let idle = Cabinet {
+        phase: Phase::Idle,
+        size: 33280,
+        written: 0,
+    };
+    playing::play(
+        &mut images,
+        &mut outputs,
+        &text[..size],
+        Cabinets { at: [idle; 5] },
+    );
 }

@@ -1,130 +1,211 @@
-// Plays the steps of a script.
-use crate::ends;
-use crate::ends::Ends;
-use crate::ends::say_actor;
-use crate::ends::swapped;
-use crate::messages::MAPPING;
-use crate::messages::label_message;
-use crate::scripts::Deed;
-use crate::scripts::Script;
-use crate::scripts::Step;
-use crate::scripts::step_at;
-use crate::show::number;
+// Plays the script, line by line.
+use crate::calling::make;
+use crate::places::Cabinet;
+use crate::places::Cabinets;
+use crate::places::after_call;
+use crate::places::behind;
+use crate::places::block_start;
+use crate::places::cabinet_at;
+use crate::places::copy_bytes;
+use crate::places::output_start;
+use crate::places::with_cabinet;
+use crate::script::Numbers;
+use crate::script::after;
+use crate::script::before;
+use crate::script::first;
+use crate::script::read_hex;
+use crate::script::read_numbers;
 use crate::show::say;
 use crate::show::show_counts;
-use crate::steps;
+use crate::show::show_outcome;
+use crate::words::Call;
+use crate::words::Deed;
+use crate::words::deed_of;
+use crate::words::is;
+use crate::words::is_given;
 use calls::Phase;
 
-// No script has more steps.
-const LONGEST_SCRIPT: u32 = 250;
-
-fn send_lost(image: &mut [u8], phase: Phase) -> Phase {
-    let mut wire = [0u8; 512];
-    let o = steps::issue(b" send, lost", image, phase, false, &mut wire);
-    o.phase
+// Says that the line can't be read, so that the output is not the expected one.
+fn refuse(c: Cabinets) -> Cabinets {
+    say(b" cannot be read\n");
+    c
 }
 
-fn alive_lost(image: &[u8], phase: Phase) -> Phase {
-    let mut wire = [0u8; 16];
-    let o = steps::keepalive(b" keepalive, lost", image, phase, &mut wire);
-    o.phase
+// Puts a line's message to the start of `msg`: what it says in hexadecimal, or the last output of another place. 0 where there is none.
+fn load_message(n: Numbers, hex: &[u8], outputs: &[u8], c: Cabinets, msg: &mut [u8]) -> usize {
+    if n.more == 0 {
+        return read_hex(hex, msg);
+    }
+    let sender = cabinet_at(c, n.values[1]);
+    let size = sender.written;
+    if size > msg.len() {
+        return 0;
+    }
+    let from = output_start(n.values[1]);
+    let start = from as usize;
+    let end = behind(from, 512);
+    if end > outputs.len() {
+        return 0;
+    }
+    octets::copy_to(msg, 0, first(&outputs[start..end], size));
+    size
 }
 
-// A Mapping without protection is received.
-fn take_unprotected(image: &mut [u8], phase: Phase, label: u32) -> Phase {
-    number(b" receive Mapping ", label as u64);
-    steps::take(
-        b", unprotected",
-        image,
-        phase,
-        &label_message(MAPPING, label),
-    )
+fn call_on(
+    own: Cabinet,
+    call: Call,
+    n: Numbers,
+    image: &mut [u8],
+    msg: &[u8],
+    out: &mut [u8],
+) -> Cabinet {
+    let phase = own.phase;
+    let o = make(call, n, image, phase, msg, out);
+    show_outcome(o, image, out);
+    after_call(own, o)
 }
 
-fn wait(image: &mut [u8], phase: Phase, elapsed: u32) -> Phase {
-    number(b" time passed ", elapsed as u64);
-    steps::wait(b"", image, phase, elapsed)
+// Makes a call at a place, and prints what it answered.
+fn play_call(
+    images: &mut [u8],
+    outputs: &mut [u8],
+    c: Cabinets,
+    call: Call,
+    n: Numbers,
+    msg: &[u8],
+) -> Cabinets {
+    let own = cabinet_at(c, n.values[0]);
+    let image_start = block_start(n.values[0], 0);
+    let out_start = output_start(n.values[0]);
+    let start = image_start as usize;
+    let end = behind(image_start, own.size);
+    if end > images.len() {
+        return refuse(c);
+    }
+    let room = out_start as usize;
+    let room_end = behind(out_start, room_size(n.values[1]));
+    if room_end > outputs.len() {
+        return refuse(c);
+    }
+    let image = &mut images[start..end];
+    let out = &mut outputs[room..room_end];
+    with_cabinet(c, n.values[0], call_on(own, call, n, image, msg, out))
 }
 
-// What one cabinet does by itself.
-fn act_alone(image: &mut [u8], phase: Phase, deed: Deed) -> Phase {
+// The room for output, at most 512 bytes.
+fn room_size(n: u32) -> u32 {
+    if n > 512 {
+        return 512;
+    }
+    n
+}
+
+fn play_counts(images: &[u8], c: Cabinets, n: Numbers) -> Cabinets {
+    let own = cabinet_at(c, n.values[0]);
+    let image_start = block_start(n.values[0], 0);
+    let start = image_start as usize;
+    let end = behind(image_start, own.size);
+    if end > images.len() {
+        return refuse(c);
+    }
+    show_counts(&images[start..end]);
+    c
+}
+
+fn copy(images: &mut [u8], c: Cabinets, n: Numbers) -> Cabinets {
+    let to = block_start(n.values[0], 0);
+    let from = block_start(n.values[1], 0);
+    if !copy_bytes(images, to, from, n.values[2]) {
+        return refuse(c);
+    }
+    let source = cabinet_at(c, n.values[1]);
+    let phase = source.phase;
+    let copied = Cabinet {
+        phase: phase,
+        size: n.values[2],
+        written: 0,
+    };
+    with_cabinet(c, n.values[0], copied)
+}
+
+fn store_block(images: &mut [u8], c: Cabinets, n: Numbers) -> Cabinets {
+    let to = block_start(n.values[0], n.values[1]);
+    let from = block_start(n.values[2], n.values[3]);
+    if !copy_bytes(images, to, from, 512) {
+        return refuse(c);
+    }
+    c
+}
+
+fn spoil(images: &mut [u8], c: Cabinets, n: Numbers) -> Cabinets {
+    let at = behind(block_start(n.values[0], 0), n.values[1]);
+    if at >= images.len() {
+        return refuse(c);
+    }
+    images[at] = (n.values[2] % 256) as u8;
+    c
+}
+
+fn put(c: Cabinets, place: u32, phase: Phase) -> Cabinets {
+    let own = cabinet_at(c, place);
+    let new = Cabinet {
+        phase: phase,
+        size: own.size,
+        written: own.written,
+    };
+    with_cabinet(c, place, new)
+}
+
+fn play_deed(
+    images: &mut [u8],
+    outputs: &mut [u8],
+    c: Cabinets,
+    deed: Deed,
+    n: Numbers,
+    msg: &[u8],
+) -> Cabinets {
     match deed {
-        Deed::Submit(what) => ends::offer(image, phase, what),
-        Deed::Lost => send_lost(image, phase),
-        Deed::AliveLost => alive_lost(image, phase),
-        Deed::Unprotected(label) => take_unprotected(image, phase, label),
-        Deed::Wait(elapsed) => wait(image, phase, elapsed),
-        _ => phase,
+        Deed::Call(call) => play_call(images, outputs, c, call, n, msg),
+        Deed::Counts => play_counts(images, c, n),
+        Deed::Copy => copy(images, c, n),
+        Deed::Block => store_block(images, c, n),
+        Deed::Spoil => spoil(images, c, n),
+        Deed::Put(phase) => put(c, n.values[0], phase),
+        Deed::Unknown => refuse(c),
     }
 }
 
-fn with_own(e: Ends, own: Phase) -> Ends {
-    let other = e.other;
-    Ends {
-        own: own,
-        other: other,
-        actor: e.actor,
+// Reads a line behind its name, and plays it.
+fn play_step(images: &mut [u8], outputs: &mut [u8], c: Cabinets, step: &[u8]) -> Cabinets {
+    let mut msg = [0u8; 512];
+    let n = read_numbers(after(before(step, b':'), b' '));
+    let hex = after(after(step, b':'), b' ');
+    let size = load_message(n, hex, outputs, c, &mut msg);
+    let deed = deed_of(before(step, b' '), n.values[1]);
+    if !is_given(deed, n.more, size) {
+        return refuse(c);
     }
+    play_deed(images, outputs, c, deed, n, first(&msg, size))
 }
 
-fn act(from: &mut [u8], to: &mut [u8], e: Ends, deed: Deed) -> Ends {
-    say_actor(e);
-    let own = e.own;
-    match deed {
-        Deed::Pass(ack) => ends::pass(from, to, e, ack),
-        Deed::Cross => ends::cross(from, to, e),
-        Deed::Alive => ends::alive(from, to, e),
-        _ => with_own(e, act_alone(from, own, deed)),
+// A title is printed, and anything else is a name and a step.
+fn play_line(images: &mut [u8], outputs: &mut [u8], c: Cabinets, line: &[u8]) -> Cabinets {
+    if is(before(line, b' '), b"#") {
+        say(line);
+        say(b"\n");
+        return c;
     }
+    say(before(line, b':'));
+    play_step(images, outputs, c, after(after(line, b':'), b' '))
 }
 
-fn note(e: Ends, n: u32) -> Ends {
-    number(b"# note ", n as u64);
-    say(b"\n");
-    e
-}
-
-fn show_both(p1: &[u8], p2: &[u8], e: Ends) -> Ends {
-    show_counts(b"P1", p1);
-    show_counts(b"P2", p2);
-    e
-}
-
-fn play_step(p1: &mut [u8], p2: &mut [u8], e: Ends, step: Step) -> Ends {
-    match step {
-        Step::Rest => e,
-        Step::Note(n) => note(e, n),
-        Step::Counts => show_both(p1, p2, e),
-        Step::Fresh(ours, theirs) => ends::fresh(p1, p2, ours, theirs),
-        Step::Connect(ours, theirs) => ends::connect(p1, p2, e, ours, theirs),
-        Step::Fail => ends::lose(p1, p2, e),
-        Step::One(deed) => act(p1, p2, e, deed),
-        Step::Two(deed) => swapped(act(p2, p1, swapped(e), deed)),
+// Plays every line of the script.
+pub fn play(images: &mut [u8], outputs: &mut [u8], script: &[u8], idle: Cabinets) {
+    let mut c = idle;
+    let mut rest = script;
+    while rest.len() > 0 {
+        c = play_line(images, outputs, c, before(rest, b'\n'));
+        let next = after(rest, b'\n');
+        rest = next;
     }
-}
-
-fn heading(script: Script) {
-    match script {
-        Script::Before => say(b"# before the example\n"),
-        Script::Example => say(b"# the example\n"),
-        Script::Recovery => say(b"# its recovery\n"),
-        Script::BeforeCut => say(b"# a power cut\n"),
-        Script::AfterCut => say(b"# after the power cut\n"),
-        Script::Timeouts => say(b"# timeouts\n"),
-        Script::FullStore => say(b"# the full store\n"),
-        Script::FullLabels => say(b"# the full label list\n"),
-        Script::Prepared => say(b"# messages received\n"),
-    }
-}
-
-// Plays a script from the phases given; the phases that it leads to.
-pub fn play(p1: &mut [u8], p2: &mut [u8], e: Ends, script: Script) -> Ends {
-    heading(script);
-    let mut now = e;
-    let mut i: u32 = 0;
-    while i < LONGEST_SCRIPT {
-        now = play_step(p1, p2, now, step_at(script, i));
-        i += 1;
-    }
-    now
 }
