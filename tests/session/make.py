@@ -8,13 +8,12 @@ import pathlib
 import sys
 
 sys.dont_write_bytecode = True
-from paper import image as im  # noqa: E402
 from paper import reading as r  # noqa: E402
-from paper.pair import ADDRESS, MAPPING, P1, P2, PARAMETERS, RELEASE, WITHDRAW, Pair, label_message  # noqa: E402
+from paper.pair import ADDRESS, MAPPING, P1, P2, RELEASE, WITHDRAW, Pair, label_message  # noqa: E402
 from paper.player import LINES, SCRIPT  # noqa: E402
 
-# Beside P1 and P2: an image that others are made from, and the copy that a call is made on.
-KEPT, COPY = 3, 4
+# Beside P1 and P2: an image that is kept, and the copy that a call is made on; SHORT is the copy of all bytes but the last.
+SHORT, KEPT, COPY = 0, 3, 4
 
 
 def example(p):
@@ -287,11 +286,11 @@ def messages(p):
     on_copies(p, "submit", p.submit, SUBMITTED)
 
 
-def every_call(p, title, size=im.SIZE):
+def every_call(p, title, copy=COPY):
     """The eight calls that are given a phase, each on a copy of KEPT."""
     p.title(title)
     for name, step, *rest in (
-        ("open", p.open, 64, 1, PARAMETERS[P1]),
+        ("open", p.open),
         ("keepalive", p.keepalive, 64),
         ("init", p.init, ADDRESS),
         ("submit", p.submit, ADDRESS),
@@ -300,8 +299,8 @@ def every_call(p, title, size=im.SIZE):
         ("connection failed", p.failed),
         ("time passed 0", p.time, 0),
     ):
-        p.copy(COPY, KEPT, size)
-        step(COPY, name, *rest)
+        p.copy(copy, KEPT)
+        step(copy, name, *rest)
 
 
 def in_phases(p, title, *phases):
@@ -316,9 +315,9 @@ def refused_images(p):
     p.copy(KEPT, P1)
     in_phases(p, "a kept session", ("Idle",), ("InitWait", 5), ("UpFT", 1), ("UpFT", 2), ("UpPlain",), ("Failed",))
     p.copy(KEPT, P1)
-    every_call(p, "an image of 33279 bytes", im.SIZE - 1)
-    p.format(COPY, "format")
-    p.restore(COPY, "restore")
+    every_call(p, "an image of 33279 bytes", SHORT)
+    p.format(SHORT, "format")
+    p.restore(SHORT, "restore")
     p.spoil(KEPT, 100, 0xAA)
     every_call(p, "block 0 spoiled")
     p.restore(KEPT, "restore")

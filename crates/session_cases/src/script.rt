@@ -41,59 +41,80 @@ pub fn after(text: &[u8], separator: u8) -> &[u8]
     &text[start..]
 }
 
-// The numbers of a line: the first, and how many more. Where it has anything else, or too many, UNREADABLE more.
-pub struct Numbers {
-    pub values: [u32; 8],
-    pub more: usize,
+// Whether a word is that one.
+pub fn is(word: &[u8], name: &[u8]) -> bool {
+    !octets::bytes_differ(word, name)
 }
 
-const UNREADABLE: usize = 8;
+// The place of a word in a list of words; how many the list has where it is none of them.
+pub fn place_in(list: &[u8], word: &[u8]) -> usize {
+    let mut rest = list;
+    let mut i: usize = 0;
+    while rest.len() > 0 {
+        if is(before(rest, b' '), word) {
+            return i;
+        }
+        let next = after(rest, b' ');
+        rest = next;
+        i += 1;
+    }
+    i
+}
 
-// A number with one more digit; the largest number where it would be larger.
-fn with_digit(value: u32, digit: u8) -> u32 {
-    let longer = value as u64 * 10 + digit as u64;
-    if longer > u32::MAX as u64 {
-        return u32::MAX;
+// What stands for a number that is missing or can't be read.
+pub const NONE: u32 = u32::MAX;
+
+// A number with one more digit.
+fn with_digit(n: u32, digit: u8) -> u32 {
+    if digit < b'0' {
+        return NONE;
+    }
+    if digit > b'9' {
+        return NONE;
+    }
+    let longer = n as u64 * 10 + (digit - b'0') as u64;
+    if longer > NONE as u64 {
+        return NONE;
     }
     longer as u32
 }
 
-// The numbers after one more byte.
-fn with_byte(n: Numbers, byte: u8) -> Numbers {
-    let mut next = n;
-    let last = n.more;
-    if last > 7 {
-        return n;
+// A decimal number.
+pub fn read_number(text: &[u8]) -> u32 {
+    if text.len() == 0 {
+        return NONE;
     }
-    if byte == b' ' {
-        next.more = last + 1;
-        return next;
-    }
-    if byte < b'0' {
-        next.more = UNREADABLE;
-        return next;
-    }
-    if byte > b'9' {
-        next.more = UNREADABLE;
-        return next;
-    }
-    next.values[last] = with_digit(n.values[last], byte - b'0');
-    next
-}
-
-// Decimal numbers, one space between two.
-pub fn read_numbers(text: &[u8]) -> Numbers {
-    let mut n = Numbers {
-        values: [0u32; 8],
-        more: 0,
-    };
+    let mut n: u32 = 0;
     let mut i: usize = 0;
     while i < text.len() {
-        n = with_byte(n, text[i]);
+        n = with_digit(n, text[i]);
         i += 1;
     }
     n
 }
+
+// The numbers of a line: the first names a place.
+pub struct Numbers {
+    pub place: u32,
+    pub second: u32,
+    pub third: u32,
+    pub fourth: u32,
+}
+
+// Four decimal numbers, a space between two.
+pub fn read_numbers(text: &[u8]) -> Numbers {
+    let after1 = after(text, b' ');
+    let after2 = after(after1, b' ');
+    Numbers {
+        place: read_number(before(text, b' ')),
+        second: read_number(before(after1, b' ')),
+        third: read_number(before(after2, b' ')),
+        fourth: read_number(after(after2, b' ')),
+    }
+}
+
+// The size of a message that can't be read.
+pub const UNREADABLE: usize = 513;
 
 // What a hexadecimal digit stands for; 16 where it is none.
 fn digit_value(digit: u8) -> u16 {
@@ -125,20 +146,20 @@ fn byte_value(high: u8, low: u8) -> u16 {
     h * 16 + l
 }
 
-// Bytes in hexadecimal, put to the start of `bytes`; how many, and 0 where they can't be read.
+// Bytes in hexadecimal, put to the start of `bytes`; how many, or UNREADABLE.
 pub fn read_hex(text: &[u8], bytes: &mut [u8]) -> usize {
     let size = text.len() / 2;
     if size * 2 != text.len() {
-        return 0;
+        return UNREADABLE;
     }
     if size > bytes.len() {
-        return 0;
+        return UNREADABLE;
     }
     let mut i: usize = 0;
     while i < size {
         let byte = byte_value(text[2 * i], text[2 * i + 1]);
         if byte > 255 {
-            return 0;
+            return UNREADABLE;
         }
         bytes[i] = byte as u8;
         i += 1;

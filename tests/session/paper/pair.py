@@ -4,7 +4,6 @@ from . import reading as r
 from .player import Player
 
 P1, P2 = 1, 2
-PARAMETERS = {P1: (30, 4096, 0x0A000002, 0), P2: (15, 1500, 0x0A000001, 0)}
 OTHER = {P1: P2, P2: P1}
 MAPPING, WITHDRAW, RELEASE = 0x0400, 0x0402, 0x0403
 
@@ -23,7 +22,7 @@ class Pair(Player):
         self.connect(ours, theirs)
 
     def begin(self, end, proposal=None):
-        self.open(end, f"P{end} open", 64, 1, PARAMETERS[end], proposal)
+        self.open(end, f"P{end} open", proposal)
 
     def connect(self, ours=None, theirs=None):
         self.begin(P1, ours)

@@ -1,4 +1,4 @@
-"""Cabinets at five places, 0 to 4. Every method is a line of the script that session_cases plays, and is played here too: SCRIPT has the
+"""Cabinets at five places, 0 to 4; the image at place 0 is a byte too short. Every method is a line of the script that session_cases plays, and is played here too: SCRIPT has the
 lines of the script, LINES what is printed. A message is bytes, or the place whose last output it is."""
 
 from . import calls as c
@@ -6,6 +6,9 @@ from . import image as im
 from . import reading as r
 
 SCRIPT, LINES = [], []
+
+# KeepAlive time, PDU length, LSR ID and label space of P2, at place 2, and of P1, at the others.
+P1, P2 = (30, 4096, 0x0A000002, 0), (15, 1500, 0x0A000001, 0)
 
 
 def show(name, o, image):
@@ -17,17 +20,17 @@ def show(name, o, image):
         LINES.append(f"  {o.out.hex()}")
 
 
-def step(name, word, *numbers, hex=""):
-    SCRIPT.append(f"{name}: {word} {' '.join(map(str, numbers))}" + (f": {hex}" if hex else ""))
+def step(name, word, *numbers, message=""):
+    SCRIPT.append(f"{name}: {word} {' '.join(map(str, numbers))}" + (f": {message}" if message else ""))
 
 
 class Player:
     def __init__(self):
-        self.image = [bytearray(im.SIZE) for _ in range(5)]
+        self.image = [bytearray(im.SIZE - (place == 0)) for place in range(5)]
         self.phase, self.out = [("Idle",)] * 5, [b""] * 5
 
     def title(self, text):
-        SCRIPT.append(f"# {text}")
+        SCRIPT.append(f"# {text}: title")
         LINES.append(f"# {text}")
 
     # The ten calls.
@@ -44,12 +47,12 @@ class Player:
         step(name, "restore", place)
         self.outcome(place, name, c.restore(self.image[place]))
 
-    def open(self, place, name, room, ident, parameters, proposal=None):
-        step(name, "open", place, room, ident, *parameters, *([] if proposal is None else [proposal]))
-        self.outcome(place, name, c.open_session(self.image[place], self.phase[place], ident, parameters, proposal, room))
+    def open(self, place, name, proposal=None):
+        step(name, "open", place, 64, *([] if proposal is None else [proposal]))
+        self.outcome(place, name, c.open_session(self.image[place], self.phase[place], 1, P2 if place == 2 else P1, proposal, 64))
 
     def send(self, place, name, room=512, ack=False):
-        step(name, "send", place, room, int(ack))
+        step(name, "send", place, room, *([1] if ack else []))
         self.outcome(place, name, c.send_next(self.image[place], self.phase[place], ack, room))
 
     def keepalive(self, place, name, room=16):
@@ -58,10 +61,10 @@ class Player:
 
     def given(self, place, name, word, call, m):
         if isinstance(m, int):
-            step(name, word, place, m)
+            step(name, word, place, message=f"from {m}")
             m = self.out[m]
         else:
-            step(name, word, place, hex=m.hex())
+            step(name, word, place, message=m.hex())
         return self.outcome(place, name, call(self.image[place], self.phase[place], m))
 
     def init(self, place, name, m):
@@ -97,14 +100,15 @@ class Player:
         step("", phase[0], place, *phase[1:])
         self.phase[place] = phase
 
-    def copy(self, place, source, size=im.SIZE):
-        step("", "copy", place, source, size)
-        self.image[place] = bytearray(self.image[source][:size])
-        self.phase[place], self.out[place] = self.phase[source], b""
+    def copy(self, place, source):
+        step("", "copy", place, source)
+        self.image[place] = bytearray(self.image[source][: len(self.image[place])])
+        self.phase[place] = self.phase[source]
 
     def block(self, place, k, source, j):
-        step("", "block", place, k, source, j)
+        step("", "copy", place, source, k, j)
         self.image[place][512 * k : 512 * k + 512] = im.block_of(self.image[source], j)
+        self.phase[place] = self.phase[source]
 
     def spoil(self, place, at, byte):
         step("", "spoil", place, at, byte)
