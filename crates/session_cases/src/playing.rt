@@ -26,8 +26,11 @@ use crate::show::show_outcome;
 use crate::words::Deed;
 use crate::words::deed_of;
 
-// Puts the last output of a place to the start of `msg`; how many bytes.
+// Puts what a place sent last to the start of `msg`; how many bytes, or UNREADABLE.
 fn load_sent(place: u32, outputs: &[u8], c: Cabinets, msg: &mut [u8]) -> usize {
+    if place > 4 {
+        return UNREADABLE;
+    }
     let sender = cabinet_at(c, place);
     let size = sender.written;
     if size > msg.len() {
@@ -88,7 +91,7 @@ fn end_line(c: Cabinets) -> Cabinets {
     c
 }
 
-// Copies a block, or image, and phase from another place.
+// Copies a block, or the image, and the phase from another place.
 fn copy(images: &mut [u8], c: Cabinets, n: Numbers) -> Cabinets {
     let to = block_start(n.place, n.third);
     let from = block_start(n.second, n.fourth);
@@ -110,26 +113,6 @@ fn spoil(images: &mut [u8], c: Cabinets, n: Numbers) -> Cabinets {
     c
 }
 
-// Does what a line asks for.
-fn play_deed(
-    images: &mut [u8],
-    outputs: &mut [u8],
-    c: Cabinets,
-    deed: Deed,
-    n: Numbers,
-    msg: &[u8],
-) -> Cabinets {
-    match deed {
-        Deed::Make(call) => play_call(images, outputs, c, call, n, msg),
-        Deed::Title => end_line(c),
-        Deed::Counts => play_counts(images, c, n.place),
-        Deed::Copy => copy(images, c, n),
-        Deed::Spoil => spoil(images, c, n),
-        Deed::Put(phase) => with_cabinet(c, n.place, phase, 0),
-        Deed::Unknown => refuse(c),
-    }
-}
-
 // Prints the name of a line, and plays what stands behind it.
 fn play_line(images: &mut [u8], outputs: &mut [u8], c: Cabinets, line: &[u8]) -> Cabinets {
     say(before(line, b':'));
@@ -141,8 +124,15 @@ fn play_line(images: &mut [u8], outputs: &mut [u8], c: Cabinets, line: &[u8]) ->
     }
     let call = before(step, b':');
     let n = read_numbers(after(call, b' '));
-    let deed = deed_of(before(call, b' '), n.second);
-    play_deed(images, outputs, c, deed, n, first(&msg, size))
+    match deed_of(before(call, b' '), n.second) {
+        Deed::Make(call) => play_call(images, outputs, c, call, n, first(&msg, size)),
+        Deed::Title => end_line(c),
+        Deed::Counts => play_counts(images, c, n.place),
+        Deed::Copy => copy(images, c, n),
+        Deed::Spoil => spoil(images, c, n),
+        Deed::Put(phase) => with_cabinet(c, n.place, phase, 0),
+        Deed::Unknown => refuse(c),
+    }
 }
 
 // Plays every line of the script.

@@ -8,7 +8,7 @@ from . import reading as r
 SCRIPT, LINES = [], []
 
 # KeepAlive time, PDU length, LSR ID and label space of P2, at place 2, and of P1, at the others.
-P1, P2 = (30, 4096, 0x0A000002, 0), (15, 1500, 0x0A000001, 0)
+P1_OWN, P2_OWN = (30, 4096, 0x0A000002, 0), (15, 1500, 0x0A000001, 0)
 
 
 def show(name, o, image):
@@ -49,7 +49,7 @@ class Player:
 
     def open(self, place, name, proposal=None):
         step(name, "open", place, 64, *([] if proposal is None else [proposal]))
-        self.outcome(place, name, c.open_session(self.image[place], self.phase[place], 1, P2 if place == 2 else P1, proposal, 64))
+        self.outcome(place, name, c.open_session(self.image[place], self.phase[place], 1, P2_OWN if place == 2 else P1_OWN, proposal, 64))
 
     def send(self, place, name, room=512, ack=False):
         step(name, "send", place, room, *([1] if ack else []))
