@@ -1,118 +1,120 @@
 #!/usr/bin/env python3
-"""The lines that session_cases prints: the same steps, played with a cabinet written from the build paper (paper/).
+"""The script that session_cases plays, and the lines that it prints: what a cabinet written from the build paper (paper/) makes of it.
 
-    tests/session/make.py            writes crates/session_cases/stdout
-    tests/session/make.py --check    fails where the stored file is another
+    tests/session/make.py            writes crates/session_cases/{stdin,stdout}
+    tests/session/make.py --check    fails where a stored file is another
 """
 import pathlib
 import sys
 
 sys.dont_write_bytecode = True
-from paper import calls as c  # noqa: E402
-from paper import image as im  # noqa: E402
 from paper import reading as r  # noqa: E402
-from paper.pair import ADDRESS, LINES, MAPPING, PARAMETERS, RELEASE, WITHDRAW, Pair, counts, label_message, say, show  # noqa: E402
+from paper.pair import ADDRESS, MAPPING, P1, P2, RELEASE, WITHDRAW, Pair, label_message  # noqa: E402
+from paper.player import LINES, SCRIPT  # noqa: E402
+
+# Beside P1 and P2: an image that is kept, and the copy that a call is made on; SHORT is the copy of all bytes but the last.
+SHORT, KEPT, COPY = 0, 3, 4
 
 
 def example(p):
-    say("# before the example")
+    p.title("before the example")
     p.fresh()
     for _ in range(26):
-        p.address("P1")
-        p.pass_on("P1")
+        p.address(P1)
+        p.pass_on(P1)
     for _ in range(2):
         for _ in range(46):
-            p.address("P2")
-            p.pass_on("P2")
-        p.alive("P1")
-    p.alive("P2")
-    p.counts()
-    say("# the example")
-    say("# note 1")
-    p.mapping("P1", 101)
-    p.mapping("P1", 102)
-    p.pass_on("P1")
-    say("# note 2")
-    p.mapping("P2", 203)
-    late = p.send("P1")
-    p.pass_on("P2", ack=True)
-    p.take("P2", late)
-    say("# note 4")
-    p.mapping("P2", 201)
-    p.pass_on("P2", ack=True)
-    say("# note 5")
-    p.mapping("P2", 202)
-    p.send("P2", lost=True)
-    say("# note 6")
-    p.address("P1")
-    p.pass_on("P1")
-    say("# note 7")
-    p.mapping("P1", 104)
-    p.send("P1", lost=True)
-    say("# note 8")
-    p.step("P1", "keepalive, lost", c.keepalive, 2, 16)
-    say("# note 9")
-    p.withdraw("P2", 203)
-    p.send("P2", lost=True)
-    p.counts()
+            p.address(P2)
+            p.pass_on(P2)
+        p.alive(P1)
+    p.alive(P2)
+    p.both()
+    p.title("the example")
+    p.title("note 1")
+    p.mapping(P1, 101)
+    p.mapping(P1, 102)
+    p.pass_on(P1)
+    p.title("note 2")
+    p.mapping(P2, 203)
+    p.send(P1, "P1 send")
+    p.pass_on(P2, ack=True)
+    p.arrive(P2)
+    p.title("note 4")
+    p.mapping(P2, 201)
+    p.pass_on(P2, ack=True)
+    p.title("note 5")
+    p.mapping(P2, 202)
+    p.send_lost(P2)
+    p.title("note 6")
+    p.address(P1)
+    p.pass_on(P1)
+    p.title("note 7")
+    p.mapping(P1, 104)
+    p.send_lost(P1)
+    p.title("note 8")
+    p.keepalive(P1, "P1 keepalive, lost")
+    p.title("note 9")
+    p.withdraw(P2, 203)
+    p.send_lost(P2)
+    p.both()
 
 
 def recovery(p):
-    say("# its recovery")
-    say("# note 10")
+    p.title("its recovery")
+    p.title("note 10")
     p.lose()
-    say("# note 11")
-    p.withdraw("P2", 201)
-    p.counts()
-    say("# note 12")
+    p.title("note 11")
+    p.withdraw(P2, 201)
+    p.both()
+    p.title("note 12")
     p.connect()
-    say("# note 13")
-    p.pass_on("P1")
-    say("# note 14")
-    p.pass_on("P2")
-    p.pass_on("P2", ack=True)
-    say("# note 15")
-    p.pass_on("P2")
-    p.send("P2", lost=True)
-    p.alive("P1")
-    p.alive("P2")
-    p.counts()
-    p.release("P1", 201)
-    p.release("P1", 203)
-    p.pass_on("P1", ack=True)
-    p.pass_on("P1", ack=True)
-    p.counts()
+    p.title("note 13")
+    p.pass_on(P1)
+    p.title("note 14")
+    p.pass_on(P2)
+    p.pass_on(P2, ack=True)
+    p.title("note 15")
+    p.pass_on(P2)
+    p.send_lost(P2)
+    p.alive(P1)
+    p.alive(P2)
+    p.both()
+    p.release(P1, 201)
+    p.release(P1, 203)
+    p.pass_on(P1, ack=True)
+    p.pass_on(P1, ack=True)
+    p.both()
 
 
 def restart(p):
-    say("# a power cut")
+    p.title("a power cut")
     p.unprotected(300)
-    p.mapping("P1", 105)
-    p.pass_on("P1")
-    p.address("P1")
-    p.send("P1", lost=True)
-    stored = bytearray(p.image["P1"])
-    o = show("P1 submit Mapping 106, power cut", c.submit(p.image["P1"], p.phase["P1"], label_message(MAPPING, 106)), p.image["P1"])
-    stored[512 * o.slot : 512 * o.slot + 512] = im.block_of(p.image["P1"], o.slot)
-    counts("P1 in memory", p.image["P1"])
-    counts("P1 in the store", stored)
-    p.image["P1"] = stored
-    p.step("P1", "restore", lambda image, phase: c.restore(image))
-    p.lose("P2")
-    say("# after the power cut")
-    p.counts()
+    p.mapping(P1, 105)
+    p.pass_on(P1)
+    p.address(P1)
+    p.send_lost(P1)
+    p.copy(KEPT, P1)
+    slot = p.submit(P1, "P1 submit Mapping 106, power cut", label_message(MAPPING, 106)).slot
+    p.block(KEPT, slot, P1, slot)
+    p.counts(P1, "P1 in memory")
+    p.counts(KEPT, "P1 in the store")
+    p.copy(P1, KEPT)
+    p.restore(P1, "P1 restore")
+    p.lose(P2)
+    p.title("after the power cut")
+    p.both()
     p.connect()
-    p.pass_on("P1", ack=True)
-    p.mapping("P1", 106)
-    p.pass_on("P1")
-    p.alive("P2")
-    p.counts()
+    p.pass_on(P1, ack=True)
+    p.mapping(P1, 106)
+    p.pass_on(P1)
+    p.alive(P2)
+    p.both()
 
 
 def timeouts(p):
-    say("# timeouts")
+    p.title("timeouts")
     p.fresh()
-    p.mapping("P1", 16)
+    p.mapping(P1, 16)
     p.lose()
     p.wait(4)
     p.wait(5)
@@ -130,29 +132,29 @@ def timeouts(p):
 
 
 def lengths(p):
-    say("# lengths")
+    p.title("lengths")
     p.fresh()
     for size in (480, 481):
-        p.submit("P1", f"{size} bytes", r.message(0x0300, 4, r.tlv(0x0101, bytes(size - 12))))
-    p.submit("P1", "8 bytes", r.message(0x0300, 4))
-    p.submit("P1", "7 bytes", r.message(0x0300, 4)[:7])
+        p.submit(P1, f"P1 submit {size} bytes", r.message(0x0300, 4, r.tlv(0x0101, bytes(size - 12))))
+    p.submit(P1, "P1 submit 8 bytes", r.message(0x0300, 4))
+    p.submit(P1, "P1 submit 7 bytes", r.message(0x0300, 4)[:7])
     for room in (495, 496):
-        p.send("P1", True, name=f"send, room {room}", room=room)
-    counts("P1", p.image["P1"])
+        p.send(P1, f"P1 send, room {room}", room, True)
+    p.counts(P1, "P1")
 
 
 def full_store(p):
-    say("# the full store")
+    p.title("the full store")
     p.fresh()
     for _ in range(65):
-        p.address("P1")
-    p.counts()
+        p.address(P1)
+    p.both()
     for _ in range(64):
-        p.pass_on("P1")
-    p.send("P1", lost=True)
-    p.alive("P2")
-    p.address("P1")
-    p.counts()
+        p.pass_on(P1)
+    p.send_lost(P1)
+    p.alive(P2)
+    p.address(P1)
+    p.both()
 
 
 ID = 9
@@ -250,118 +252,109 @@ INITS = (
 )
 
 
-def on_copies(image, phase, name, call, messages):
+def on_copies(p, word, step, messages):
     for m in messages:
-        copy = bytearray(image)
-        show(f"P1 {name} {m.hex()}", call(copy, phase, m), copy)
-        counts("P1", copy)
+        p.copy(COPY, P1)
+        step(COPY, f"P1 {word} {m.hex()}", m)
+        p.counts(COPY, "P1")
 
 
 def full_labels(p):
-    say("# the full label list")
+    p.title("the full label list")
     p.fresh()
     for i in range(120):
         p.unprotected(1001 + i)
-    p.mapping("P1", 101)
-    p.counts()
+    p.mapping(P1, 101)
+    p.both()
     p.unprotected(1123)
-    p.counts()
+    p.both()
 
 
 def messages(p):
-    say("# messages received")
+    p.title("messages received")
     p.fresh()
-    p.address("P1")
-    p.pass_on("P1")
-    p.mapping("P2", 201)
-    p.pass_on("P2", ack=True)
-    p.mapping("P1", 101)
-    p.send("P1", lost=True)
+    p.address(P1)
+    p.pass_on(P1)
+    p.mapping(P2, 201)
+    p.pass_on(P2, ack=True)
+    p.mapping(P1, 101)
+    p.send_lost(P1)
     p.unprotected(1000)
-    p.counts()
-    on_copies(p.image["P1"], p.phase["P1"], "receive", c.receive, RECEIVED)
-    say("# messages submitted")
-    on_copies(p.image["P1"], p.phase["P1"], "submit", c.submit, SUBMITTED)
+    p.both()
+    on_copies(p, "receive", p.receive, RECEIVED)
+    p.title("messages submitted")
+    on_copies(p, "submit", p.submit, SUBMITTED)
 
 
-CALLS = (
-    ("open", c.open_session, 1, PARAMETERS["P1"], None, 64),
-    ("keepalive", c.keepalive, 2, 64),
-    ("init", c.init_received, ADDRESS),
-    ("submit", c.submit, ADDRESS),
-    ("send", c.send_next, False, 64),
-    ("receive", c.receive, ADDRESS),
-    ("connection failed", c.connection_failed),
-    ("time passed 0", c.time_passed, 0),
-)
+def every_call(p, title, copy=COPY):
+    """The eight calls that are given a phase, each on a copy of KEPT."""
+    p.title(title)
+    for name, step, *rest in (
+        ("open", p.open),
+        ("keepalive", p.keepalive, 64),
+        ("init", p.init, ADDRESS),
+        ("submit", p.submit, ADDRESS),
+        ("send", p.send, 64),
+        ("receive", p.receive, ADDRESS),
+        ("connection failed", p.failed),
+        ("time passed 0", p.time, 0),
+    ):
+        p.copy(copy, KEPT)
+        step(copy, name, *rest)
 
 
-def every_call(title, image, phase):
-    say(f"# {title}")
-    for name, call, *rest in CALLS:
-        copy = bytearray(image)
-        show(name, call(copy, phase, *rest), copy)
+def in_phases(p, title, *phases):
+    for phase in phases:
+        p.put(KEPT, phase)
+        every_call(p, f"{title}, {' '.join(map(str, phase))}")
 
 
-def refused_images(kept, phase):
-    new = bytearray(im.SIZE)
-    show("format", c.format_image(new), new)
-    for ph in (("Idle",), ("Failed",), ("UpFT", 0), ("UpPlain",)):
-        every_call(f"a new image, {' '.join(map(str, ph))}", new, ph)
-    for ph in (("Idle",), ("InitWait", 5), ("UpFT", 1), ("UpFT", 2), ("UpPlain",), ("Failed",)):
-        every_call(f"a kept session, {' '.join(map(str, ph))}", kept, ph)
-    every_call("an image of 33279 bytes", kept[:-1], phase)
-    short = bytearray(im.SIZE - 1)
-    show("format", c.format_image(short), short)
-    show("restore", c.restore(short), short)
-    copy = bytearray(kept)
-    copy[100] = 0xAA
-    every_call("block 0 spoiled", copy, phase)
-    show("restore", c.restore(copy), copy)
-    copy = bytearray(kept)
-    copy[1100] = 0xAA
-    every_call("the live slot spoiled", copy, phase)
-    copy[1024:1536] = im.block_of(kept, 0)
-    every_call("the live slot another block", copy, phase)
-    show("restore", c.restore(copy), copy)
+def refused_images(p):
+    p.format(KEPT, "format")
+    in_phases(p, "a new image", ("Idle",), ("Failed",), ("UpFT", 0), ("UpPlain",))
+    p.copy(KEPT, P1)
+    in_phases(p, "a kept session", ("Idle",), ("InitWait", 5), ("UpFT", 1), ("UpFT", 2), ("UpPlain",), ("Failed",))
+    p.copy(KEPT, P1)
+    every_call(p, "an image of 33279 bytes", SHORT)
+    p.format(SHORT, "format")
+    p.restore(SHORT, "restore")
+    p.spoil(KEPT, 100, 0xAA)
+    every_call(p, "block 0 spoiled")
+    p.restore(KEPT, "restore")
+    p.copy(KEPT, P1)
+    p.spoil(KEPT, 1100, 0xAA)
+    every_call(p, "the live slot spoiled")
+    p.block(KEPT, 2, P1, 0)
+    every_call(p, "the live slot another block")
+    p.restore(KEPT, "restore")
 
 
 def beginnings(p):
-    say("# Inits received")
-    p.lose("P1")
-    p.step("P1", "open", c.open_session, 1, PARAMETERS["P1"], None, 64)
-    on_copies(p.image["P1"], p.phase["P1"], "init", c.init_received, INITS)
+    p.title("Inits received")
+    p.lose(P1)
+    p.begin(P1)
+    on_copies(p, "init", p.init, INITS)
 
 
 def plain_session(p):
-    say("# a plain session")
-    p.step("P1", "format", lambda image, phase: c.format_image(image))
-    p.step("P1", "open", c.open_session, 1, PARAMETERS["P1"], None, 64)
-    p.step("P1", "init, no FT Session", c.init_received, init(own()))
-    on_copies(p.image["P1"], p.phase["P1"], "receive", c.receive, PLAIN)
+    p.title("a plain session")
+    p.format(P1, "P1 format")
+    p.begin(P1)
+    p.init(P1, "P1 init, no FT Session", init(own()))
+    on_copies(p, "receive", p.receive, PLAIN)
 
 
 def main():
     p = Pair()
-    example(p)
-    recovery(p)
-    restart(p)
-    p = Pair()
-    timeouts(p)
-    lengths(p)
-    full_store(p)
-    full_labels(p)
-    messages(p)
-    refused_images(p.image["P1"], p.phase["P1"])
-    beginnings(p)
-    plain_session(p)
-    path = pathlib.Path(__file__).resolve().parents[2] / "crates/session_cases/stdout"
-    text = "".join(line + "\n" for line in LINES)
-    if sys.argv[1:] == ["--check"]:
-        if path.read_text() != text:
-            sys.exit(f"{path.name} of session_cases is not what tests/session/make.py makes")
-        return
-    path.write_text(text)
+    for part in (example, recovery, restart, timeouts, lengths, full_store, full_labels, messages, refused_images, beginnings, plain_session):
+        part(p)
+    crate = pathlib.Path(__file__).resolve().parents[2] / "crates/session_cases"
+    for name, lines in (("stdin", SCRIPT), ("stdout", LINES)):
+        text = "".join(line + "\n" for line in lines)
+        if sys.argv[1:] != ["--check"]:
+            (crate / name).write_text(text)
+        elif (crate / name).read_text() != text:
+            sys.exit(f"{name} of session_cases is not what tests/session/make.py makes")
 
 
 main()

@@ -1,63 +1,39 @@
-// Plays the public calls with two cabinets, P1 and P2, and prints every answer, every output and what is to be stored.
-// The expected lines are made by tests/session/make.py.
+// Plays the script on standard input: the public calls on five images, and prints every outcome. tests/session/make.py writes the
+// script and, by a cabinet of its own, the expected lines.
+//
+// A line of the script is
+//     NAME: WORD NUMBERS: MESSAGE
+// NAME is printed in front of what comes of the line; it may be empty. The words and their numbers stand in words.rt. The message is in
+// hexadecimal, or `from` and the place that sent it last; few words have one.
 use calls::Phase;
-use ends::Ends;
-use playing::play;
-use scripts::Script;
+use places::Cabinet;
+use places::Cabinets;
 
-mod ends;
-mod example;
-mod faults;
-mod inits;
-mod lengths;
-mod limits;
-mod messages;
+mod calling;
+mod places;
 mod playing;
-mod refusals;
-mod scripts;
+mod script;
 mod show;
-mod steps;
-mod stored;
-mod wire;
+mod words;
 
-fn idle() -> Ends {
-    Ends {
-        own: Phase::Idle,
-        other: Phase::Idle,
-        actor: 1,
-    }
-}
-
-fn example_and_restart() {
-    let mut p1 = [0u8; 33280];
-    let mut p2 = [0u8; 33280];
-    let e = play(&mut p1, &mut p2, idle(), Script::Before);
-    let e = play(&mut p1, &mut p2, e, Script::Example);
-    let e = play(&mut p1, &mut p2, e, Script::Recovery);
-    stored::restart(&mut p1, &mut p2, e);
-}
-
-fn run_cases() {
-    let mut p1 = [0u8; 33280];
-    let mut p2 = [0u8; 33280];
-    play(&mut p1, &mut p2, idle(), Script::Timeouts);
-    lengths::lengths(&mut p1, &mut p2);
-    play(&mut p1, &mut p2, idle(), Script::FullStore);
-    play(&mut p1, &mut p2, idle(), Script::FullLabels);
-}
-
-fn wrong_things() {
-    let mut p1 = [0u8; 33280];
-    let mut p2 = [0u8; 33280];
-    let e = play(&mut p1, &mut p2, idle(), Script::Prepared);
-    let up = e.own;
-    faults::faults(&p1, up);
-    inits::beginnings(&mut p1, up);
-    inits::plain_session();
+// Plays a script on five new places.
+fn play_script(script: &[u8]) {
+    let mut images = [0u8; 5 * image::IMAGE_SIZE];
+    let mut outputs = [0u8; 5 * 512];
+    let idle = Cabinet {
+        phase: Phase::Idle,
+        written: 0,
+    };
+    playing::play(
+        &mut images,
+        &mut outputs,
+        script,
+        Cabinets { at: [idle; 5] },
+    );
 }
 
 fn main() {
-    example_and_restart();
-    run_cases();
-    wrong_things();
+    let mut text = io::large_buffer();
+    let size = io::read_full(libc::STDIN_FILENO, &mut text);
+    play_script(&text[..size]);
 }

@@ -1,130 +1,147 @@
-// Plays the steps of a script.
-use crate::ends;
-use crate::ends::Ends;
-use crate::ends::say_actor;
-use crate::ends::swapped;
-use crate::messages::MAPPING;
-use crate::messages::label_message;
-use crate::scripts::Deed;
-use crate::scripts::Script;
-use crate::scripts::Step;
-use crate::scripts::step_at;
-use crate::show::number;
+// Plays the script, line by line.
+use crate::calling::Call;
+use crate::calling::make;
+use crate::places::Cabinets;
+use crate::places::behind;
+use crate::places::block_start;
+use crate::places::cabinet_at;
+use crate::places::copied_size;
+use crate::places::copy_bytes;
+use crate::places::image_part;
+use crate::places::output_part;
+use crate::places::refuse;
+use crate::places::with_cabinet;
+use crate::script::Numbers;
+use crate::script::UNREADABLE;
+use crate::script::after;
+use crate::script::before;
+use crate::script::first;
+use crate::script::is;
+use crate::script::read_hex;
+use crate::script::read_number;
+use crate::script::read_numbers;
 use crate::show::say;
 use crate::show::show_counts;
-use crate::steps;
-use calls::Phase;
+use crate::show::show_outcome;
+use crate::words::Deed;
+use crate::words::deed_of;
 
-// No script has more steps.
-const LONGEST_SCRIPT: u32 = 250;
-
-fn send_lost(image: &mut [u8], phase: Phase) -> Phase {
-    let mut wire = [0u8; 512];
-    let o = steps::issue(b" send, lost", image, phase, false, &mut wire);
-    o.phase
-}
-
-fn alive_lost(image: &[u8], phase: Phase) -> Phase {
-    let mut wire = [0u8; 16];
-    let o = steps::keepalive(b" keepalive, lost", image, phase, &mut wire);
-    o.phase
-}
-
-// A Mapping without protection is received.
-fn take_unprotected(image: &mut [u8], phase: Phase, label: u32) -> Phase {
-    number(b" receive Mapping ", label as u64);
-    steps::take(
-        b", unprotected",
-        image,
-        phase,
-        &label_message(MAPPING, label),
-    )
-}
-
-fn wait(image: &mut [u8], phase: Phase, elapsed: u32) -> Phase {
-    number(b" time passed ", elapsed as u64);
-    steps::wait(b"", image, phase, elapsed)
-}
-
-// What one cabinet does by itself.
-fn act_alone(image: &mut [u8], phase: Phase, deed: Deed) -> Phase {
-    match deed {
-        Deed::Submit(what) => ends::offer(image, phase, what),
-        Deed::Lost => send_lost(image, phase),
-        Deed::AliveLost => alive_lost(image, phase),
-        Deed::Unprotected(label) => take_unprotected(image, phase, label),
-        Deed::Wait(elapsed) => wait(image, phase, elapsed),
-        _ => phase,
+// Puts what a place sent last to the start of `msg`; how many bytes, or UNREADABLE.
+fn load_sent(place: u32, outputs: &[u8], c: Cabinets, msg: &mut [u8]) -> usize {
+    if place > 4 {
+        return UNREADABLE;
     }
-}
-
-fn with_own(e: Ends, own: Phase) -> Ends {
-    let other = e.other;
-    Ends {
-        own: own,
-        other: other,
-        actor: e.actor,
+    let sender = cabinet_at(c, place);
+    let size = sender.written;
+    if size > msg.len() {
+        return UNREADABLE;
     }
+    let part = output_part(place, 512, outputs.len());
+    let start = part.start;
+    let end = part.end;
+    octets::copy_to(msg, 0, first(&outputs[start..end], size));
+    size
 }
 
-fn act(from: &mut [u8], to: &mut [u8], e: Ends, deed: Deed) -> Ends {
-    say_actor(e);
-    let own = e.own;
-    match deed {
-        Deed::Pass(ack) => ends::pass(from, to, e, ack),
-        Deed::Cross => ends::cross(from, to, e),
-        Deed::Alive => ends::alive(from, to, e),
-        _ => with_own(e, act_alone(from, own, deed)),
+// Puts the message of a line to the start of `msg`: bytes in hexadecimal, or what a place sent last.
+fn load_message(text: &[u8], outputs: &[u8], c: Cabinets, msg: &mut [u8]) -> usize {
+    if is(before(text, b' '), b"from") {
+        return load_sent(read_number(after(text, b' ')), outputs, c, msg);
     }
+    read_hex(text, msg)
 }
 
-fn note(e: Ends, n: u32) -> Ends {
-    number(b"# note ", n as u64);
+// Makes a call at a place, and prints what it answered.
+fn play_call(
+    images: &mut [u8],
+    outputs: &mut [u8],
+    c: Cabinets,
+    call: Call,
+    n: Numbers,
+    msg: &[u8],
+) -> Cabinets {
+    let own = cabinet_at(c, n.place);
+    let phase = own.phase;
+    let lent = image_part(n.place, images.len());
+    let start = lent.start;
+    let end = lent.end;
+    let lent = output_part(n.place, n.second, outputs.len());
+    let room = lent.start;
+    let room_end = lent.end;
+    let image = &mut images[start..end];
+    let out = &mut outputs[room..room_end];
+    let o = make(call, n, image, phase, msg, out);
+    show_outcome(o, image, out);
+    let next = o.phase;
+    with_cabinet(c, n.place, next, o.written)
+}
+
+// Prints the counts of the image at a place.
+fn play_counts(images: &[u8], c: Cabinets, place: u32) -> Cabinets {
+    let image = image_part(place, images.len());
+    let start = image.start;
+    let end = image.end;
+    show_counts(&images[start..end]);
+    c
+}
+
+// A title is a name alone.
+fn end_line(c: Cabinets) -> Cabinets {
     say(b"\n");
-    e
+    c
 }
 
-fn show_both(p1: &[u8], p2: &[u8], e: Ends) -> Ends {
-    show_counts(b"P1", p1);
-    show_counts(b"P2", p2);
-    e
+// Copies a block, or the image, and the phase from another place.
+fn copy(images: &mut [u8], c: Cabinets, n: Numbers) -> Cabinets {
+    let to = block_start(n.place, n.third);
+    let from = block_start(n.second, n.fourth);
+    if !copy_bytes(images, to, from, copied_size(n.place, n.third)) {
+        return refuse(c);
+    }
+    let source = cabinet_at(c, n.second);
+    let phase = source.phase;
+    with_cabinet(c, n.place, phase, 0)
 }
 
-fn play_step(p1: &mut [u8], p2: &mut [u8], e: Ends, step: Step) -> Ends {
-    match step {
-        Step::Rest => e,
-        Step::Note(n) => note(e, n),
-        Step::Counts => show_both(p1, p2, e),
-        Step::Fresh(ours, theirs) => ends::fresh(p1, p2, ours, theirs),
-        Step::Connect(ours, theirs) => ends::connect(p1, p2, e, ours, theirs),
-        Step::Fail => ends::lose(p1, p2, e),
-        Step::One(deed) => act(p1, p2, e, deed),
-        Step::Two(deed) => swapped(act(p2, p1, swapped(e), deed)),
+// Puts another byte at an offset in an image.
+fn spoil(images: &mut [u8], c: Cabinets, n: Numbers) -> Cabinets {
+    let at = behind(block_start(n.place, 0), n.second);
+    if at >= images.len() {
+        return refuse(c);
+    }
+    images[at] = (n.third % 256) as u8;
+    c
+}
+
+// Prints the name of a line, and plays what stands behind it.
+fn play_line(images: &mut [u8], outputs: &mut [u8], c: Cabinets, line: &[u8]) -> Cabinets {
+    say(before(line, b':'));
+    let step = after(after(line, b':'), b' ');
+    let mut msg = [0u8; 512];
+    let size = load_message(after(after(step, b':'), b' '), outputs, c, &mut msg);
+    if size > 512 {
+        return refuse(c);
+    }
+    let call = before(step, b':');
+    let n = read_numbers(after(call, b' '));
+    match deed_of(before(call, b' '), n.second) {
+        Deed::Make(call) => play_call(images, outputs, c, call, n, first(&msg, size)),
+        Deed::Title => end_line(c),
+        Deed::Counts => play_counts(images, c, n.place),
+        Deed::Copy => copy(images, c, n),
+        Deed::Spoil => spoil(images, c, n),
+        Deed::Put(phase) => with_cabinet(c, n.place, phase, 0),
+        Deed::Unknown => refuse(c),
     }
 }
 
-fn heading(script: Script) {
-    match script {
-        Script::Before => say(b"# before the example\n"),
-        Script::Example => say(b"# the example\n"),
-        Script::Recovery => say(b"# its recovery\n"),
-        Script::BeforeCut => say(b"# a power cut\n"),
-        Script::AfterCut => say(b"# after the power cut\n"),
-        Script::Timeouts => say(b"# timeouts\n"),
-        Script::FullStore => say(b"# the full store\n"),
-        Script::FullLabels => say(b"# the full label list\n"),
-        Script::Prepared => say(b"# messages received\n"),
+// Plays every line of the script.
+pub fn play(images: &mut [u8], outputs: &mut [u8], script: &[u8], idle: Cabinets) {
+    let mut c = idle;
+    let mut rest = script;
+    while rest.len() > 0 {
+        c = play_line(images, outputs, c, before(rest, b'\n'));
+        let next = after(rest, b'\n');
+        rest = next;
     }
-}
-
-// Plays a script from the phases given; the phases that it leads to.
-pub fn play(p1: &mut [u8], p2: &mut [u8], e: Ends, script: Script) -> Ends {
-    heading(script);
-    let mut now = e;
-    let mut i: u32 = 0;
-    while i < LONGEST_SCRIPT {
-        now = play_step(p1, p2, now, step_at(script, i));
-        i += 1;
-    }
-    now
 }

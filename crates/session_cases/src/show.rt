@@ -1,4 +1,5 @@
 // What a call answered, and what an image counts, as lines on standard output.
+use crate::script::first;
 use calls::Answer;
 use calls::Outcome;
 use calls::Phase;
@@ -11,17 +12,9 @@ pub fn say(s: &[u8]) {
     io::write_all(STDOUT, s);
 }
 
-pub fn number(name: &[u8], n: u64) {
+fn number(name: &[u8], n: u64) {
     say(name);
     io::print_decimal(STDOUT, n);
-}
-
-// The first `count` bytes, or all where there are fewer.
-pub fn first(bytes: &[u8], count: usize) -> &[u8] {
-    if count > bytes.len() {
-        return bytes;
-    }
-    &bytes[..count]
 }
 
 // Bytes in hexadecimal: a block at most, and no message is longer.
@@ -32,12 +25,6 @@ fn hex(bytes: &[u8]) {
     let mut line = [0u8; 1024];
     let end = text::put_hex(&mut line, 0, bytes);
     say(first(&line, end));
-}
-
-// A name, and bytes in hexadecimal.
-pub fn say_bytes(name: &[u8], bytes: &[u8]) {
-    say(name);
-    hex(bytes);
 }
 
 // The answer's number, and the block that a refused image names.
@@ -99,9 +86,8 @@ fn show_output(out: &[u8], written: usize) {
     say(b"\n");
 }
 
-// A step: its name, the outcome, and the output on a line of its own.
-pub fn show_step(name: &[u8], o: Outcome, image: &[u8], out: &[u8]) {
-    say(name);
+// An outcome, and the output on a line of its own.
+pub fn show_outcome(o: Outcome, image: &[u8], out: &[u8]) {
     let answer = o.answer;
     let phase = o.phase;
     show_answer(answer);
@@ -121,8 +107,7 @@ fn show_numbers(c: Counts) {
 }
 
 // The counts of an image.
-pub fn show_counts(name: &[u8], image: &[u8]) {
-    say(name);
+pub fn show_counts(image: &[u8]) {
     match image_report::report_of(image) {
         Report::Counted(c) => show_numbers(c),
         Report::Refused(answer, block) => {

@@ -1,0 +1,50 @@
+// The words of the script, and the numbers behind each: first a place, then those that are named here.
+use crate::calling::Call;
+use crate::script::place_in;
+use calls::Phase;
+
+// What a line asks for.
+pub enum Deed {
+    // Open has the room for its output and the timeout that it proposes, if any; Send the room, and 1 for an ACK; KeepAlive the room;
+    // TimePassed seconds. Init, Submit and Receive have a message.
+    Make(Call),
+    // Prints no more than the name, and has no place.
+    Title,
+    // Prints the image's counts.
+    Counts,
+    // Another place, whose image and phase are copied here; or a block of each, here and there, of which the one becomes the other.
+    Copy,
+    // An offset, and the byte that is put there.
+    Spoil,
+    // Puts the cabinet in a phase; the number that the phase bears.
+    Put(Phase),
+    Unknown,
+}
+
+// The deed of a word at a place; `n` is the number that a phase bears.
+pub fn deed_of(word: &[u8], n: u32) -> Deed {
+    let words =
+        b"format restore open init submit send receive keepalive failed time title counts copy spoil Idle InitWait UpFT UpPlain Failed";
+    match place_in(words, word) {
+        0 => Deed::Make(Call::Format),
+        1 => Deed::Make(Call::Restore),
+        2 => Deed::Make(Call::Open),
+        3 => Deed::Make(Call::Init),
+        4 => Deed::Make(Call::Submit),
+        5 => Deed::Make(Call::Send),
+        6 => Deed::Make(Call::Receive),
+        7 => Deed::Make(Call::KeepAlive),
+        8 => Deed::Make(Call::ConnectionFailed),
+        9 => Deed::Make(Call::TimePassed),
+        10 => Deed::Title,
+        11 => Deed::Counts,
+        12 => Deed::Copy,
+        13 => Deed::Spoil,
+        14 => Deed::Put(Phase::Idle),
+        15 => Deed::Put(Phase::InitWait((n % 65536) as u16)),
+        16 => Deed::Put(Phase::UpFT(n)),
+        17 => Deed::Put(Phase::UpPlain),
+        18 => Deed::Put(Phase::Failed),
+        _ => Deed::Unknown,
+    }
+}
