@@ -1,15 +1,18 @@
 -- The answer to a message, test by test; the premises are what the functions ensure and the tests of the code. Assumes nothing.
 use mathlib.Core.Path.{_≡_, refl, sym, ap, _∙_}
-use mathlib.Core.Bool.{Bool, true, false}
+use mathlib.Core.Bool.{Bool, true, false, not, false≢true}
 use mathlib.Core.List.{List}
 use Prim.Native.Nat.{ℕ, _≤_}
 use native.Mathlib.Omega.{arith}
+use lib.Dec.{eqb}
 use lib.ListN.{take}
-use Rattle.octets.specs.Pick.{pick}
+use Rattle.octets.specs.Pick.{pick, both}
+use Rattle.octets.proofs.Choice.{by-test, both-true}
 use Rattle.ft_number.specs.Ack.{ackOf}
 use Rattle.ft_number.specs.declared.Ack
 use Rattle.ft_number.specs.declared.Ack.{Ack}
 use Rattle.ft_number.specs.declared.FtNumber.{FtNumber}
+use Rattle.message.specs.Kinds.{kindOf}
 use Rattle.message.specs.Submission.{bearsFt}
 use Rattle.message.specs.declared.Message.{Message}
 use Rattle.label_events.specs.declared.Reception.{Reception}
@@ -25,9 +28,10 @@ use Rattle.calls.specs.Received.{isInit}
 use Rattle.call_meaning.proofs.Released.{ack-held}
 use Rattle.calls.specs.declared.Answer
 use Rattle.calls.specs.declared.Answer.{Answer}
+use Rattle.receive.specs.declared.LabelEffect
 use Rattle.receive.specs.declared.LabelEffect.{LabelEffect}
-use Rattle.receive.specs.Labels.{labelEffect, isProtected, protectionRule, effectReception, effectLabels}
-use Rattle.receive.specs.Rule.{isFatal, messageRule, plainRule, isZero, inTurn, receptionRule, protectedRule, labelsRule, ackRule, ackOn, ftRule, ackCount, messageLabels, afterAck, taken, receivedState}
+use Rattle.receive.specs.Labels.{labelEffect, isProtected, protectionRule, effectReception, effectLabels, touchesNone, alwaysProtected}
+use Rattle.receive.specs.Rule.{isFatal, messageRule, plainRule, isZero, inTurn, receptionRule, protectedRule, labelsRule, ackRule, ackOn, ftRule, ackCount, labelsStay, messageLabels, taken, receivedState}
 
 -- an answer that is not Done tells nothing of the words
 pub never : {P : Type 0} (a : Answer) → isDone a ≡ false → a ≡ Answer.Done → P
@@ -70,6 +74,15 @@ module _ (ls : List ℕ) (s : ℕ) (g : Message) {p : Protection} (e : p ≡ pro
   unfolding labelsRule
   labels-reception t q n ed ef er u = (rw (← e, t, ← q, n, ← ed, ← ef, ← (er .0), u), λ d. rw (← ed, ← ef) (er .1))
 
+-- of a message that touches no label the words are not looked at
+labels-unseen : (ls ls′ : List ℕ) (s : ℕ) (g : Message) → touchesNone (labelEffect g) ≡ true → labelsRule ls s g ≡ labelsRule ls′ s g
+unfolding labelsRule protectionRule
+labels-unseen ls ls′ s g none = by (labelEffect g) refl
+  where
+    by : (f : LabelEffect) → labelEffect g ≡ f → labelsRule ls s g ≡ labelsRule ls′ s g
+    by LabelEffect.Nothing e = by-test (both (not (isProtected (g .protection))) (alwaysProtected (kindOf g))) (λ t. rw t) (λ n. simp (n, e))
+    by (LabelEffect.Change m t) e = absurd (false≢true (rw e at none))
+
 -- the ACK as it was decided
 pub ack-on : (h : Header) (g : Message) {x : Ack} {n : FtNumber} → x ≡ ackOf (h .released .0) (h .issued .0) (n .0) → n .0 ≡ ackBorne h (g .ack) → x ≡ ackOn h g
 unfolding ackOn
@@ -80,20 +93,24 @@ pub ack-within : (im : List ℕ) (h : Header) (a k : ℕ) {x : Ack} → IsSound 
 ack-within im h a k s eh e t = ack-held (decode im .header) a k (sound-valid im s .window) (rw (← eh) (sym e ∙ t))
 
 module _ (s : State) (g : Message) (h : Header) {x : Ack} (e : x ≡ ackOn h g) where
-  pub ack-error : {ws : List ℕ} → x ≡ Ack.SequenceError → (Answer.AckSequenceError ≡ ackRule s g (ackOn h g)) × (Answer.AckSequenceError ≡ Answer.Done → ws ≡ receivedState s g .labels)
+  pub ack-error : {ws : List ℕ} → x ≡ Ack.SequenceError → (Answer.AckSequenceError ≡ ackRule s g (ackOn h g)) × (Answer.AckSequenceError ≡ Answer.Done → labelsStay (ackCount (ackOn h g)) g ≡ false → ws ≡ receivedState s g .labels)
   ack-error t = (rw (← e, t), never Answer.AckSequenceError refl)
 
-  pub ack-right : {k : ℕ} {ws₁ ws₂ ws₃ : List ℕ} {r : Answer} → h ≡ s .header → x ≡ Ack.Releases k → ws₁ ≡ s .labels → ws₂ ≡ releasedLabels (take k (s .queue)) ws₁
-      → (r ≡ labelsRule ws₂ (h .secured .0) g) × (r ≡ Answer.Done → ws₃ ≡ messageLabels ws₂ g)
-      → (r ≡ ackRule s g (ackOn h g)) × (r ≡ Answer.Done → ws₃ ≡ receivedState s g .labels)
+  pub ack-right : {k : ℕ} {ws ws₂ : List ℕ} {r : Answer} → h ≡ s .header → x ≡ Ack.Releases k
+      → (labelsStay k g ≡ false → ws ≡ releasedLabels (take k (s .queue)) (s .labels))
+      → (r ≡ labelsRule ws (h .secured .0) g) × (r ≡ Answer.Done → ws₂ ≡ messageLabels ws g)
+      → (r ≡ ackRule s g (ackOn h g)) × (r ≡ Answer.Done → labelsStay (ackCount (ackOn h g)) g ≡ false → ws₂ ≡ receivedState s g .labels)
   unfolding acked taken receivedState
-  ack-right {ws₂} eh t e₁ e₂ er =
-      let w : ws₂ ≡ afterAck s g .labels = rw (← eh, ← e, t) (rw e₁ at e₂) in
-      (rw (← e, t) (er .0 ∙ rw (e₂, e₁, eh)), λ d. er .1 d ∙ ap (λ (l : List ℕ). messageLabels l g) w)
+  ack-right {k} {ws} eh t ew er =
+      (rw (← e, t) (er .0 ∙ judged ∙ ap (λ (y : Header). labelsRule (releasedLabels (take k (s .queue)) (s .labels)) (y .secured .0) g) eh),
+      λ d n. er .1 d ∙ ap (λ (l : List ℕ). messageLabels l g) (rw (← eh, ← e, t) (ew (rw (← e, t) at n))))
+    where
+      judged : labelsRule ws (h .secured .0) g ≡ labelsRule (releasedLabels (take k (s .queue)) (s .labels)) (h .secured .0) g
+      judged = by-test (labelsStay k g) (λ y. labels-unseen ws _ (h .secured .0) g (both-true (eqb k 0) (touchesNone (labelEffect g)) y .1)) (λ y. ap (λ (l : List ℕ). labelsRule l (h .secured .0) g) (ew y))
 
-module _ (s : State) (g : Message) {ws : List ℕ} where
+module _ (s : State) (g : Message) (h : Header) {ws : List ℕ} where
   -- a test before the ACK refuses
-  pub ft-refused : {x : Answer} → isDone x ≡ false → x ≡ ftRule s g → (x ≡ ftRule s g) × (x ≡ Answer.Done → ws ≡ receivedState s g .labels)
+  pub ft-refused : {x : Answer} → isDone x ≡ false → x ≡ ftRule s g → (x ≡ ftRule s g) × (x ≡ Answer.Done → labelsStay (ackCount (ackOn h g)) g ≡ false → ws ≡ receivedState s g .labels)
   ft-refused {x} n e = (e, never x n)
 
 pub ft-is : (s : State) (g : Message) {x : Answer} → x ≡ messageRule g (pick (isZero (g .protection)) Answer.ZeroNumber (ackRule s g (ackOn (s .header) g))) → x ≡ ftRule s g

@@ -1,9 +1,11 @@
 -- What a message leaves, by its answer. Assumes nothing.
 use mathlib.Core.Path.{_≡_, refl, ap, _∙_}
-use mathlib.Core.Bool.{Bool, true, false}
+use mathlib.Core.Bool.{Bool, true, false, false≢true}
 use mathlib.Core.List.{List, []}
 use Prim.Native.Nat.{ℕ, _-_, _≤_}
 use native.Mathlib.Omega.{arith}
+use borrow.Author.Tests.{eqb-true}
+use lib.Dec.{eqb}
 use Rattle.octets.specs.Differ.{differ}
 use Rattle.ft_number.specs.declared.Ack
 use Rattle.ft_number.specs.declared.Ack.{Ack}
@@ -11,10 +13,10 @@ use Rattle.message.specs.Reading.{readingOf}
 use Rattle.message.specs.declared.Message.{Message}
 use Rattle.message.specs.declared.Reading
 use Rattle.message.specs.declared.Reading.{Reading}
-use Rattle.octets.proofs.Choice.{by-test}
+use Rattle.octets.proofs.Choice.{by-test, both-true}
 use Rattle.block0.specs.declared.Header.{Header}
 use Rattle.image.specs.Sizes.{block}
-use Rattle.image.specs.State.{decode, store0, store}
+use Rattle.image.specs.State.{State, decode, store0, store}
 use Rattle.image.specs.Verdict.{IsSound}
 use Rattle.calls.specs.declared.Answer
 use Rattle.calls.specs.declared.Answer.{Answer}
@@ -22,32 +24,47 @@ use Rattle.calls.specs.declared.Outcome.{Outcome}
 use Rattle.calls.specs.declared.Phase
 use Rattle.calls.specs.declared.Phase.{Phase}
 use Rattle.calls.specs.Answers.{effectOf}
-use Rattle.calls.specs.Acked.{ackBorne, withReleased, acked}
+use Rattle.calls.specs.Acked.{ackBorne, releasedLabels, withReleased, acked}
 use Rattle.calls.specs.Outcomes.{After, after, isDone, refusal, unchanged, admitted, settleOf}
 use Rattle.calls.proofs.Ends.{settle-other}
 use Rattle.calls.proofs.Effects.{done-is}
 use Rattle.call_meaning.proofs.Calling.{call-refused, call-own, own-done, own-refused}
-use Rattle.receive.specs.Rule.{ackOn, ackCount, securedBy, withSecured, taken, receivedState, takenFt, takenAs, readRule, ftRule, plainRule, receiveRule, receiveAnswer, receiveOf}
+use Rattle.receive.specs.declared.LabelEffect
+use Rattle.receive.specs.declared.LabelEffect.{LabelEffect}
+use Rattle.receive.specs.Labels.{labelEffect, isProtected, effectLabels, touchesNone}
+use Rattle.receive.specs.Rule.{ackOn, ackCount, labelsStay, securedBy, withSecured, taken, receivedState, takenFt, takenAs, readRule, ftRule, plainRule, receiveRule, receiveAnswer, receiveOf}
 use Rattle.receive.specs.Cases.{receives}
 use Rattle.receive.proofs.Judged.{ack-within}
 use Rattle.receive.proofs.Cases.{wrong-by}
 
--- what is stored is the state that the message makes
-stored : (im : List ℕ) (g : Message) {h h′ : Header} {k : ℕ} {ws : List ℕ}
-    → h ≡ decode im .header → k ≡ ackCount (ackOn h g) → ws ≡ receivedState (decode im) g .labels
-    → h′ ≡ withSecured (withReleased h k (ackBorne h (g .ack))) (securedBy (h .secured) (g .protection))
-    → store0 im h′ ws ≡ store im (receivedState (decode im) g)
-unfolding receivedState taken acked
-stored im g eh ek ew eh′ = rw (eh′, ew, ek, eh)
+-- where the label words stay they are those that the message leaves
+stay-labels : (s : State) (g : Message) (k : ℕ) → k ≡ ackCount (ackOn (s .header) g) → labelsStay k g ≡ true → s .labels ≡ receivedState s g .labels
+unfolding receivedState taken acked releasedLabels
+stay-labels s g k ek y = let p = both-true (eqb k 0) (touchesNone (labelEffect g)) y in rw (← ek, eqb-true k 0 (p .0)) (by (labelEffect g) (p .1))
+  where
+    by : (f : LabelEffect) → touchesNone f ≡ true → s .labels ≡ effectLabels (s .labels) (isProtected (g .protection)) f
+    by LabelEffect.Nothing t = refl
+    by (LabelEffect.Change m t) e = absurd (false≢true e)
 
-pub take-is : (im : List ℕ) (sent : ℕ) (g : Message) {im′ : List ℕ} {h h′ : Header} {k n : ℕ} {b : Bool} {ws : List ℕ}
-    → h ≡ decode im .header → k ≡ ackCount (ackOn h g) → ws ≡ receivedState (decode im) g .labels
-    → h′ ≡ withSecured (withReleased h k (ackBorne h (g .ack))) (securedBy (h .secured) (g .protection))
-    → im′ ≡ store0 im h′ ws → b ≡ differ (block im 0) (block im′ 0) → n ≡ sent - k
+-- what is said of the header read is said of the image's
+pub count-of : (im : List ℕ) (g : Message) {h : Header} {k : ℕ} {b : Bool} → h ≡ decode im .header → k ≡ ackCount (ackOn h g) → labelsStay k g ≡ b
+    → labelsStay (ackCount (ackOn (decode im .header) g)) g ≡ b
+count-of im g eh ek e = rw (← eh, ← ek) e
+
+-- what is stored is the state that the message makes
+module _ (im : List ℕ) (g : Message) {h h′ : Header} {k : ℕ} (eh : h ≡ decode im .header) (ek : k ≡ ackCount (ackOn h g))
+    (eh′ : h′ ≡ withSecured (withReleased h k (ackBorne h (g .ack))) (securedBy (h .secured) (g .protection))) where
+  pub stored : {im′ ws : List ℕ} {d : Type 0} → ws ≡ receivedState (decode im) g .labels → (im′ ≡ store0 im h′ ws) × d → (im′ ≡ store im (receivedState (decode im) g)) × d
+  unfolding receivedState taken acked
+  stored ew e = (e .0 ∙ rw (eh′, ew, ek, eh), e .1)
+
+  pub stored-stays : {im′ : List ℕ} {d : Type 0} → labelsStay k g ≡ true → (im′ ≡ store0 im h′ (decode im .labels)) × d → (im′ ≡ store im (receivedState (decode im) g)) × d
+  stored-stays y e = stored (stay-labels (decode im) g k (ek ∙ ap (λ (x : Header). ackCount (ackOn x g)) eh) y) e
+
+pub take-is : (im : List ℕ) (sent : ℕ) (g : Message) {im′ : List ℕ} {h : Header} {k n : ℕ} {b : Bool}
+    → h ≡ decode im .header → k ≡ ackCount (ackOn h g) → (im′ ≡ store im (receivedState (decode im) g)) × (b ≡ differ (block im 0) (block im′ 0)) → n ≡ sent - k
     → after (record { answer = Answer.Done; phase = Phase.UpFT n; written = 0; slot = 0; block0 = b }) im′ [] ≡ takenFt im sent g
-take-is im sent g eh ek ew eh′ ei eb en =
-    let e = ei ∙ stored im g eh ek ew eh′ in
-    rw (eb, e, en, ek, eh)
+take-is im sent g eh ek e en = rw (e .1, e .0, en, ek, eh)
 
 -- the ACK releases no more than is held, whatever it is
 pub count-within : (im : List ℕ) (g : Message) → IsSound im → ackCount (ackOn (decode im .header) g) ≤ decode im .header .held

@@ -82,6 +82,11 @@ abbrev pub effectReception : List ℕ → Bool → LabelEffect → Reception
 effectReception ls protected LabelEffect.Nothing = Reception.Taken
 effectReception ls protected (LabelEffect.Change m t) = receivedOf ls m protected t .0
 
+-- a message that changes no label, whatever the words are
+abbrev pub touchesNone : LabelEffect → Bool
+touchesNone LabelEffect.Nothing = true
+touchesNone (LabelEffect.Change m t) = false
+
 -- what the label words become
 abbrev pub effectLabels : List ℕ → Bool → LabelEffect → List ℕ
 effectLabels ls protected LabelEffect.Nothing = ls

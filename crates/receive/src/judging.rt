@@ -1,14 +1,18 @@
 // The answer to a message that was read, in 01's order.
 ghost use mathlib.Core.Path.{_≡_};
-ghost use lib.ListN.{length};
+ghost use mathlib.Core.Bool.{false};
+ghost use Prim.Native.Nat.{_≤_};
+ghost use lib.ListN.{length, take};
 ghost use Rattle.label_list.specs.Word.{wordCount};
 ghost use Rattle.image.specs.State.{decode};
 ghost use Rattle.image.specs.Verdict.{IsSound};
 ghost use Rattle.calls.specs.declared.Answer;
-ghost use Rattle.receive.specs.Rule.{plainRule, labelsRule, ackOn, ackRule, ftRule, messageLabels, receivedState};
+ghost use Rattle.calls.specs.Acked.{releasedLabels};
+ghost use Rattle.receive.specs.Rule.{plainRule, labelsRule, ackOn, ackCount, ackRule, ftRule, labelsStay, messageLabels, receivedState};
 use crate::labels::change_labels;
 use crate::labels::judge_protection;
 use crate::labels::label_effect;
+use crate::labels::labels_stay;
 use crate::reading::ack_borne;
 use crate::reading::in_turn;
 use crate::reading::is_fatal;
@@ -64,17 +68,28 @@ fn judge_labels(words: &mut [u32], secured: FtNumber, g: Message) -> Answer
     }
 }
 
-// 34 and later: the ACK, and then the message. Where the answer is Done, the words are those that both leave.
+// The label words as an ACK leaves them that releases so many messages; where nothing changes they are not read.
+fn load_acked(image: &[u8], count: u32, g: Message, words: &mut [u32])
+    requires { ⌜ IsSound (now image) × (count ≤ decode (now image) .header .held) × (length (now words) ≡ wordCount) ⌝ }
+    ensures { λ _. ⌜ (labelsStay count g ≡ false → now (words .exit) ≡ releasedLabels (take count (decode (now (image .entry)) .queue)) (decode (now (image .entry)) .labels)) ⌝ }
+{
+    if labels_stay(count, g) {
+        return;
+    }
+    image::labels_of(image, words);
+    calls::release_labels(image, count as usize, words);
+}
+
+// 34 and later: the ACK, and then the message. Where the answer is Done and a label may have changed, the words are those that both leave.
 fn judge_ack(image: &[u8], h: Header, g: Message, words: &mut [u32]) -> Answer
     requires { ⌜ IsSound (now image) × (h ≡ decode (now image) .header) × (length (now words) ≡ wordCount) ⌝ }
-    ensures { λ r. ⌜ (r ≡ ackRule (decode (now (image .entry))) g (ackOn h g)) × (r ≡ Answer.Done → now (words .exit) ≡ receivedState (decode (now (image .entry))) g .labels) ⌝ }
+    ensures { λ r. ⌜ (r ≡ ackRule (decode (now (image .entry))) g (ackOn h g)) × (r ≡ Answer.Done → labelsStay (ackCount (ackOn h g)) g ≡ false → now (words .exit) ≡ receivedState (decode (now (image .entry))) g .labels) ⌝ }
 {
     let ack = g.ack;
     match ft_number::acknowledge(h.released, h.issued, ack_borne(h, ack)) {
         Ack::SequenceError => Answer::AckSequenceError,
         Ack::Releases(k) => {
-            image::labels_of(image, words);
-            calls::release_labels(image, k as usize, words);
+            load_acked(image, k, g, words);
             judge_labels(words, h.secured, g)
         }
     }
@@ -83,7 +98,7 @@ fn judge_ack(image: &[u8], h: Header, g: Message, words: &mut [u32]) -> Answer
 // 22, 36, 30, and then the ACK: a message in UpFT.
 pub fn judge_ft(image: &[u8], h: Header, g: Message, words: &mut [u32]) -> Answer
     requires { ⌜ IsSound (now image) × (h ≡ decode (now image) .header) × (length (now words) ≡ wordCount) ⌝ }
-    ensures { λ r. ⌜ (r ≡ ftRule (decode (now (image .entry))) g) × (r ≡ Answer.Done → now (words .exit) ≡ receivedState (decode (now (image .entry))) g .labels) ⌝ }
+    ensures { λ r. ⌜ (r ≡ ftRule (decode (now (image .entry))) g) × (r ≡ Answer.Done → labelsStay (ackCount (ackOn h g)) g ≡ false → now (words .exit) ≡ receivedState (decode (now (image .entry))) g .labels) ⌝ }
 {
     let t = g.typename;
     if calls::is_init(t) {

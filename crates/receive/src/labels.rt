@@ -3,6 +3,7 @@ ghost use mathlib.Core.Path.{_≡_};
 ghost use mathlib.Core.Bool.{not};
 ghost use Rattle.octets.specs.Pick.{both};
 ghost use Rattle.receive.specs.Labels.{touchedBy, effectOn, labelEffect, alwaysProtected, effectProtection, protectionRule, effectReception, effectLabels};
+ghost use Rattle.receive.specs.Rule.{labelsStay};
 use crate::LabelEffect;
 use crate::reading::is_protected;
 use label_events::Reception;
@@ -55,6 +56,19 @@ pub fn label_effect(g: Message) -> LabelEffect
     let label = g.label;
     let fec = g.fec;
     effect_on(t, touched_by(label, fec))
+}
+
+// Whether an ACK that releases so many messages, and then the message, leave every label word as it is.
+pub fn labels_stay(count: u32, g: Message) -> bool
+    ensures { λ r. ⌜ r ≡ labelsStay count g ⌝ }
+{
+    if count != 0 {
+        return false;
+    }
+    match label_effect(g) {
+        LabelEffect::Nothing => true,
+        LabelEffect::Change(_, _) => false,
+    }
 }
 
 // Whether a kind is protected whatever the labels are.

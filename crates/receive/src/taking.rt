@@ -3,14 +3,17 @@ ghost use mathlib.Core.Path.{_≡_};
 ghost use mathlib.Core.List.{[]};
 ghost use Prim.Native.Nat.{_-_, _≤_, _<_};
 ghost use Rattle.message.specs.Reading.{readingOf};
-ghost use Rattle.image.specs.State.{decode};
+ghost use Rattle.octets.specs.Differ.{differ};
+ghost use Rattle.image.specs.Sizes.{block};
+ghost use Rattle.image.specs.State.{decode, store};
 ghost use Rattle.image.specs.Verdict.{IsSound};
 ghost use Rattle.calls.specs.declared.Phase;
 ghost use Rattle.calls.specs.Acked.{ackBorne, withReleased};
 ghost use Rattle.calls.specs.Outcomes.{after, settleOf};
-ghost use Rattle.receive.specs.Rule.{ackOn, ackCount, securedBy, withSecured, Taken, takenFt, takenAs, readRule, ftRule, plainRule, receiveOf};
+ghost use Rattle.receive.specs.Rule.{ackOn, ackCount, securedBy, withSecured, receivedState, Taken, takenFt, takenAs, readRule, ftRule, plainRule, receiveOf};
 use crate::judging::judge_ft;
 use crate::judging::judge_plain;
+use crate::labels::labels_stay;
 use crate::reading::ack_borne;
 use block0::Header;
 use calls::Answer;
@@ -65,6 +68,18 @@ fn next_header(h: Header, k: u32, g: Message) -> Header
     next
 }
 
+// Stores what a message leaves whose ACK releases so many: the numbers alone where the label words stay. Whether block 0 changed.
+fn store_taken(image: &mut [u8], h: Header, k: u32, g: Message, words: &[u32]) -> bool
+    requires { ⌜ Taken (now image) g (now words) × (h ≡ decode (now image) .header) × (k ≡ ackCount (ackOn h g)) ⌝ }
+    ensures { λ r. ⌜ (now (image .exit) ≡ store (now (image .entry)) (receivedState (decode (now (image .entry))) g)) × (r ≡ differ (block (now (image .entry)) 0) (block (now (image .exit)) 0)) ⌝ }
+{
+    let next = next_header(h, k, g);
+    if labels_stay(k, g) {
+        return calls::store_numbers(image, next);
+    }
+    calls::store_changed(image, next, words)
+}
+
 // A message that was judged Done in UpFT: the words are those that its ACK and the message leave.
 fn take_ft(image: &mut [u8], sent: u32, g: Message, words: &[u32]) -> Outcome
     requires { ⌜ Taken (now image) g (now words) ⌝ }
@@ -72,7 +87,7 @@ fn take_ft(image: &mut [u8], sent: u32, g: Message, words: &[u32]) -> Outcome
 {
     let h = image::header_of(image);
     let k = ack_count(h, g);
-    let changed = calls::store_changed(image, next_header(h, k, g), words);
+    let changed = store_taken(image, h, k, g, words);
     Outcome {
         answer: Answer::Done,
         phase: Phase::UpFT(lowered(sent, k)),

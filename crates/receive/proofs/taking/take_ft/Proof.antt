@@ -9,8 +9,7 @@ take-ft-spec =
     (tie.spec
     (λ c κs. search needs)
     (λ c κs. search needs)
-    (λ c κs. rw (c .before .ack-count .ensures, c .before .before .header-of .ensures) (c .before .before .before .before .before .before .pre .within))
     (λ c κs. search needs)
     (λ c κs. search needs)
     (λ c. search needs)
-    (λ c. take-is _ _ _ (c .before .before .before .before .before .before .before .header-of .ensures) (c .before .before .before .before .before .before .ack-count .ensures) (c .before .before .before .before .before .before .before .before .before .before .before .pre .labels) (c .before .before .before .before .next-header .ensures) (c .before .before .before .store-changed .ensures .0) (c .before .before .before .store-changed .ensures .1) (c .lowered .ensures)))
+    (λ c. take-is _ _ _ (c .before .before .before .before .before .before .header-of .ensures) (c .before .before .before .before .before .ack-count .ensures) (c .before .before .before .store-taken .ensures) (c .lowered .ensures)))
