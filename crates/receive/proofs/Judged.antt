@@ -101,9 +101,10 @@ module _ (s : State) (g : Message) (h : Header) {x : Ack} (e : x ≡ ackOn h g) 
       → (r ≡ labelsRule ws (h .secured .0) g) × (r ≡ Answer.Done → ws₂ ≡ messageLabels ws g)
       → (r ≡ ackRule s g (ackOn h g)) × (r ≡ Answer.Done → labelsStay (ackCount (ackOn h g)) g ≡ false → ws₂ ≡ receivedState s g .labels)
   unfolding acked taken receivedState
-  ack-right {k} {ws} eh t ew er =
-      (rw (← e, t) (er .0 ∙ judged ∙ ap (λ (y : Header). labelsRule (releasedLabels (take k (s .queue)) (s .labels)) (y .secured .0) g) eh),
-      λ d n. er .1 d ∙ ap (λ (l : List ℕ). messageLabels l g) (rw (← eh, ← e, t) (ew (rw (← e, t) at n))))
+  ack-right {k} {ws} eh t ew er = (
+    rw (← e, t) (er .0 ∙ judged ∙ ap (λ (y : Header). labelsRule (releasedLabels (take k (s .queue)) (s .labels)) (y .secured .0) g) eh),
+    λ d n. er .1 d ∙ ap (λ (l : List ℕ). messageLabels l g) (rw (← eh, ← e, t) (ew (rw (← e, t) at n))),
+  )
     where
       judged : labelsRule ws (h .secured .0) g ≡ labelsRule (releasedLabels (take k (s .queue)) (s .labels)) (h .secured .0) g
       judged = by-test (labelsStay k g) (λ y. labels-unseen ws _ (h .secured .0) g (both-true (eqb k 0) (touchesNone (labelEffect g)) y .1)) (λ y. ap (λ (l : List ℕ). labelsRule l (h .secured .0) g) (ew y))
