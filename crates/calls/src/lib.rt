@@ -22,8 +22,6 @@ pub use phases::issued_count;
 pub use phases::phase_fits;
 pub use phases::resting_phase;
 pub use receiving::is_init;
-pub use storing::block0_changed;
-pub use storing::copy_block0;
 pub use storing::store_changed;
 pub use storing::store_numbers;
 
