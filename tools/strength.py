@@ -19,9 +19,10 @@ HEAD = """# Strength of the promises
 Made by `tools/strength.py` from the sources and the must-fail edits; the gate checks that it is up to date.
 
 Each public function, the definitions that its contract cites, where its proof stands ("search": the prover finds it by itself), and
-the wrong answers that are tried on it. A wrong answer is a change of code or of a definition in `crates/NAME/must-fail/*.edit`; the gate
-applies it, the prover must refuse it, and `tools/refusals.py` looks that it is refused by itself and for a false fact. Where a change
-is made in a helper, or refused in a law, that is named in brackets. The promises in words are in docs/PROMISES.md.
+the wrong answers that are tried on it, each with the rule that it breaks or with what it would do. A wrong answer is a change of code or
+of a definition in `crates/NAME/must-fail/*.edit`; the gate applies it, the prover must refuse it, and `tools/refusals.py` looks that it is
+refused by itself and for a false fact. Where a change is made in a helper, or refused in a law, that is named in brackets. The promises
+in words are in docs/PROMISES.md.
 
 """
 FUNCTION = re.compile(r"^(pub )?(?:extern \"C\" )?fn (\w+)\(", re.M)
