@@ -9,10 +9,12 @@ use borrow.Author.Tests.{eqb-true, eq-eqb}
 use lib.Dec.{eqb}
 use lib.ListN.{length, getD, take, drop, length-take, length-drop, drop-of-length-le}
 use lib.Seq.{drop-cons, getD-drop, getD-take}
+use Rattle.octets.specs.Fill.{zeroed}
 use Rattle.octets.specs.Part.{part}
 use Rattle.octets.specs.Pick.{both}
 use Rattle.octets.proofs.Choice.{both-true}
-use Rattle.octets.proofs.Part.{part-at}
+use Rattle.octets.proofs.Fill.{filled-at}
+use Rattle.octets.proofs.Part.{part-at, part-inside}
 use Rattle.block.specs.Check.{checkAt}
 use Rattle.block.specs.Zeros.{allZero}
 
@@ -46,6 +48,13 @@ zero-from s k z i l =
 -- past the end there are only zeros
 pub zero-past : (s : List ℕ) (k : ℕ) → length s ≤ k → allZero (drop k s) ≡ true
 zero-past s k l = rw (drop-of-length-le s {i = k} l) allZero-none
+
+-- bytes that were cleared
+pub zeroed-zero : (s : List ℕ) (at n e : ℕ) → at + n ≤ length s → e ≤ at + n → allZero (part (zeroed s at n) at e) ≡ true
+zeroed-zero s at n e room h =
+    bytes-zero (part (zeroed s at n) at e) (λ i l.
+    let inside : i < e - at = part-inside (zeroed s at n) at e i l in
+    part-at (zeroed s at n) at e i inside ∙ filled-at n (λ j. 0) s at i room (omega arith))
 
 -- of a block's bytes up to its check
 pub body-zero : (b : List ℕ) (end k : ℕ) → end ≤ k → allZero (part b end checkAt) ≡ true → allZero (drop k (take checkAt b)) ≡ true

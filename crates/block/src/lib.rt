@@ -2,7 +2,7 @@
 ghost use mathlib.Core.Path.{_≡_};
 ghost use mathlib.Core.Bool.{true};
 ghost use Prim.Native.Nat.{_≤_};
-ghost use lib.ListN.{length};
+ghost use lib.ListN.{length, take};
 ghost use Rattle.octets.specs.Part.{part};
 ghost use Rattle.block.specs.Zeros.{allZero};
 ghost use Rattle.block.specs.Check.{blockSize, checkAt, checkOf, sound, sealed, blockCheckOf};
@@ -30,6 +30,14 @@ fn check(s: &[u8]) -> u32
     rows::check_rows(s, 32)
 }
 
+// The check of a block whose bytes from `end` up to the check are zero: only the rows with a byte before `end` are summed.
+fn check_before(block: &[u8], end: usize) -> u32
+    requires { ⌜ (length (now block) ≡ blockSize) × (end ≤ checkAt) × (allZero (part (now block) end checkAt) ≡ true) ⌝ }
+    ensures { λ r. ⌜ r ≡ checkOf (take checkAt (now (block .entry))) ⌝ }
+{
+    rows::check_rows(&block[0..CHECK_AT], (end + 15) / 16)
+}
+
 // Whether the block has its check.
 pub fn is_sound(block: &[u8]) -> bool
     requires { ⌜ length (now block) ≡ blockSize ⌝ }
@@ -43,7 +51,7 @@ pub fn is_sound_before(block: &[u8], end: usize) -> bool
     requires { ⌜ (length (now block) ≡ blockSize) × (end ≤ checkAt) × (allZero (part (now block) end checkAt) ≡ true) ⌝ }
     ensures { λ r. ⌜ r ≡ sound (now (block .entry)) ⌝ }
 {
-    octets::get_u32(block, CHECK_AT) == rows::check_rows(&block[0..CHECK_AT], (end + 15) / 16)
+    octets::get_u32(block, CHECK_AT) == check_before(block, end)
 }
 
 // Writes the check of the block.
@@ -53,6 +61,15 @@ pub fn seal(block: &mut [u8])
 {
     let check = check(&block[0..CHECK_AT]);
     octets::put_u32(block, CHECK_AT, check);
+}
+
+// Writes the check of a block whose bytes from `end` up to the check are zero: the same check, in less time.
+pub fn seal_before(block: &mut [u8], end: usize)
+    requires { ⌜ (length (now block) ≡ blockSize) × (end ≤ checkAt) × (allZero (part (now block) end checkAt) ≡ true) ⌝ }
+    ensures { λ _. ⌜ now (block .exit) ≡ sealed (now (block .entry)) ⌝ }
+{
+    let sum = check_before(block, end);
+    octets::put_u32(block, CHECK_AT, sum);
 }
 
 // The check of the first 508 of any bytes.

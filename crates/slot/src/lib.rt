@@ -47,8 +47,9 @@ pub fn write_slot(block: &mut [u8], m: &[u8], kind: Kind, label: u32)
     let n = m.len();
     put_head(block, n as u16, message::kind_number(kind), label);
     octets::copy_to(block, MESSAGE_AT, m);
-    octets::zero_to(block, MESSAGE_AT + n, ROOM - n);
-    block::seal(block);
+    let end = MESSAGE_AT + n;
+    octets::zero_to(block, end, ROOM - n);
+    block::seal_before(block, end);
 }
 
 // The length that the slot gives its message.
