@@ -1,16 +1,18 @@
 -- Numbers and label words that the image says already. Assumes nothing.
 use mathlib.Core.Path.{_≡_, sym, _∙_}
-use mathlib.Core.Bool.{Bool, true, false, not}
+use mathlib.Core.Bool.{false}
 use mathlib.Core.List.{List}
-use Prim.Native.Nat.{ℕ}
-use borrow.Author.Tests.{not-true}
+use Prim.Native.Nat.{ℕ, _≤_}
+use lib.ListN.{length}
 use Rattle.octets.specs.Bytes.{Bytes}
 use Rattle.octets.specs.Differ.{differ}
-use Rattle.octets.proofs.Differ.{differ-self, differ-false}
+use Rattle.octets.proofs.Differ.{differ-self, differ-false, Same, same-none, same-all}
+use Rattle.label_list.specs.Word.{wordCount}
 use Rattle.block0.specs.declared.Header.{Header}
 use Rattle.image.specs.Sizes.{block}
 use Rattle.image.specs.State.{decode, store0}
 use Rattle.image.specs.Verdict.{IsSound}
+use Rattle.image.proofs.Ranges.{labels-count}
 use Rattle.image.proofs.Same.{store-same}
 
 pub header-eq : {a b : Header} → a .released .0 ≡ b .released .0 → a .issued .0 ≡ b .issued .0 → a .secured .0 ≡ b .secured .0 → a .first ≡ b .first
@@ -27,9 +29,12 @@ header-eq e₁ e₂ e₃ e₄ e₅ e₆ e₇ e₈ e₉ = λ i. record {
   maxpdu = e₉ i;
 }
 
--- the premises are what the callees ensure
-pub words-said : {words own ls : List ℕ} {b : Bool} → own ≡ ls → b ≡ differ words own → not b ≡ true → words ≡ ls
-words-said {words} {own} {ls} {b} eo eb t = differ-false words own (sym eb ∙ not-true b t) ∙ eo
+-- as many words as the image has, and all compared
+pub words-begin : (im words : List ℕ) → length words ≡ wordCount → Same words (decode im .labels) 0
+words-begin im words n = same-none words (decode im .labels) (n ∙ sym (labels-count im))
+
+pub words-said : (words ls : List ℕ) (i : ℕ) → Same words ls i → length words ≤ i → words ≡ ls
+words-said words ls i s h = differ-false words ls (sym (same-all words ls i s h))
 
 pub stored-same : (im : List ℕ) {h : Header} {words : List ℕ} → IsSound im → Bytes im → h ≡ decode im .header → words ≡ decode im .labels
     → (im ≡ store0 im h words) × (false ≡ differ (block im 0) (block im 0))

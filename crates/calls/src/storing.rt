@@ -61,24 +61,7 @@ fn same_numbers(a: Header, b: Header) -> bool
     true
 }
 
-// Whether two runs of words are not the same.
-fn words_differ(a: &[u32], b: &[u32]) -> bool
-    ensures { λ r. ⌜ r ≡ differ (now (a .entry)) (now (b .entry)) ⌝ }
-{
-    if a.len() != b.len() {
-        return true;
-    }
-    let mut i: usize = 0;
-    while i < a.len() {
-        if a[i] != b[i] {
-            return true;
-        }
-        i += 1;
-    }
-    false
-}
-
-// Whether the image says these numbers and words already.
+// Whether the image says these numbers and words already: each word is compared where it stands, up to the first that is another.
 fn says(image: &[u8], h: Header, words: &[u32]) -> bool
     requires { ⌜ length (now image) ≡ imageSize ⌝ }
     ensures { λ r. ⌜ (r ≡ true → (h ≡ decode (now (image .entry)) .header) × (now (words .entry) ≡ decode (now (image .entry)) .labels)) ⌝ }
@@ -86,9 +69,17 @@ fn says(image: &[u8], h: Header, words: &[u32]) -> bool
     if !same_numbers(h, image::header_of(image)) {
         return false;
     }
-    let mut own = [0u32; label_list::WORD_COUNT];
-    image::labels_of(image, &mut own);
-    !words_differ(words, &own)
+    if words.len() != label_list::WORD_COUNT {
+        return false;
+    }
+    let mut i: usize = 0;
+    while i < words.len() {
+        if words[i] != image::label_at(image, i) {
+            return false;
+        }
+        i += 1;
+    }
+    true
 }
 
 // Stores block 0; whether its bytes changed. What the image says already is not written again.

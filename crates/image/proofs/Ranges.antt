@@ -60,6 +60,10 @@ bytes-in-range image byte = record {
   labels = words-bytes wordCount (block image 0) labelsAt (bytes-block image 0 byte);
 }
 
+pub labels-count : (image : List ℕ) → length (decode image .labels) ≡ wordCount
+unfolding decode labelsOf
+labels-count image = length-wordsAt wordCount (block image 0) labelsAt
+
 -- valid label words have their width too
 pub valid-words : (ls : List ℕ) → length ls ≡ wordCount → validOf ls ≡ true → Words wordCount ls
 valid-words ls n v = record { count = n; each = λ i. omega (arith, valid-range (valid-means ls v) i) }

@@ -41,28 +41,19 @@ pub fn format(image: &mut [u8]) -> Verdict
     Verdict::Sound
 }
 
-// Whether a word has code 6.
-fn any_unprotected(words: &[u32]) -> bool
-    ensures { λ r. ⌜ r ≡ unprotected (now (words .entry)) ⌝ }
+// Whether a break frees a label word: each is read where it stands, up to the first of code 6. Where none is freed the image stays as it is.
+pub fn has_unprotected(image: &[u8]) -> bool
+    requires { ⌜ length (now image) ≡ imageSize ⌝ }
+    ensures { λ r. ⌜ r ≡ unprotected (decode (now (image .entry)) .labels) ⌝ }
 {
     let mut i: usize = 0;
-    while i < words.len() {
-        if words[i] / label_list::LABEL_COUNT == 6 {
+    while i < label_list::WORD_COUNT {
+        if crate::label_at(image, i) / label_list::LABEL_COUNT == 6 {
             return true;
         }
         i += 1;
     }
     false
-}
-
-// Whether a break frees a label word. Where none is freed the image stays as it is.
-pub fn has_unprotected(image: &[u8]) -> bool
-    requires { ⌜ length (now image) ≡ imageSize ⌝ }
-    ensures { λ r. ⌜ r ≡ unprotected (decode (now (image .entry)) .labels) ⌝ }
-{
-    let mut words = [0u32; label_list::WORD_COUNT];
-    crate::labels_of(image, &mut words);
-    any_unprotected(&words)
 }
 
 // As after a break: the label words of code 6 are freed.
