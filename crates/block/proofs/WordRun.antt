@@ -1,14 +1,14 @@
 -- The laws of a run of 32-bit words, from those of a run. Assumes nothing.
-use mathlib.Core.Path.{_≡_, refl, sym, ap, _∙_}
+use mathlib.Core.Path.{_≡_, refl, ap, _∙_}
 use mathlib.Core.List.{List, [], _∷_}
 use mathlib.Core.Logic.{_≢_}
-use Prim.Native.Nat.{ℕ, zero, suc, _+_, _-_, _*_, _^_, _≤_, _<_}
+use Prim.Native.Nat.{ℕ, zero, suc, _+_, _-_, _*_, _≤_, _<_}
 use native.Mathlib.Numerals.{add-one}
 use native.Mathlib.Omega.{arith}
 use lib.ListN.{length, getD, drop, replicate}
 use lib.Seq.{drop-cons}
 use Rattle.octets.specs.Be.{beAt, putBe}
-use Rattle.block.specs.Run.{getRun, putRun, runSize, wordsAt, withWords, Words}
+use Rattle.block.specs.Run.{runSize, wordsAt, withWords, Words}
 use Rattle.block.proofs.Run.{Fit, none, one, length-putRun, getD-putRun, getRun-putRun, getRun-same, zeros-getRun, getRun-zeros}
 
 size : (n : ℕ) → runSize (replicate n 4) ≡ n * 4

@@ -1,11 +1,11 @@
 -- The answers of `fieldsOk`, by the tests that lead to each. Assumes nothing.
-use mathlib.Core.Path.{_≡_, refl, sym, ap, _∙_}
+use mathlib.Core.Path.{_≡_, refl, sym, _∙_}
 use mathlib.Core.Bool.{Bool, true, false, not}
 use mathlib.Core.List.{List}
 use Prim.Native.Nat.{ℕ}
 use borrow.Author.Tests.{eq-eqb, ne-eqb, not-true, not-false}
 use Rattle.octets.specs.Be.{beAt}
-use Rattle.octets.specs.Pick.{pick, both}
+use Rattle.octets.specs.Pick.{both}
 use Rattle.label_list.specs.Valid.{validOf}
 use Rattle.block.specs.Zeros.{allZero}
 use Rattle.block0.specs.declared.Header.{Header}

@@ -1,6 +1,6 @@
 -- The example of docs/LDP_DUMP.md computes: a Mapping with FT Protection, and a malformed Withdraw. Assumes nothing.
 use mathlib.Core.Path.{_≡_, refl}
-use mathlib.Core.List.{List, [], _∷_, _++_}
+use mathlib.Core.List.{List, [], _∷_}
 use Prim.Native.Nat.{ℕ}
 use Rattle.octets.specs.Fix.{fix, steps}
 use Rattle.tlv.specs.Tlv.{tlvOf}

@@ -7,7 +7,7 @@ use borrow.Author.Tests.{le-leb, lt-leb, eq-eqb, ne-eqb}
 use mir.Syntax.{Width, w32}
 use mir.Val.{hbits, SFits, toZ, ofZ}
 use mir.Facts.{toZ-pos, toZ-ofZ}
-use Rattle.ft_number.specs.Circle.{circle, next, after, forward, stepsOf}
+use Rattle.ft_number.specs.Circle.{circle, forward, stepsOf}
 use Rattle.ft_number.specs.Ack.{ackOf}
 use Rattle.ft_number.specs.Distance.{distanceOf}
 use Rattle.ft_number.specs.Timeout.{lesserOf}

@@ -1,13 +1,13 @@
 -- Fields of joined lists, and the bytes that spell a number, each once over the width. Assumes nothing.
 use mathlib.Core.Path.{_≡_, refl, sym, ap, _∙_}
-use mathlib.Core.List.{List, [], _∷_, _++_, append-assoc}
-use Prim.Native.Nat.{ℕ, zero, suc, _+_, _*_, _/_, _%_, _^_, _≤_, _<_}
-use native.Mathlib.Nat.{add-zero, add-assoc, pow-suc, mod-eq-of-lt, mod-one}
+use mathlib.Core.List.{List, [], _∷_, _++_}
+use Prim.Native.Nat.{ℕ, zero, suc, _+_, _/_, _%_, _^_, _≤_, _<_}
+use native.Mathlib.Nat.{add-assoc, pow-suc, mod-eq-of-lt, mod-one}
 use native.Mathlib.Omega.{arith}
 use lib.Arith.{mod-mul}
 use lib.ListN.{length, getD, drop, length-append, List·getD-append}
 use lib.Seq.{getD-drop, getD-append-add}
-use Rattle.octets.specs.Be.{beAt, putBe, bytes}
+use Rattle.octets.specs.Be.{beAt, bytes}
 use Rattle.octets.proofs.Be.{beAt-suc, beAt-same, pos}
 
 -- a field of what follows the first n elements

@@ -9,7 +9,7 @@ use lib.Dec.{eqb}
 use Rattle.octets.specs.Be.{beAt}
 use Rattle.octets.specs.Pick.{pick}
 use Rattle.octets.proofs.Fix.{Shrinks, fix-step}
-use Rattle.pdu.specs.Pdu.{placeOf, Spot, onPlace, countStep, bytesLeft, countedFrom, openedOf}
+use Rattle.pdu.specs.Pdu.{placeOf, onPlace, countStep, bytesLeft, countedFrom, openedOf}
 use Rattle.pdu.specs.declared.Opened
 use Rattle.pdu.specs.declared.Opened.{Opened}
 use Rattle.pdu.specs.declared.Place

@@ -7,7 +7,7 @@ use borrow.Author.Tests.{le-leb, lt-leb, eq-eqb, ne-eqb, not-true, not-false}
 use lib.Dec.{eqb}
 use Rattle.octets.specs.Be.{beAt}
 use Rattle.octets.specs.Part.{part}
-use Rattle.octets.specs.Pick.{pick, both}
+use Rattle.octets.specs.Pick.{both}
 use Rattle.message.specs.Kinds.{kindNumber}
 use Rattle.message.specs.Submission.{submissionOf}
 use Rattle.message.specs.declared.Kind.{Kind}
@@ -17,7 +17,6 @@ use Rattle.block.specs.Check.{checkAt, sound}
 use Rattle.block.specs.Zeros.{allZero}
 use Rattle.slot.specs.Layout.{shortest, longest, lengthOf, kindOf, labelOf, messageAt, messageOf, paddingOf}
 use Rattle.slot.specs.Fields.{bears, slotOk, Padded, slotVerdict}
-use Rattle.slot.specs.declared.SlotVerdict.{SlotVerdict}
 use Rattle.slot.specs.declared.SlotVerdict.the-variants.{Good, BadCheck, BadFields}
 
 module _ (j : Submission) (k : Kind) (l : ℕ) (ej : j ≡ Accepted k l) (n kind : ℕ) (en : n ≡ kindNumber k) where

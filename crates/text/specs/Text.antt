@@ -1,6 +1,6 @@
 -- Numbers, bytes and words as text in ASCII, and text put into bytes.
 use Prim.Native.Nat.{ℕ, _+_, _/_, _%_}
-use Prim.Native.Char.{Char, code}
+use Prim.Native.Char.{code}
 use Prim.Native.String as S
 use Prim.Native.String.{String}
 use mathlib.Core.Path.{_≡_}

@@ -1,7 +1,6 @@
 -- `block0::issued_are_held` meets its contract, in either case of the steps. Assumes nothing.
 use native.Mathlib.Omega.{arith}
 use borrow.Author.Needs.{needs}
-use mathlib.Core.Path.{refl}
 use Rattle.block0.proofs.issued_are_held.Statement.{statement}
 use Rattle.block0.proofs.issued_are_held.Tie as tie
 

@@ -1,6 +1,5 @@
 use Prim.Native.Nat.{_-_}
 use native.Mathlib.Omega.{arith}
-use lib.ListN.{length, getD}
 use Rattle.octets.proofs.Fill.{Filling, filling-none, filling-one, filling-all}
 use Rattle.octets.proofs.zero_to.Statement.{statement}
 use Rattle.octets.proofs.zero_to.Tie as tie

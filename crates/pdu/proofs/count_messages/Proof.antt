@@ -1,7 +1,7 @@
 -- `pdu::count_messages` meets its contract. The loop's invariant: the messages from `at` on, counted on from `count`, are those of the whole PDU.
 -- Assumes nothing.
 use borrow.Author.Needs.{needs}
-use Prim.Native.Nat.{_+_, _-_, _≤_}
+use Prim.Native.Nat.{_-_, _≤_}
 use mathlib.Core.Path.{_≡_, refl, sym, _∙_}
 use native.Mathlib.Omega.{arith}
 use lib.ListN.{length}

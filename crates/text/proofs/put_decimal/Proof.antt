@@ -1,6 +1,6 @@
 -- `text::put_decimal` meets its contract: the fewest digits that hold the number are its decimal text, and they are at most 20. Assumes nothing.
 use borrow.Author.Needs.{needs}
-use mathlib.Core.Path.{_≡_, _∙_}
+use mathlib.Core.Path.{_∙_}
 use Prim.Native.Nat.{_≤_}
 use native.Mathlib.Omega.{arith}
 use Rattle.text.proofs.Digits.{digits-decimal, fewest-short}

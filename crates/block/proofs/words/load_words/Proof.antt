@@ -6,7 +6,6 @@ use lib.ListN.{length, getD, length-set}
 use lib.Seq.{ext-getD, getD-set-same, getD-set-other}
 use mathlib.Core.Logic.{_≢_}
 use borrow.Author.Count.{below-more}
-use borrow.Author.Needs.{needs}
 use Rattle.octets.specs.Be.{beAt}
 use Rattle.block.specs.Run.{wordsAt}
 use Rattle.block.proofs.WordRun.{length-wordsAt, getD-wordsAt}

@@ -1,5 +1,5 @@
 use borrow.Author.Needs.{needs}
-use mathlib.Core.Path.{sym, ap, _∙_}
+use mathlib.Core.Path.{sym, _∙_}
 use borrow.Author.Tests.{not-true, not-false}
 use Rattle.image.proofs.Sound.{sound-parts}
 use Rattle.calls.proofs.Settled.{admit-checks, checks-sound, fits-read, admit-phase, admit-rest}

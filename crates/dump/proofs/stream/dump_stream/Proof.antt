@@ -1,7 +1,6 @@
 -- `dump::stream::dump_stream` is safe and ends. The measure is the count of numbers that are left. Assumes nothing.
 use borrow.Author.Needs.{needs}
-use native.Mathlib.Omega.{arith}
-use Prim.Native.Nat.{_-_, _≤_}
+use Prim.Native.Nat.{_-_}
 use mathlib.Core.Path.{_≡_}
 use lib.ListN.{length}
 use Rattle.octets.proofs.Fill.{length-zeros}

@@ -1,5 +1,5 @@
 use mathlib.Core.Bool.{false≢true}
-use mathlib.Core.Path.{sym, ap, _∙_}
+use mathlib.Core.Path.{sym, _∙_}
 use borrow.Author.Needs.{needs}
 use Rattle.receive.proofs.judging.load_acked.Statement.{statement}
 use Rattle.receive.proofs.judging.load_acked.Tie as tie
