@@ -111,6 +111,22 @@ def restart(p):
     p.both()
 
 
+def net_zero(p):
+    p.title("a net-zero pair")
+    p.fresh()
+    p.mapping(P1, 107)
+    p.withdraw(P1, 107)
+    p.send_lost(P1)
+    p.send_lost(P1)
+    p.both()
+    p.lose()
+    p.connect()
+    p.pass_on(P1)
+    p.pass_on(P1)
+    p.alive(P2)
+    p.both()
+
+
 def timeouts(p):
     p.title("timeouts")
     p.fresh()
@@ -346,7 +362,7 @@ def plain_session(p):
 
 def main():
     p = Pair()
-    for part in (example, recovery, restart, timeouts, lengths, full_store, full_labels, messages, refused_images, beginnings, plain_session):
+    for part in (example, recovery, restart, net_zero, timeouts, lengths, full_store, full_labels, messages, refused_images, beginnings, plain_session):
         part(p)
     crate = pathlib.Path(__file__).resolve().parents[2] / "crates/session_cases"
     for name, lines in (("stdin", SCRIPT), ("stdout", LINES)):
