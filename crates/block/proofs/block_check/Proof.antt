@@ -9,11 +9,11 @@ use Rattle.block.proofs.block_check.Tie as tie
 pub block-check-spec : {M : Type 1} → statement M
 unfolding blockCheckOf
 block-check-spec =
-    tie.close
-    (tie.spec
+    let answers = tie.spec
     (λ c. simp (lt-leb _ _ (c .if1 .taken)))
     (λ c. omega arith)
     (λ c. omega arith)
     (λ c. omega arith)
     (λ c κs. search needs)
-    (λ c. simp (le-leb _ _ (c .before .before .if1 .left), c .check .ensures)))
+    (λ c. simp (le-leb _ _ (c .before .before .if1 .left), c .check .ensures)) in
+    tie.close answers

@@ -6,7 +6,7 @@ use Rattle.block.proofs.check.Tie as tie
 
 pub check-spec : {M : Type 1} → statement M
 check-spec =
-    tie.close
-    (tie.spec
+    let answers = tie.spec
     (λ c κs. (omega arith, c .before .pre, zero-past (c .before .args .s .now) 512 (omega arith)))
-    (λ c. c .check-rows .ensures))
+    (λ c. c .check-rows .ensures) in
+    tie.close answers

@@ -8,11 +8,11 @@ use Rattle.block.proofs.check_before.Tie as tie
 
 pub check-before-spec : {M : Type 1} → statement M
 check-before-spec =
-    tie.close
-    (tie.spec
+    let answers = tie.spec
     (λ c. omega arith)
     (λ c. omega arith)
     (λ c. omega arith)
     (λ c. omega arith)
     (λ c κs. let a = c .before .before .args in let p = c .before .before .pre in (omega arith, simp length-take (omega arith), body-zero (a .block .now) (a .end) ((a .end + 15) / 16 * 16) (omega arith) (p .2)))
-    (λ c. c .check-rows .ensures))
+    (λ c. c .check-rows .ensures) in
+    tie.close answers

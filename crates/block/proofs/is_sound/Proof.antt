@@ -10,11 +10,11 @@ use Rattle.block.proofs.is_sound.Tie as tie
 pub is-sound-spec : {M : Type 1} → statement M
 unfolding sound
 is-sound-spec =
-    tie.close
-    (tie.spec
+    let answers = tie.spec
     (λ c κs. omega arith)
     (λ c. omega arith)
     (λ c. omega arith)
     (λ c. omega arith)
     (λ c κs. search needs)
-    (λ c. ap₂ eqb (c .before .before .get-u32 .ensures) (c .check .ensures)))
+    (λ c. ap₂ eqb (c .before .before .get-u32 .ensures) (c .check .ensures)) in
+    tie.close answers

@@ -9,8 +9,8 @@ use Rattle.block.proofs.is_sound_before.Tie as tie
 pub is-sound-before-spec : {M : Type 1} → statement M
 unfolding sound
 is-sound-before-spec =
-    tie.close
-    (tie.spec
+    let answers = tie.spec
     (λ c κs. omega arith)
     (λ c κs. c .before .before .pre)
-    (λ c. ap₂ eqb (c .before .get-u32 .ensures) (c .check-before .ensures)))
+    (λ c. ap₂ eqb (c .before .get-u32 .ensures) (c .check-before .ensures)) in
+    tie.close answers

@@ -10,12 +10,12 @@ use Rattle.block.proofs.seal.Tie as tie
 pub seal-spec : {M : Type 1} → statement M
 unfolding sealed
 seal-spec =
-    tie.close
-    (tie.spec
+    let answers = tie.spec
     (λ c. omega arith)
     (λ c. omega arith)
     (λ c. omega arith)
     (λ c κs. search needs)
     (λ c κs. omega arith)
     (λ c. search needs)
-    (λ c. c .before .before .put-u32 .ensures ∙ ap (putBe 4 (c .before .before .before .before .before .before .before .before .args .block .now) 508) (c .before .before .before .before .check .ensures)))
+    (λ c. c .before .before .put-u32 .ensures ∙ ap (putBe 4 (c .before .before .before .before .before .before .before .before .args .block .now) 508) (c .before .before .before .before .check .ensures)) in
+    tie.close answers

@@ -10,9 +10,9 @@ use Rattle.block.proofs.seal_before.Tie as tie
 pub seal-before-spec : {M : Type 1} → statement M
 unfolding sealed
 seal-before-spec =
-    tie.close
-    (tie.spec
+    let answers = tie.spec
     (λ c κs. c .before .before .pre)
     (λ c κs. omega arith)
     (λ c. search needs)
-    (λ c. c .before .before .put-u32 .ensures ∙ ap (putBe 4 (c .before .before .before .before .before .before .before .args .block .now) 508) (c .before .before .before .before .check-before .ensures)))
+    (λ c. c .before .before .put-u32 .ensures ∙ ap (putBe 4 (c .before .before .before .before .before .before .before .args .block .now) 508) (c .before .before .before .before .check-before .ensures)) in
+    tie.close answers

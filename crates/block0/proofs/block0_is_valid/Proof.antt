@@ -7,8 +7,7 @@ use Rattle.block0.proofs.block0_is_valid.Tie as tie
 
 pub block0-is-valid-spec : {M : Type 1} → statement M
 block0-is-valid-spec =
-    tie.close
-    (tie.spec
+    let answers = tie.spec
     (λ c κs. search needs)
     (λ c. search (needs, judged))
     (λ c κs. search needs)
@@ -22,4 +21,5 @@ block0-is-valid-spec =
     (λ c κs. search needs)
     (λ c. search (needs, judged))
     (λ c κs. search needs)
-    (λ c. search (needs, judged)))
+    (λ c. search (needs, judged)) in
+    tie.close answers

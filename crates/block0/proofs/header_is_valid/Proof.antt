@@ -8,10 +8,10 @@ use Rattle.block0.proofs.header_is_valid.Tie as tie
 pub header-is-valid-spec : {M : Type 1} → statement M
 unfolding headerOk
 header-is-valid-spec =
-    tie.close
-    (tie.spec
+    let answers = tie.spec
     (λ c. simp (le-ltb _ _ (c .if1 .taken)))
     (λ c. simp (lt-ltb _ _ (c .before .before .if1 .left), lt-leb _ _ (c .if2 .taken)))
     (λ c. simp (lt-ltb _ _ (c .before .before .before .before .if1 .left), le-leb _ _ (c .before .before .if2 .left), lt-leb _ _ (c .if3 .taken)))
     (λ c κs. search needs)
-    (λ c. simp (lt-ltb _ _ (c .before .before .before .before .before .if1 .left), le-leb _ _ (c .before .before .before .if2 .left), le-leb _ _ (c .before .if3 .left), c .issued-are-held .ensures)))
+    (λ c. simp (lt-ltb _ _ (c .before .before .before .before .before .if1 .left), le-leb _ _ (c .before .before .before .if2 .left), le-leb _ _ (c .before .if3 .left), c .issued-are-held .ensures)) in
+    tie.close answers

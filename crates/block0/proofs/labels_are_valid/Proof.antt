@@ -8,8 +8,7 @@ use Rattle.block0.proofs.labels_are_valid.Tie as tie
 
 pub labels-are-valid-spec : {M : Type 1} → statement M
 labels-are-valid-spec =
-    tie.close
-    (tie.spec
+    let answers = tie.spec
     (λ c. search needs)
     (λ c. search needs)
     (λ c. search needs)
@@ -19,4 +18,5 @@ labels-are-valid-spec =
     (λ c κs. search needs)
     (λ c. search needs)
     (λ c κs. search needs)
-    (λ c. c .valid .ensures ∙ ap validOf (c .before .before .before .read-labels .ensures)))
+    (λ c. c .valid .ensures ∙ ap validOf (c .before .before .before .read-labels .ensures)) in
+    tie.close answers

@@ -7,8 +7,7 @@ use Rattle.block0.proofs.read_header.Tie as tie
 pub read-header-spec : {M : Type 1} → statement M
 unfolding headerOf
 read-header-spec =
-    tie.close
-    (tie.spec
+    let answers = tie.spec
     (λ c κs. search needs)
     (λ c κs. search needs)
     (λ c κs. search needs)
@@ -18,4 +17,5 @@ read-header-spec =
     (λ c κs. search needs)
     (λ c κs. search needs)
     (λ c κs. search needs)
-    (λ c. cc))
+    (λ c. cc) in
+    tie.close answers

@@ -10,9 +10,9 @@ use Rattle.block0.proofs.read_label.Tie as tie
 pub read-label-spec : {M : Type 1} → statement M
 unfolding labelsOf
 read-label-spec =
-    tie.close
-    (tie.spec
+    let answers = tie.spec
     (λ c. search needs)
     (λ c. search needs)
     (λ c κs. search needs)
-    (λ c. c .get-u32 .ensures ∙ sym (getD-wordsAt wordCount _ labelsAt _ (c .before .before .pre .1))))
+    (λ c. c .get-u32 .ensures ∙ sym (getD-wordsAt wordCount _ labelsAt _ (c .before .before .pre .1))) in
+    tie.close answers

@@ -15,8 +15,8 @@ returns c =
 
 pub read-labels-spec : {M : Type 1} → statement M
 read-labels-spec =
-    tie.close
-    (tie.spec
+    let answers = tie.spec
     (λ c κs. search needs)
     (λ c. search needs)
-    returns)
+    returns in
+    tie.close answers

@@ -7,11 +7,11 @@ use Rattle.block0.proofs.write_block0.Tie as tie
 pub write-block0-spec : {M : Type 1} → statement M
 unfolding block0
 write-block0-spec =
-    tie.close
-    (tie.spec
+    let answers = tie.spec
     (λ c κs. search needs)
     (λ c κs. search needs)
     (λ c κs. search needs)
     (λ c κs. search needs)
     (λ c. search needs)
-    (λ c. cc))
+    (λ c. cc) in
+    tie.close answers

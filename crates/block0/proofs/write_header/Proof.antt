@@ -6,10 +6,10 @@ use Rattle.block0.proofs.write_header.Tie as tie
 
 pub write-header-spec : {M : Type 1} → statement M
 write-header-spec =
-    tie.close
-    (tie.spec
+    let answers = tie.spec
     (λ c κs. search needs)
     (λ c κs. search needs)
     (λ c κs. search needs)
     (λ c. search needs)
-    (λ c. labels-kept _ _ (c .before .before .before .before .before .before .before .before .before .before .put-numbers .ensures) (c .before .before .before .before .before .before .put-rest .ensures) (λ k. c .before .before .before .before .slice-known3 .given k .fits) (c .before .before .seal .ensures)))
+    (λ c. labels-kept _ _ (c .before .before .before .before .before .before .before .before .before .before .put-numbers .ensures) (c .before .before .before .before .before .before .put-rest .ensures) (λ k. c .before .before .before .before .slice-known3 .given k .fits) (c .before .before .seal .ensures)) in
+    tie.close answers

@@ -28,8 +28,7 @@ returns-2 c =
 
 pub dump-pdu-spec : {M : Type 1} → statement M
 dump-pdu-spec =
-    tie.close
-    (tie.spec
+    let answers = tie.spec
     (λ c. search needs)
     (λ c. search needs)
     put-lines-requires
@@ -40,4 +39,5 @@ dump-pdu-spec =
     (λ c. search needs)
     returns
     (λ c. search needs)
-    returns-2)
+    returns-2 in
+    tie.close answers

@@ -33,8 +33,7 @@ loop-again c =
 
 pub put-lines-spec : {M : Type 1} → statement M
 put-lines-spec =
-    tie.close
-    (tie.spec Inv-loop μ-loop
+    let answers = tie.spec Inv-loop μ-loop
     (λ c. lines-start _ _ _ _ (c .before .before .pre .0))
     (λ c. search needs)
     (λ c. search needs)
@@ -44,4 +43,5 @@ put-lines-spec =
     (λ c. search needs)
     loop-again
     (λ c. c .before .loop .inv .same)
-    (λ c. (lines-end _ _ _ _ _ _ _ _ (c .before .loop .inv) (c .loop-test .left), omega arith)))
+    (λ c. (lines-end _ _ _ _ _ _ _ _ (c .before .loop .inv) (c .loop-test .left), omega arith)) in
+    tie.close answers

@@ -7,8 +7,7 @@ use Rattle.dump_fields.proofs.put_bytes.Tie as tie
 
 pub put-bytes-spec : {M : Type 1} → statement M
 put-bytes-spec =
-    tie.close
-    (tie.spec
+    let answers = tie.spec
     (λ c. search needs)
     (λ c. search needs)
     (λ c. search needs)
@@ -16,4 +15,5 @@ put-bytes-spec =
     (λ c. search (needs, pieces, values))
     (λ c. search needs)
     (λ c. search needs)
-    (λ c. search (needs, pieces, values)))
+    (λ c. search (needs, pieces, values)) in
+    tie.close answers

@@ -7,8 +7,7 @@ use Rattle.dump_fields.proofs.put_fec.Tie as tie
 
 pub put-fec-spec : {M : Type 1} → statement M
 put-fec-spec =
-    tie.close
-    (tie.spec
+    let answers = tie.spec
     (λ c. search needs)
     (λ c. search needs)
     (λ c. search needs)
@@ -20,4 +19,5 @@ put-fec-spec =
     (λ c. search needs)
     (λ c. rw (c .before .before .before .before .before .enum-told2 .given .1) (c .before .before .put-bytes .ensures .0, search needs))
     (λ c. search needs)
-    (λ c. rw (c .before .before .before .before .before .enum-told3 .given .1) (c .before .before .put-bytes2 .ensures .0, search needs)))
+    (λ c. rw (c .before .before .before .before .before .enum-told3 .given .1) (c .before .before .put-bytes2 .ensures .0, search needs)) in
+    tie.close answers

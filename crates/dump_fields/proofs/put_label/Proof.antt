@@ -7,8 +7,7 @@ use Rattle.dump_fields.proofs.put_label.Tie as tie
 
 pub put-label-spec : {M : Type 1} → statement M
 put-label-spec =
-    tie.close
-    (tie.spec
+    let answers = tie.spec
     (λ c. search needs)
     (λ c. search needs)
     (λ c. search needs)
@@ -16,4 +15,5 @@ put-label-spec =
     (λ c. search needs)
     (λ c. rw (c .enum-told .given .1) (put-none _ _, omega arith))
     (λ c. search needs)
-    (λ c. rw (c .before .before .before .before .before .before .label .given .1) (c .before .before .put-number .ensures .0, search needs)))
+    (λ c. rw (c .before .before .before .before .before .before .label .given .1) (c .before .before .put-number .ensures .0, search needs)) in
+    tie.close answers

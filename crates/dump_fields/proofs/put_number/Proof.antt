@@ -6,9 +6,9 @@ use Rattle.dump_fields.proofs.put_number.Tie as tie
 
 pub put-number-spec : {M : Type 1} → statement M
 put-number-spec =
-    tie.close
-    (tie.spec
+    let answers = tie.spec
     (λ c. search needs)
     (λ c. search needs)
     (λ c. search needs)
-    (λ c. search (needs, pieces)))
+    (λ c. search (needs, pieces)) in
+    tie.close answers

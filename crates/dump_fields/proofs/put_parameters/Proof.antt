@@ -7,12 +7,12 @@ use Rattle.dump_fields.proofs.put_parameters.Tie as tie
 
 pub put-parameters-spec : {M : Type 1} → statement M
 put-parameters-spec =
-    tie.close
-    (tie.spec
+    let answers = tie.spec
     (λ c. search needs)
     (λ c. search needs)
     (λ c. search needs)
     (λ c. search needs)
     (λ c. rw (c .enum-told .given .1) (put-none _ _, omega arith))
     (λ c. search needs)
-    (λ c. rw (c .before .before .before .before .before .enum-told2 .given .1) (c .before .before .put-bytes .ensures .0, search needs)))
+    (λ c. rw (c .before .before .before .before .before .enum-told2 .given .1) (c .before .before .put-bytes .ensures .0, search needs)) in
+    tie.close answers

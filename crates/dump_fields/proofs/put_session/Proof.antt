@@ -7,8 +7,7 @@ use Rattle.dump_fields.proofs.put_session.Tie as tie
 
 pub put-session-spec : {M : Type 1} → statement M
 put-session-spec =
-    tie.close
-    (tie.spec
+    let answers = tie.spec
     (λ c. search needs)
     (λ c. search needs)
     (λ c. search needs)
@@ -19,4 +18,5 @@ put-session-spec =
     (λ c. search needs)
     (λ c. rw (c .enum-told .given .1) (put-none _ _, omega arith))
     (λ c. search needs)
-    (λ c. rw (c .before .before .before .before .before .before .before .before .before .before .before .before .session .given .1, ← c .before .before .before .before .before .before .before .before .bit-of .ensures) (put-then (c .before .before .before .before .before .before .before .put-number .ensures .0) (c .before .before .put-number2 .ensures .0), search needs)))
+    (λ c. rw (c .before .before .before .before .before .before .before .before .before .before .before .before .session .given .1, ← c .before .before .before .before .before .before .before .before .bit-of .ensures) (put-then (c .before .before .before .before .before .before .before .put-number .ensures .0) (c .before .before .put-number2 .ensures .0), search needs)) in
+    tie.close answers

@@ -7,8 +7,7 @@ use Rattle.dump_fields.proofs.put_status.Tie as tie
 
 pub put-status-spec : {M : Type 1} → statement M
 put-status-spec =
-    tie.close
-    (tie.spec
+    let answers = tie.spec
     (λ c. search needs)
     (λ c. search needs)
     (λ c. search needs)
@@ -18,4 +17,5 @@ put-status-spec =
     (λ c. search needs)
     (λ c. rw (c .enum-told .given .1) (put-none _ _, omega arith))
     (λ c. search needs)
-    (λ c. rw (c .before .before .before .before .before .before .before .before .before .before .status .given .1) (rw (c .before .before .before .before .before .before .before .put-u32 .ensures) at (c .before .before .put-bytes .ensures .0), search needs)))
+    (λ c. rw (c .before .before .before .before .before .before .before .before .before .before .status .given .1) (rw (c .before .before .before .before .before .before .before .put-u32 .ensures) at (c .before .before .put-bytes .ensures .0), search needs)) in
+    tie.close answers

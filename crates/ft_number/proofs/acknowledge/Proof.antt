@@ -43,8 +43,7 @@ returns-4 c = unreachable _ _ _ (c .before .before .steps-between .ensures) (c .
 
 pub acknowledge-spec : {M : Type 1} → statement M
 acknowledge-spec =
-    tie.close
-    (tie.spec
+    let answers = tie.spec
     steps-between-requires
     enum-known-k
     steps-between-requires-2
@@ -54,4 +53,5 @@ acknowledge-spec =
     returns
     returns-2
     returns-3
-    returns-4)
+    returns-4 in
+    tie.close answers

@@ -35,8 +35,7 @@ returns-4 c = behind _ _ (omega arith) (omega arith) (c .before .places .ensures
 
 pub signed-distance-spec : {M : Type 1} → statement M
 signed-distance-spec =
-    tie.close
-    (tie.spec
+    let answers = tie.spec
     returns
     returns-2
     places-requires
@@ -45,4 +44,5 @@ signed-distance-spec =
     cast-t10
     sub-t11
     returns-3
-    returns-4)
+    returns-4 in
+    tie.close answers

@@ -6,8 +6,7 @@ use Rattle.image.proofs.check_image.Tie as tie
 
 pub check-image-spec : {M : Type 1} → statement M
 check-image-spec =
-    tie.close
-    (tie.spec
+    let answers = tie.spec
     (λ c. search (needs, verdicts))
     (λ c κs. search needs)
     (λ c κs. search needs)
@@ -18,4 +17,5 @@ check-image-spec =
     (λ c κs. search needs)
     (λ c κs. search needs)
     (λ c κs. search needs)
-    (λ c. search (needs, verdicts)))
+    (λ c. search (needs, verdicts)) in
+    tie.close answers

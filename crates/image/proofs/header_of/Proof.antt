@@ -7,8 +7,8 @@ use Rattle.image.proofs.header_of.Tie as tie
 pub header-of-spec : {M : Type 1} → statement M
 unfolding decode
 header-of-spec =
-    tie.close
-    (tie.spec
+    let answers = tie.spec
     (λ c κs. search needs)
     (λ c κs. search needs)
-    (λ c. cc))
+    (λ c. cc) in
+    tie.close answers

@@ -12,8 +12,8 @@ use Rattle.image.proofs.label_at.Tie as tie
 pub label-at-spec : {M : Type 1} → statement M
 unfolding decode
 label-at-spec =
-    tie.close
-    (tie.spec
+    let answers = tie.spec
     (λ c κs. search needs)
     (λ c κs. search needs)
-    (λ c. c .read-label .ensures ∙ ap (λ (b : List ℕ). getD (labelsOf b) (c .before .before .before .args .place) 0) (c .before .block-at .ensures .0 .0)))
+    (λ c. c .read-label .ensures ∙ ap (λ (b : List ℕ). getD (labelsOf b) (c .before .before .before .args .place) 0) (c .before .block-at .ensures .0 .0)) in
+    tie.close answers

@@ -7,9 +7,9 @@ use Rattle.image.proofs.labels_of.Tie as tie
 pub labels-of-spec : {M : Type 1} → statement M
 unfolding decode
 labels-of-spec =
-    tie.close
-    (tie.spec
+    let answers = tie.spec
     (λ c κs. search needs)
     (λ c κs. search needs)
     (λ c. search needs)
-    (λ c. cc))
+    (λ c. cc) in
+    tie.close answers

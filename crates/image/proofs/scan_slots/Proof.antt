@@ -16,8 +16,7 @@ abbrev μ-loop : tie.MeasureT-loop
 
 pub scan-slots-spec : {M : Type 1} → statement M
 scan-slots-spec =
-    tie.close
-    (tie.spec Inv-loop μ-loop
+    let answers = tie.spec Inv-loop μ-loop
     (λ c. search (needs, scans))
     (λ c. omega arith)
     (λ c. omega arith)
@@ -31,4 +30,5 @@ scan-slots-spec =
     (λ c. omega arith)
     (λ c. omega arith)
     (λ c. search (needs, scans))
-    (λ c. search (needs, scans)))
+    (λ c. search (needs, scans)) in
+    tie.close answers

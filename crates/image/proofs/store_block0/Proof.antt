@@ -8,11 +8,11 @@ use Rattle.image.proofs.store_block0.Tie as tie
 pub store-block0-spec : {M : Type 1} → statement M
 unfolding store0
 store-block0-spec =
-    tie.close
-    (tie.spec
+    let answers = tie.spec
     (λ c. omega arith)
     (λ c. omega arith)
     (λ c. omega arith)
     (λ c κs. search needs)
     (λ c. search needs)
-    (λ c. cc))
+    (λ c. cc) in
+    tie.close answers

@@ -8,11 +8,11 @@ use Rattle.image.proofs.store_header.Tie as tie
 pub store-header-spec : {M : Type 1} → statement M
 unfolding store0 decode
 store-header-spec =
-    tie.close
-    (tie.spec
+    let answers = tie.spec
     (λ c. omega arith)
     (λ c. omega arith)
     (λ c. omega arith)
     (λ c κs. search needs)
     (λ c. search needs)
-    (λ c. rw (c .before .before .write-header .ensures)))
+    (λ c. rw (c .before .before .write-header .ensures)) in
+    tie.close answers

@@ -9,8 +9,7 @@ use Rattle.image.proofs.store_slot.Tie as tie
 pub store-slot-spec : {M : Type 1} → statement M
 unfolding storeSlot slotFor
 store-slot-spec =
-    tie.close
-    (tie.spec
+    let answers = tie.spec
     (λ c. omega arith)
     (λ c. omega arith)
     (λ c. omega arith)
@@ -19,4 +18,5 @@ store-slot-spec =
     (λ c. omega arith)
     (λ c κs. search needs)
     (λ c. search needs)
-    (λ c. simp (c .before .before .before .before .before .before .pre .3, c .before .before .write-slot .ensures)))
+    (λ c. simp (c .before .before .before .before .before .before .pre .3, c .before .before .write-slot .ensures)) in
+    tie.close answers

@@ -19,12 +19,12 @@ returns-2 c = pended-all (c .before .before .before .args .h) _ (c .before .befo
 
 pub count-pended-spec : {M : Type 1} → statement M
 count-pended-spec =
-    tie.close
-    (tie.spec
+    let answers = tie.spec
     (λ c κs. search needs)
     (λ c. search needs)
     cast-result
     sub-result
     (λ c. search needs)
     returns
-    returns-2)
+    returns-2 in
+    tie.close answers

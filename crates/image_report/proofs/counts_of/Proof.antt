@@ -7,12 +7,12 @@ use Rattle.image_report.proofs.counts_of.Tie as tie
 
 pub counts-of-spec : {M : Type 1} → statement M
 counts-of-spec =
-    tie.close
-    (tie.spec
+    let answers = tie.spec
     (λ c κs. search needs)
     (λ c. search needs)
     (λ c κs. search needs)
     (λ c κs. rw (c .before .before .before .before .before .before .header-of .ensures) (sound-valid _ (c .before .before .before .before .before .before .before .before .pre) .window))
     (λ c. search needs)
     (λ c κs. search needs)
-    (λ c. counts-is _ _ _ _ _ (c .before .before .before .before .before .before .before .before .before .header-of .ensures) (c .before .before .before .before .before .before .before .labels-of .ensures) (c .before .before .count-pended .ensures) (c .count-listed .ensures)))
+    (λ c. counts-is _ _ _ _ _ (c .before .before .before .before .before .before .before .before .before .header-of .ensures) (c .before .before .before .before .before .before .before .labels-of .ensures) (c .before .before .count-pended .ensures) (c .count-listed .ensures)) in
+    tie.close answers

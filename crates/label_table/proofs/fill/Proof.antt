@@ -13,8 +13,7 @@ abbrev μ-loop : tie.MeasureT-loop
 
 pub fill-spec : {M : Type 1} → statement M
 fill-spec =
-    tie.close
-    (tie.spec Inv-loop μ-loop
+    let answers = tie.spec Inv-loop μ-loop
     (λ c. tt)
     (λ c. (omega arith, refl))
     (λ c. omega arith)
@@ -26,4 +25,5 @@ fill-spec =
     (λ c. simp length-set (omega arith))
     (λ c. (simp length-set (omega arith), simp length-set (c .before .before .loop .inv .1)))
     (λ c. c .before .loop .inv .1)
-    (λ c. tt))
+    (λ c. tt) in
+    tie.close answers

@@ -12,8 +12,7 @@ abbrev μ-loop : tie.MeasureT-loop
 
 pub row-spec : {M : Type 1} → statement M
 row-spec =
-    tie.close
-    (tie.spec Inv-loop μ-loop
+    let answers = tie.spec Inv-loop μ-loop
     (λ c. omega arith)
     (λ c κs. omega arith)
     (λ c. omega arith)
@@ -21,4 +20,5 @@ row-spec =
     (λ c. omega arith)
     (λ c. search needs)
     (λ c κs. tt)
-    (λ c. tt))
+    (λ c. tt) in
+    tie.close answers

@@ -5,8 +5,7 @@ use Rattle.message.proofs.bears.Tie as tie
 
 pub bears-spec : {M : Type 1} → statement M
 bears-spec =
-    tie.close
-    (tie.spec
+    let answers = tie.spec
     (λ c. search needs) (λ c. search needs) (λ c. search needs) (λ c. search needs)
     (λ c. search needs) (λ c. search needs) (λ c. search needs) (λ c. search needs)
     (λ c. search needs) (λ c. search needs) (λ c. search needs)
@@ -17,4 +16,5 @@ bears-spec =
     (λ c. rw (c .before .enum-told8 .given .1))
     (λ c. rw (c .before .enum-told9 .given .1))
     (λ c. search needs)
-    (λ c. search needs))
+    (λ c. search needs) in
+    tie.close answers

@@ -5,6 +5,6 @@ use Rattle.message.proofs.bears_ft.Tie as tie
 
 pub bears-ft-spec : {M : Type 1} → statement M
 bears-ft-spec =
-    tie.close
-    (tie.spec
-    (λ c. search (needs, fts)) (λ c. search (needs, fts)) (λ c. search (needs, fts)))
+    let answers = tie.spec
+    (λ c. search (needs, fts)) (λ c. search (needs, fts)) (λ c. search (needs, fts)) in
+    tie.close answers

@@ -4,7 +4,7 @@ use Rattle.message.proofs.id_in.Tie as tie
 
 pub id-in-spec : {M : Type 1} → statement M
 id-in-spec =
-    tie.close
-    (tie.spec
+    let answers = tie.spec
     (λ c. search needs)
-    (λ c. cc))
+    (λ c. cc) in
+    tie.close answers

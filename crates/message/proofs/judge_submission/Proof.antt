@@ -5,8 +5,7 @@ use Rattle.message.proofs.judge_submission.Tie as tie
 
 pub judge-submission-spec : {M : Type 1} → statement M
 judge-submission-spec =
-    tie.close
-    (tie.spec
+    let answers = tie.spec
     (λ c κs. search needs)
     (λ c. search needs)
     (λ c. search needs)
@@ -25,4 +24,5 @@ judge-submission-spec =
     (λ c. search (needs, judgements))
     (λ c κs. search (needs, judgements))
     (λ c. search (needs, judgements))
-    (λ c. search (needs, judgements)))
+    (λ c. search (needs, judgements)) in
+    tie.close answers

@@ -4,8 +4,7 @@ use Rattle.message.proofs.kind_for.Tie as tie
 
 pub kind-for-spec : {M : Type 1} → statement M
 kind-for-spec =
-    tie.close
-    (tie.spec
+    let answers = tie.spec
     (λ c. search needs) (λ c. search needs) (λ c. search needs) (λ c. search needs)
     (λ c. search needs) (λ c. search needs) (λ c. search needs) (λ c. search needs)
     (λ c. search needs) (λ c. search needs) (λ c. search needs) (λ c. search needs)
@@ -19,4 +18,5 @@ kind-for-spec =
     (λ c. rw (c .enum-told8 .given .1))
     (λ c. rw (c .enum-told9 .given .1))
     (λ c. rw (c .enum-told10 .given .1))
-    (λ c. rw (c .enum-told11 .given .1)))
+    (λ c. rw (c .enum-told11 .given .1)) in
+    tie.close answers

@@ -6,7 +6,7 @@ use Rattle.message.proofs.kind_of.Tie as tie
 pub kind-of-spec : {M : Type 1} → statement M
 unfolding kindOf
 kind-of-spec =
-    tie.close
-    (tie.spec
+    let answers = tie.spec
     (λ c κs. search needs)
-    (λ c. c .kind-for .ensures))
+    (λ c. c .kind-for .ensures) in
+    tie.close answers

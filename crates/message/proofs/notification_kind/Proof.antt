@@ -5,7 +5,7 @@ use Rattle.message.proofs.notification_kind.Tie as tie
 
 pub notification-kind-spec : {M : Type 1} → statement M
 notification-kind-spec =
-    tie.close
-    (tie.spec
+    let answers = tie.spec
     (λ c. search (needs, kinds)) (λ c. search (needs, kinds)) (λ c. search (needs, kinds)) (λ c. search (needs, kinds))
-    (λ c. search (needs, kinds)) (λ c. search (needs, kinds)) (λ c. search (needs, kinds)) (λ c. search (needs, kinds)))
+    (λ c. search (needs, kinds)) (λ c. search (needs, kinds)) (λ c. search (needs, kinds)) (λ c. search (needs, kinds)) in
+    tie.close answers

@@ -5,8 +5,7 @@ use Rattle.message.proofs.places_in.Tie as tie
 
 pub places-in-spec : {M : Type 1} → statement M
 places-in-spec =
-    tie.close
-    (tie.spec
+    let answers = tie.spec
     (λ c. search (needs, placings))
     (λ c. search (needs, placings))
     (λ c. search (needs, placings))
@@ -15,4 +14,5 @@ places-in-spec =
     (λ c. search (needs, placings))
     (λ c. search (needs, placings))
     (λ c. search (needs, placings))
-    (λ c. search (needs, placings)))
+    (λ c. search (needs, placings)) in
+    tie.close answers

@@ -5,11 +5,11 @@ use Rattle.message.proofs.read_message.Tie as tie
 
 pub read-message-spec : {M : Type 1} → statement M
 read-message-spec =
-    tie.close
-    (tie.spec
+    let answers = tie.spec
     (λ c. search (needs, readings))
     (λ c. search (needs, readings))
     (λ c. search (needs, readings))
     (λ c. search (needs, readings))
     (λ c. search (needs, readings))
-    (λ c. search (needs, readings)))
+    (λ c. search (needs, readings)) in
+    tie.close answers

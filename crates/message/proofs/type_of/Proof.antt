@@ -8,8 +8,7 @@ use Rattle.message.proofs.type_of.Tie as tie
 
 pub type-of-spec : {M : Type 1} → statement M
 type-of-spec =
-    tie.close
-    (tie.spec
+    let answers = tie.spec
     (λ c. unfold typeOf in rw (c .match .keys1))
     (λ c. unfold typeOf in rw (c .match .keys2))
     (λ c. unfold typeOf in rw (c .match .keys3))
@@ -20,4 +19,5 @@ type-of-spec =
     (λ c. unfold typeOf in rw (c .match .keys8))
     (λ c. unfold typeOf in rw (c .match .keys9))
     (λ c. unfold typeOf in rw (c .match .keys10))
-    (λ c. unfold typeOf in lookup-absent MessageType.Other types (c .before .args .number) (search needs)))
+    (λ c. unfold typeOf in lookup-absent MessageType.Other types (c .before .args .number) (search needs)) in
+    tie.close answers

@@ -6,7 +6,7 @@ use Rattle.message_writer.proofs.put_init.Tie as tie
 
 pub put-init-spec : {M : Type 1} → statement M
 put-init-spec =
-    tie.close
-    (tie.spec
+    let answers = tie.spec
     (λ c. search needs) (λ c. search needs) (λ c. search needs) (λ c. search needs)
-    (λ c. init-laid _ _ _ _ _ _ _ _ (omega arith) (c .before .before .before .before .before .before .before .before .before .before .put-head .ensures) (c .before .before .before .before .before .before .put-parameters .ensures) (c .before .before .put-tlv .ensures)))
+    (λ c. init-laid _ _ _ _ _ _ _ _ (omega arith) (c .before .before .before .before .before .before .before .before .before .before .put-head .ensures) (c .before .before .before .before .before .before .put-parameters .ensures) (c .before .before .put-tlv .ensures)) in
+    tie.close answers

@@ -6,8 +6,8 @@ use Rattle.message_writer.proofs.put_tlv.Tie as tie
 
 pub put-tlv-spec : {M : Type 1} → statement M
 put-tlv-spec =
-    tie.close
-    (tie.spec
+    let answers = tie.spec
     (λ c. search needs) (λ c. search needs) (λ c. search needs) (λ c. search needs)
     (λ c. search needs) (λ c. search needs)
-    (λ c. tlv-laid _ _ _ _ _ _ _ (omega arith) (c .before .before .before .before .before .before .before .before .before .before .put-u16 .ensures) (c .before .before .before .before .before .before .put-u162 .ensures) (c .before .before .put-u32 .ensures)))
+    (λ c. tlv-laid _ _ _ _ _ _ _ (omega arith) (c .before .before .before .before .before .before .before .before .before .before .put-u16 .ensures) (c .before .before .before .before .before .before .put-u162 .ensures) (c .before .before .put-u32 .ensures)) in
+    tie.close answers

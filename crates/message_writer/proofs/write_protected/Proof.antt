@@ -10,8 +10,7 @@ use Rattle.message_writer.proofs.write_protected.Tie as tie
 
 pub write-protected-spec : {M : Type 1} → statement M
 write-protected-spec =
-    tie.close
-    (tie.spec
+    let answers = tie.spec
     (λ c. search needs) (λ c. search needs)
     (λ c. rw (c .before .enum-told .given .1) (protected-short _ (now (c .before .before .before .before .before .args .m)) (omega arith) _ FtField.Absent _ refl (c .if1 .taken)))
     (λ c. search needs) (λ c. search needs) (λ c. search needs)
@@ -19,4 +18,5 @@ write-protected-spec =
     (λ c. search needs) (λ c. search needs) (λ c. search needs) (λ c. search needs)
     (λ c. rw (c .before .before .before .before .before .enum-told .given .1) (protected-whole _ (now (c .before .before .before .before .before .before .before .before .before .args .m)) (omega arith) _ FtField.Absent _ _ refl (c .before .before .before .before .if1 .left) (protected-plain _ (now (c .before .before .before .before .before .before .before .before .before .args .m)) (omega arith) _ _ (c .before .before .put-protected .ensures))))
     (λ c. search needs)
-    (λ c. rw (c .before .before .before .before .before .before .before .before .before .before .ack .given .1) (protected-whole _ (now (c .before .before .before .before .before .before .before .before .before .before .before .before .before .before .args .m)) (omega arith) _ (FtField.Number _) _ _ refl (c .before .before .before .before .before .before .before .before .if2 .left) (protected-acked _ (now (c .before .before .before .before .before .before .before .before .before .before .before .before .before .before .args .m)) (omega arith) _ _ _ _ (c .before .before .before .before .before .before .before .before .if2 .left) (c .before .before .before .before .before .before .put-protected2 .ensures) (c .before .before .put-tlv .ensures)))))
+    (λ c. rw (c .before .before .before .before .before .before .before .before .before .before .ack .given .1) (protected-whole _ (now (c .before .before .before .before .before .before .before .before .before .before .before .before .before .before .args .m)) (omega arith) _ (FtField.Number _) _ _ refl (c .before .before .before .before .before .before .before .before .if2 .left) (protected-acked _ (now (c .before .before .before .before .before .before .before .before .before .before .before .before .before .before .args .m)) (omega arith) _ _ _ _ (c .before .before .before .before .before .before .before .before .if2 .left) (c .before .before .before .before .before .before .put-protected2 .ensures) (c .before .before .put-tlv .ensures)))) in
+    tie.close answers

@@ -12,8 +12,7 @@ abbrev μ-loop : tie.MeasureT-loop
 
 pub edge-spec : {M : Type 1} → statement M
 edge-spec =
-    tie.close
-    (tie.spec Inv-loop μ-loop
+    let answers = tie.spec Inv-loop μ-loop
     (λ c κs. search needs)
     (λ c. search needs)
     (λ c. search needs)
@@ -28,4 +27,5 @@ edge-spec =
     (λ c. search needs)
     (λ c. search needs)
     (λ c. search needs)
-    (λ c. search needs))
+    (λ c. search needs) in
+    tie.close answers

@@ -50,8 +50,7 @@ returns-2 c = search needs
 
 pub signed-spec : {M : Type 1} → statement M
 signed-spec =
-    tie.close
-    (tie.spec
+    let answers = tie.spec
     slice-aggregate-text
     text-requires
     cast-print-decimal
@@ -61,4 +60,5 @@ signed-spec =
     cast-number
     number-requires
     returns
-    returns-2)
+    returns-2 in
+    tie.close answers

@@ -12,8 +12,7 @@ abbrev μ-loop : tie.MeasureT-loop
 
 pub tables-spec : {M : Type 1} → statement M
 tables-spec =
-    tie.close
-    (tie.spec Inv-loop μ-loop
+    let answers = tie.spec Inv-loop μ-loop
     (λ c. search needs)
     (λ c. search needs)
     (λ c. search needs)
@@ -26,4 +25,5 @@ tables-spec =
     (λ c. search needs)
     (λ c. search needs)
     (λ c. search needs)
-    (λ c. search needs))
+    (λ c. search needs) in
+    tie.close answers

@@ -12,8 +12,7 @@ abbrev μ-loop : tie.MeasureT-loop
 
 pub window-spec : {M : Type 1} → statement M
 window-spec =
-    tie.close
-    (tie.spec Inv-loop μ-loop
+    let answers = tie.spec Inv-loop μ-loop
     (λ c. search needs)
     (λ c. search needs)
     (λ c. search needs)
@@ -21,4 +20,5 @@ window-spec =
     (λ c. search needs)
     (λ c. search needs)
     (λ c. search needs)
-    (λ c. search needs))
+    (λ c. search needs) in
+    tie.close answers

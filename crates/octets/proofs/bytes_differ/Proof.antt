@@ -13,8 +13,7 @@ abbrev μ-loop : tie.MeasureT-loop
 
 pub bytes-differ-spec : {M : Type 1} → statement M
 bytes-differ-spec =
-    tie.close
-    (tie.spec Inv-loop μ-loop
+    let answers = tie.spec Inv-loop μ-loop
     (λ c. differ-length _ _ (c .if1 .taken))
     (λ c. same-none _ _ (c .if1 .left))
     (λ c. omega arith)
@@ -23,4 +22,5 @@ bytes-differ-spec =
     (λ c. omega arith)
     (λ c. omega arith)
     (λ c. same-one _ _ _ (c .before .before .before .before .loop .inv) (omega arith) (c .if2 .left))
-    (λ c. same-all _ _ _ (c .before .loop .inv) (c .loop-test .left)))
+    (λ c. same-all _ _ _ (c .before .loop .inv) (c .loop-test .left)) in
+    tie.close answers

@@ -13,8 +13,7 @@ abbrev μ-loop : tie.MeasureT-loop
 
 pub copy-to-spec : {M : Type 1} → statement M
 copy-to-spec =
-    tie.close
-    (tie.spec Inv-loop μ-loop
+    let answers = tie.spec Inv-loop μ-loop
     (λ c. filling-none _ _ _ _)
     (λ c. omega arith)
     (λ c. omega arith)
@@ -23,4 +22,5 @@ copy-to-spec =
     (λ c. omega arith)
     (λ c. filling-one _ _ _ _ (c .before .before .loop .inv) (omega arith))
     (λ c. omega arith)
-    (λ c. filling-all _ _ _ _ (c .before .loop .inv) (c .loop-test .left)))
+    (λ c. filling-all _ _ _ _ (c .before .loop .inv) (c .loop-test .left)) in
+    tie.close answers

@@ -6,6 +6,6 @@ use Rattle.octets.proofs.put_u16.Tie as tie
 
 pub put-u16-spec : {M : Type 1} → statement M
 put-u16-spec =
-    tie.close
-    (tie.spec (λ c. search needs) (λ c. search needs) (λ c. search needs) (λ c. search needs)
-    (λ c. simp length-set (omega arith)) (λ c. search needs) (λ c. search needs))
+    let answers = tie.spec (λ c. search needs) (λ c. search needs) (λ c. search needs) (λ c. search needs)
+    (λ c. simp length-set (omega arith)) (λ c. search needs) (λ c. search needs) in
+    tie.close answers

@@ -7,5 +7,5 @@ use Rattle.octets.proofs.put_u8.Tie as tie
 
 pub put-u8-spec : {M : Type 1} → statement M
 put-u8-spec =
-    tie.close
-    (tie.spec (λ c. search needs) (λ c. search needs) (λ c. let small : c .args .v < 256 = omega arith in rw (mod-eq-of-lt small)))
+    let answers = tie.spec (λ c. search needs) (λ c. search needs) (λ c. let small : c .args .v < 256 = omega arith in rw (mod-eq-of-lt small)) in
+    tie.close answers

@@ -12,8 +12,7 @@ abbrev μ-loop : tie.MeasureT-loop
 
 pub zero-to-spec : {M : Type 1} → statement M
 zero-to-spec =
-    tie.close
-    (tie.spec Inv-loop μ-loop
+    let answers = tie.spec Inv-loop μ-loop
     (λ c. filling-none _ _ _ _)
     (λ c. omega arith)
     (λ c. omega arith)
@@ -21,4 +20,5 @@ zero-to-spec =
     (λ c. omega arith)
     (λ c. filling-one _ _ _ _ (c .before .loop .inv) (omega arith))
     (λ c. omega arith)
-    (λ c. filling-all _ _ _ _ (c .before .loop .inv) (c .loop-test .left)))
+    (λ c. filling-all _ _ _ _ (c .before .loop .inv) (c .loop-test .left)) in
+    tie.close answers

@@ -40,8 +40,7 @@ returns-2 c =
 
 pub count-messages-spec : {M : Type 1} → statement M
 count-messages-spec =
-    tie.close
-    (tie.spec Inv-messages μ-messages
+    let answers = tie.spec Inv-messages μ-messages
     (λ c. (omega arith, omega arith, refl))
     (λ c. search needs)
     (λ c. search needs)
@@ -50,4 +49,5 @@ count-messages-spec =
     messages-again
     (λ c. search needs)
     (λ c. sym (count-end _ _ _ (c .if1 .taken)) ∙ c .before .messages .inv .2)
-    returns-2)
+    returns-2 in
+    tie.close answers

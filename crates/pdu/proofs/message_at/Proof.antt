@@ -6,8 +6,7 @@ use Rattle.pdu.proofs.message_at.Tie as tie
 
 pub message-at-spec : {M : Type 1} → statement M
 message-at-spec =
-    tie.close
-    (tie.spec
+    let answers = tie.spec
     (λ c. search (needs, places))
     (λ c. search (needs, places))
     (λ c. search (needs, places))
@@ -20,4 +19,5 @@ message-at-spec =
     (λ c. search (needs, places))
     (λ c. search (needs, places))
     (λ c. search (needs, places))
-    (λ c. search (needs, places)))
+    (λ c. search (needs, places)) in
+    tie.close answers

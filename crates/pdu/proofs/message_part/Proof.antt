@@ -13,8 +13,7 @@ lies c = place-within _ _ _ _ (sym (c .before .before .before .message-at .ensur
 
 pub message-part-spec : {M : Type 1} → statement M
 message-part-spec =
-    tie.close
-    (tie.spec
+    let answers = tie.spec
     (λ c. search needs)
     (λ c. search needs)
     (λ c. let w = lies c in omega arith)
@@ -25,4 +24,5 @@ message-part-spec =
     (λ c. search needs)
     (λ c. search needs)
     (λ c. rw (← c .before .before .before .before .message-at .ensures, c .before .before .start .given .1) (refl, (refl, search needs)))
-    (λ c. rw (← c .before .before .before .message-at .ensures, c .before .enum-told .given .1) (refl, (refl, search needs))))
+    (λ c. rw (← c .before .before .before .message-at .ensures, c .before .enum-told .given .1) (refl, (refl, search needs))) in
+    tie.close answers

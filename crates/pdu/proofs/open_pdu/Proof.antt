@@ -6,8 +6,7 @@ use Rattle.pdu.proofs.open_pdu.Tie as tie
 
 pub open-pdu-spec : {M : Type 1} → statement M
 open-pdu-spec =
-    tie.close
-    (tie.spec
+    let answers = tie.spec
     (λ c. search (needs, openings))
     (λ c. search (needs, openings))
     (λ c. search (needs, openings))
@@ -16,4 +15,5 @@ open-pdu-spec =
     (λ c. search (needs, openings))
     (λ c. search (needs, openings))
     (λ c. search (needs, openings))
-    (λ c. search (needs, openings)))
+    (λ c. search (needs, openings)) in
+    tie.close answers

@@ -5,8 +5,7 @@ use Rattle.send.proofs.issue.Tie as tie
 
 pub issue-spec : {M : Type 1} → statement M
 issue-spec =
-    tie.close
-    (tie.spec
+    let answers = tie.spec
     (λ c κs. search needs)
     (λ c κs. search needs)
     (λ c. search needs)
@@ -14,4 +13,5 @@ issue-spec =
     (λ c κs. search needs)
     (λ c κs. search needs)
     (λ c. search needs)
-    (λ c. has-none _ _ (c .before .before .before .before .before .before .before .header-of .ensures) (c .before .before .before .before .before .before .issued-count .ensures) (c .before .before .before .before .before .if1 .left) (c .before .before .before .before .number-at .ensures) (c .before .before .store-numbers .ensures)))
+    (λ c. has-none _ _ (c .before .before .before .before .before .before .before .header-of .ensures) (c .before .before .before .before .before .before .issued-count .ensures) (c .before .before .before .before .before .if1 .left) (c .before .before .before .before .number-at .ensures) (c .before .before .store-numbers .ensures)) in
+    tie.close answers

@@ -9,8 +9,7 @@ use Rattle.send.proofs.judge_send.Tie as tie
 
 pub judge-send-spec : {M : Type 1} → statement M
 judge-send-spec =
-    tie.close
-    (tie.spec
+    let answers = tie.spec
     (λ c κs. search needs)
     (λ c κs. search needs)
     (λ c. judge-first _ _ _ (c .before .before .admit .ensures) (denied (c .before .is-done .ensures) (c .if1 .taken)))
@@ -20,4 +19,5 @@ judge-send-spec =
     (λ c κs. search needs)
     (λ c. search needs)
     (λ c. judge-none _ _ _ (c .before .before .before .before .before .before .before .before .admit .ensures) (granted (c .before .before .before .before .before .before .before .is-done .ensures) (c .before .before .before .before .before .before .if1 .left)) (c .before .before .before .before .before .is-up-ft .ensures) (not-false (c .before .before .before .before .before .is-up-ft .result) (c .before .before .before .before .if2 .left)) (c .before .before .before .header-of .ensures) (c .before .before .sent-of .ensures) (c .if3 .taken))
-    (λ c. judge-some _ _ _ (c .before .before .before .before .before .before .before .before .admit .ensures) (granted (c .before .before .before .before .before .before .before .is-done .ensures) (c .before .before .before .before .before .before .if1 .left)) (c .before .before .before .before .before .is-up-ft .ensures) (not-false (c .before .before .before .before .before .is-up-ft .result) (c .before .before .before .before .if2 .left)) (c .before .before .before .header-of .ensures) (c .before .before .sent-of .ensures) (c .if3 .left)))
+    (λ c. judge-some _ _ _ (c .before .before .before .before .before .before .before .before .admit .ensures) (granted (c .before .before .before .before .before .before .before .is-done .ensures) (c .before .before .before .before .before .before .if1 .left)) (c .before .before .before .before .before .is-up-ft .ensures) (not-false (c .before .before .before .before .before .is-up-ft .result) (c .before .before .before .before .if2 .left)) (c .before .before .before .header-of .ensures) (c .before .before .sent-of .ensures) (c .if3 .left)) in
+    tie.close answers

@@ -5,8 +5,8 @@ use Rattle.send.proofs.number_at.Tie as tie
 
 pub number-at-spec : {M : Type 1} → statement M
 number-at-spec =
-    tie.close
-    (tie.spec
+    let answers = tie.spec
     (λ c. search needs)
     (λ c κs. search needs)
-    (λ c. number-is _ _ (c .advance .ensures)))
+    (λ c. number-is _ _ (c .advance .ensures)) in
+    tie.close answers

@@ -8,8 +8,7 @@ use Rattle.send.proofs.send_next.Tie as tie
 
 pub send-next-spec : {M : Type 1} → statement M
 send-next-spec =
-    tie.close
-    (tie.spec
+    let answers = tie.spec
     (λ c κs. search needs)
     (λ c κs. search needs)
     (λ c κs. search needs)
@@ -27,4 +26,5 @@ send-next-spec =
     (λ c. send-short _ _ _ _ (judged-sendable _ _ _ (c .before .before .before .before .before .before .before .before .before .before .before .judge-send .ensures) (granted (c .before .before .before .before .before .before .before .before .before .before .is-done .ensures) (c .before .before .before .before .before .before .before .before .before .if1 .left))) (c .before .before .before .before .before .before .before .before .sent-of .ensures) (c .before .before .before .before .before .write-next .ensures) (c .before .enum-told .given .1) (c .refuse2 .ensures))
     (λ c. search needs)
     (λ c. search needs)
-    (λ c. send-acts _ _ _ _ (judged-sendable _ _ _ (c .before .before .before .before .before .before .before .before .before .before .before .before .before .before .before .judge-send .ensures) (granted (c .before .before .before .before .before .before .before .before .before .before .before .before .before .before .is-done .ensures) (c .before .before .before .before .before .before .before .before .before .before .before .before .before .if1 .left))) (c .before .before .before .before .before .before .before .before .before .before .before .before .sent-of .ensures) (c .before .before .before .before .before .before .before .before .before .write-next .ensures) (c .before .before .before .before .before .n .given .1) (c .before .before .issue .ensures)))
+    (λ c. send-acts _ _ _ _ (judged-sendable _ _ _ (c .before .before .before .before .before .before .before .before .before .before .before .before .before .before .before .judge-send .ensures) (granted (c .before .before .before .before .before .before .before .before .before .before .before .before .before .before .is-done .ensures) (c .before .before .before .before .before .before .before .before .before .before .before .before .before .if1 .left))) (c .before .before .before .before .before .before .before .before .before .before .before .before .sent-of .ensures) (c .before .before .before .before .before .before .before .before .before .write-next .ensures) (c .before .before .before .before .before .n .given .1) (c .before .before .issue .ensures)) in
+    tie.close answers

@@ -6,8 +6,7 @@ use Rattle.slot.proofs.bears_both.Tie as tie
 
 pub bears-both-spec : {M : Type 1} → statement M
 bears-both-spec =
-    tie.close
-    (tie.spec
+    let answers = tie.spec
     (λ c. search needs)
     (λ c. search needs)
     (λ c. search needs)
@@ -15,4 +14,5 @@ bears-both-spec =
     (λ c. search needs)
     (λ c. search needs)
     (λ c. search (needs, bearing))
-    (λ c. search (needs, bearing)))
+    (λ c. search (needs, bearing)) in
+    tie.close answers

@@ -7,8 +7,7 @@ use Rattle.slot.proofs.judge_slot.Tie as tie
 
 pub judge-slot-spec : {M : Type 1} → statement M
 judge-slot-spec =
-    tie.close
-    (tie.spec
+    let answers = tie.spec
     (λ c κs. search needs)
     (λ c κs. search (needs, judged))
     (λ c. search needs)
@@ -25,4 +24,5 @@ judge-slot-spec =
     (λ c. search (needs, judged))
     (λ c κs. search (needs, judged))
     (λ c. search (needs, judged))
-    (λ c. search (needs, judged)))
+    (λ c. search (needs, judged)) in
+    tie.close answers

@@ -6,8 +6,8 @@ use Rattle.slot.proofs.judge_wrong.Tie as tie
 
 pub judge-wrong-spec : {M : Type 1} → statement M
 judge-wrong-spec =
-    tie.close
-    (tie.spec
+    let answers = tie.spec
     (λ c κs. search needs)
     (λ c. search (needs, judged))
-    (λ c. search (needs, judged)))
+    (λ c. search (needs, judged)) in
+    tie.close answers

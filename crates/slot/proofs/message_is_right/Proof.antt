@@ -7,8 +7,7 @@ use Rattle.slot.proofs.message_is_right.Tie as tie
 
 pub message-is-right-spec : {M : Type 1} → statement M
 message-is-right-spec =
-    tie.close
-    (tie.spec
+    let answers = tie.spec
     (λ c κs. search needs)
     (λ c. search (needs, judged))
     (λ c. search (needs, judged))
@@ -20,4 +19,5 @@ message-is-right-spec =
     (λ c κs. search needs)
     (λ c κs. search needs)
     (λ c κs. search needs)
-    (λ c. search (needs, judged)))
+    (λ c. search (needs, judged)) in
+    tie.close answers

@@ -23,11 +23,11 @@ returns c =
 
 pub message-of-spec : {M : Type 1} → statement M
 message-of-spec =
-    tie.close
-    (tie.spec
+    let answers = tie.spec
     (λ c κs. search needs)
     add-end
     (λ c. omega arith)
     (λ c. omega arith)
     part-result-end
-    returns)
+    returns in
+    tie.close answers

@@ -11,8 +11,7 @@ use Rattle.slot.proofs.write_slot.Tie as tie
 pub write-slot-spec : {M : Type 1} → statement M
 unfolding slotBlock
 write-slot-spec =
-    tie.close
-    (tie.spec
+    let answers = tie.spec
     (λ c. omega arith)
     (λ c κs. search needs)
     (λ c κs. search needs)
@@ -22,4 +21,5 @@ write-slot-spec =
     (λ c κs. search needs)
     (λ c κs. let n = length (c .before .before .before .before .before .before .before .before .before .before .before .before .before .before .before .before .args .m .now) in (search needs, omega arith, rw (c .before .before .before .zero-to .ensures) (zeroed-zero (c .before .before .before .before .before .before .before .copy-to .last .0) (8 + n) (500 - n) 508 (search needs) (omega arith))))
     (λ c. search needs)
-    (λ c. cc))
+    (λ c. cc) in
+    tie.close answers

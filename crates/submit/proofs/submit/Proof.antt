@@ -20,8 +20,7 @@ fitting c = fitting-is _ _ (c .before .before .before .before .header-of .ensure
 
 pub submit-spec : {M : Type 1} → statement M
 submit-spec =
-    tie.close
-    (tie.spec
+    let answers = tie.spec
     (λ c κs. search needs)
     (λ c κs. search needs)
     (λ c κs. search needs)
@@ -49,4 +48,5 @@ submit-spec =
     (λ c. search needs)
     (λ c. submit-refused _ _ _ (admitted (c .before .before .before .before .before .before .before .before .before .before)) (submission-is (fitting (c .before .before .before .before)) (c .before .before .before .judge-submission .ensures) (c .before .enum-told2 .given .1)) (c .refuse6 .ensures) refl)
     (λ c. search needs)
-    (λ c. submit-judged _ _ _ (admitted (c .before .before .before .before .before .before .before .before .before .before .before .before .before .before)) (submission-is (fitting (c .before .before .before .before .before .before .before .before)) (c .before .before .before .before .before .before .before .judge-submission .ensures) (c .before .before .before .before .before .kind .given .1)) (c .before .before .submit-accepted .ensures)))
+    (λ c. submit-judged _ _ _ (admitted (c .before .before .before .before .before .before .before .before .before .before .before .before .before .before)) (submission-is (fitting (c .before .before .before .before .before .before .before .before)) (c .before .before .before .before .before .before .before .judge-submission .ensures) (c .before .before .before .before .before .kind .given .1)) (c .before .before .submit-accepted .ensures)) in
+    tie.close answers

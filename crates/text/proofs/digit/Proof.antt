@@ -6,9 +6,9 @@ use Rattle.text.proofs.digit.Tie as tie
 
 pub digit-spec : {M : Type 1} → statement M
 digit-spec =
-    tie.close
-    (tie.spec
+    let answers = tie.spec
     (λ c. search needs)
     (λ c. search needs)
     (λ c. simp (lt-ltb _ _ (c .if1 .taken)))
-    (λ c. simp (le-ltb _ _ (c .if1 .left))))
+    (λ c. simp (le-ltb _ _ (c .if1 .left))) in
+    tie.close answers

@@ -22,11 +22,11 @@ returns c =
 
 pub put-decimal-spec : {M : Type 1} → statement M
 put-decimal-spec =
-    tie.close
-    (tie.spec
+    let answers = tie.spec
     (λ c. search needs)
     (λ c. search needs)
     (λ c. search needs)
     put-text-requires
     (λ c. search needs)
-    returns)
+    returns in
+    tie.close answers

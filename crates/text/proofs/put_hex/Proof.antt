@@ -27,8 +27,7 @@ loop-again c = (
 
 pub put-hex-spec : {M : Type 1} → statement M
 put-hex-spec =
-    tie.close
-    (tie.spec Inv-loop μ-loop
+    let answers = tie.spec Inv-loop μ-loop
     (λ c. (omega arith, refl, sym (filled-none _ _ _)))
     (λ c. search needs)
     (λ c. λ κs. omega (arith, c .shared-slice-known2 .given (c .before .before .loop .i)))
@@ -47,4 +46,5 @@ put-hex-spec =
     (λ c. search needs)
     (λ c. search needs)
     (λ c. search needs)
-    (λ c. (hex-done _ _ _ _ _ (c .loop-test .left) (c .before .loop .inv .2), refl)))
+    (λ c. (hex-done _ _ _ _ _ (c .loop-test .left) (c .before .loop .inv .2), refl)) in
+    tie.close answers

@@ -8,8 +8,7 @@ use Rattle.timers.proofs.connection_failed.Tie as tie
 pub connection-failed-spec : {M : Type 1} → statement M
 unfolding connectionFailedOf
 connection-failed-spec =
-    tie.close
-    (tie.spec
+    let answers = tie.spec
     (λ c κs. search needs)
     (λ c κs. search needs)
     (λ c κs. search needs)
@@ -18,4 +17,5 @@ connection-failed-spec =
     (λ c. event-refused _ _ _ (c .before .before .before .before .is-connected .ensures) (c .before .before .before .judge-event .ensures) _ (denied (c .before .before .is-done .ensures) (c .before .if1 .taken)) (c .refuse .ensures))
     (λ c κs. event-sound _ _ _ (c .before .before .before .before .is-connected .ensures) (c .before .before .before .judge-event .ensures) (granted (c .before .before .is-done .ensures) (c .before .if1 .left)))
     (λ c. search needs)
-    (λ c. event-done _ _ _ (c .before .before .before .before .before .before .before .is-connected .ensures) (c .before .before .before .before .before .before .judge-event .ensures) _ (granted (c .before .before .before .before .before .is-done .ensures) (c .before .before .before .before .if1 .left)) (c .before .before .fail .ensures)))
+    (λ c. event-done _ _ _ (c .before .before .before .before .before .before .before .is-connected .ensures) (c .before .before .before .before .before .before .judge-event .ensures) _ (granted (c .before .before .before .before .before .is-done .ensures) (c .before .before .before .before .if1 .left)) (c .before .before .fail .ensures)) in
+    tie.close answers

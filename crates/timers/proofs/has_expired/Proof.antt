@@ -5,8 +5,8 @@ use Rattle.timers.proofs.has_expired.Tie as tie
 
 pub has-expired-spec : {M : Type 1} → statement M
 has-expired-spec =
-    tie.close
-    (tie.spec
+    let answers = tie.spec
     (λ c. never-expires _ _ (c .if1 .taken))
     (λ c. search needs)
-    (λ c. expires _ _ (c .before .if1 .left)))
+    (λ c. expires _ _ (c .before .if1 .left)) in
+    tie.close answers

@@ -9,8 +9,7 @@ use Rattle.timers.proofs.time_passed.Tie as tie
 pub time-passed-spec : {M : Type 1} → statement M
 unfolding timePassedOf
 time-passed-spec =
-    tie.close
-    (tie.spec
+    let answers = tie.spec
     (λ c κs. search needs)
     (λ c κs. search needs)
     (λ c κs. search needs)
@@ -24,4 +23,5 @@ time-passed-spec =
     (λ c. event-done _ _ _ (c .before .before .before .before .before .before .before .before .is-waiting .ensures) (c .before .before .before .before .before .before .before .judge-event .ensures) _ (granted (c .before .before .before .before .before .before .is-done .ensures) (c .before .before .before .before .before .if1 .left)) (too-early _ _ _ (c .before .before .before .header-of .ensures) (c .before .before .has-expired .ensures) (not-true (c .before .before .has-expired .result) (c .before .if2 .taken)) (c .refuse2 .ensures)))
     (λ c κs. event-sound _ _ _ (c .before .before .before .before .before .before .before .before .is-waiting .ensures) (c .before .before .before .before .before .before .before .judge-event .ensures) (granted (c .before .before .before .before .before .before .is-done .ensures) (c .before .before .before .before .before .if1 .left)) .size)
     (λ c. search needs)
-    (λ c. event-done _ _ _ (c .before .before .before .before .before .before .before .before .before .before .before .is-waiting .ensures) (c .before .before .before .before .before .before .before .before .before .before .judge-event .ensures) _ (granted (c .before .before .before .before .before .before .before .before .before .is-done .ensures) (c .before .before .before .before .before .before .before .before .if1 .left)) (late _ _ _ (c .before .before .before .before .before .before .header-of .ensures) (c .before .before .before .before .before .has-expired .ensures) (not-false (c .before .before .before .before .before .has-expired .result) (c .before .before .before .before .if2 .left)) (c .before .before .release .ensures))))
+    (λ c. event-done _ _ _ (c .before .before .before .before .before .before .before .before .before .before .before .is-waiting .ensures) (c .before .before .before .before .before .before .before .before .before .before .judge-event .ensures) _ (granted (c .before .before .before .before .before .before .before .before .before .is-done .ensures) (c .before .before .before .before .before .before .before .before .if1 .left)) (late _ _ _ (c .before .before .before .before .before .before .header-of .ensures) (c .before .before .before .before .before .has-expired .ensures) (not-false (c .before .before .before .before .before .has-expired .result) (c .before .before .before .before .if2 .left)) (c .before .before .release .ensures))) in
+    tie.close answers

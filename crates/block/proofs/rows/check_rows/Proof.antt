@@ -22,8 +22,7 @@ sub-check-by c =
 
 pub check-rows-spec : {M : Type 1} → statement M
 check-rows-spec =
-    tie.close
-    (tie.spec
+    let answers = tie.spec
     (λ c κs. search needs)
     (λ c κs. search needs)
     (λ c κs. search needs)
@@ -43,4 +42,5 @@ check-rows-spec =
     (λ c. omega arith)
     sub-check-by
     (λ c κs. let f = rest-fits (c .before .before .before .before .before .before .before .args .rows) _ (c .before .before .before .before .halves .ensures .1) in (omega arith, omega arith))
-    returns)
+    returns in
+    tie.close answers

@@ -9,11 +9,11 @@ use Rattle.block.proofs.rows.get_eight.Tie as tie
 
 pub get-eight-spec : {M : Type 1} → statement M
 get-eight-spec =
-    tie.close
-    (tie.spec
+    let answers = tie.spec
     (λ c. omega arith)
     (λ c. omega arith)
     (λ c. omega arith)
     (λ c. omega arith)
     (λ c κs. search needs)
-    (λ c. let a = c .before .before .before .args in c .eight .ensures ∙ leAt-part 8 (a .s .now) (a .at) (a .at + 8) (omega arith)))
+    (λ c. let a = c .before .before .before .args in c .eight .ensures ∙ leAt-part 8 (a .s .now) (a .at) (a .at + 8) (omega arith)) in
+    tie.close answers

@@ -27,8 +27,7 @@ returns-2 c =
 
 pub sum-rows-spec : {M : Type 1} → statement M
 sum-rows-spec =
-    tie.close
-    (tie.spec
+    let answers = tie.spec
     (λ c κs. search needs)
     (λ c. c .whole-rows .ensures)
     (λ c κs. search needs)
@@ -37,4 +36,5 @@ sum-rows-spec =
     (λ c κs. omega arith)
     (λ c κs. omega arith)
     add-row-requires
-    returns-2)
+    returns-2 in
+    tie.close answers

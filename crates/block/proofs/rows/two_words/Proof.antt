@@ -6,7 +6,7 @@ use Rattle.block.proofs.rows.two_words.Tie as tie
 
 pub two-words-spec : {M : Type 1} → statement M
 two-words-spec =
-    tie.close
-    (tie.spec
+    let answers = tie.spec
     (λ c κs. omega arith)
-    (λ c. two-words (c .before .before .args .s .now) (λ k. c .before .shared-slice-known .given k .fits) (c .before .before .args .at) _ (c .get-eight .ensures)))
+    (λ c. two-words (c .before .before .args .s .now) (λ k. c .before .shared-slice-known .given k .fits) (c .before .before .args .at) _ (c .get-eight .ensures)) in
+    tie.close answers

@@ -37,8 +37,7 @@ returns c =
 
 pub whole-rows-spec : {M : Type 1} → statement M
 whole-rows-spec =
-    tie.close
-    (tie.spec Inv-loop μ-loop
+    let answers = tie.spec Inv-loop μ-loop
     (λ c. (omega arith, rows-none _))
     (λ c. omega arith)
     (λ c κs. omega arith)
@@ -52,4 +51,5 @@ whole-rows-spec =
     (λ c. omega arith)
     (λ c. omega arith)
     loop-again
-    returns)
+    returns in
+    tie.close answers

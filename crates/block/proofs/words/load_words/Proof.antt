@@ -40,8 +40,7 @@ returns c =
 
 pub load-words-spec : {M : Type 1} → statement M
 load-words-spec =
-    tie.close
-    (tie.spec Inv-loop μ-loop
+    let answers = tie.spec Inv-loop μ-loop
     (λ c. (omega arith, refl, λ k l. absurd (omega arith)))
     (λ c. omega arith)
     (λ c. omega arith)
@@ -52,4 +51,5 @@ load-words-spec =
     (λ c. omega arith)
     loop-again
     (λ c. omega arith)
-    returns)
+    returns in
+    tie.close answers

@@ -35,8 +35,7 @@ returns c =
 
 pub store-words-spec : {M : Type 1} → statement M
 store-words-spec =
-    tie.close
-    (tie.spec Inv-loop μ-loop loop-holds
+    let answers = tie.spec Inv-loop μ-loop loop-holds
     (λ c. omega arith)
     (λ c. omega arith)
     (λ c. omega arith)
@@ -46,4 +45,5 @@ store-words-spec =
     (λ c. omega arith)
     loop-again
     (λ c. omega arith)
-    returns)
+    returns in
+    tie.close answers

@@ -27,8 +27,7 @@ returns-3 c =
 
 pub all-zero-spec : {M : Type 1} → statement M
 all-zero-spec =
-    tie.close
-    (tie.spec Inv-loop μ-loop
+    let answers = tie.spec Inv-loop μ-loop
     (λ c κs. omega arith)
     (λ c. c .few-are-zero .ensures)
     (λ c. (omega arith, λ j l. absurd (omega arith)))
@@ -40,4 +39,5 @@ all-zero-spec =
     loop-again
     (λ c. omega arith)
     (λ c κs. omega arith)
-    returns-3)
+    returns-3 in
+    tie.close answers

@@ -35,12 +35,12 @@ returns-2 c =
 
 pub each-is-zero-spec : {M : Type 1} → statement M
 each-is-zero-spec =
-    tie.close
-    (tie.spec Inv-loop μ-loop
+    let answers = tie.spec Inv-loop μ-loop
     (λ c. (omega arith, refl))
     (λ c. omega arith)
     returns
     (λ c. omega arith)
     (λ c. omega arith)
     loop-again
-    returns-2)
+    returns-2 in
+    tie.close answers

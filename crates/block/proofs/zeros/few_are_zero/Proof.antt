@@ -6,8 +6,7 @@ use Rattle.block.proofs.zeros.few_are_zero.Tie as tie
 
 pub few-are-zero-spec : {M : Type 1} → statement M
 few-are-zero-spec =
-    tie.close
-    (tie.spec
+    let answers = tie.spec
     (λ c κs. omega arith)
     (λ c. c .each-is-zero .ensures)
     (λ c κs. omega arith)
@@ -17,4 +16,5 @@ few-are-zero-spec =
     (λ c κs. omega arith)
     (λ c. omega arith)
     (λ c κs. omega arith)
-    (λ c. ends-all _ 32 (c .before .thirty-two .result) (c .thirty-two2 .result) (omega arith) (omega arith) (c .before .thirty-two .ensures) (c .thirty-two2 .ensures)))
+    (λ c. ends-all _ 32 (c .before .thirty-two .result) (c .thirty-two2 .result) (omega arith) (omega arith) (c .before .thirty-two .ensures) (c .thirty-two2 .ensures)) in
+    tie.close answers

@@ -17,9 +17,9 @@ returns c =
 
 pub sixteen-spec : {M : Type 1} → statement M
 sixteen-spec =
-    tie.close
-    (tie.spec
+    let answers = tie.spec
     (λ c κs. omega arith)
     (λ c. omega arith)
     (λ c κs. omega arith)
-    returns)
+    returns in
+    tie.close answers

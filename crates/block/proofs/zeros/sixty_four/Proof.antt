@@ -6,9 +6,9 @@ use Rattle.block.proofs.zeros.sixty_four.Tie as tie
 
 pub sixty-four-spec : {M : Type 1} → statement M
 sixty-four-spec =
-    tie.close
-    (tie.spec
+    let answers = tie.spec
     (λ c κs. omega arith)
     (λ c. omega arith)
     (λ c κs. omega arith)
-    (λ c. let a = c .before .before .before .args in or-parts (a .s .now) (a .at) 32 32 (c .before .thirty-two .result) (c .thirty-two2 .result) (c .before .thirty-two .ensures) (c .thirty-two2 .ensures)))
+    (λ c. let a = c .before .before .before .args in or-parts (a .s .now) (a .at) 32 32 (c .before .thirty-two .result) (c .thirty-two2 .result) (c .before .thirty-two .ensures) (c .thirty-two2 .ensures)) in
+    tie.close answers

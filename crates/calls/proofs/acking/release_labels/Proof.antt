@@ -15,8 +15,7 @@ abbrev μ-loop : tie.MeasureT-loop
 
 pub release-labels-spec : {M : Type 1} → statement M
 release-labels-spec =
-    tie.close
-    (tie.spec
+    let answers = tie.spec
     Inv-loop
     μ-loop
     (λ c. releasing-none _ _ _)
@@ -27,4 +26,5 @@ release-labels-spec =
     (λ c. omega arith)
     (λ c. releasing-one _ _ _ (c .before .before .before .before .before .before .before .loop .inv) (omega arith) (rw queue-length (omega arith)) (c .before .before .before .before .held-kind .ensures) (c .before .before .before .held-label .ensures) (search needs) (c .before .before .release-label .ensures))
     (λ c. c .before .loop .inv .same)
-    (λ c. releasing-all _ _ _ (c .before .loop .inv) (c .loop-test .left)))
+    (λ c. releasing-all _ _ _ (c .before .loop .inv) (c .loop-test .left)) in
+    tie.close answers

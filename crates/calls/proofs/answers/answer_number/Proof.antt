@@ -4,8 +4,7 @@ use Rattle.calls.proofs.answers.answer_number.Tie as tie
 
 pub answer-number-spec : {M : Type 1} → statement M
 answer-number-spec =
-    tie.close
-    (tie.spec
+    let answers = tie.spec
     (λ c. search needs)
     (λ c. search needs)
     (λ c. search needs)
@@ -55,4 +54,5 @@ answer-number-spec =
     (λ c. rw (c .enum-told22 .given .1))
     (λ c. rw (c .enum-told23 .given .1))
     (λ c. rw (c .enum-told24 .given .1))
-    (λ c. rw (c .enum-told25 .given .1)))
+    (λ c. rw (c .enum-told25 .given .1)) in
+    tie.close answers

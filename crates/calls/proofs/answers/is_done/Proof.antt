@@ -3,4 +3,6 @@ use Rattle.calls.proofs.answers.is_done.Statement.{statement}
 use Rattle.calls.proofs.answers.is_done.Tie as tie
 
 pub is-done-spec : {M : Type 1} → statement M
-is-done-spec = tie.close (tie.spec (λ c κs. search needs) (λ c. simp (c .answer-number .ensures)))
+is-done-spec =
+    let answers = tie.spec (λ c κs. search needs) (λ c. simp (c .answer-number .ensures)) in
+    tie.close answers

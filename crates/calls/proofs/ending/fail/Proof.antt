@@ -6,8 +6,7 @@ use Rattle.calls.proofs.ending.fail.Tie as tie
 
 pub fail-spec : {M : Type 1} → statement M
 fail-spec =
-    tie.close
-    (tie.spec
+    let answers = tie.spec
     (λ c κs. search needs)
     (λ c κs. search needs)
     (λ c κs. search needs)
@@ -19,4 +18,5 @@ fail-spec =
     (λ c. search needs)
     (λ c κs. search needs)
     (λ c. search needs)
-    (λ c. fail-is _ _ _ (c .before .before .before .before .before .before .before .copy-block0 .ensures) (c .before .before .before .before .before .before .before .before .before .before .before .before .before .header-of .ensures) (c .before .before .before .before .before .before .before .before .before .before .before .before .resting-phase .ensures) (c .before .before .before .before .before .free-unprotected .ensures) (c .block0-changed .ensures)))
+    (λ c. fail-is _ _ _ (c .before .before .before .before .before .before .before .copy-block0 .ensures) (c .before .before .before .before .before .before .before .before .before .before .before .before .before .header-of .ensures) (c .before .before .before .before .before .before .before .before .before .before .before .before .resting-phase .ensures) (c .before .before .before .before .before .free-unprotected .ensures) (c .block0-changed .ensures)) in
+    tie.close answers

@@ -5,11 +5,11 @@ use Rattle.calls.proofs.ending.release.Tie as tie
 
 pub release-spec : {M : Type 1} → statement M
 release-spec =
-    tie.close
-    (tie.spec
+    let answers = tie.spec
     (λ c κs. search needs)
     (λ c κs. search needs)
     (λ c. search needs)
     (λ c κs. search needs)
     (λ c. search needs)
-    (λ c. release-is _ _ _ (c .before .before .before .before .before .before .before .copy-block0 .ensures) (c .before .before .before .before .before .release .ensures) (c .block0-changed .ensures)))
+    (λ c. release-is _ _ _ (c .before .before .before .before .before .before .before .copy-block0 .ensures) (c .before .before .before .before .before .release .ensures) (c .block0-changed .ensures)) in
+    tie.close answers

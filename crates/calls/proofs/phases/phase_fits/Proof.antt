@@ -7,8 +7,7 @@ use Rattle.calls.proofs.phases.phase_fits.Tie as tie
 pub phase-fits-spec : {M : Type 1} → statement M
 unfolding phaseFits
 phase-fits-spec =
-    tie.close
-    (tie.spec
+    let answers = tie.spec
     (λ c. search needs)
     (λ c. search needs)
     (λ c. search needs)
@@ -20,4 +19,5 @@ phase-fits-spec =
     (λ c. search needs)
     (λ c. simp (c .before .before .before .before .phase .given .1, eq-eqb _ _ (c .before .if1 .left), c .issued-count .ensures))
     (λ c. simp (c .before .enum-told3 .given .1))
-    (λ c. simp (c .before .enum-told4 .given .1)))
+    (λ c. simp (c .before .enum-told4 .given .1)) in
+    tie.close answers

@@ -4,8 +4,8 @@ use Rattle.calls.proofs.storing.block0_changed.Tie as tie
 
 pub block0-changed-spec : {M : Type 1} → statement M
 block0-changed-spec =
-    tie.close
-    (tie.spec
+    let answers = tie.spec
     (λ c κs. search needs)
     (λ c κs. search needs)
-    (λ c. simp (c .bytes-differ .ensures, c .before .block-at .ensures .0 .0)))
+    (λ c. simp (c .bytes-differ .ensures, c .before .block-at .ensures .0 .0)) in
+    tie.close answers

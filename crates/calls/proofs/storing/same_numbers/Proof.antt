@@ -5,8 +5,7 @@ use Rattle.calls.proofs.storing.same_numbers.Tie as tie
 
 pub same-numbers-spec : {M : Type 1} → statement M
 same-numbers-spec =
-    tie.close
-    (tie.spec
+    let answers = tie.spec
     (λ c e. absurd (false≢true e))
     (λ c e. absurd (false≢true e))
     (λ c e. absurd (false≢true e))
@@ -16,4 +15,5 @@ same-numbers-spec =
     (λ c e. absurd (false≢true e))
     (λ c e. absurd (false≢true e))
     (λ c e. absurd (false≢true e))
-    (λ c e. header-eq (c .before .before .before .before .before .before .before .before .before .before .before .before .before .before .before .before .before .before .before .before .before .before .before .before .if1 .left) (c .before .before .before .before .before .before .before .before .before .before .before .before .before .before .before .before .before .before .before .before .before .if2 .left) (c .before .before .before .before .before .before .before .before .before .before .before .before .before .before .before .before .before .before .if3 .left) (c .before .before .before .before .before .before .before .before .before .before .before .before .before .before .before .if4 .left) (c .before .before .before .before .before .before .before .before .before .before .before .before .if5 .left) (c .before .before .before .before .before .before .before .before .before .if6 .left) (c .before .before .before .before .before .before .if7 .left) (c .before .before .before .if8 .left) (c .if9 .left)))
+    (λ c e. header-eq (c .before .before .before .before .before .before .before .before .before .before .before .before .before .before .before .before .before .before .before .before .before .before .before .before .if1 .left) (c .before .before .before .before .before .before .before .before .before .before .before .before .before .before .before .before .before .before .before .before .before .if2 .left) (c .before .before .before .before .before .before .before .before .before .before .before .before .before .before .before .before .before .before .if3 .left) (c .before .before .before .before .before .before .before .before .before .before .before .before .before .before .before .if4 .left) (c .before .before .before .before .before .before .before .before .before .before .before .before .if5 .left) (c .before .before .before .before .before .before .before .before .before .if6 .left) (c .before .before .before .before .before .before .if7 .left) (c .before .before .before .if8 .left) (c .if9 .left)) in
+    tie.close answers

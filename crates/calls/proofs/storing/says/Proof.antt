@@ -27,8 +27,7 @@ returns-4 c e =
 
 pub says-spec : {M : Type 1} → statement M
 says-spec =
-    tie.close
-    (tie.spec Inv-loop μ-loop
+    let answers = tie.spec Inv-loop μ-loop
     (λ c κs. search needs)
     (λ c κs. search needs)
     (λ c e. absurd (false≢true e))
@@ -41,4 +40,5 @@ says-spec =
     (λ c. omega arith)
     (λ c. omega arith)
     loop-again
-    returns-4)
+    returns-4 in
+    tie.close answers

@@ -7,8 +7,7 @@ use Rattle.calls.proofs.storing.store_numbers.Tie as tie
 
 pub store-numbers-spec : {M : Type 1} → statement M
 store-numbers-spec =
-    tie.close
-    (tie.spec
+    let answers = tie.spec
     (λ c κs. search needs)
     (λ c κs. search needs)
     (λ c. search needs)
@@ -18,4 +17,5 @@ store-numbers-spec =
     (λ c. search needs)
     (λ c κs. search needs)
     (λ c. search needs)
-    (λ c. (c .before .before .before .before .before .store-header .ensures, compared _ _ _ (c .block0-changed .ensures) (c .before .before .before .before .before .before .before .copy-block0 .ensures))))
+    (λ c. (c .before .before .before .before .before .store-header .ensures, compared _ _ _ (c .block0-changed .ensures) (c .before .before .before .before .before .before .before .copy-block0 .ensures))) in
+    tie.close answers

@@ -8,8 +8,7 @@ use Rattle.connect.proofs.starting.restore.Tie as tie
 
 pub restore-spec : {M : Type 1} → statement M
 restore-spec =
-    tie.close
-    (tie.spec
+    let answers = tie.spec
     (λ c κs. search needs)
     (λ c κs. search needs)
     (λ c κs. search needs)
@@ -17,4 +16,5 @@ restore-spec =
     (λ c. restore-refused _ (c .before .before .before .check .ensures) (denied (c .before .before .is-done .ensures) (c .before .if1 .taken)) (c .refuse .ensures))
     (λ c κs. checks-passed _ (c .before .before .before .check .ensures) (granted (c .before .before .is-done .ensures) (c .before .if1 .left)))
     (λ c. search needs)
-    (λ c. restore-passed _ (c .before .before .before .before .before .before .check .ensures) (granted (c .before .before .before .before .before .is-done .ensures) (c .before .before .before .before .if1 .left)) (c .before .before .fail .ensures)))
+    (λ c. restore-passed _ (c .before .before .before .before .before .before .check .ensures) (granted (c .before .before .before .before .before .is-done .ensures) (c .before .before .before .before .if1 .left)) (c .before .before .fail .ensures)) in
+    tie.close answers

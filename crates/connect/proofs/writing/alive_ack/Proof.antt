@@ -5,8 +5,7 @@ use Rattle.connect.proofs.writing.alive_ack.Tie as tie
 
 pub alive-ack-spec : {M : Type 1} → statement M
 alive-ack-spec =
-    tie.close
-    (tie.spec
+    let answers = tie.spec
     (λ c. search needs)
     (λ c. search needs)
     (λ c. search needs)
@@ -16,4 +15,5 @@ alive-ack-spec =
     (λ c. search needs)
     (λ c. rw (c .enum-told3 .given .1))
     (λ c. search needs)
-    (λ c. search needs))
+    (λ c. search needs) in
+    tie.close answers

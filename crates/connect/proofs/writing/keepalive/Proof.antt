@@ -8,8 +8,7 @@ use Rattle.connect.proofs.writing.keepalive.Tie as tie
 
 pub keepalive-spec : {M : Type 1} → statement M
 keepalive-spec =
-    tie.close
-    (tie.spec
+    let answers = tie.spec
     (λ c κs. search needs)
     (λ c κs. search needs)
     (λ c κs. search needs)
@@ -22,4 +21,5 @@ keepalive-spec =
     (λ c κs. search needs)
     (λ c κs. search needs)
     (λ c. search needs)
-    (λ c. alive-wrote _ _ _ _ (c .before .before .before .before .before .before .before .before .before .before .before .admit .ensures) (granted (c .before .before .before .before .before .before .before .before .before .before .is-done .ensures) (c .before .before .before .before .before .before .before .before .before .if1 .left)) (granted (c .before .before .before .before .before .before .before .before .is-up .ensures) (c .before .before .before .before .before .before .before .if2 .left)) (c .before .before .before .before .before .before .header-of .ensures) (c .before .before .before .before .before .alive-ack .ensures) (c .before .before .before .write-keepalive .ensures) (c .answer-written .ensures)))
+    (λ c. alive-wrote _ _ _ _ (c .before .before .before .before .before .before .before .before .before .before .before .admit .ensures) (granted (c .before .before .before .before .before .before .before .before .before .before .is-done .ensures) (c .before .before .before .before .before .before .before .before .before .if1 .left)) (granted (c .before .before .before .before .before .before .before .before .is-up .ensures) (c .before .before .before .before .before .before .before .if2 .left)) (c .before .before .before .before .before .before .header-of .ensures) (c .before .before .before .before .before .alive-ack .ensures) (c .before .before .before .write-keepalive .ensures) (c .answer-written .ensures)) in
+    tie.close answers

@@ -5,7 +5,7 @@ use Rattle.connect.proofs.writing.kept_ack.Tie as tie
 
 pub kept-ack-spec : {M : Type 1} → statement M
 kept-ack-spec =
-    tie.close
-    (tie.spec
+    let answers = tie.spec
     (λ c. kept-set _ (c .if1 .taken))
-    (λ c. kept-clear _ (c .if1 .left)))
+    (λ c. kept-clear _ (c .if1 .left)) in
+    tie.close answers

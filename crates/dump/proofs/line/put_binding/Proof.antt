@@ -6,10 +6,10 @@ use Rattle.dump.proofs.line.put_binding.Tie as tie
 
 pub put-binding-spec : {M : Type 1} → statement M
 put-binding-spec =
-    tie.close
-    (tie.spec
+    let answers = tie.spec
     (λ c. search needs)
     (λ c. search needs)
     (λ c. search needs)
     (λ c. search needs)
-    (λ c. (put-then (rw (c .before .before .before .before .before .before .before .before .value-of .ensures .0) at (c .before .before .before .before .before .before .put-fec .ensures .0)) (c .before .before .put-label .ensures .0), search needs)))
+    (λ c. (put-then (rw (c .before .before .before .before .before .before .before .before .value-of .ensures .0) at (c .before .before .before .before .before .before .put-fec .ensures .0)) (c .before .before .put-label .ensures .0), search needs)) in
+    tie.close answers

@@ -6,10 +6,10 @@ use Rattle.dump.proofs.line.put_fields.Tie as tie
 
 pub put-fields-spec : {M : Type 1} → statement M
 put-fields-spec =
-    tie.close
-    (tie.spec
+    let answers = tie.spec
     (λ c. search needs)
     (λ c. search needs)
     (λ c. search needs)
     (λ c. search needs)
-    (λ c. search (needs, pieces)))
+    (λ c. search (needs, pieces)) in
+    tie.close answers

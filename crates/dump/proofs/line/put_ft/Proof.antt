@@ -6,12 +6,12 @@ use Rattle.dump.proofs.line.put_ft.Tie as tie
 
 pub put-ft-spec : {M : Type 1} → statement M
 put-ft-spec =
-    tie.close
-    (tie.spec
+    let answers = tie.spec
     (λ c. search needs)
     (λ c. search needs)
     (λ c. search needs)
     (λ c. search needs)
     (λ c. search needs)
     (λ c. search needs)
-    (λ c. search (needs, pieces)))
+    (λ c. search (needs, pieces)) in
+    tie.close answers

@@ -6,11 +6,11 @@ use Rattle.dump.proofs.line.put_line.Tie as tie
 
 pub put-line-spec : {M : Type 1} → statement M
 put-line-spec =
-    tie.close
-    (tie.spec
+    let answers = tie.spec
     (λ c. search needs)
     (λ c. search needs)
     (λ c. search needs)
     (λ c. search needs)
     (λ c. search needs)
-    (λ c. search (needs, put-line)))
+    (λ c. search (needs, put-line)) in
+    tie.close answers

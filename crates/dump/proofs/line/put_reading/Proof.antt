@@ -7,8 +7,7 @@ use Rattle.dump.proofs.line.put_reading.Tie as tie
 
 pub put-reading-spec : {M : Type 1} → statement M
 put-reading-spec =
-    tie.close
-    (tie.spec
+    let answers = tie.spec
     (λ c. search needs)
     (λ c. search needs)
     (λ c. search needs)
@@ -18,4 +17,5 @@ put-reading-spec =
     (λ c. search needs)
     (λ c. rw (← c .before .before .before .before .before .before .before .read-message .ensures, c .before .before .before .before .before .enum-told .given .1) (c .before .before .put-text .ensures, omega (arith, c .before .before .put-text .ensures .ends)))
     (λ c. search needs)
-    (λ c. rw (← c .before .before .before .before .before .before .before .read-message .ensures, c .before .before .before .before .before .g .given .1) (c .before .before .put-fields .ensures)))
+    (λ c. rw (← c .before .before .before .before .before .before .before .read-message .ensures, c .before .before .before .before .before .g .given .1) (c .before .before .put-fields .ensures)) in
+    tie.close answers

@@ -7,8 +7,7 @@ use Rattle.dump.proofs.stream.dump_next.Tie as tie
 
 pub dump-next-spec : {M : Type 1} → statement M
 dump-next-spec =
-    tie.close
-    (tie.spec
+    let answers = tie.spec
     (λ c. search needs)
     (λ c. search needs)
     (λ c. search needs)
@@ -23,4 +22,5 @@ dump-next-spec =
     (λ c. search needs)
     (λ c. search needs)
     (λ c. search needs)
-    (λ c. search needs))
+    (λ c. search needs) in
+    tie.close answers

@@ -16,8 +16,7 @@ abbrev μ-loop : tie.MeasureT-loop
 
 pub dump-stream-spec : {M : Type 1} → statement M
 dump-stream-spec =
-    tie.close
-    (tie.spec Inv-loop μ-loop
+    let answers = tie.spec Inv-loop μ-loop
     (λ c. (length-zeros largestPdu, length-zeros textRoom))
     (λ c. search needs)
     (λ c. search needs)
@@ -26,4 +25,5 @@ dump-stream-spec =
     (λ c. search needs)
     (λ c. search needs)
     (λ c. search needs)
-    (λ c. search needs))
+    (λ c. search needs) in
+    tie.close answers

@@ -7,8 +7,7 @@ use Rattle.dump.proofs.stream.read_pdu.Tie as tie
 
 pub read-pdu-spec : {M : Type 1} → statement M
 read-pdu-spec =
-    tie.close
-    (tie.spec
+    let answers = tie.spec
     (λ c. search needs)
     (λ c. simp length-take (omega arith))
     (λ c. search needs)
@@ -23,4 +22,5 @@ read-pdu-spec =
     (λ c. search needs)
     (λ c. search needs)
     (λ c. search needs)
-    (λ c. search needs))
+    (λ c. search needs) in
+    tie.close answers

@@ -12,10 +12,10 @@ returns-2 c = format-done _ (c .before .before .before .before .before .before .
 
 pub format-spec : {M : Type 1} → statement M
 format-spec =
-    tie.close
-    (tie.spec
+    let answers = tie.spec
     returns
     (λ c κs. search needs)
     (λ c κs. search needs)
     (λ c. search needs)
-    returns-2)
+    returns-2 in
+    tie.close answers

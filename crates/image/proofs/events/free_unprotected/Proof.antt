@@ -7,8 +7,7 @@ use Rattle.image.proofs.events.free_unprotected.Tie as tie
 pub free-unprotected-spec : {M : Type 1} → statement M
 unfolding breakOf
 free-unprotected-spec =
-    tie.close
-    (tie.spec
+    let answers = tie.spec
     (λ c κs. search needs)
     (λ c. search needs)
     (λ c κs. search needs)
@@ -17,4 +16,5 @@ free-unprotected-spec =
     (λ c. search needs)
     (λ c κs. search needs)
     (λ c. search needs)
-    (λ c. cc))
+    (λ c. cc) in
+    tie.close answers

@@ -39,12 +39,12 @@ returns-2 c =
 
 pub has-unprotected-spec : {M : Type 1} → statement M
 has-unprotected-spec =
-    tie.close
-    (tie.spec Inv-loop μ-loop
+    let answers = tie.spec Inv-loop μ-loop
     (λ c. (omega arith, refl))
     (λ c κs. search needs)
     returns
     (λ c. omega arith)
     (λ c. omega arith)
     loop-again
-    returns-2)
+    returns-2 in
+    tie.close answers

@@ -7,9 +7,9 @@ use Rattle.image.proofs.events.release.Tie as tie
 pub release-spec : {M : Type 1} → statement M
 unfolding releaseOf
 release-spec =
-    tie.close
-    (tie.spec
+    let answers = tie.spec
     (λ c. search needs)
     (λ c κs. search needs)
     (λ c. search needs)
-    (λ c. cc))
+    (λ c. cc) in
+    tie.close answers

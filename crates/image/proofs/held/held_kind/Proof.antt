@@ -6,8 +6,8 @@ use Rattle.image.proofs.held.held_kind.Tie as tie
 
 pub held-kind-spec : {M : Type 1} → statement M
 held-kind-spec =
-    tie.close
-    (tie.spec
+    let answers = tie.spec
     (λ c κs. search needs)
     (λ c κs. search needs)
-    (λ c. search (needs, helds)))
+    (λ c. search (needs, helds)) in
+    tie.close answers

@@ -16,8 +16,8 @@ returns c =
 
 pub held-message-spec : {M : Type 1} → statement M
 held-message-spec =
-    tie.close
-    (tie.spec
+    let answers = tie.spec
     (λ c κs. search needs)
     (λ c κs. search (needs, helds))
-    returns)
+    returns in
+    tie.close answers

@@ -27,11 +27,11 @@ returns c =
 
 pub held-slot-spec : {M : Type 1} → statement M
 held-slot-spec =
-    tie.close
-    (tie.spec
+    let answers = tie.spec
     (λ c κs. search needs)
     (λ c κs. search needs)
     add-b
     (λ c. omega arith)
     (λ c κs. search needs)
-    returns)
+    returns in
+    tie.close answers

@@ -8,8 +8,7 @@ use Rattle.image_report.proofs.lines.print_image.Tie as tie
 
 pub print-image-spec : {M : Type 1} → statement M
 print-image-spec =
-    tie.close
-    (tie.spec
+    let answers = tie.spec
     (λ c. search needs)
     (λ c κs. search needs)
     (λ c. search needs)
@@ -20,4 +19,5 @@ print-image-spec =
     (λ c. search needs)
     (λ c. sym (length-take-le _ _ (omega (arith, c .before .before .put-report .ensures .1, c .before .before .put-report .kept .0))))
     (λ c κs. search needs)
-    (λ c. search needs))
+    (λ c. search needs) in
+    tie.close answers

@@ -7,8 +7,7 @@ use Rattle.image_report.proofs.lines.put_numbers.Tie as tie
 
 pub put-numbers-spec : {M : Type 1} → statement M
 put-numbers-spec =
-    tie.close
-    (tie.spec
+    let answers = tie.spec
     (λ c. search needs)
     (λ c. omega arith)
     (λ c κs. search needs)
@@ -19,4 +18,5 @@ put-numbers-spec =
     (λ c. omega arith)
     (λ c κs. search needs)
     (λ c. search needs)
-    (λ c. (put-then (c .before .before .before .before .before .before .before .before .before .before .before .before .before .before .put-line .ensures .0) (put-then (c .before .before .before .before .before .before .before .before .put-line2 .ensures .0) (c .before .before .put-line3 .ensures .0)), search needs)))
+    (λ c. (put-then (c .before .before .before .before .before .before .before .before .before .before .before .before .before .before .put-line .ensures .0) (put-then (c .before .before .before .before .before .before .before .before .put-line2 .ensures .0) (c .before .before .put-line3 .ensures .0)), search needs)) in
+    tie.close answers

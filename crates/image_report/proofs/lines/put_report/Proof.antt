@@ -6,8 +6,7 @@ use Rattle.image_report.proofs.lines.put_report.Tie as tie
 
 pub put-report-spec : {M : Type 1} → statement M
 put-report-spec =
-    tie.close
-    (tie.spec
+    let answers = tie.spec
     (λ c. search needs)
     (λ c κs. search needs)
     (λ c κs. search needs)
@@ -16,4 +15,5 @@ put-report-spec =
     (λ c. search needs)
     (λ c. rw (c .before .before .before .before .before .before .before .before .before .report .given .1) (put-then (c .before .before .before .before .before .before .put-numbers .ensures .0) (c .before .before .put-counts .ensures .0), search needs))
     (λ c. search needs)
-    (λ c. rw (c .before .before .before .before .before .report2 .given .1) (c .before .before .put-refusal .ensures .0, search needs)))
+    (λ c. rw (c .before .before .before .before .before .report2 .given .1) (c .before .before .put-refusal .ensures .0, search needs)) in
+    tie.close answers

@@ -6,9 +6,9 @@ use Rattle.init.proofs.beginning.begin.Tie as tie
 
 pub begin-spec : {M : Type 1} → statement M
 begin-spec =
-    tie.close
-    (tie.spec
+    let answers = tie.spec
     (λ c κs. search needs)
     (λ c κs. search needs)
     (λ c. search needs)
-    (λ c. begun-is _ _ _ (c .before .before .store-start .ensures .0) (c .before .before .before .before .start-phase .ensures) (c .before .before .store-start .ensures .1)))
+    (λ c. begun-is _ _ _ (c .before .before .store-start .ensures .0) (c .before .before .before .before .start-phase .ensures) (c .before .before .store-start .ensures .1)) in
+    tie.close answers

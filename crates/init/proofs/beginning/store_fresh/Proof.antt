@@ -7,9 +7,9 @@ use Rattle.init.proofs.beginning.store_fresh.Tie as tie
 pub store-fresh-spec : {M : Type 1} → statement M
 unfolding fresh
 store-fresh-spec =
-    tie.close
-    (tie.spec
+    let answers = tie.spec
     (λ c. search needs)
     (λ c κs. search needs)
     (λ c. search needs)
-    (λ c. c .before .before .store-changed .ensures))
+    (λ c. c .before .before .store-changed .ensures) in
+    tie.close answers

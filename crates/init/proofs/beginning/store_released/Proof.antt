@@ -5,4 +5,6 @@ use Rattle.init.proofs.beginning.store_released.Statement.{statement}
 use Rattle.init.proofs.beginning.store_released.Tie as tie
 
 pub store-released-spec : {M : Type 1} → statement M
-store-released-spec = tie.close (tie.spec (λ c κs. search needs) (λ c. search needs) (λ c. released-is _ (c .before .before .release .ensures)))
+store-released-spec =
+    let answers = tie.spec (λ c κs. search needs) (λ c. search needs) (λ c. released-is _ (c .before .before .release .ensures)) in
+    tie.close answers

@@ -6,8 +6,7 @@ use Rattle.init.proofs.beginning.store_resumed.Tie as tie
 
 pub store-resumed-spec : {M : Type 1} → statement M
 store-resumed-spec =
-    tie.close
-    (tie.spec
+    let answers = tie.spec
     (λ c κs. search needs)
     (λ c κs. rw (c .header-of .ensures) (c .before .before .before .pre .1))
     (λ c κs. search needs)
@@ -20,4 +19,5 @@ store-resumed-spec =
     (λ c. search needs)
     (λ c κs. search needs)
     (λ c. search needs)
-    (λ c. (resumed-is _ _ _ _ (c .before .before .before .before .before .before .before .before .before .before .before .before .before .before .before .header-of .ensures) (c .before .before .before .before .before .before .before .before .before .before .labels-of .ensures) (c .before .before .before .before .before .before .release-labels .ensures) (c .before .before .before .before .before .before .before .before .before .before .before .before .before .before .released-header .ensures) (c .before .before .store-changed .ensures .0), c .before .before .store-changed .ensures .1)))
+    (λ c. (resumed-is _ _ _ _ (c .before .before .before .before .before .before .before .before .before .before .before .before .before .before .before .header-of .ensures) (c .before .before .before .before .before .before .before .before .before .before .labels-of .ensures) (c .before .before .before .before .before .before .release-labels .ensures) (c .before .before .before .before .before .before .before .before .before .before .before .before .before .before .released-header .ensures) (c .before .before .store-changed .ensures .0), c .before .before .store-changed .ensures .1)) in
+    tie.close answers

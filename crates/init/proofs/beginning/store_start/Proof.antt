@@ -9,8 +9,7 @@ use Rattle.init.proofs.beginning.store_start.Tie as tie
 pub store-start-spec : {M : Type 1} → statement M
 unfolding startImage
 store-start-spec =
-    tie.close
-    (tie.spec
+    let answers = tie.spec
     (λ c. search needs)
     (λ c. search needs)
     (λ c κs. search needs)
@@ -24,4 +23,5 @@ store-start-spec =
     (λ c. search needs)
     (λ c. (rw (c .before .before .before .before .before .start .given .1) (c .before .before .store-fresh .ensures .0), c .before .before .store-fresh .ensures .1))
     (λ c. search needs)
-    (λ c. (rw (c .before .before .before .before .before .start2 .given .1) (c .before .before .store-resumed .ensures .0), c .before .before .store-resumed .ensures .1)))
+    (λ c. (rw (c .before .before .before .before .before .start2 .given .1) (c .before .before .store-resumed .ensures .0), c .before .before .store-resumed .ensures .1)) in
+    tie.close answers

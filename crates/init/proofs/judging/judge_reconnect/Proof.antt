@@ -6,11 +6,11 @@ use Rattle.init.proofs.judging.judge_reconnect.Tie as tie
 
 pub judge-reconnect-spec : {M : Type 1} → statement M
 judge-reconnect-spec =
-    tie.close
-    (tie.spec
+    let answers = tie.spec
     (λ c. search needs)
     (λ c. search needs)
     (λ c. peer-fresh _ _ (c .before .before .before .ack .given .1) (c .if1 .taken))
     (λ c κs. search needs)
     (λ c. peer-absent _ _ (c .enum-told .given .1))
-    (λ c. peer-both _ _ (c .before .before .before .before .ack .given .1) (c .before .if1 .left) (c .judge-both .ensures)))
+    (λ c. peer-both _ _ (c .before .before .before .before .ack .given .1) (c .before .if1 .left) (c .judge-both .ensures)) in
+    tie.close answers

@@ -5,8 +5,7 @@ use Rattle.init.proofs.judging.start_answer.Tie as tie
 
 pub start-answer-spec : {M : Type 1} → statement M
 start-answer-spec =
-    tie.close
-    (tie.spec
+    let answers = tie.spec
     (λ c. search needs)
     (λ c. search needs)
     (λ c. search needs)
@@ -14,4 +13,5 @@ start-answer-spec =
     (λ c. rw (c .before .start .given .1))
     (λ c. search needs)
     (λ c. search needs)
-    (λ c. search needs))
+    (λ c. search needs) in
+    tie.close answers

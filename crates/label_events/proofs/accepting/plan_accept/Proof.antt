@@ -9,8 +9,7 @@ use Rattle.label_events.proofs.accepting.plan_accept.Tie as tie
 
 pub plan-accept-spec : {M : Type 1} → statement M
 plan-accept-spec =
-    tie.close
-    (tie.spec
+    let answers = tie.spec
     (λ c. plan-low _ _ _ (c .if1 .taken))
     (λ c. plan-high _ _ _ (c .if2 .taken))
     (λ c κs. tt)
@@ -24,4 +23,5 @@ plan-accept-spec =
     ))
     (λ c. search needs)
     (λ c. plan-allowed _ _ _ (omega arith) (omega arith) (c .before .before .before .before .before .before .before .sent-side .ensures) (c .before .before .before .before .before .before .find .ensures) (c .before .before .before .before .before .code-at .ensures .0) (c .before .before .before .before .code-accepted .ensures) (c .before .before .code .given .1) (c .plan-change .ensures))
-    (λ c. plan-refused _ _ _ (omega arith) (omega arith) (c .before .before .before .before .before .sent-side .ensures) (c .before .before .before .before .find .ensures) (c .before .before .before .code-at .ensures .0) (c .before .before .code-accepted .ensures) (c .enum-told .given .1)))
+    (λ c. plan-refused _ _ _ (omega arith) (omega arith) (c .before .before .before .before .before .sent-side .ensures) (c .before .before .before .before .find .ensures) (c .before .before .before .code-at .ensures .0) (c .before .before .code-accepted .ensures) (c .enum-told .given .1)) in
+    tie.close answers

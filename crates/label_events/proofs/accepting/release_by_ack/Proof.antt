@@ -8,8 +8,7 @@ use Rattle.label_events.proofs.accepting.release_by_ack.Tie as tie
 
 pub release-by-ack-spec : {M : Type 1} → statement M
 release-by-ack-spec =
-    tie.close
-    (tie.spec
+    let answers = tie.spec
     (λ c κs. tt)
     (λ c κs. tt)
     (λ c. search needs)
@@ -26,4 +25,5 @@ release-by-ack-spec =
     (λ c. search needs)
     (λ c. acked-found _ _ _ (c .before .before .before .before .before .before .before .sent-side .ensures) (c .before .before .before .before .before .before .find .ensures) _ (c .before .before .before .before .i .given .1) (c .before .code-acked .ensures) (c .word-of .ensures))
     (λ c. search needs)
-    (λ c. acked-absent _ _ _ (c .before .before .before .sent-side .ensures) (c .before .before .find .ensures) (c .enum-told .given .1)))
+    (λ c. acked-absent _ _ _ (c .before .before .before .sent-side .ensures) (c .before .before .find .ensures) (c .enum-told .given .1)) in
+    tie.close answers

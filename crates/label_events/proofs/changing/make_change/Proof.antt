@@ -8,8 +8,7 @@ use Rattle.label_events.proofs.changing.make_change.Tie as tie
 pub make-change-spec : {M : Type 1} → statement M
 unfolding changed
 make-change-spec =
-    tie.close
-    (tie.spec
+    let answers = tie.spec
     (λ c. search needs)
     (λ c. search needs)
     (λ c. omega (arith, change-place _ _ _ _ (c .before .before .before .pre) (c .before .change .given .1)))
@@ -18,4 +17,5 @@ make-change-spec =
     (λ c. rw (c .enum-told .given .1))
     (λ c. search needs)
     (λ c. rw (c .before .change .given .1))
-    (λ c. rw (c .enum-told2 .given .1)))
+    (λ c. rw (c .enum-told2 .given .1)) in
+    tie.close answers

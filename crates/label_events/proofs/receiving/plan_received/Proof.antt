@@ -8,8 +8,7 @@ use Rattle.label_events.proofs.receiving.plan_received.Tie as tie
 
 pub plan-received-spec : {M : Type 1} → statement M
 plan-received-spec =
-    tie.close
-    (tie.spec
+    let answers = tie.spec
     (λ c. received-low _ _ _ _ (c .if1 .taken))
     (λ c. received-high _ _ _ _ (c .if2 .taken))
     (λ c κs. tt)
@@ -17,4 +16,5 @@ plan-received-spec =
     (λ c κs. found-in _ _ (c .find .ensures))
     (λ c κs. tt)
     (λ c κs. (omega arith, rw (c .code-received .ensures) (received-small (c .before .before .before .before .before .before .before .args .message) (c .before .before .before .before .before .before .before .args .protected) _ (c .before .code-at .ensures .1))))
-    (λ c. c .plan-change .ensures ∙ received-is _ _ _ _ (omega arith) (omega arith) (c .before .before .before .before .received-side .ensures) (c .before .before .before .find .ensures) (c .before .before .code-at .ensures .0) (c .before .code-received .ensures)))
+    (λ c. c .plan-change .ensures ∙ received-is _ _ _ _ (omega arith) (omega arith) (c .before .before .before .before .received-side .ensures) (c .before .before .before .find .ensures) (c .before .before .code-at .ensures .0) (c .before .code-received .ensures)) in
+    tie.close answers

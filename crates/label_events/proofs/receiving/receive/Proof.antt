@@ -5,8 +5,7 @@ use Rattle.label_events.proofs.receiving.receive.Tie as tie
 
 pub receive-spec : {M : Type 1} → statement M
 receive-spec =
-    tie.close
-    (tie.spec
+    let answers = tie.spec
     (λ c. search needs)
     (λ c κs. tt)
     (λ c κs. received-in _ _ _ _ (c .before .plan-received .ensures))
@@ -18,4 +17,5 @@ receive-spec =
     (λ c. received-label _ _ _ _ (c .before .before .before .before .before .before .before .before .touched .given .1) (c .before .before .before .before .before .plan-received .ensures) (c .reception .ensures) (c .before .before .before .make-change .ensures))
     (λ c. search needs)
     (λ c. received-every _ _ _ (c .before .before .before .before .enum-told .given .1) (c .before .before .receive-every .ensures))
-    (λ c. received-nothing _ _ _ (c .enum-told2 .given .1)))
+    (λ c. received-nothing _ _ _ (c .enum-told2 .given .1)) in
+    tie.close answers

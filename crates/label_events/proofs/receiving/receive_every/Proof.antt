@@ -6,8 +6,7 @@ use Rattle.label_events.proofs.receiving.receive_every.Tie as tie
 pub receive-every-spec : {M : Type 1} → statement M
 unfolding everyReceived
 receive-every-spec =
-    tie.close
-    (tie.spec
+    let answers = tie.spec
     (λ c. search needs)
     (λ c. search needs)
     (λ c κs. tt)
@@ -17,4 +16,5 @@ receive-every-spec =
     (λ c. search needs)
     (λ c. rw (c .before .before .before .before .enum-told2 .given .1) (c .before .before .sweep .ensures))
     (λ c. search needs)
-    (λ c. rw (c .before .before .before .before .enum-told3 .given .1) (c .before .before .sweep2 .ensures)))
+    (λ c. rw (c .before .before .before .before .enum-told3 .given .1) (c .before .before .sweep2 .ensures)) in
+    tie.close answers

@@ -8,8 +8,7 @@ use Rattle.label_list.proofs.rules.code_accepted.Tie as tie
 pub code-accepted-spec : {M : Type 1} → statement M
 unfolding codeAccepted
 code-accepted-spec =
-    tie.close
-    (tie.spec
+    let answers = tie.spec
     (λ c. search needs)
     (λ c. search needs)
     (λ c. search needs)
@@ -19,4 +18,5 @@ code-accepted-spec =
     (λ c. simp (c .before .enum-told2 .given .1, ne-eqb _ _ (c .match2 .rest .1)))
     (λ c. rw (c .before .enum-told3 .given .1, c .match3 .keys1))
     (λ c. rw (c .before .enum-told3 .given .1, c .match3 .keys2))
-    (λ c. simp (c .before .enum-told3 .given .1, ne-eqb _ _ (c .match3 .rest .0 .1), ne-eqb _ _ (c .match3 .rest .1))))
+    (λ c. simp (c .before .enum-told3 .given .1, ne-eqb _ _ (c .match3 .rest .0 .1), ne-eqb _ _ (c .match3 .rest .1))) in
+    tie.close answers

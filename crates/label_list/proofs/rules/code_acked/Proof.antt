@@ -7,8 +7,7 @@ use Rattle.label_list.proofs.rules.code_acked.Tie as tie
 pub code-acked-spec : {M : Type 1} → statement M
 unfolding codeAcked
 code-acked-spec =
-    tie.close
-    (tie.spec
+    let answers = tie.spec
     (λ c. search needs)
     (λ c. search needs)
     (λ c. search needs)
@@ -16,4 +15,5 @@ code-acked-spec =
     (λ c. rw (c .before .enum-told2 .given .1, c .match2 .keys1))
     (λ c. simp (c .before .enum-told2 .given .1, ne-eqb _ _ (c .match2 .rest .1)))
     (λ c. rw (c .before .enum-told3 .given .1, c .match3 .keys1))
-    (λ c. simp (c .before .enum-told3 .given .1, ne-eqb _ _ (c .match3 .rest .1))))
+    (λ c. simp (c .before .enum-told3 .given .1, ne-eqb _ _ (c .match3 .rest .1))) in
+    tie.close answers

@@ -10,8 +10,7 @@ use Rattle.label_list.proofs.rules.code_received.Tie as tie
 pub code-received-spec : {M : Type 1} → statement M
 unfolding codeReceived
 code-received-spec =
-    tie.close
-    (tie.spec
+    let answers = tie.spec
     (λ c. search needs)
     (λ c. search needs)
     (λ c. search needs)
@@ -25,4 +24,5 @@ code-received-spec =
     (λ c. simp (c .before .enum-told2 .given .1, ne-eqb _ _ (c .match4 .rest .0 .1), ne-eqb _ _ (c .match4 .rest .1)))
     (λ c. simp (c .before .before .enum-told3 .given .1, sym (within-in 1 2 (c .before .before .before .before .args .code) (omega arith) (omega arith))))
     (λ c. simp (c .before .enum-told3 .given .1, sym (within-below 1 2 (c .before .before .before .args .code) (omega arith))))
-    (λ c. simp (c .before .before .enum-told3 .given .1, sym (within-above 1 2 (c .before .before .before .before .args .code) (omega arith) (omega arith)))))
+    (λ c. simp (c .before .before .enum-told3 .given .1, sym (within-above 1 2 (c .before .before .before .before .args .code) (omega arith) (omega arith)))) in
+    tie.close answers

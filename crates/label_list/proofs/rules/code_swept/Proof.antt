@@ -7,8 +7,7 @@ use Rattle.label_list.proofs.rules.code_swept.Tie as tie
 pub code-swept-spec : {M : Type 1} → statement M
 unfolding codeSwept
 code-swept-spec =
-    tie.close
-    (tie.spec
+    let answers = tie.spec
     (λ c. search needs)
     (λ c κs. tt)
     (λ c. search needs)
@@ -17,4 +16,5 @@ code-swept-spec =
     (λ c. rw (c .before .enum-told .given .1) (c .code-received .ensures))
     (λ c. rw (c .before .enum-told2 .given .1) (c .code-received2 .ensures))
     (λ c. rw (c .before .enum-told3 .given .1, c .match2 .keys1))
-    (λ c. simp (c .before .enum-told3 .given .1, ne-eqb _ _ (c .match2 .rest .1))))
+    (λ c. simp (c .before .enum-told3 .given .1, ne-eqb _ _ (c .match2 .rest .1))) in
+    tie.close answers

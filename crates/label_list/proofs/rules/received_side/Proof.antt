@@ -6,11 +6,11 @@ use Rattle.label_list.proofs.rules.received_side.Tie as tie
 pub received-side-spec : {M : Type 1} → statement M
 unfolding receivedSide
 received-side-spec =
-    tie.close
-    (tie.spec
+    let answers = tie.spec
     (λ c. search needs)
     (λ c. search needs)
     (λ c. search needs)
     (λ c. rw (c .enum-told .given .1))
     (λ c. rw (c .enum-told2 .given .1))
-    (λ c. rw (c .enum-told3 .given .1)))
+    (λ c. rw (c .enum-told3 .given .1)) in
+    tie.close answers

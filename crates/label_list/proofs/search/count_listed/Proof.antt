@@ -14,8 +14,7 @@ abbrev μ-loop : tie.MeasureT-loop
 
 pub count-listed-spec : {M : Type 1} → statement M
 count-listed-spec =
-    tie.close
-    (tie.spec Inv-loop μ-loop
+    let answers = tie.spec Inv-loop μ-loop
     (λ c. counted-none _)
     (λ c. omega arith)
     (λ c. omega arith)
@@ -28,4 +27,5 @@ count-listed-spec =
     (λ w. rw (w .1) (counted-listed _ _ _ inv (omega arith) (w .0 .taken)))
     (λ w. rw (w .1) (counted-free _ _ _ inv (omega arith) (w .0 .left)))
     (c .if1 .came))
-    (λ c. counted-all _ _ _ (c .before .loop .inv) (omega arith)))
+    (λ c. counted-all _ _ _ (c .before .loop .inv) (omega arith)) in
+    tie.close answers

@@ -15,8 +15,7 @@ abbrev μ-loop : tie.MeasureT-loop
 
 pub find-spec : {M : Type 1} → statement M
 find-spec =
-    tie.close
-    (tie.spec Inv-loop μ-loop
+    let answers = tie.spec Inv-loop μ-loop
     (λ c. sought-none _ _)
     (λ c. omega arith)
     (λ c. omega arith)
@@ -25,4 +24,5 @@ find-spec =
     (λ c. omega arith)
     (λ c. omega arith)
     (λ c. sought-more _ _ _ (c .before .before .before .before .loop .inv) (omega arith) (sym (c .before .is-wanted .ensures) ∙ c .if1 .left))
-    (λ c. sought-end _ _ _ (c .before .loop .inv) (omega arith)))
+    (λ c. sought-end _ _ _ (c .before .loop .inv) (omega arith)) in
+    tie.close answers

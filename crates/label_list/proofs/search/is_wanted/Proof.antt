@@ -6,8 +6,7 @@ use Rattle.label_list.proofs.search.is_wanted.Tie as tie
 pub is-wanted-spec : {M : Type 1} → statement M
 unfolding isFree
 is-wanted-spec =
-    tie.close
-    (tie.spec
+    let answers = tie.spec
     (λ c. search needs)
     (λ c κs. tt)
     (λ c. search needs)
@@ -15,4 +14,5 @@ is-wanted-spec =
     (λ c κs. tt)
     (λ c. rw (c .before .before .wanted .given .1) (c .stands-for .ensures))
     (λ c. rw (c .enum-told .given .1))
-    (λ c. rw (c .before .before .wanted2 .given .1) (c .needs-protection .ensures)))
+    (λ c. rw (c .before .before .wanted2 .given .1) (c .needs-protection .ensures)) in
+    tie.close answers

@@ -14,8 +14,7 @@ abbrev μ-loop : tie.MeasureT-loop
 
 pub sweep-spec : {M : Type 1} → statement M
 sweep-spec =
-    tie.close
-    (tie.spec Inv-loop μ-loop
+    let answers = tie.spec Inv-loop μ-loop
     (λ c. mapped-none _ _)
     (λ c. omega arith)
     (λ c. omega arith)
@@ -26,4 +25,5 @@ sweep-spec =
     (λ c. simp length-set (omega arith))
     (λ c. mapped-more _ _ _ _ (c .before .before .before .loop .inv) (omega arith) (c .word-swept .ensures))
     (λ c. c .before .loop .inv .same)
-    (λ c. mapped-all _ _ _ _ (c .before .loop .inv) (omega arith)))
+    (λ c. mapped-all _ _ _ _ (c .before .loop .inv) (omega arith)) in
+    tie.close answers

@@ -7,8 +7,8 @@ use Rattle.label_list.proofs.sweeping.word_swept.Tie as tie
 pub word-swept-spec : {M : Type 1} → statement M
 unfolding wordSwept
 word-swept-spec =
-    tie.close
-    (tie.spec
+    let answers = tie.spec
     (λ c κs. tt)
     (λ c κs. (omega arith, rw (c .code-swept .ensures) (swept-small (c .before .args .rule) _ (omega arith))))
-    (λ c. rw (← c .before .code-swept .ensures) (c .word-of .ensures)))
+    (λ c. rw (← c .before .code-swept .ensures) (c .word-of .ensures)) in
+    tie.close answers

@@ -6,8 +6,7 @@ use Rattle.label_list.proofs.validity.mark_label.Tie as tie
 
 pub mark-label-spec : {M : Type 1} → statement M
 mark-label-spec =
-    tie.close
-    (tie.spec
+    let answers = tie.spec
     (λ c κs. tt)
     (λ c. omega arith)
     (λ c. omega arith)
@@ -15,4 +14,5 @@ mark-label-spec =
     (λ c. let place = c .before .before .place-of .ensures in
     (unmarked-absent (c .before .before .before .before .before .pre) _ _ (place .0) (c .if1 .taken), marked-now (c .before .before .before .before .before .pre) _ _ (place .0) (place .1)))
     (λ c κs. tt)
-    (λ c. (c .is-absent .ensures, marked-again (c .before .before .before .before .before .before .pre) _ _ (c .before .before .before .place-of .ensures .0) (c .before .if1 .left))))
+    (λ c. (c .is-absent .ensures, marked-again (c .before .before .before .before .before .before .pre) _ _ (c .before .before .before .place-of .ensures .0) (c .before .if1 .left))) in
+    tie.close answers

@@ -11,8 +11,7 @@ use Rattle.label_list.proofs.validity.mark_word.Tie as tie
 
 pub mark-word-spec : {M : Type 1} → statement M
 mark-word-spec =
-    tie.close
-    (tie.spec
+    let answers = tie.spec
     (λ c. (word-free _ _ (c .if1 .taken), λ e. rw (c .if1 .taken) (marked-free (c .before .before .before .pre))))
     (λ c. (word-low _ _ (c .before .if1 .left) (omega arith), λ e. absurd (false≢true e)))
     (λ c κs. tt)
@@ -35,4 +34,5 @@ mark-word-spec =
     (λ c. (
       word-other _ _ (c .before .before .before .before .before .if1 .left) (omega arith) (sym (c .before .before .before .on-side .ensures) ∙ c .before .before .if3 .left) (sym (c .before .on-side2 .ensures) ∙ c .if4 .left),
       λ e. absurd (false≢true e),
-    )))
+    )) in
+    tie.close answers

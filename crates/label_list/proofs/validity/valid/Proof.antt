@@ -13,8 +13,7 @@ abbrev μ-loop : tie.MeasureT-loop
 
 pub valid-spec : {M : Type 1} → statement M
 valid-spec =
-    tie.close
-    (tie.spec Inv-loop μ-loop
+    let answers = tie.spec Inv-loop μ-loop
     (λ c. checked-end _ refl)
     (λ c. omega arith)
     (λ c. omega arith)
@@ -30,4 +29,5 @@ valid-spec =
     (λ c.
     let good = not-false (c .before .before .mark-word .result) (c .if1 .left) in
     checked-more _ _ (c .before .before .before .before .before .before .before .loop .inv) (omega arith) (sym good ∙ c .before .before .mark-word .ensures .0) (c .before .before .mark-word .ensures .1 good))
-    (λ c. checked-all _ _ (c .before .loop .inv) (omega arith)))
+    (λ c. checked-all _ _ (c .before .loop .inv) (omega arith)) in
+    tie.close answers

@@ -8,8 +8,7 @@ use Rattle.label_list.proofs.word.on_side.Tie as tie
 pub on-side-spec : {M : Type 1} → statement M
 unfolding onSide
 on-side-spec =
-    tie.close
-    (tie.spec
+    let answers = tie.spec
     (λ c. search needs)
     (λ c. search needs)
     (λ c. search needs)
@@ -19,4 +18,5 @@ on-side-spec =
     (λ c. rw (c .enum-told3 .given .1) (within-above 1 2 (c .before .before .before .before .before .args .code) (omega arith) (omega arith)))
     (λ c. rw (c .enum-told4 .given .1) (within-in 3 6 (c .before .before .before .before .before .args .code) (omega arith) (omega arith)))
     (λ c. off-low (c .before .args .side) _ (omega arith))
-    (λ c. off-high (c .before .before .before .args .side) _ (omega arith)))
+    (λ c. off-high (c .before .before .before .args .side) _ (omega arith)) in
+    tie.close answers

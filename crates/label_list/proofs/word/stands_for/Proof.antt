@@ -7,8 +7,8 @@ use Rattle.label_list.proofs.word.stands_for.Tie as tie
 pub stands-for-spec : {M : Type 1} → statement M
 unfolding standsFor
 stands-for-spec =
-    tie.close
-    (tie.spec
+    let answers = tie.spec
     (λ c κs. tt)
     (λ c. rw (both-commutes _ _, eq-eqb _ _ (c .before .if1 .taken)) (c .on-side .ensures))
-    (λ c. rw (both-commutes _ _, ne-eqb _ _ (c .if1 .left))))
+    (λ c. rw (both-commutes _ _, ne-eqb _ _ (c .if1 .left))) in
+    tie.close answers

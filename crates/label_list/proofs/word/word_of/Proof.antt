@@ -7,9 +7,9 @@ use Rattle.label_list.proofs.word.word_of.Tie as tie
 pub word-of-spec : {M : Type 1} → statement M
 unfolding wordOf
 word-of-spec =
-    tie.close
-    (tie.spec
+    let answers = tie.spec
     (λ c. rw (eq-eqb _ _ (c .if1 .taken)))
     (λ c. omega arith)
     (λ c. omega arith)
-    (λ c. rw (ne-eqb _ _ (c .if1 .left))))
+    (λ c. rw (ne-eqb _ _ (c .if1 .left))) in
+    tie.close answers

@@ -6,7 +6,7 @@ use Rattle.ldp_ft.proofs.message_numbers.bit_where.Tie as tie
 
 pub bit-where-spec : {M : Type 1} → statement M
 bit-where-spec =
-    tie.close
-    (tie.spec
+    let answers = tie.spec
     (λ c. (rw (eq-eqb _ _ (c .if1 .taken)), omega arith))
-    (λ c. (rw (ne-eqb _ _ (c .if1 .left)), c .before .pre)))
+    (λ c. (rw (ne-eqb _ _ (c .if1 .left)), c .before .pre)) in
+    tie.close answers

@@ -11,8 +11,7 @@ use Rattle.ldp_ft.proofs.message_numbers.whole_message.Tie as tie
 pub whole-message-spec : {M : Type 1} → statement M
 unfolding wholeMessage messageOf kindOf
 whole-message-spec =
-    tie.close
-    (tie.spec
+    let answers = tie.spec
     (λ c κs. search needs)
     (λ c κs. search needs)
     (λ c κs. search needs)
@@ -39,4 +38,5 @@ whole-message-spec =
     (λ c κs. search needs)
     (λ c κs. search needs)
     (λ c κs. search needs)
-    (λ c. simp (c .maxpdu-of .ensures, c .before .keepalive-of .ensures, c .before .before .seconds-of .ensures, c .before .before .before .reconnect-of .ensures, c .before .before .before .before .ft-number2 .ensures, c .before .before .before .before .before .number-at2 .ensures, c .before .before .before .before .before .before .ft-number .ensures, c .before .before .before .before .before .before .before .number-at .ensures, c .before .before .before .before .before .before .before .before .field-number2 .ensures, c .before .before .before .before .before .before .before .before .before .field-at3 .ensures, c .before .before .before .before .before .before .before .before .before .before .field-number .ensures, c .before .before .before .before .before .before .before .before .before .before .before .field-at2 .ensures, c .before .before .before .before .before .before .before .before .before .before .before .before .before .before .kind-number .ensures, c .before .before .before .before .before .before .before .before .before .before .before .before .before .before .before .parameters-at .ensures, c .before .before .before .before .before .before .before .before .before .before .before .before .before .before .before .before .session-at .ensures, c .before .before .before .before .before .before .before .before .before .before .before .before .before .before .before .before .before .part-at .ensures, c .before .before .before .before .before .before .before .before .before .before .before .before .before .before .before .before .before .before .kind-for .ensures, c .before .before .before .before .before .before .before .before .before .before .before .before .before .before .before .before .before .before .before .field-at .ensures, c .before .before .before .before .before .before .before .before .before .before .before .before .before .before .before .before .before .before .before .before .type-of .ensures, c .before .before .before .before .before .before .before .before .before .before .before .before .before .before .before .before .before .before .before .before .before .id-in .ensures, c .before .before .before .before .before .before .before .before .before .before .before .before .before .before .before .before .before .before .before .before .before .before .number-in .ensures, c .before .before .before .before .before .before .before .before .before .before .before .before .before .before .before .before .before .before .before .before .before .before .before .has-of .ensures)))
+    (λ c. simp (c .maxpdu-of .ensures, c .before .keepalive-of .ensures, c .before .before .seconds-of .ensures, c .before .before .before .reconnect-of .ensures, c .before .before .before .before .ft-number2 .ensures, c .before .before .before .before .before .number-at2 .ensures, c .before .before .before .before .before .before .ft-number .ensures, c .before .before .before .before .before .before .before .number-at .ensures, c .before .before .before .before .before .before .before .before .field-number2 .ensures, c .before .before .before .before .before .before .before .before .before .field-at3 .ensures, c .before .before .before .before .before .before .before .before .before .before .field-number .ensures, c .before .before .before .before .before .before .before .before .before .before .before .field-at2 .ensures, c .before .before .before .before .before .before .before .before .before .before .before .before .before .before .kind-number .ensures, c .before .before .before .before .before .before .before .before .before .before .before .before .before .before .before .parameters-at .ensures, c .before .before .before .before .before .before .before .before .before .before .before .before .before .before .before .before .session-at .ensures, c .before .before .before .before .before .before .before .before .before .before .before .before .before .before .before .before .before .part-at .ensures, c .before .before .before .before .before .before .before .before .before .before .before .before .before .before .before .before .before .before .kind-for .ensures, c .before .before .before .before .before .before .before .before .before .before .before .before .before .before .before .before .before .before .before .field-at .ensures, c .before .before .before .before .before .before .before .before .before .before .before .before .before .before .before .before .before .before .before .before .type-of .ensures, c .before .before .before .before .before .before .before .before .before .before .before .before .before .before .before .before .before .before .before .before .before .id-in .ensures, c .before .before .before .before .before .before .before .before .before .before .before .before .before .before .before .before .before .before .before .before .before .before .number-in .ensures, c .before .before .before .before .before .before .before .before .before .before .before .before .before .before .before .before .before .before .before .before .before .before .before .has-of .ensures)) in
+    tie.close answers

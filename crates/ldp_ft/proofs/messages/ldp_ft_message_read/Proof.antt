@@ -8,8 +8,7 @@ use Rattle.ldp_ft.proofs.messages.ldp_ft_message_read.Tie as tie
 
 pub ldp-ft-message-read-spec : {M : Type 1} → statement M
 ldp-ft-message-read-spec =
-    tie.close
-    (tie.spec
+    let answers = tie.spec
     (λ c κs. search needs)
     (λ c. search needs)
     (λ c κs. search needs)
@@ -19,4 +18,5 @@ ldp-ft-message-read-spec =
       message-narrow _ (λ k. c .before .before .before .before .shared-slice-known .given k .fits) _ (sym (reading-whole _ _ (c .before .before .before .places-in .ensures) _ (c .before .found .given .1) _ refl)),
     ))
     (λ c. rw (← reading-malformed _ _ (c .before .before .before .places-in .ensures) (c .before .enum-told .given .1)) (c .no-message .ensures))
-    (λ c. rw (← reading-whole _ _ (c .before .before .before .before .places-in .ensures) _ (c .before .before .found .given .1) _ refl) (c .whole-message .ensures)))
+    (λ c. rw (← reading-whole _ _ (c .before .before .before .before .places-in .ensures) _ (c .before .before .found .given .1) _ refl) (c .whole-message .ensures)) in
+    tie.close answers

@@ -7,11 +7,11 @@ use Rattle.ldp_ft.proofs.messages.ldp_ft_pdu_message.Tie as tie
 
 pub ldp-ft-pdu-message-spec : {M : Type 1} → statement M
 ldp-ft-pdu-message-spec =
-    tie.close
-    (tie.spec
+    let answers = tie.spec
     (λ c κs. search needs)
     (λ c. search needs)
     (λ c κs. place-ordered _ _ _ _ (sym (c .before .before .before .message-at .ensures) ∙ c .before .start .given .1))
     (λ c. search needs)
     (λ c. rw (← c .before .before .before .before .message-at .ensures, c .before .before .start .given .1) (c .part-numbers .ensures))
-    (λ c. rw (← c .before .before .message-at .ensures, c .enum-told .given .1)))
+    (λ c. rw (← c .before .before .message-at .ensures, c .enum-told .given .1)) in
+    tie.close answers

@@ -5,10 +5,10 @@ use Rattle.ldp_ft.proofs.messages.ldp_ft_pdu_open.Tie as tie
 
 pub ldp-ft-pdu-open-spec : {M : Type 1} → statement M
 ldp-ft-pdu-open-spec =
-    tie.close
-    (tie.spec
+    let answers = tie.spec
     (λ c κs. search needs)
     (λ c. search needs)
     (λ c. search needs)
     (λ c. rw (← c .before .before .before .open-pdu .ensures, c .before .count .given .1))
-    (λ c. rw (← c .before .before .open-pdu .ensures, c .enum-told .given .1)))
+    (λ c. rw (← c .before .before .open-pdu .ensures, c .enum-told .given .1)) in
+    tie.close answers

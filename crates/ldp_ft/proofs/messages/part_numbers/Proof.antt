@@ -6,9 +6,9 @@ use Rattle.ldp_ft.proofs.messages.part_numbers.Tie as tie
 
 pub part-numbers-spec : {M : Type 1} → statement M
 part-numbers-spec =
-    tie.close
-    (tie.spec
+    let answers = tie.spec
     (λ c. rw (lt-ltb _ _ (c .if1 .taken)))
     (λ c. search needs)
     (λ c. search needs)
-    (λ c. rw (le-ltb _ _ (c .if1 .left))))
+    (λ c. rw (le-ltb _ _ (c .if1 .left))) in
+    tie.close answers

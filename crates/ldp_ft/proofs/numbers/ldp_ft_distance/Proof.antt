@@ -7,10 +7,10 @@ use Rattle.ldp_ft.proofs.numbers.ldp_ft_distance.Tie as tie
 
 pub ldp-ft-distance-spec : {M : Type 1} → statement M
 ldp-ft-distance-spec =
-    tie.close
-    (tie.spec
+    let answers = tie.spec
     (λ c κs. search needs)
     (λ c. search needs)
     (λ c. search needs)
     (λ c. rw (← c .before .before .before .signed-distance .ensures, c .before .n .given .1) (rw (toZ-ofZ {w = w32} (record { sfits = c .known-told .given .0 .1 }))))
-    (λ c. rw (← c .before .before .signed-distance .ensures, c .enum-told .given .1)))
+    (λ c. rw (← c .before .before .signed-distance .ensures, c .enum-told .given .1)) in
+    tie.close answers

@@ -6,8 +6,7 @@ use Rattle.ldp_ft.proofs.outcome.answer_block.Tie as tie
 
 pub answer-block-spec : {M : Type 1} → statement M
 answer-block-spec =
-    tie.close
-    (tie.spec
+    let answers = tie.spec
     (λ c. search needs)
     (λ c. search needs)
     (λ c. search needs)
@@ -59,4 +58,5 @@ answer-block-spec =
     (λ c. rw (c .enum-told20 .given .1))
     (λ c. rw (c .enum-told21 .given .1))
     (λ c. rw (c .enum-told22 .given .1))
-    (λ c. rw (c .enum-told23 .given .1)))
+    (λ c. rw (c .enum-told23 .given .1)) in
+    tie.close answers

@@ -7,8 +7,7 @@ use Rattle.ldp_ft.proofs.outcome.outcome_numbers.Tie as tie
 pub outcome-numbers-spec : {M : Type 1} → statement M
 unfolding numbersOf
 outcome-numbers-spec =
-    tie.close
-    (tie.spec
+    let answers = tie.spec
     (λ c κs. search needs)
     (λ c κs. search needs)
     (λ c κs. search needs)
@@ -16,4 +15,5 @@ outcome-numbers-spec =
     (λ c. search needs)
     (λ c. search needs)
     (λ c κs. search needs)
-    (λ c. simp (c .bit-of .ensures, c .before .before .before .session-left .ensures, c .before .before .before .before .effect-of .ensures, c .before .before .before .before .before .answer-block .ensures, c .before .before .before .before .before .before .answer-number .ensures)))
+    (λ c. simp (c .bit-of .ensures, c .before .before .before .session-left .ensures, c .before .before .before .before .effect-of .ensures, c .before .before .before .before .before .answer-block .ensures, c .before .before .before .before .before .before .answer-number .ensures)) in
+    tie.close answers

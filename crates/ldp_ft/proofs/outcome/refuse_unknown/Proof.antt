@@ -7,8 +7,7 @@ use Rattle.ldp_ft.proofs.outcome.refuse_unknown.Tie as tie
 
 pub refuse-unknown-spec : {M : Type 1} → statement M
 refuse-unknown-spec =
-    tie.close
-    (tie.spec
+    let answers = tie.spec
     (λ c κs. search needs)
     (λ c κs. search needs)
     (λ c κs. search needs)
@@ -16,4 +15,5 @@ refuse-unknown-spec =
     (λ c. unknown-refused _ _ (c .before .before .before .before .check .ensures) (denied (c .before .before .before .is-done .ensures) (c .before .before .if1 .taken)) (c .before .refuse .ensures) (c .outcome-numbers .ensures))
     (λ c κs. search needs)
     (λ c κs. barred-narrow (c .refuse2 .ensures))
-    (λ c. unknown-sound _ _ (c .before .before .before .before .check .ensures) (granted (c .before .before .before .is-done .ensures) (c .before .before .if1 .left)) (c .before .refuse2 .ensures) (c .outcome-numbers2 .ensures)))
+    (λ c. unknown-sound _ _ (c .before .before .before .before .check .ensures) (granted (c .before .before .before .is-done .ensures) (c .before .before .if1 .left)) (c .before .refuse2 .ensures) (c .outcome-numbers2 .ensures)) in
+    tie.close answers

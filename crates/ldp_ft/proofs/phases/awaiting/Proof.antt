@@ -8,8 +8,8 @@ use Rattle.ldp_ft.proofs.phases.awaiting.Tie as tie
 pub awaiting-spec : {M : Type 1} → statement M
 unfolding awaitingOf
 awaiting-spec =
-    tie.close
-    (tie.spec
+    let answers = tie.spec
     (λ c. rw (lt-ltb _ _ (c .if1 .taken)))
     (λ c. search needs)
-    (λ c. rw (le-ltb _ _ (c .if1 .left))))
+    (λ c. rw (le-ltb _ _ (c .if1 .left))) in
+    tie.close answers

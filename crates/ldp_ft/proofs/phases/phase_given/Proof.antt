@@ -10,12 +10,12 @@ use Rattle.ldp_ft.proofs.phases.phase_given.Tie as tie
 pub phase-given-spec : {M : Type 1} → statement M
 unfolding givenOf
 phase-given-spec =
-    tie.close
-    (tie.spec
+    let answers = tie.spec
     (λ c κs. search needs)
     (λ c. rw (c .match .keys1))
     (λ c. rw (c .before .match .keys2) (c .awaiting .ensures))
     (λ c. rw (c .match .keys3))
     (λ c. rw (c .match .keys4))
     (λ c. rw (c .match .keys5))
-    (λ c. lookup-absent Given.Unknown (phases (c .before .args .s .value)) (c .before .args .s .phase) (search needs)))
+    (λ c. lookup-absent Given.Unknown (phases (c .before .args .s .value)) (c .before .args .s .phase) (search needs)) in
+    tie.close answers

@@ -5,8 +5,7 @@ use Rattle.ldp_ft.proofs.phases.session_of.Tie as tie
 
 pub session-of-spec : {M : Type 1} → statement M
 session-of-spec =
-    tie.close
-    (tie.spec
+    let answers = tie.spec
     (λ c. search needs)
     (λ c. search needs)
     (λ c. search needs)
@@ -17,4 +16,5 @@ session-of-spec =
     (λ c. rw (c .before .phase .given .1))
     (λ c. rw (c .before .phase2 .given .1))
     (λ c. rw (c .enum-told2 .given .1))
-    (λ c. rw (c .enum-told3 .given .1)))
+    (λ c. rw (c .enum-told3 .given .1)) in
+    tie.close answers

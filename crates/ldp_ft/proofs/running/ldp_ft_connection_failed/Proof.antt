@@ -7,8 +7,7 @@ use Rattle.ldp_ft.proofs.running.ldp_ft_connection_failed.Tie as tie
 
 pub ldp-ft-connection-failed-spec : {M : Type 1} → statement M
 ldp-ft-connection-failed-spec =
-    tie.close
-    (tie.spec
+    let answers = tie.spec
     (λ c κs. search needs)
     (λ c. search needs)
     (λ c κs. search needs)
@@ -18,4 +17,5 @@ ldp-ft-connection-failed-spec =
     (λ c. search needs)
     (λ c. called-known _ _ _ _ (c .before .before .before .before .before .before .before .before .phase-given .ensures) (c .before .before .before .before .before .before .phase .given .1) (c .before .before .before .connection-failed .ensures) (c .outcome-numbers .ensures))
     (λ c. search needs)
-    (λ c. called-unknown _ _ _ _ (c .before .before .before .before .phase-given .ensures) (c .before .before .enum-told .given .1) (c .refuse-unknown .ensures)))
+    (λ c. called-unknown _ _ _ _ (c .before .before .before .before .phase-given .ensures) (c .before .before .enum-told .given .1) (c .refuse-unknown .ensures)) in
+    tie.close answers

@@ -7,8 +7,7 @@ use Rattle.ldp_ft.proofs.running.ldp_ft_time_passed.Tie as tie
 
 pub ldp-ft-time-passed-spec : {M : Type 1} → statement M
 ldp-ft-time-passed-spec =
-    tie.close
-    (tie.spec
+    let answers = tie.spec
     (λ c κs. search needs)
     (λ c. search needs)
     (λ c κs. search needs)
@@ -18,4 +17,5 @@ ldp-ft-time-passed-spec =
     (λ c. search needs)
     (λ c. called-known _ _ _ _ (c .before .before .before .before .before .before .before .before .phase-given .ensures) (c .before .before .before .before .before .before .phase .given .1) (c .before .before .before .time-passed .ensures) (c .outcome-numbers .ensures))
     (λ c. search needs)
-    (λ c. called-unknown _ _ _ _ (c .before .before .before .before .phase-given .ensures) (c .before .before .enum-told .given .1) (c .refuse-unknown .ensures)))
+    (λ c. called-unknown _ _ _ _ (c .before .before .before .before .phase-given .ensures) (c .before .before .enum-told .given .1) (c .refuse-unknown .ensures)) in
+    tie.close answers

@@ -8,10 +8,10 @@ use Rattle.ldp_ft.proofs.starting.ldp_ft_format.Tie as tie
 
 pub ldp-ft-format-spec : {M : Type 1} → statement M
 ldp-ft-format-spec =
-    tie.close
-    (tie.spec
+    let answers = tie.spec
     (λ c κs. search needs)
     (λ c κs. search needs)
     (λ c κs. narrow-is (c .before .before .before .format .ensures) (format-narrow _))
     (λ c. search needs)
-    (λ c. shown-is _ (c .before .before .before .before .format .ensures) (c .outcome-numbers .ensures ∙ (rw (c .before .session-of .ensures)))))
+    (λ c. shown-is _ (c .before .before .before .before .format .ensures) (c .outcome-numbers .ensures ∙ (rw (c .before .session-of .ensures)))) in
+    tie.close answers

@@ -7,8 +7,7 @@ use Rattle.ldp_ft.proofs.starting.ldp_ft_open.Tie as tie
 
 pub ldp-ft-open-spec : {M : Type 1} → statement M
 ldp-ft-open-spec =
-    tie.close
-    (tie.spec
+    let answers = tie.spec
     (λ c κs. search needs)
     (λ c κs. search needs)
     (λ c. search needs)
@@ -20,4 +19,5 @@ ldp-ft-open-spec =
     (λ c. search needs)
     (λ c. called-known _ _ _ _ (c .before .before .before .before .before .before .before .before .before .phase-given .ensures) (c .before .before .before .before .before .before .before .phase .given .1) (rw (c .before .before .before .before .before .before .before .before .before .before .proposal-of .ensures) at (c .before .before .before .open-session .ensures)) (c .outcome-numbers .ensures))
     (λ c. search needs)
-    (λ c. called-unknown _ _ _ _ (c .before .before .before .before .phase-given .ensures) (c .before .before .enum-told .given .1) (c .refuse-unknown .ensures)))
+    (λ c. called-unknown _ _ _ _ (c .before .before .before .before .phase-given .ensures) (c .before .before .enum-told .given .1) (c .refuse-unknown .ensures)) in
+    tie.close answers

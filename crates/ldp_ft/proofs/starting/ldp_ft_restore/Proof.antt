@@ -8,10 +8,10 @@ use Rattle.ldp_ft.proofs.starting.ldp_ft_restore.Tie as tie
 
 pub ldp-ft-restore-spec : {M : Type 1} → statement M
 ldp-ft-restore-spec =
-    tie.close
-    (tie.spec
+    let answers = tie.spec
     (λ c κs. search needs)
     (λ c κs. search needs)
     (λ c κs. narrow-is (c .before .before .before .restore .ensures) (restore-narrow _))
     (λ c. search needs)
-    (λ c. shown-is _ (c .before .before .before .before .restore .ensures) (c .outcome-numbers .ensures ∙ (rw (c .before .session-of .ensures)))))
+    (λ c. shown-is _ (c .before .before .before .before .restore .ensures) (c .outcome-numbers .ensures ∙ (rw (c .before .session-of .ensures)))) in
+    tie.close answers

@@ -4,7 +4,7 @@ use Rattle.ldp_ft.proofs.starting.proposal_of.Tie as tie
 
 pub proposal-of-spec : {M : Type 1} → statement M
 proposal-of-spec =
-    tie.close
-    (tie.spec
+    let answers = tie.spec
     (λ c. rw (c .if1 .taken))
-    (λ c. rw (c .if1 .left)))
+    (λ c. rw (c .if1 .left)) in
+    tie.close answers

@@ -5,10 +5,10 @@ use Rattle.ldp_ft.proofs.stored.ldp_ft_block_check.Tie as tie
 
 pub ldp-ft-block-check-spec : {M : Type 1} → statement M
 ldp-ft-block-check-spec =
-    tie.close
-    (tie.spec
+    let answers = tie.spec
     (λ c κs. search needs)
     (λ c. search needs)
     (λ c. search needs)
     (λ c. rw (← c .before .before .before .block-check .ensures, c .before .c .given .1))
-    (λ c. rw (← c .before .before .block-check .ensures, c .enum-told .given .1)))
+    (λ c. rw (← c .before .before .block-check .ensures, c .enum-told .given .1)) in
+    tie.close answers

@@ -5,8 +5,7 @@ use Rattle.receive.proofs.judging.judge_ack.Tie as tie
 
 pub judge-ack-spec : {M : Type 1} → statement M
 judge-ack-spec =
-    tie.close
-    (tie.spec
+    let answers = tie.spec
     (λ c κs. search needs)
     (λ c κs. search needs)
     (λ c. search needs)
@@ -15,4 +14,5 @@ judge-ack-spec =
     (λ c κs. search needs)
     (λ c. ack-error _ _ _ (ack-on _ _ (c .before .before .acknowledge .ensures) (c .before .before .before .ack-borne .ensures)) (c .enum-told .given .1))
     (λ c. search needs)
-    (λ c. ack-right _ _ _ (ack-on _ _ (c .before .before .before .before .before .before .before .before .before .before .before .acknowledge .ensures) (c .before .before .before .before .before .before .before .before .before .before .before .before .ack-borne .ensures)) (c .before .before .before .before .before .before .before .before .before .before .before .before .before .before .before .pre .1) (c .before .before .before .before .before .before .before .before .before .k .given .1) (c .before .before .before .before .before .before .load-acked .ensures) (c .before .before .judge-labels .ensures)))
+    (λ c. ack-right _ _ _ (ack-on _ _ (c .before .before .before .before .before .before .before .before .before .before .before .acknowledge .ensures) (c .before .before .before .before .before .before .before .before .before .before .before .before .ack-borne .ensures)) (c .before .before .before .before .before .before .before .before .before .before .before .before .before .before .before .pre .1) (c .before .before .before .before .before .before .before .before .before .k .given .1) (c .before .before .before .before .before .before .load-acked .ensures) (c .before .before .judge-labels .ensures)) in
+    tie.close answers

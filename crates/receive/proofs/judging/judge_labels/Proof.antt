@@ -7,8 +7,7 @@ use Rattle.receive.proofs.judging.judge_labels.Tie as tie
 
 pub judge-labels-spec : {M : Type 1} → statement M
 judge-labels-spec =
-    tie.close
-    (tie.spec
+    let answers = tie.spec
     (λ c κs. search needs)
     (λ c. search needs)
     (λ c. search needs)
@@ -28,4 +27,5 @@ judge-labels-spec =
     (λ c. search needs)
     (λ c. labels-reception _ _ _ (c .before .before .before .before .before .before .before .before .before .before .before .before .judge-protection .ensures) (c .before .before .before .before .before .before .before .before .before .before .enum-told3 .given .1) (c .before .before .before .before .before .before .before .before .before .in-turn .ensures) (not-false (c .before .before .before .before .before .before .before .before .before .in-turn .result) (c .before .before .before .before .before .before .before .before .if1 .left)) (c .before .before .before .before .before .before .is-protected .ensures) (c .before .before .before .before .before .label-effect .ensures) (c .before .before .before .before .change-labels .ensures) (c .enum-told4 .given .1))
     (λ c. search needs)
-    (λ c. labels-reception _ _ _ (c .before .before .before .before .before .before .before .before .before .before .before .before .judge-protection .ensures) (c .before .before .before .before .before .before .before .before .before .before .enum-told3 .given .1) (c .before .before .before .before .before .before .before .before .before .in-turn .ensures) (not-false (c .before .before .before .before .before .before .before .before .before .in-turn .result) (c .before .before .before .before .before .before .before .before .if1 .left)) (c .before .before .before .before .before .before .is-protected .ensures) (c .before .before .before .before .before .label-effect .ensures) (c .before .before .before .before .change-labels .ensures) (c .enum-told5 .given .1)))
+    (λ c. labels-reception _ _ _ (c .before .before .before .before .before .before .before .before .before .before .before .before .judge-protection .ensures) (c .before .before .before .before .before .before .before .before .before .before .enum-told3 .given .1) (c .before .before .before .before .before .before .before .before .before .in-turn .ensures) (not-false (c .before .before .before .before .before .before .before .before .before .in-turn .result) (c .before .before .before .before .before .before .before .before .if1 .left)) (c .before .before .before .before .before .before .is-protected .ensures) (c .before .before .before .before .before .label-effect .ensures) (c .before .before .before .before .change-labels .ensures) (c .enum-told5 .given .1)) in
+    tie.close answers

@@ -4,11 +4,11 @@ use Rattle.receive.proofs.labels.change_labels.Tie as tie
 
 pub change-labels-spec : {M : Type 1} → statement M
 change-labels-spec =
-    tie.close
-    (tie.spec
+    let answers = tie.spec
     (λ c. search needs)
     (λ c. search needs)
     (λ c κs. search needs)
     (λ c. search needs)
     (λ c. search needs)
-    (λ c. rw (c .before .before .before .before .before .effect .given .1) (c .before .before .receive .ensures)))
+    (λ c. rw (c .before .before .before .before .before .effect .given .1) (c .before .before .receive .ensures)) in
+    tie.close answers

@@ -4,8 +4,7 @@ use Rattle.receive.proofs.labels.effect_on.Tie as tie
 
 pub effect-on-spec : {M : Type 1} → statement M
 effect-on-spec =
-    tie.close
-    (tie.spec
+    let answers = tie.spec
     (λ c. search needs)
     (λ c. search needs)
     (λ c. search needs)
@@ -27,4 +26,5 @@ effect-on-spec =
     (λ c. rw (c .enum-told8 .given .1))
     (λ c. rw (c .enum-told9 .given .1))
     (λ c. search needs)
-    (λ c. search needs))
+    (λ c. search needs) in
+    tie.close answers

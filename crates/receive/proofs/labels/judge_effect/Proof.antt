@@ -4,10 +4,10 @@ use Rattle.receive.proofs.labels.judge_effect.Tie as tie
 
 pub judge-effect-spec : {M : Type 1} → statement M
 judge-effect-spec =
-    tie.close
-    (tie.spec
+    let answers = tie.spec
     (λ c. search needs)
     (λ c. search needs)
     (λ c κs. search needs)
     (λ c. search needs)
-    (λ c. rw (c .before .before .effect .given .1) (c .judge-protection .ensures)))
+    (λ c. rw (c .before .before .effect .given .1) (c .judge-protection .ensures)) in
+    tie.close answers

@@ -4,8 +4,7 @@ use Rattle.receive.proofs.labels.touched_by.Tie as tie
 
 pub touched-by-spec : {M : Type 1} → statement M
 touched-by-spec =
-    tie.close
-    (tie.spec
+    let answers = tie.spec
     (λ c. search needs)
     (λ c. search needs)
     (λ c. search needs)
@@ -14,4 +13,5 @@ touched-by-spec =
     (λ c. rw (c .before .label .given .1))
     (λ c. search needs)
     (λ c. search needs)
-    (λ c. search needs))
+    (λ c. search needs) in
+    tie.close answers

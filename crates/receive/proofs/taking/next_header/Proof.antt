@@ -4,9 +4,9 @@ use Rattle.receive.proofs.taking.next_header.Tie as tie
 
 pub next-header-spec : {M : Type 1} → statement M
 next-header-spec =
-    tie.close
-    (tie.spec
+    let answers = tie.spec
     (λ c κs. search needs)
     (λ c κs. search needs)
     (λ c κs. search needs)
-    (λ c. rw (c .secured-by .ensures, c .before .released-header .ensures, c .before .before .ack-borne .ensures)))
+    (λ c. rw (c .secured-by .ensures, c .before .released-header .ensures, c .before .before .ack-borne .ensures)) in
+    tie.close answers

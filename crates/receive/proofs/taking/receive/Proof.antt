@@ -9,8 +9,7 @@ use Rattle.receive.proofs.taking.receive.Tie as tie
 
 pub receive-spec : {M : Type 1} → statement M
 receive-spec =
-    tie.close
-    (tie.spec
+    let answers = tie.spec
     (λ c κs. search needs)
     (λ c κs. search needs)
     (λ c κs. search needs)
@@ -35,4 +34,5 @@ receive-spec =
     (λ c. search needs)
     (λ c. receive-judges _ _ _ (c .before .before .before .before .before .before .before .before .admit .ensures) (granted (c .before .before .before .before .before .before .before .is-done .ensures) (c .before .before .before .before .before .before .if1 .left)) _ (c .before .before .before .before .enum-told3 .given .1) (c .before .before .receive-plain .ensures))
     (λ c. search needs)
-    (λ c. receive-barred _ _ _ (c .before .before .before .before .before .admit .ensures) (granted (c .before .before .before .before .is-done .ensures) (c .before .before .before .if1 .left)) (ap receives (c .before .enum-told4 .given .1)) (c .refuse4 .ensures)))
+    (λ c. receive-barred _ _ _ (c .before .before .before .before .before .admit .ensures) (granted (c .before .before .before .before .is-done .ensures) (c .before .before .before .if1 .left)) (ap receives (c .before .enum-told4 .given .1)) (c .refuse4 .ensures)) in
+    tie.close answers

@@ -8,8 +8,7 @@ use Rattle.receive.proofs.taking.receive_ft.Tie as tie
 
 pub receive-ft-spec : {M : Type 1} → statement M
 receive-ft-spec =
-    tie.close
-    (tie.spec
+    let answers = tie.spec
     (λ c κs. c .before .before .pre .size)
     (λ c. search needs)
     (λ c κs. (c .before .before .before .before .pre, c .before .header-of .ensures, refl))
@@ -20,4 +19,5 @@ receive-ft-spec =
     (λ c. search needs)
     (λ c κs. record { sound = c .before .before .before .before .before .before .before .before .before .before .pre; within = count-within _ _ (c .before .before .before .before .before .before .before .before .before .before .pre); labels = λ n. c .before .before .before .before .before .judge-ft .ensures .1 (done-is _ (granted (c .before .before .before .is-done .ensures) (c .before .before .if1 .left))) (rw (c .before .before .before .before .before .before .before .header-of .ensures) n); count = search needs })
     (λ c. search needs)
-    (λ c. ft-taken _ _ _ (c .before .before .before .before .before .before .before .before .judge-ft .ensures .0) (granted (c .before .before .before .before .before .before .is-done .ensures) (c .before .before .before .before .before .if1 .left)) (c .before .before .take-ft .ensures)))
+    (λ c. ft-taken _ _ _ (c .before .before .before .before .before .before .before .before .judge-ft .ensures .0) (granted (c .before .before .before .before .before .before .is-done .ensures) (c .before .before .before .before .before .if1 .left)) (c .before .before .take-ft .ensures)) in
+    tie.close answers

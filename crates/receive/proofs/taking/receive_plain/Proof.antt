@@ -5,8 +5,7 @@ use Rattle.receive.proofs.taking.receive_plain.Tie as tie
 
 pub receive-plain-spec : {M : Type 1} → statement M
 receive-plain-spec =
-    tie.close
-    (tie.spec
+    let answers = tie.spec
     (λ c κs. search needs)
     (λ c. search needs)
     (λ c κs. search needs)
@@ -16,4 +15,5 @@ receive-plain-spec =
     (λ c. search needs)
     (λ c. read-malformed _ _ _ _ (c .before .before .before .before .before .before .read-message .ensures) _ (c .before .before .before .before .enum-told .given .1) (c .before .before .settle .ensures))
     (λ c. search needs)
-    (λ c. read-whole _ _ _ _ (c .before .before .before .before .before .before .before .before .read-message .ensures) (c .before .before .before .before .before .before .g .given .1) (plain-settled _ _ (c .before .before .before .judge-plain .ensures) (c .before .before .settle2 .ensures))))
+    (λ c. read-whole _ _ _ _ (c .before .before .before .before .before .before .before .before .read-message .ensures) (c .before .before .before .before .before .before .g .given .1) (plain-settled _ _ (c .before .before .before .judge-plain .ensures) (c .before .before .settle2 .ensures))) in
+    tie.close answers

@@ -5,8 +5,7 @@ use Rattle.receive.proofs.taking.receive_up.Tie as tie
 
 pub receive-up-spec : {M : Type 1} → statement M
 receive-up-spec =
-    tie.close
-    (tie.spec
+    let answers = tie.spec
     (λ c κs. search needs)
     (λ c. search needs)
     (λ c κs. search needs)
@@ -15,4 +14,5 @@ receive-up-spec =
     (λ c. search needs)
     (λ c. read-malformed _ _ _ _ (c .before .before .before .before .before .before .read-message .ensures) _ (c .before .before .before .before .enum-told .given .1) (c .before .before .settle .ensures))
     (λ c. search needs)
-    (λ c. read-whole _ _ _ _ (c .before .before .before .before .before .before .before .read-message .ensures) (c .before .before .before .before .before .g .given .1) (c .before .before .receive-ft .ensures)))
+    (λ c. read-whole _ _ _ _ (c .before .before .before .before .before .before .before .read-message .ensures) (c .before .before .before .before .before .g .given .1) (c .before .before .receive-ft .ensures)) in
+    tie.close answers

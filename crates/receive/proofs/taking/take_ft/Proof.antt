@@ -5,11 +5,11 @@ use Rattle.receive.proofs.taking.take_ft.Tie as tie
 
 pub take-ft-spec : {M : Type 1} → statement M
 take-ft-spec =
-    tie.close
-    (tie.spec
+    let answers = tie.spec
     (λ c κs. search needs)
     (λ c κs. search needs)
     (λ c κs. search needs)
     (λ c κs. search needs)
     (λ c. search needs)
-    (λ c. take-is _ _ _ (c .before .before .before .before .before .before .header-of .ensures) (c .before .before .before .before .before .ack-count .ensures) (c .before .before .before .store-taken .ensures) (c .lowered .ensures)))
+    (λ c. take-is _ _ _ (c .before .before .before .before .before .before .header-of .ensures) (c .before .before .before .before .before .ack-count .ensures) (c .before .before .before .store-taken .ensures) (c .lowered .ensures)) in
+    tie.close answers

@@ -15,8 +15,7 @@ abbrev μ-loop : tie.MeasureT-loop
 
 pub copy-bytes-spec : {M : Type 1} → statement M
 copy-bytes-spec =
-    tie.close
-    (tie.spec Inv-loop μ-loop
+    let answers = tie.spec Inv-loop μ-loop
     (λ c κs. search needs)
     (λ c. search needs)
     (λ c κs. search needs)
@@ -30,4 +29,5 @@ copy-bytes-spec =
     (λ c. omega arith)
     (λ c. search needs)
     (λ c. search needs)
-    (λ c. search needs))
+    (λ c. search needs) in
+    tie.close answers

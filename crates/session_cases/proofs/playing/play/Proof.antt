@@ -14,8 +14,7 @@ abbrev μ-loop : tie.MeasureT-loop
 
 pub play-spec : {M : Type 1} → statement M
 play-spec =
-    tie.close
-    (tie.spec Inv-loop μ-loop
+    let answers = tie.spec Inv-loop μ-loop
     (λ c. (refl, refl))
     (λ c κs. search needs)
     (λ c κs. search needs)
@@ -24,4 +23,5 @@ play-spec =
     (λ c. (omega arith, omega arith))
     (λ c. search needs)
     (λ c. search needs)
-    (λ c. search needs))
+    (λ c. search needs) in
+    tie.close answers

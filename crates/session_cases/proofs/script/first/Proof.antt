@@ -7,8 +7,8 @@ use Rattle.session_cases.proofs.script.first.Tie as tie
 
 pub first-spec : {M : Type 1} → statement M
 first-spec =
-    tie.close
-    (tie.spec
+    let answers = tie.spec
     (λ c. search needs)
     (λ c. simp length-take (omega arith))
-    (λ c. simp length-take (omega arith)))
+    (λ c. simp length-take (omega arith)) in
+    tie.close answers

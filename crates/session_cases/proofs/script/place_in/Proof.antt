@@ -14,8 +14,7 @@ abbrev μ-loop : tie.MeasureT-loop
 
 pub place-in-spec : {M : Type 1} → statement M
 place-in-spec =
-    tie.close
-    (tie.spec Inv-loop μ-loop
+    let answers = tie.spec Inv-loop μ-loop
     (λ c. omega arith)
     (λ c κs. search needs)
     (λ c κs. search needs)
@@ -24,4 +23,5 @@ place-in-spec =
     (λ c. omega arith)
     (λ c. omega arith)
     (λ c. omega arith)
-    (λ c. search needs))
+    (λ c. search needs) in
+    tie.close answers

@@ -15,8 +15,7 @@ abbrev μ-loop : tie.MeasureT-loop
 
 pub read-hex-spec : {M : Type 1} → statement M
 read-hex-spec =
-    tie.close
-    (tie.spec Inv-loop μ-loop
+    let answers = tie.spec Inv-loop μ-loop
     (λ c. omega arith)
     (λ c. search needs)
     (λ c. search needs)
@@ -35,4 +34,5 @@ read-hex-spec =
     (λ c. omega arith)
     (λ c. search needs)
     (λ c. search needs)
-    (λ c. search needs))
+    (λ c. search needs) in
+    tie.close answers

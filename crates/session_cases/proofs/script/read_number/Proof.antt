@@ -14,8 +14,7 @@ abbrev μ-loop : tie.MeasureT-loop
 
 pub read-number-spec : {M : Type 1} → statement M
 read-number-spec =
-    tie.close
-    (tie.spec Inv-loop μ-loop
+    let answers = tie.spec Inv-loop μ-loop
     (λ c. search needs)
     (λ c. omega arith)
     (λ c. omega arith)
@@ -23,4 +22,5 @@ read-number-spec =
     (λ c. omega arith)
     (λ c. omega arith)
     (λ c. omega arith)
-    (λ c. search needs))
+    (λ c. search needs) in
+    tie.close answers

@@ -7,8 +7,7 @@ use Rattle.submit.proofs.labels.accept_as.Tie as tie
 pub accept-as-spec : {M : Type 1} → statement M
 unfolding acceptedAs
 accept-as-spec =
-    tie.close
-    (tie.spec
+    let answers = tie.spec
     (λ c. search needs)
     (λ c κs. search needs)
     (λ c. search needs)
@@ -28,4 +27,5 @@ accept-as-spec =
     (λ c. rw (c .enum-told4 .given .1) (refl, refl))
     (λ c. rw (c .enum-told5 .given .1) (refl, refl))
     (λ c. rw (c .enum-told6 .given .1) (refl, refl))
-    (λ c. rw (c .enum-told7 .given .1) (refl, refl)))
+    (λ c. rw (c .enum-told7 .given .1) (refl, refl)) in
+    tie.close answers

@@ -6,9 +6,9 @@ use Rattle.submit.proofs.labels.held_bears.Tie as tie
 
 pub held-bears-spec : {M : Type 1} → statement M
 held-bears-spec =
-    tie.close
-    (tie.spec
+    let answers = tie.spec
     (λ c κs. search needs)
     (λ c. other-kind _ (queue-storable _ (c .before .before .before .pre .0) _ (c .before .before .before .pre .1)) _ _ (c .before .held-kind .ensures) (c .if1 .taken))
     (λ c κs. search needs)
-    (λ c. same-kind _ (queue-storable _ (c .before .before .before .before .pre .0) _ (c .before .before .before .before .pre .1)) _ _ (c .before .before .held-kind .ensures) (c .held-label .ensures) (c .before .if1 .left)))
+    (λ c. same-kind _ (queue-storable _ (c .before .before .before .before .pre .0) _ (c .before .before .before .before .pre .1)) _ _ (c .before .before .held-kind .ensures) (c .held-label .ensures) (c .before .if1 .left)) in
+    tie.close answers

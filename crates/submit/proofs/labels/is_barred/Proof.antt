@@ -6,8 +6,7 @@ use Rattle.submit.proofs.labels.is_barred.Tie as tie
 pub is-barred-spec : {M : Type 1} → statement M
 unfolding isBarred
 is-barred-spec =
-    tie.close
-    (tie.spec
+    let answers = tie.spec
     (λ c. search needs)
     (λ c. search needs)
     (λ c κs. search needs)
@@ -25,4 +24,5 @@ is-barred-spec =
     (λ c. rw (c .enum-told4 .given .1))
     (λ c. rw (c .enum-told5 .given .1))
     (λ c. rw (c .enum-told6 .given .1))
-    (λ c. rw (c .enum-told7 .given .1)))
+    (λ c. rw (c .enum-told7 .given .1)) in
+    tie.close answers

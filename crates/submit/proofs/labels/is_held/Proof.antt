@@ -16,8 +16,7 @@ abbrev μ-loop : tie.MeasureT-loop
 
 pub is-held-spec : {M : Type 1} → statement M
 is-held-spec =
-    tie.close
-    (tie.spec
+    let answers = tie.spec
     Inv-loop
     μ-loop
     (λ c κs. c .before .pre .size)
@@ -28,4 +27,5 @@ is-held-spec =
     (λ c. omega arith)
     (λ c. omega arith)
     (λ c. searched-one _ _ _ _ (c .before .before .before .loop .inv) (c .before .held-bears .ensures) (c .before .before .loop-test .taken) (c .if1 .left))
-    (λ c. searched-all _ _ _ _ (c .before .loop .inv) (c .loop-test .left)))
+    (λ c. searched-all _ _ _ _ (c .before .loop .inv) (c .loop-test .left)) in
+    tie.close answers

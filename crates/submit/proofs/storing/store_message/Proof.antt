@@ -8,8 +8,7 @@ use Rattle.submit.proofs.storing.store_message.Tie as tie
 
 pub store-message-spec : {M : Type 1} → statement M
 store-message-spec =
-    tie.close
-    (tie.spec
+    let answers = tie.spec
     (λ c κs. search needs)
     (λ c κs. search needs)
     (λ c κs. search needs)
@@ -18,4 +17,5 @@ store-message-spec =
     (λ c κs. (c .before .before .before .before .before .store-slot .kept .0 ∙ c .before .before .before .before .before .before .before .before .before .before .before .before .before .pre .0, c .before .before .before .before .before .before .before .before .before .before .before .before .before .pre .4))
     (λ c. search needs)
     (λ c. search needs)
-    (λ c. stored-is _ _ _ (c .before .before .before .before .before .before .before .before .before .before .before .header-of .ensures) (c .before .before .before .before .before .before .before .before .before .before .next-slot .ensures .0) (c .before .before .before .before .before .before .before .before .store-slot .ensures) (c .before .before .before .with-held .ensures) (c .before .before .store-block0 .ensures)))
+    (λ c. stored-is _ _ _ (c .before .before .before .before .before .before .before .before .before .before .before .header-of .ensures) (c .before .before .before .before .before .before .before .before .before .before .next-slot .ensures .0) (c .before .before .before .before .before .before .before .before .store-slot .ensures) (c .before .before .before .with-held .ensures) (c .before .before .store-block0 .ensures)) in
+    tie.close answers

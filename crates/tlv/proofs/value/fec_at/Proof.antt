@@ -7,8 +7,7 @@ use Rattle.tlv.proofs.value.fec_at.Tie as tie
 
 pub fec-at-spec : {M : Type 1} → statement M
 fec-at-spec =
-    tie.close
-    (tie.spec
+    let answers = tie.spec
     (λ c. unfold fecAt in where-equal _ 0 _ _ (c .if1 .taken))
     (λ c. omega (arith, c .before .before .pre (c .if1 .left)))
     (λ c κs. omega (arith, c .before .before .pre (c .if1 .left)))
@@ -16,4 +15,5 @@ fec-at-spec =
     (λ c. omega (arith, c .before .before .before .before .pre (c .before .before .if1 .left)))
     (λ c κs. omega (arith, c .before .before .before .before .pre (c .before .before .if1 .left)))
     (λ c. unfold fecAt in where-apart _ 0 _ _ (c .before .before .before .before .if1 .left) (rw (← c .before .before .before .get-u16 .ensures, c .before .before .if2 .left, ← c .before .get-u8 .ensures) (where-apart _ 1 _ _ (c .if3 .taken) refl)))
-    (λ c. unfold fecAt in where-apart _ 0 _ _ (c .before .before .before .before .if1 .left) (rw (← c .before .before .before .get-u16 .ensures, c .before .before .if2 .left, ← c .before .get-u8 .ensures, c .if3 .left) refl)))
+    (λ c. unfold fecAt in where-apart _ 0 _ _ (c .before .before .before .before .if1 .left) (rw (← c .before .before .before .get-u16 .ensures, c .before .before .if2 .left, ← c .before .get-u8 .ensures, c .if3 .left) refl)) in
+    tie.close answers

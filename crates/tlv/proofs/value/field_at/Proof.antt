@@ -6,9 +6,9 @@ use Rattle.tlv.proofs.value.field_at.Tie as tie
 
 pub field-at-spec : {M : Type 1} → statement M
 field-at-spec =
-    tie.close
-    (tie.spec
+    let answers = tie.spec
     (λ c. unfold fieldAt in where-equal _ 0 _ _ (c .if1 .taken))
     (λ c. omega (arith, c .before .before .pre (c .if1 .left)))
     (λ c κs. omega (arith, c .before .before .pre (c .if1 .left)))
-    (λ c. unfold fieldAt in where-apart _ 0 _ _ (c .before .if1 .left) (cc)))
+    (λ c. unfold fieldAt in where-apart _ 0 _ _ (c .before .if1 .left) (cc)) in
+    tie.close answers

@@ -6,11 +6,11 @@ use Rattle.tlv.proofs.value.parameters_at.Tie as tie
 
 pub parameters-at-spec : {M : Type 1} → statement M
 parameters-at-spec =
-    tie.close
-    (tie.spec
+    let answers = tie.spec
     (λ c. unfold parametersAt in where-equal _ 0 _ _ (c .if1 .taken))
     (λ c. omega (arith, c .before .before .pre (c .if1 .left)))
     (λ c κs. omega (arith, c .before .before .pre (c .if1 .left)))
     (λ c. omega (arith, c .before .before .before .pre (c .before .if1 .left)))
     (λ c κs. omega (arith, c .before .before .before .pre (c .before .if1 .left)))
-    (λ c. unfold parametersAt in where-apart _ 0 _ _ (c .before .before .if1 .left) (cc)))
+    (λ c. unfold parametersAt in where-apart _ 0 _ _ (c .before .before .if1 .left) (cc)) in
+    tie.close answers

@@ -5,10 +5,10 @@ use Rattle.tlv.proofs.walk.label_in.Tie as tie
 
 pub label-in-spec : {M : Type 1} → statement M
 label-in-spec =
-    tie.close
-    (tie.spec
+    let answers = tie.spec
     (λ c. search (needs, labels)) (λ c. search (needs, labels)) (λ c. search (needs, labels)) (λ c. search (needs, labels))
     (λ c. search (needs, labels)) (λ c. search (needs, labels)) (λ c. search (needs, labels)) (λ c. search (needs, labels))
     (λ c. search (needs, labels)) (λ c. search (needs, labels)) (λ c. search (needs, labels)) (λ c. search (needs, labels))
     (λ c. search (needs, labels)) (λ c. search (needs, labels)) (λ c. search (needs, labels)) (λ c. search (needs, labels))
-    (λ c. search (needs, labels)) (λ c. search (needs, labels)))
+    (λ c. search (needs, labels)) (λ c. search (needs, labels)) in
+    tie.close answers

@@ -4,8 +4,7 @@ use Rattle.tlv.proofs.walk.length_fits.Tie as tie
 
 pub length-fits-spec : {M : Type 1} → statement M
 length-fits-spec =
-    tie.close
-    (tie.spec
+    let answers = tie.spec
     (λ c. search needs) (λ c. search needs) (λ c. search needs) (λ c. search needs)
     (λ c. search needs) (λ c. search needs) (λ c. search needs) (λ c. search needs)
     (λ c. search needs)
@@ -15,4 +14,5 @@ length-fits-spec =
     (λ c. rw (c .enum-told5 .given .1))
     (λ c. rw (c .enum-told6 .given .1))
     (λ c. rw (c .enum-told7 .given .1))
-    (λ c. search needs))
+    (λ c. search needs) in
+    tie.close answers

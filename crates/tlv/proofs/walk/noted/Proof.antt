@@ -5,7 +5,7 @@ use Rattle.tlv.proofs.walk.noted.Tie as tie
 
 pub noted-spec : {M : Type 1} → statement M
 noted-spec =
-    tie.close
-    (tie.spec
+    let answers = tie.spec
     (λ c. search (needs, notes)) (λ c. search (needs, notes)) (λ c. search (needs, notes)) (λ c. search (needs, notes))
-    (λ c. search (needs, notes)) (λ c. search (needs, notes)) (λ c. search (needs, notes)) (λ c. search (needs, notes)))
+    (λ c. search (needs, notes)) (λ c. search (needs, notes)) (λ c. search (needs, notes)) (λ c. search (needs, notes)) in
+    tie.close answers

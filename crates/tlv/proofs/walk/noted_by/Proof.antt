@@ -8,8 +8,7 @@ use Rattle.tlv.proofs.walk.noted_by.Tie as tie
 
 pub noted-by-spec : {M : Type 1} → statement M
 noted-by-spec =
-    tie.close
-    (tie.spec
+    let answers = tie.spec
     (λ c κs. search needs) (λ c κs. search needs) (λ c κs. search needs) (λ c κs. search needs)
     (λ c κs. search needs) (λ c κs. search needs) (λ c κs. search needs) (λ c κs. search needs)
     (λ c. unfold tlvOf in rw (c .before .match .keys1) (c .noted .ensures))
@@ -19,4 +18,5 @@ noted-by-spec =
     (λ c. unfold tlvOf in rw (c .before .match .keys5) (c .noted5 .ensures))
     (λ c. unfold tlvOf in rw (c .before .match .keys6) (c .noted6 .ensures))
     (λ c. unfold tlvOf in rw (c .before .match .keys7) (c .noted7 .ensures))
-    (λ c. unfold tlvOf in rw (← lookup-absent Tlv.Other listed (c .before .before .before .args .number) (search needs)) (c .noted8 .ensures)))
+    (λ c. unfold tlvOf in rw (← lookup-absent Tlv.Other listed (c .before .before .before .args .number) (search needs)) (c .noted8 .ensures)) in
+    tie.close answers

@@ -6,9 +6,9 @@ use Rattle.tlv.proofs.walk.turn_at.Tie as tie
 
 pub turn-at-spec : {M : Type 1} → statement M
 turn-at-spec =
-    tie.close
-    (tie.spec
+    let answers = tie.spec
     (λ c. search (needs, turns)) (λ c. search (needs, turns)) (λ c. search (needs, turns)) (λ c. search (needs, turns))
     (λ c. search (needs, turns)) (λ c. search (needs, turns)) (λ c. search (needs, turns)) (λ c. search (needs, turns))
     (λ c. search (needs, turns)) (λ c. search (needs, turns)) (λ c. search (needs, turns)) (λ c. search (needs, turns))
-    (λ c. search (needs, turns)) (λ c. search (needs, turns)) (λ c. search (needs, turns)))
+    (λ c. search (needs, turns)) (λ c. search (needs, turns)) (λ c. search (needs, turns)) in
+    tie.close answers

@@ -5,7 +5,7 @@ use Rattle.tlv.proofs.walk.walk_message.Tie as tie
 
 pub walk-message-spec : {M : Type 1} → statement M
 walk-message-spec =
-    tie.close
-    (tie.spec
+    let answers = tie.spec
     (λ c. search needs) (λ c. search needs) (λ c. search needs) (λ c κs. search needs)
-    (λ c. lent-on _ _ (c .walk-whole .ensures)))
+    (λ c. lent-on _ _ (c .walk-whole .ensures)) in
+    tie.close answers

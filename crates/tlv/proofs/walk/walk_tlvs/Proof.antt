@@ -16,9 +16,9 @@ abbrev μ-walk : tie.MeasureT-walk
 
 pub walk-tlvs-spec : {M : Type 1} → statement M
 walk-tlvs-spec =
-    tie.close
-    (tie.spec
+    let answers = tie.spec
     Inv-walk
     μ-walk
     (λ c. search (needs, loops)) (λ c. search (needs, loops)) (λ c. search (needs, loops)) (λ c. search (needs, loops)) (λ c. search (needs, loops))
-    (λ c. search (needs, loops)) (λ c. search (needs, loops)) (λ c. search (needs, loops)) (λ c. search (needs, loops)) (λ c. search (needs, loops)))
+    (λ c. search (needs, loops)) (λ c. search (needs, loops)) (λ c. search (needs, loops)) (λ c. search (needs, loops)) (λ c. search (needs, loops)) in
+    tie.close answers

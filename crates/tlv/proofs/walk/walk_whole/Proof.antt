@@ -5,7 +5,7 @@ use Rattle.tlv.proofs.walk.walk_whole.Tie as tie
 
 pub walk-whole-spec : {M : Type 1} → statement M
 walk-whole-spec =
-    tie.close
-    (tie.spec
+    let answers = tie.spec
     (λ c. search (needs, heads)) (λ c. search (needs, heads)) (λ c. search (needs, heads)) (λ c. search (needs, heads))
-    (λ c. search (needs, heads)) (λ c. search (needs, heads)) (λ c. search (needs, heads)))
+    (λ c. search (needs, heads)) (λ c. search (needs, heads)) (λ c. search (needs, heads)) in
+    tie.close answers
