@@ -116,7 +116,7 @@ valid-fields b h ls long fh fl v =
     ⊎-elim
     (λ (z : h .kept ≡ 0).
     let numbers : getRun (drop 1 widths) t 4 ≡ replicate 10 0 = ap (drop 1) run ∙ ap (λ (x : Header). drop 1 (values x)) (v .idle z .0) in
-    simp (eq-eqb _ _ z, zero-body t (length-block0 b h ls long fh fl) numbers (el ∙ v .idle z .1)))
+    simp (eq-eqb _ _ z, zero-body t (length-block0 b h ls long) numbers (el ∙ v .idle z .1)))
     (λ (p : 0 < h .kept). let apart : h .kept ≡ 0 → ⊥ = λ e. omega arith in simp (ne-eqb (h .kept) 0 apart))
     (eq-zero-or-pos (h .kept)) in
     simp (eq-eqb _ _ version, eq-eqb _ _ spare, eh, parts-header h ls v, idle, el, v .labels)

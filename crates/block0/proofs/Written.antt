@@ -21,7 +21,8 @@ fits h f =
     let spare : 0 < 256 ^ 1 = omega arith in
     one version (one (f .released) (one (f .issued) (one (f .secured) (one (f .first) (one (f .held) (one (f .timeout) (one (f .kept) (one spare (one (f .keepalive) (one (f .maxpdu) none))))))))))
 
-module _ (b : List ℕ) (h : Header) (ls : List ℕ) (long : length b ≡ 512) (fh : Fits h) (fl : Words wordCount ls) where
+-- whatever is written, it is whole and has its check
+module _ (b : List ℕ) (h : Header) (ls : List ℕ) (long : length b ≡ 512) where
   numbered : List ℕ
   numbered = putRun widths (values h) b 0
 
@@ -46,23 +47,25 @@ module _ (b : List ℕ) (h : Header) (ls : List ℕ) (long : length b ≡ 512) (
   pub block0-sound : sound (block0 b h ls) ≡ true
   block0-sound = rw is-sealed (sealed-sound filled long-filled)
 
-  -- the fields, one after the other
-  pub run-block0 : getRun widths (block0 b h ls) 0 ≡ values h
-  unfolding filled numbered
-  run-block0 =
-      getRun-same widths (block0 b h ls) numbered 0 (λ k l.
-      ap (λ (x : List ℕ). getD x (0 + k) 0) is-sealed
-      ∙ sealed-else filled (0 + k) (omega arith)
-      ∙ getD-withWords wordCount ls numbered labelsAt (0 + k) (λ i m. omega arith))
-      ∙ getRun-putRun widths (values h) b 0 (omega arith) (fits h fh)
+  -- with each number in its width it is read back
+  module _ (fh : Fits h) (fl : Words wordCount ls) where
+    -- the fields, one after the other
+    pub run-block0 : getRun widths (block0 b h ls) 0 ≡ values h
+    unfolding filled numbered
+    run-block0 =
+        getRun-same widths (block0 b h ls) numbered 0 (λ k l.
+        ap (λ (x : List ℕ). getD x (0 + k) 0) is-sealed
+        ∙ sealed-else filled (0 + k) (omega arith)
+        ∙ getD-withWords wordCount ls numbered labelsAt (0 + k) (λ i m. omega arith))
+        ∙ getRun-putRun widths (values h) b 0 (omega arith) (fits h fh)
 
-  pub header-block0 : headerOf (block0 b h ls) ≡ h
-  unfolding headerOf
-  header-block0 = ap fromValues run-block0
+    pub header-block0 : headerOf (block0 b h ls) ≡ h
+    unfolding headerOf
+    header-block0 = ap fromValues run-block0
 
-  pub labels-block0 : labelsOf (block0 b h ls) ≡ ls
-  unfolding labelsOf filled
-  labels-block0 =
-      words-same wordCount (block0 b h ls) filled labelsAt (λ k l.
-      ap (λ (x : List ℕ). getD x (labelsAt + k) 0) is-sealed ∙ sealed-else filled (labelsAt + k) (omega arith))
-      ∙ words-put wordCount ls numbered labelsAt fl (omega (arith, long-numbered))
+    pub labels-block0 : labelsOf (block0 b h ls) ≡ ls
+    unfolding labelsOf filled
+    labels-block0 =
+        words-same wordCount (block0 b h ls) filled labelsAt (λ k l.
+        ap (λ (x : List ℕ). getD x (labelsAt + k) 0) is-sealed ∙ sealed-else filled (labelsAt + k) (omega arith))
+        ∙ words-put wordCount ls numbered labelsAt fl (omega (arith, long-numbered))

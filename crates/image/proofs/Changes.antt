@@ -73,7 +73,7 @@ module _ (image : List ℕ) (size : length image ≡ imageSize) where
   -- every slot keeps its bytes
   pub release-other : (c : ℕ) → c ≢ 0 → block (releaseOf image) c ≡ block image c
   unfolding releaseOf
-  release-other c apart = zeroth-other image size releasedHeader noLabels fits-released words-none c apart
+  release-other c apart = zeroth-other image size releasedHeader noLabels c apart
 
 -- ---- a new image
 is-released : newImage ≡ releaseOf (replicate imageSize 0)

@@ -110,13 +110,13 @@ slot-good image k m size room s =
 pub sound-store0 : (image : List ℕ) (h : Header) (ls : List ℕ) → length image ≡ imageSize → Fits h → Words wordCount ls → Valid h ls → Live image h → IsSound (store0 image h ls)
 sound-store0 image h ls size fh fl v live =
     let long : length (block image 0) ≡ blockSize = length-block image 0 (omega arith) in
-    let e : block (store0 image h ls) 0 ≡ block0 (block image 0) h ls = zeroth-put image size h ls fh fl in
+    let e : block (store0 image h ls) 0 ≡ block0 (block image 0) h ls = zeroth-put image size h ls in
     let d : headerOf (block0 (block image 0) h ls) ≡ h = header-block0 (block image 0) h ls long fh fl in
     record {
-      size = length-store0 image size h ls fh fl;
-      check = rw e (block0-sound (block image 0) h ls long fh fl);
+      size = length-store0 image size h ls;
+      check = rw e (block0-sound (block image 0) h ls long);
       fields = rw e (valid-fields (block image 0) h ls long fh fl v);
-      slots = rw (e, d) (λ i l. rw (zeroth-other image size h ls fh fl (blockOf (slotAt (h .first) i)) (omega arith)) (live i l));
+      slots = rw (e, d) (λ i l. rw (zeroth-other image size h ls (blockOf (slotAt (h .first) i)) (omega arith)) (live i l));
     }
 
 -- ---- the three ways in which a call stores leave a sound image

@@ -69,7 +69,7 @@ module _ (image : List ℕ) (size : length image ≡ imageSize) (k : ℕ) (room 
       ∙ ring-same (slotsOf (storeSlot image k m)) (slotsOf image) (h .first) (h .held) (λ i l. slots-other (slotAt (h .first) i) (idle i l)))
 
 -- ---- block 0 alone
-module _ (image : List ℕ) (size : length image ≡ imageSize) (h : Header) (ls : List ℕ) (fh : Fits h) (fl : Words wordCount ls) where
+module _ (image : List ℕ) (size : length image ≡ imageSize) (h : Header) (ls : List ℕ) where
   inside0 : 0 * blockSize + blockSize ≤ length image
   inside0 = omega arith
 
@@ -77,7 +77,7 @@ module _ (image : List ℕ) (size : length image ≡ imageSize) (h : Header) (ls
   long0 = length-block image 0 inside0
 
   written0 : length (block0 (block image 0) h ls) ≡ blockSize
-  written0 = length-block0 (block image 0) h ls long0 fh fl
+  written0 = length-block0 (block image 0) h ls long0
 
   pub length-store0 : length (store0 image h ls) ≡ imageSize
   unfolding store0
@@ -96,13 +96,14 @@ module _ (image : List ℕ) (size : length image ≡ imageSize) (h : Header) (ls
   unfolding slotsOf
   slots-store0 j = ap messageOf (zeroth-other (blockOf j) (omega arith))
 
-  pub decode-store0 : decode (store0 image h ls) ≡ record { header = h; labels = ls; queue = ring (slotsOf image) (h .first) (h .held) }
-  unfolding decode
-  decode-store0 =
-      let e : headerOf (block (store0 image h ls) 0) ≡ h = ap headerOf zeroth-put ∙ header-block0 (block image 0) h ls long0 fh fl in
-      state-eq e (ap labelsOf zeroth-put ∙ labels-block0 (block image 0) h ls long0 fh fl)
-      (ap (λ (x : Header). ring (slotsOf (store0 image h ls)) (x .first) (x .held)) e
-      ∙ ring-same (slotsOf (store0 image h ls)) (slotsOf image) (h .first) (h .held) (λ i l. slots-store0 (slotAt (h .first) i)))
+  module _ (fh : Fits h) (fl : Words wordCount ls) where
+    pub decode-store0 : decode (store0 image h ls) ≡ record { header = h; labels = ls; queue = ring (slotsOf image) (h .first) (h .held) }
+    unfolding decode
+    decode-store0 =
+        let e : headerOf (block (store0 image h ls) 0) ≡ h = ap headerOf zeroth-put ∙ header-block0 (block image 0) h ls long0 fh fl in
+        state-eq e (ap labelsOf zeroth-put ∙ labels-block0 (block image 0) h ls long0 fh fl)
+        (ap (λ (x : Header). ring (slotsOf (store0 image h ls)) (x .first) (x .held)) e
+        ∙ ring-same (slotsOf (store0 image h ls)) (slotsOf image) (h .first) (h .held) (λ i l. slots-store0 (slotAt (h .first) i)))
 
 -- ---- the three ways in which a call stores
 -- one more held: the slot after the last, then block 0

@@ -4,19 +4,16 @@ use mathlib.Core.Bool.{false, true≢false}
 use mathlib.Core.List.{List}
 use Prim.Native.Nat.{ℕ, _<_}
 use native.Mathlib.Omega.{arith}
-use borrow.Author.Tests.{ne-eqb}
-use lib.ListN.{length}
 use Rattle.octets.proofs.Choice.{pick-all}
 use Rattle.message.specs.Reading.{readingOf}
 use Rattle.message.specs.declared.Reading
 use Rattle.message.specs.declared.Reading.{Reading}
 use Rattle.block0.specs.Layout.{slotCount}
-use Rattle.slot.specs.Held.{Storable}
-use Rattle.image.specs.Sizes.{imageSize, withBlock, blockOf}
-use Rattle.image.specs.State.{decode, storeSlot, InRange}
+use Rattle.image.specs.Sizes.{blockOf}
+use Rattle.image.specs.State.{decode, InRange}
 use Rattle.image.specs.Events.{broken}
-use Rattle.image.specs.Verdict.{verdict, IsSound}
-use Rattle.image.proofs.Stored.{Idle, length-storeSlot, slot-put}
+use Rattle.image.specs.Verdict.{IsSound}
+use Rattle.image.proofs.Stored.{Idle}
 use Rattle.image.proofs.Sound.{sound-parts, parts-sound, idle-last}
 use Rattle.calls.specs.declared.Answer
 use Rattle.calls.specs.declared.Answer.{Answer}
@@ -29,14 +26,13 @@ use Rattle.connect.specs.Start.{restoreOf}
 use Rattle.connect.proofs.Meaning.{restore-phase, restore-decodes}
 use Rattle.init.specs.Begun.{begunAs}
 use Rattle.submit.specs.Rule.{submitAnswer}
-use Rattle.submit.specs.Act.{submitSlot, submitImage, queued}
-use Rattle.submit.proofs.Passing.{done-passes, passes-storable}
-use Rattle.submit.proofs.Meaning.{cut-decodes, cut-verdict}
+use Rattle.submit.specs.Act.{submitSlot, queued}
+use Rattle.submit.specs.Store.{slotAlone, Same}
+use Rattle.submit.proofs.Passing.{done-passes}
+use Rattle.submit.proofs.Meaning.{cut-same}
 use Rattle.receive.specs.Rule.{takenAs}
 use Rattle.session.specs.Call.{Call, format, restore, connection-failed, open-session, init-received, time-passed, submit, send-next, keepalive, receive, leaves, judged, done, makesImage}
-use Rattle.session.specs.Store.{slotAlone}
 use Rattle.session.proofs.Settles.{ends}
-use Rattle.session.proofs.Slots.{store-other}
 
 -- ---- which calls write a slot: Submit where it is Done
 taken-none : (im : List ℕ) (ph : Phase) (r : Reading) → takenAs im ph r .outcome .slot ≡ 0
@@ -81,35 +77,13 @@ module _ (c : Call) (im : List ℕ) (ph : Phase) (other : makesImage c ≡ false
           rw (← same) (omega arith, idle-last im (done-passes im ph m d .1))
 
 -- ---- with only the slot stored
--- the image passes the same checks and stands for the same state
-pub record Same (im cut : List ℕ) : Type 0 where
-  pub checks : verdict cut ≡ verdict im
-  pub state : decode cut ≡ decode im
-
-module _ (im : List ℕ) (ph : Phase) (m : List ℕ) (size : length im ≡ imageSize) (e : submitAnswer im ph m ≡ Answer.Done) where
-  storable : Storable m
-  storable = passes-storable (done-passes im ph m e .0)
-
-  -- it is the slot that Submit writes first
-  cut-is : slotAlone im (queued im ph m) ≡ storeSlot im (submitSlot (decode im)) m
-  unfolding slotAlone queued submitImage storeSlot
-  cut-is =
-      let k : ℕ = submitSlot (decode im) in
-      let low : k < slotCount = omega arith in
-      rw (ne-eqb (blockOf k) 0 (λ z. omega arith))
-      (ap (withBlock im (blockOf k))
-      (store-other (storeSlot im k m) (length-storeSlot im size k low m storable) _ _ (blockOf k) (omega arith) ∙ slot-put im size k low m storable))
-
-  cut-same : Same im (slotAlone im (queued im ph m))
-  cut-same = rw cut-is (record { checks = cut-verdict im ph m e; state = cut-decodes im ph m e })
-
 module _ (c : Call) (im : List ℕ) (ph : Phase) (other : makesImage c ≡ false) (s : IsSound im) where
   pub alone-same : Same im (slotAlone im (leaves c im ph))
   unfolding slotAlone
   alone-same =
       every (λ (x : After). Same im (slotAlone im x)) c im ph other
       (λ x none. rw none (record { checks = refl; state = refl }))
-      (λ m d. cut-same im ph m (s .size) d)
+      (λ m d. cut-same im ph m d)
 
   -- "restore gives the state before the call, code 6 words freed"
   module _ (r : InRange (decode im)) where

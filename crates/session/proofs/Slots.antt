@@ -7,24 +7,16 @@ use Prim.Native.Nat.{ℕ, _<_}
 use native.Mathlib.Omega.{arith}
 use lib.Dec.{ltb}
 use lib.ListN.{length}
-use Rattle.label_list.specs.Word.{wordCount}
 use Rattle.octets.proofs.Choice.{pick-all}
 use Rattle.message.specs.Reading.{readingOf}
 use Rattle.message.specs.declared.Reading
 use Rattle.message.specs.declared.Reading.{Reading}
-use Rattle.block.specs.Check.{blockSize}
-use Rattle.block.specs.Run.{putRun, withWords}
-use Rattle.block.proofs.Sealed.{length-sealed}
-use Rattle.block.proofs.Run.{length-putRun}
-use Rattle.block.proofs.WordRun.{length-withWords}
-use Rattle.block0.specs.declared.Header.{Header}
-use Rattle.block0.specs.Layout.{widths, labelsAt, values, block0, slotCount}
+use Rattle.block0.specs.Layout.{slotCount}
 use Rattle.image.specs.Sizes.{imageSize, block}
-use Rattle.image.specs.State.{decode, storeSlot, store0}
+use Rattle.image.specs.State.{decode, storeSlot}
 use Rattle.image.specs.Events.{releaseOf, breakOf}
 use Rattle.image.specs.Verdict.{verdict, IsSound}
-use Rattle.image.proofs.Blocks.{length-block, block-other}
-use Rattle.image.proofs.Stored.{Idle, length-storeSlot, slot-other}
+use Rattle.image.proofs.Stored.{length-storeSlot, slot-other, zeroth-other}
 use Rattle.image.proofs.Sound.{sound-parts}
 use Rattle.calls.specs.declared.Answer
 use Rattle.calls.specs.declared.Answer.{Answer}
@@ -53,41 +45,27 @@ use Rattle.session.proofs.Settles.{ends}
 abbrev pub Kept : List ℕ → After → Type 0
 Kept im x = (k : ℕ) → k ≢ 0 → k ≢ x .outcome .slot → block (x .image) k ≡ block im k
 
--- storing block 0 leaves every slot, whatever is stored
-module _ (im : List ℕ) (size : length im ≡ imageSize) (h : Header) (ls : List ℕ) where
-  long : length (block0 (block im 0) h ls) ≡ blockSize
-  unfolding block0
-  long =
-      length-sealed (withWords wordCount ls (putRun widths (values h) (block im 0) 0) labelsAt)
-      ∙ length-withWords wordCount ls (putRun widths (values h) (block im 0) 0) labelsAt
-      ∙ length-putRun widths (values h) (block im 0) 0
-      ∙ length-block im 0 (omega arith)
-
-  pub store-other : (k : ℕ) → k ≢ 0 → block (store0 im h ls) k ≡ block im k
-  unfolding store0
-  store-other k apart = block-other im 0 (block0 (block im 0) h ls) (omega arith) long k apart
-
 module _ (im : List ℕ) (size : length im ≡ imageSize) where
   failed-kept : (a : Answer) (o : List ℕ) → Kept im (failedWith a im o)
   unfolding failedWith breakOf
-  failed-kept a o k zero slot = store-other im size _ _ k zero
+  failed-kept a o k zero slot = zeroth-other im size _ _ k zero
 
   released-kept : (a : Answer) (o : List ℕ) → Kept im (releasedWith a im o)
   unfolding releasedWith releaseOf
-  released-kept a o k zero slot = store-other im size _ _ k zero
+  released-kept a o k zero slot = zeroth-other im size _ _ k zero
 
   begun-kept : (ph : Phase) (st : Start) → Kept im (begunAs im ph st)
   unfolding begunAs startImage releaseOf
   begun-kept ph (Start.Refused a) k zero slot = refl
-  begun-kept ph Start.Plain k zero slot = store-other im size _ _ k zero
-  begun-kept ph (Start.Fresh t) k zero slot = store-other im size _ _ k zero
-  begun-kept ph (Start.Resumed t n a) k zero slot = store-other im size _ _ k zero
+  begun-kept ph Start.Plain k zero slot = zeroth-other im size _ _ k zero
+  begun-kept ph (Start.Fresh t) k zero slot = zeroth-other im size _ _ k zero
+  begun-kept ph (Start.Resumed t n a) k zero slot = zeroth-other im size _ _ k zero
 
   taken-kept : (ph : Phase) (r : Reading) → Kept im (takenAs im ph r)
   taken-kept Phase.Idle r k zero slot = refl
   taken-kept (Phase.InitWait t) r k zero slot = refl
   taken-kept (Phase.UpFT sent) Reading.Malformed k zero slot = refl
-  taken-kept (Phase.UpFT sent) (Reading.Whole g) k zero slot = store-other im size _ _ k zero
+  taken-kept (Phase.UpFT sent) (Reading.Whole g) k zero slot = zeroth-other im size _ _ k zero
   taken-kept Phase.UpPlain r k zero slot = refl
   taken-kept Phase.Failed r k zero slot = refl
 
@@ -96,7 +74,7 @@ module _ (im : List ℕ) (size : length im ≡ imageSize) where
   sent-kept sent k zero =
       pick-all (λ (x : List ℕ). block x k ≡ block im k) (ltb sent (issuedCount (decode im .header)))
       refl
-      (store-other im size _ _ k zero)
+      (zeroth-other im size _ _ k zero)
 
   -- Submit alone writes a slot
   queued-kept : (m : List ℕ) (ph : Phase) → submitAnswer im ph m ≡ Answer.Done → Kept im (queued im ph m)
@@ -104,7 +82,7 @@ module _ (im : List ℕ) (size : length im ≡ imageSize) where
   queued-kept m ph e k zero slot =
       let p = done-passes im ph m e in
       let low : submitSlot (decode im) < slotCount = omega arith in
-      store-other (storeSlot im (submitSlot (decode im)) m) (length-storeSlot im size (submitSlot (decode im)) low m (passes-storable (p .0))) _ _ k zero
+      zeroth-other (storeSlot im (submitSlot (decode im)) m) (length-storeSlot im size (submitSlot (decode im)) low m (passes-storable (p .0))) _ _ k zero
       ∙ slot-other im size (submitSlot (decode im)) low m (passes-storable (p .0)) k slot
 
   done-kept : (c : Call) (ph : Phase) → makesImage c ≡ false → judged c im ph ≡ Answer.Done → Kept im (done c im ph)

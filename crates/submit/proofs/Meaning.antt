@@ -1,12 +1,12 @@
 -- What Submit does: the message is the newest held and has no number, every answer leaves a sound image, and a stop between the two stores loses nothing.
 -- Assumes nothing.
-use mathlib.Core.Path.{_≡_, refl, sym, _∙_}
+use mathlib.Core.Path.{_≡_, refl, sym, ap, _∙_}
 use mathlib.Core.Bool.{true}
 use mathlib.Core.List.{List, [], _∷_}
 use mathlib.Core.Logic.{_≢_}
 use Prim.Native.Nat.{ℕ, _≤_, _<_}
 use native.Mathlib.Omega.{arith}
-use borrow.Author.Tests.{leb-true}
+use borrow.Author.Tests.{leb-true, ne-eqb}
 use lib.ListN.{getD, List·getD-append}
 use lib.Seq.{getD-append-seam}
 use Rattle.octets.proofs.Choice.{by-test}
@@ -16,10 +16,10 @@ use Rattle.ft_number.specs.declared.Steps.the-variants.{Count, Unreachable}
 use Rattle.block0.specs.Layout.{slotCount}
 use Rattle.block0.specs.Fields.{atMost}
 use Rattle.slot.specs.Held.{Storable}
-use Rattle.image.specs.Sizes.{block, blockOf}
+use Rattle.image.specs.Sizes.{block, withBlock, blockOf}
 use Rattle.image.specs.State.{State, decode, storeSlot, InRange}
 use Rattle.image.specs.Verdict.{verdict, IsSound}
-use Rattle.image.proofs.Stored.{Idle, decode-slot}
+use Rattle.image.proofs.Stored.{Idle, length-storeSlot, slot-put, zeroth-other, decode-slot}
 use Rattle.image.proofs.Sound.{parts-sound, sound-valid, idle-last, sound-slot}
 use Rattle.image.proofs.Queue.{queue-length}
 use Rattle.calls.specs.declared.Answer
@@ -35,7 +35,8 @@ use Rattle.calls.proofs.Effects.{done-is}
 use Rattle.calls.proofs.Settled.{admitted-sound}
 use Rattle.calls.proofs.Ends.{settle-done, settle-refusal}
 use Rattle.submit.specs.Rule.{submitAnswer}
-use Rattle.submit.specs.Act.{numbersOf, submitted, submitSlot, queued, submitOf}
+use Rattle.submit.specs.Act.{numbersOf, submitted, submitSlot, submitImage, queued, submitOf}
+use Rattle.submit.specs.Store.{slotAlone, Same}
 use Rattle.submit.proofs.Queueing.{image-decodes, image-sound, image-changed, image-other, in-range-submitted}
 use Rattle.submit.proofs.Passing.{done-passes, passes-storable, submit-harmless}
 
@@ -99,6 +100,20 @@ module _ (im : List ℕ) (ph : Phase) (m : List ℕ) where
         (sound-slot im (submitSlot (decode im)) m sound-before (omega arith) storable slot-idle)
         ∙ sym (parts-sound im sound-before)
 
+    -- what is stored first is that slot
+    cut-is : slotAlone im (queued im ph m) ≡ storeSlot im (submitSlot (decode im)) m
+    unfolding slotAlone queued submitImage storeSlot
+    cut-is =
+        let k : ℕ = submitSlot (decode im) in
+        let low : k < slotCount = omega arith in
+        rw (ne-eqb (blockOf k) 0 (λ z. omega arith))
+        (ap (withBlock im (blockOf k))
+        (zeroth-other (storeSlot im k m) (length-storeSlot im (sound-before .size) k low m storable) _ _ (blockOf k) (omega arith)
+        ∙ slot-put im (sound-before .size) k low m storable))
+
+    pub cut-same : Same im (slotAlone im (queued im ph m))
+    cut-same = rw cut-is (record { checks = cut-verdict; state = cut-decodes })
+
     module _ (r : InRange (decode im)) where
       -- ---- the state afterwards
       pub submit-decodes : decode (submitOf im ph m .image) ≡ submitted (decode im) m
@@ -129,6 +144,10 @@ module _ (im : List ℕ) (ph : Phase) (m : List ℕ) where
       submit-other c zero slot = rw (submit-done e) (image-other im m sound-before r storable room c zero slot)
 
   -- ---- whatever the answer
+  pub submit-cut : Same im (slotAlone im (submitOf im ph m))
+  unfolding slotAlone
+  submit-cut = every (λ (x : After). Same im (slotAlone im x)) (λ e. cut-same e) (record { checks = refl; state = refl })
+
   module _ (s : IsSound im) (r : InRange (decode im)) where
     -- a message gets no number here
     pub submit-numbers : numbersOf (decode (submitOf im ph m .image) .header) ≡ numbersOf (decode im .header)

@@ -78,7 +78,7 @@ module _ (im m : List ℕ) (s : IsSound im) (r : InRange (decode im)) (fits : St
   image-other c zero slot =
       let k : ℕ = submitSlot (decode im) in
       let low : k < slotCount = omega arith in
-      zeroth-other (storeSlot im k m) (length-storeSlot im (s .size) k low m fits) h ls header-fits labels-in-range c zero
+      zeroth-other (storeSlot im k m) (length-storeSlot im (s .size) k low m fits) h ls c zero
       ∙ slot-other im (s .size) k low m fits c slot
 
   -- with kept 0 nothing may be held

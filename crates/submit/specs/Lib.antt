@@ -2,3 +2,4 @@ pub mod Labels
 pub mod Rule
 pub mod Act
 pub mod Passed
+pub mod Store

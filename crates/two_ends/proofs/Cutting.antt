@@ -10,11 +10,10 @@ use Rattle.calls.specs.declared.Phase.{Phase}
 use Rattle.calls.specs.Outcomes.{failedWith}
 use Rattle.call_meaning.specs.Standing.{Standing}
 use Rattle.submit.specs.Act.{submitOf}
+use Rattle.submit.specs.Store.{slotAlone, Same}
+use Rattle.submit.proofs.Meaning.{submit-cut}
 use Rattle.connect.specs.Start.{restoreOf}
 use Rattle.connect.proofs.Meaning.{restore-passes}
-use Rattle.session.specs.Call.{submit, leaves}
-use Rattle.session.proofs.Cut.{Same, alone-same}
-use Rattle.session.specs.Store.{slotAlone}
 use Rattle.two_ends.specs.World.{History, End, World}
 use Rattle.two_ends.specs.Calls.{plainly}
 use Rattle.two_ends.proofs.Invariant.{Some, Good}
@@ -29,9 +28,8 @@ pub record Uncut (im im′ : List ℕ) : Type 0 where
 
 -- "restore gives the state before the call"
 pub uncut : (im : List ℕ) (ph : Phase) (m : List ℕ) → Standing im ph → Uncut im (slotAlone im (submitOf im ph m))
-unfolding leaves
 uncut im ph m st =
-    let same : Same im (slotAlone im (submitOf im ph m)) = alone-same (submit m) im ph refl (st .sound) in
+    let same : Same im (slotAlone im (submitOf im ph m)) = submit-cut im ph m in
     record { sound = sound-parts (slotAlone im (submitOf im ph m)) (same .checks ∙ parts-sound im (st .sound)); state = same .state }
 
 -- ---- so the end is as before the call

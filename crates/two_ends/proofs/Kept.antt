@@ -14,7 +14,7 @@ use Rattle.connect.specs.Writers.{openOf, keepaliveOf}
 use Rattle.send.specs.Rule.{sendOf}
 use Rattle.submit.specs.Act.{submitOf}
 use Rattle.timers.specs.Events.{connectionFailedOf, timePassedOf}
-use Rattle.session.specs.Store.{slotAlone}
+use Rattle.submit.specs.Store.{slotAlone}
 use Rattle.two_ends.specs.World.{History, World, swap}
 use Rattle.two_ends.specs.Calls.{called, replaced, plainly, put, counts, accepts, submitted, wrote, on, opened}
 use Rattle.two_ends.specs.Runs.{Event, submits, sends, keepalives, opens, passes, delivers, breaks, notices, restarts, halts, act, step, run, AllProper}

@@ -10,7 +10,7 @@ use Rattle.connect.specs.Writers.{openOf, keepaliveOf}
 use Rattle.init.specs.declared.Start.{Start}
 use Rattle.init.specs.Begun.{awaits, initStart, initReceivedOf}
 use Rattle.receive.specs.Rule.{receiveOf}
-use Rattle.session.specs.Store.{slotAlone}
+use Rattle.submit.specs.Store.{slotAlone}
 use Rattle.two_ends.specs.World.{End, World, swap}
 use Rattle.two_ends.specs.Calls.{broken, keeps, called, replaced, plainly, put, on, greeted, greets, anew, took, receives, delivered, delivery, counts, accepts, submitted, wrote}
 use Rattle.two_ends.specs.Runs.{Event, submits, sends, keepalives, opens, passes, delivers, breaks, notices, restarts, halts, act, step}

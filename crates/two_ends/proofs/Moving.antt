@@ -33,7 +33,7 @@ use Rattle.connect.specs.Writers.{openOf, keepaliveOf}
 use Rattle.connect.proofs.Meaning.{restore-passes, open-leaves, alive-leaves}
 use Rattle.timers.specs.Events.{connected, waiting, connectionFailedOf, expired, timePassedOf}
 use Rattle.timers.proofs.Meaning.{failed-is, passed-is}
-use Rattle.session.specs.Store.{slotAlone}
+use Rattle.submit.specs.Store.{slotAlone}
 use Rattle.two_ends.proofs.Quiet.{done-or-nothing}
 use Rattle.two_ends.proofs.Resting.{unnoticed, untimed}
 use Rattle.two_ends.proofs.Cutting.{uncut}

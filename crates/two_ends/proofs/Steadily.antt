@@ -17,7 +17,7 @@ use Rattle.send.specs.Rule.{isUpFT, sendOf}
 use Rattle.submit.specs.Act.{submitOf}
 use Rattle.timers.specs.Events.{connectionFailedOf, timePassedOf}
 use Rattle.init.specs.Begun.{awaits}
-use Rattle.session.specs.Store.{slotAlone}
+use Rattle.submit.specs.Store.{slotAlone}
 use Rattle.two_ends.specs.World.{End, World}
 use Rattle.two_ends.specs.Calls.{called, plainly, put, counts, accepts, wrote, on, opened}
 use Rattle.two_ends.specs.Runs.{Event, submits, sends, keepalives, opens, passes, delivers, breaks, notices, restarts, halts, Proper, act}

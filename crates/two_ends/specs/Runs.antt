@@ -12,7 +12,7 @@ use Rattle.send.specs.Rule.{sendOf}
 use Rattle.connect.specs.Start.{restoreOf}
 use Rattle.connect.specs.Writers.{openOf, keepaliveOf}
 use Rattle.timers.specs.Events.{connectionFailedOf, timePassedOf}
-use Rattle.session.specs.Store.{slotAlone}
+use Rattle.submit.specs.Store.{slotAlone}
 use Rattle.two_ends.specs.World.{World, swap}
 use Rattle.two_ends.specs.Calls.{broken, plainly, submitted, wrote, opened, delivery}
 

@@ -51,7 +51,7 @@ use Rattle.connect.specs.Writers.{keepaliveOf, keptAck, openOf, writerOf}
 use Rattle.init.specs.Begun.{begunAs, fresh, initReceivedOf, resumed, startImage}
 use Rattle.init.specs.Judged.{bothSet, startOf}
 use Rattle.receive.specs.Labels.{labelEffect, protectionRule}
-use Rattle.session.specs.Store.{slotAlone}
+use Rattle.submit.specs.Store.{slotAlone}
 use Rattle.receive.specs.Rule.{ackOn, ftRule, labelsRule, messageRule, receiveAnswer, receiveOf, receivedState, taken}
 
 -- to unfold this is to unfold all of them
