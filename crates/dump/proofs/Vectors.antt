@@ -6,7 +6,7 @@ use Rattle.octets.specs.Fix.{fix, steps}
 use Rattle.tlv.specs.Tlv.{tlvOf}
 use Rattle.tlv.specs.Walk.{notedOf, turnOf, walkOf, tlvsOf}
 use Rattle.tlv.specs.Value.{partAt, fecAt, fieldAt, numberAt, parametersAt, sessionAt}
-use Rattle.message.specs.Reading.{typeOf, messageOf, readingOf}
+use Rattle.message.specs.Reading.{typeOf, messageOf, placesOf, readingOf}
 use Rattle.text.specs.Text.{ascii, decimal}
 use Rattle.dump.specs.Line.{headText, lineOf}
 
@@ -19,9 +19,9 @@ mapping =
     ∷ []
 
 mapping-line : lineOf 0 0 mapping ≡ ascii "0 0 0x0400 7 fec 020001180a0000 label 16 ft-protection 27\n"
-unfolding lineOf headText decimal fix steps readingOf messageOf typeOf tlvsOf walkOf turnOf notedOf tlvOf partAt fecAt fieldAt numberAt parametersAt sessionAt
+unfolding lineOf headText decimal fix steps readingOf placesOf messageOf typeOf tlvsOf walkOf turnOf notedOf tlvOf partAt fecAt fieldAt numberAt parametersAt sessionAt
 mapping-line = refl
 
 withdraw-line : lineOf 0 1 (0x84 ∷ 0x02 ∷ 0 ∷ 4 ∷ 0 ∷ 0 ∷ 0 ∷ 8 ∷ []) ≡ ascii "0 1 0x0402 8 malformed\n"
-unfolding lineOf headText decimal fix steps readingOf messageOf typeOf tlvsOf walkOf turnOf notedOf tlvOf
+unfolding lineOf headText decimal fix steps readingOf placesOf messageOf typeOf tlvsOf walkOf turnOf notedOf tlvOf
 withdraw-line = refl

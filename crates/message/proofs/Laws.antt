@@ -20,7 +20,7 @@ use Rattle.tlv.specs.declared.walk.Walk.{Walk}
 use Rattle.tlv.proofs.Places.{whole-tlvs, found-lies, places}
 use Rattle.tlv.proofs.Values.{InMessage, part-in, field-low}
 use Rattle.message.specs.Kinds.{kindOf, kindNumber}
-use Rattle.message.specs.Reading.{typeOf, numberIn, idIn, bearsOf, messageOf, readingBy, readingOf}
+use Rattle.message.specs.Reading.{typeOf, numberIn, idIn, bearsOf, placesBy, placesOf, messageOf, readingBy, readingOf}
 use Rattle.message.specs.Submission.{bearsFt, noLabel, labelledAs, acceptedAs, judged, submissionOf}
 use Rattle.message.specs.declared.Kind
 use Rattle.message.specs.declared.Kind.{Kind}
@@ -37,18 +37,18 @@ pub record Whole (m : List ℕ) (g : Message) : Type 0 where
   pub bears : bearsOf (typeOf (numberIn m)) (g .found) ≡ true
 
 pub whole : (m : List ℕ) (g : Message) → readingOf m ≡ Reading.Whole g → Whole m g
-unfolding readingOf messageOf
+unfolding readingOf placesOf messageOf
 whole m g e = by-walk (tlvsOf m) refl e
   where
     by-bears : (f : Found) (b : Bool) → tlvsOf m ≡ Walk.Whole f → bearsOf (typeOf (numberIn m)) f ≡ b
-        → pick b (Reading.Whole (messageOf m f)) Reading.Malformed ≡ Reading.Whole g → Whole m g
+        → readingBy m (pick b (Walk.Whole f) Walk.Malformed) ≡ Reading.Whole g → Whole m g
     by-bears f false q p h = let z : _≡_ {A = ℕ} 0 1 = cc in absurd (omega arith)
     by-bears f true q p h =
         let is : messageOf m f ≡ g = cc in
         let found : f ≡ g .found = ap (λ (x : Message). x .found) is in
         record { is = sym is ∙ ap (messageOf m) found; tlvs = q ∙ ap Walk.Whole found; bears = rw found at p }
 
-    by-walk : (w : Walk) → tlvsOf m ≡ w → readingBy m w ≡ Reading.Whole g → Whole m g
+    by-walk : (w : Walk) → tlvsOf m ≡ w → readingBy m (placesBy m w) ≡ Reading.Whole g → Whole m g
     by-walk Walk.Malformed q h = let z : _≡_ {A = ℕ} 0 1 = cc in absurd (omega arith)
     by-walk (Walk.Whole f) q h = by-bears f (bearsOf (typeOf (numberIn m)) f) q refl h
 

@@ -5,7 +5,6 @@ use mathlib.Core.Bool.{Bool, true, false, not}
 use mathlib.Core.List.{List}
 use borrow.Author.Tests.{not-true, not-false}
 use lib.ListN.{length}
-use Rattle.octets.specs.Pick.{pick}
 use Rattle.octets.proofs.Choice.{no, passed}
 use Rattle.tlv.specs.Value.{Places}
 use Rattle.tlv.specs.Walk.{headSize, tlvsOf}
@@ -43,23 +42,6 @@ module _ (m : List ℕ) (w : Walk) (wq : w ≡ tlvsOf m) where
 
 pub ruleset placings = (placed-malformed, tlvs-head, placed-lacks, placed-whole)
 
--- a message read, by where its TLVs stand
-abbrev pub readingFrom : List ℕ → Walk → Reading
-readingFrom m Walk.Malformed = Reading.Malformed
-readingFrom m (Walk.Whole f) = Reading.Whole (messageOf m f)
-
-pub reading-from : (m : List ℕ) → readingFrom m (placesOf m) ≡ readingOf m
-unfolding placesOf readingOf
-reading-from m = by-walk (tlvsOf m)
-  where
-    by-bears : (f : Found) (b : Bool) → readingFrom m (pick b (Walk.Whole f) Walk.Malformed) ≡ pick b (Reading.Whole (messageOf m f)) Reading.Malformed
-    by-bears f true = refl
-    by-bears f false = refl
-
-    by-walk : (w : Walk) → readingFrom m (placesBy m w) ≡ readingBy m w
-    by-walk Walk.Malformed = refl
-    by-walk (Walk.Whole f) = by-bears f (bearsOf (typeOf (numberIn m)) f)
-
 -- the places of a well-formed message are those that the walk found
 pub places-tlvs : (m : List ℕ) (f : Found) → placesOf m ≡ Walk.Whole f → tlvsOf m ≡ Walk.Whole f
 unfolding placesOf
@@ -73,13 +55,15 @@ places-tlvs m f e = by-walk (tlvsOf m) refl e
 
 module _ (m : List ℕ) (w : Walk) (wq : w ≡ placesOf m) where
   pub reading-malformed : w ≡ Walk.Malformed → Reading.Malformed ≡ readingOf m
-  reading-malformed e = ap (readingFrom m) (sym e ∙ wq) ∙ reading-from m
+  unfolding readingOf
+  reading-malformed e = ap (readingBy m) (sym e ∙ wq)
 
   module _ (f : Found) (e : w ≡ Walk.Whole f) where
     pub reading-places : Places m f
     reading-places = places m f (places-tlvs m f (sym wq ∙ e))
 
     pub reading-whole : (g : Message) → g ≡ messageOf m f → Reading.Whole g ≡ readingOf m
-    reading-whole g gq = ap Reading.Whole gq ∙ ap (readingFrom m) (sym e ∙ wq) ∙ reading-from m
+    unfolding readingOf
+    reading-whole g gq = ap Reading.Whole gq ∙ ap (readingBy m) (sym e ∙ wq)
 
 pub ruleset readings = (reading-malformed, reading-places, reading-whole)

@@ -12,7 +12,7 @@ use lib.Dec.{eqb, ltb}
 use Rattle.octets.specs.Be.{beAt}
 use Rattle.octets.specs.Pick.{pick}
 use Rattle.message.specs.Kinds.{fatalOf, codeOf, resourcesAvailable, notificationKind, kindFor, kindOf, kindNumber}
-use Rattle.message.specs.Reading.{typeOf, numberIn, bearsOf, messageOf, readingOf}
+use Rattle.message.specs.Reading.{typeOf, numberIn, bearsOf, placesOf, messageOf, readingOf}
 use Rattle.message.specs.Submission.{bearsFt, noLabel, labelledAs, acceptedAs, submissionOf}
 use Rattle.tlv.specs.declared.Field
 use Rattle.tlv.specs.declared.Field.{Field}
@@ -82,7 +82,7 @@ accepted-by Kind.NoKind label = refl
 -- a submission, by the tests and the calls of the code
 module _ (m : List ℕ) (w : Walk) (wq : w ≡ tlvsOf m) where
   pub judged-malformed : w ≡ Walk.Malformed → Submission.Malformed ≡ submissionOf m
-  unfolding submissionOf readingOf
+  unfolding submissionOf readingOf placesOf
   judged-malformed e = simp (sym wq ∙ e)
 
   module _ (f : Found) (e : w ≡ Walk.Whole f) where
@@ -98,17 +98,17 @@ module _ (m : List ℕ) (w : Walk) (wq : w ≡ tlvsOf m) where
 
     module _ (c : ℕ) (t : MessageType) (b : Bool) (bq : b ≡ bearsOf t f) (tq : t ≡ typeOf c) (cq : c ≡ numberIn m) where
       pub judged-lacks : not b ≡ true → Submission.Malformed ≡ submissionOf m
-      unfolding submissionOf readingOf
+      unfolding submissionOf readingOf placesOf
       judged-lacks h = simp (sym wq ∙ e, sym cq, sym tq, sym bq ∙ not-true b h)
 
       module _ (h : not b ≡ false) (ft : Bool) (ftq : ft ≡ bearsFt f) where
         pub judged-ft : ft ≡ true → Submission.Refused ≡ submissionOf m
-        unfolding submissionOf readingOf messageOf
+        unfolding submissionOf readingOf placesOf messageOf
         judged-ft p = simp (sym wq ∙ e, sym cq, sym tq, sym bq ∙ not-false b h, sym ftq ∙ p)
 
         module _ (p : ft ≡ false) (s : Field) (sq : s ≡ fieldAt m (f .status)) (k : Kind) (kq : k ≡ kindFor t s) (n : ℕ) (nq : n ≡ kindNumber k) where
           judged-as : (a : Submission) → a ≡ byNumber n k (fieldAt m (f .label)) → a ≡ submissionOf m
-          unfolding submissionOf readingOf messageOf kindOf
+          unfolding submissionOf readingOf placesOf messageOf kindOf
           judged-as a aq =
               let accepted : byNumber n k (fieldAt m (f .label)) ≡ acceptedAs k (fieldAt m (f .label)) = rw nq (sym (accepted-by k (fieldAt m (f .label)))) in
               let all : acceptedAs k (fieldAt m (f .label)) ≡ submissionOf m = simp (kq, sq, sym wq ∙ e, sym cq, sym tq, sym bq ∙ not-false b h, sym ftq ∙ p) in

@@ -4,9 +4,8 @@ use mathlib.Core.Bool.{Bool}
 use mathlib.Core.List.{List}
 use Prim.Native.Nat.{ℕ, _<_}
 use Rattle.octets.specs.Bytes.{Bytes}
-use Rattle.octets.proofs.Choice.{no, passed}
+use Rattle.octets.proofs.Choice.{no}
 use Rattle.ft_number.specs.declared.FtNumber.{FtNumber}
-use Rattle.tlv.specs.Walk.{tlvsOf}
 use Rattle.tlv.specs.declared.Found.{Found}
 use Rattle.tlv.specs.declared.FtField
 use Rattle.tlv.specs.declared.FtField.{FtField}
@@ -17,7 +16,7 @@ use Rattle.tlv.specs.declared.Session.{Session}
 use Rattle.tlv.specs.declared.walk.Walk
 use Rattle.tlv.specs.declared.walk.Walk.{Walk}
 use Rattle.tlv.proofs.Values.{number-width, parameters-width, session-width}
-use Rattle.message.specs.Reading.{typeOf, numberIn, bearsOf, messageOf, readingBy, readingOf}
+use Rattle.message.specs.Reading.{placesOf, messageOf, readingBy, readingOf}
 use Rattle.message.specs.declared.Message.{Message}
 use Rattle.message.specs.declared.Reading
 use Rattle.message.specs.declared.Reading.{Reading}
@@ -39,11 +38,10 @@ message-widths m byte f = record {
 
 pub read-widths : (m : List ℕ) → Bytes m → (g : Message) → readingOf m ≡ Reading.Whole g → Widths g
 unfolding readingOf
-read-widths m byte g e = by (tlvsOf m) e
+read-widths m byte g e = by (placesOf m) e
   where
     by : (w : Walk) → readingBy m w ≡ Reading.Whole g → Widths g
     by Walk.Malformed e = no (cc)
     by (Walk.Whole f) e =
-        let p = passed (bearsOf (typeOf (numberIn m)) f) (Reading.Whole (messageOf m f)) Reading.Malformed (Reading.Whole g) (λ z. cc) e in
-        let same : messageOf m f ≡ g = cc (p .1) in
+        let same : messageOf m f ≡ g = cc in
         rw (← same) (message-widths m byte f)

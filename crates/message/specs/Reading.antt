@@ -94,9 +94,10 @@ messageOf m f = record {
   ack = numberAt m (f .ack);
 }
 
+-- the message read at the places of its TLVs
 abbrev pub readingBy : List ℕ → Walk → Reading
 readingBy m Walk.Malformed = Reading.Malformed
-readingBy m (Walk.Whole f) = pick (bearsOf (typeOf (numberIn m)) f) (Reading.Whole (messageOf m f)) Reading.Malformed
+readingBy m (Walk.Whole f) = Reading.Whole (messageOf m f)
 
 unfoldable pub readingOf : List ℕ → Reading
-readingOf m = readingBy m (tlvsOf m)
+readingOf m = readingBy m (placesOf m)

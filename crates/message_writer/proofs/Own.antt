@@ -11,7 +11,7 @@ use Rattle.tlv.specs.Walk.{notedOf, turnOf, walkOf, tlvsOf}
 use Rattle.tlv.specs.Value.{partAt, fecAt, fieldAt, numberAt, parametersAt, sessionAt}
 use Rattle.tlv.specs.declared.FtField
 use Rattle.tlv.specs.declared.FtField.{FtField}
-use Rattle.message.specs.Reading.{typeOf, messageOf, readingOf}
+use Rattle.message.specs.Reading.{typeOf, messageOf, placesOf, readingOf}
 use Rattle.message.specs.declared.Reading
 use Rattle.message.specs.declared.Reading.{Reading}
 use Rattle.message_writer.specs.Forms.{initBytes, keepaliveBytes}
@@ -20,13 +20,13 @@ use Rattle.message_writer.proofs.Raised.{spelled}
 use Rattle.message_writer.specs.declared.OwnParameters.{OwnParameters}
 
 pub keepalive-reads : (id : MessageId) (ack : FtField) → id .0 < 256 ^ 4 → AckFits ack → readingOf (keepaliveBytes id ack) ≡ Reading.Whole (keepaliveMessage id ack)
-unfolding readingOf messageOf tlvsOf walkOf turnOf notedOf tlvOf typeOf fix steps partAt fecAt fieldAt numberAt parametersAt sessionAt
+unfolding readingOf placesOf messageOf tlvsOf walkOf turnOf notedOf tlvOf typeOf fix steps partAt fecAt fieldAt numberAt parametersAt sessionAt
 keepalive-reads id FtField.Absent small fits = simp (spelled 4 (id .0) small)
 keepalive-reads id (FtField.Number a) small fits = simp (spelled 4 (id .0) small, spelled 4 (a .0) fits)
 
 pub init-reads : (id : MessageId) (p : OwnParameters) (seconds : ℕ) (ack : FtField) → InitFits id p seconds ack
     → readingOf (initBytes id p seconds ack) ≡ Reading.Whole (initMessage id p seconds ack)
-unfolding readingOf messageOf tlvsOf walkOf turnOf notedOf tlvOf typeOf fix steps partAt fecAt fieldAt numberAt parametersAt sessionAt
+unfolding readingOf placesOf messageOf tlvsOf walkOf turnOf notedOf tlvOf typeOf fix steps partAt fecAt fieldAt numberAt parametersAt sessionAt
 init-reads id p seconds FtField.Absent fits =
     let number : beAt 4 (bytes 4 seconds) 0 ≡ seconds = spelled 4 seconds (omega (arith, fits .seconds)) in
     let last : beAt 2 (bytes 4 seconds) 2 ≡ seconds = omega (arith, fits .seconds) in

@@ -31,7 +31,7 @@ use Rattle.tlv.specs.declared.walk.Walk.{Walk}
 use Rattle.octets.proofs.Bytes.{beAt-behind}
 use Rattle.tlv.proofs.Places.{Each, Lies, found-lies, places}
 use Rattle.tlv.proofs.Turns.{walk-step}
-use Rattle.message.specs.Reading.{typeOf, numberIn, bearsOf, messageOf, readingOf}
+use Rattle.message.specs.Reading.{typeOf, numberIn, bearsOf, messageOf, placesOf, readingOf}
 use Rattle.message.specs.declared.Message.{Message}
 use Rattle.message.specs.declared.Reading
 use Rattle.message.specs.declared.Reading.{Reading}
@@ -156,7 +156,7 @@ module _ (m t : List ℕ) (f : Found) (e : tlvsOf m ≡ Walk.Whole f) (n : FtNum
   -- and it is read whole: its type bears what it bore
   reading-same : (at : ℕ) (ack : FtField) → numberAt (raised m t) at ≡ ack → tlvsOf (raised m t) ≡ Walk.Whole (ftPlaces f (length m) at)
       → bearsOf (typeOf (numberIn m)) f ≡ true → readingOf (raised m t) ≡ Reading.Whole (withFt (messageOf m f) (ftPlaces f (length m) at) (FtField.Number n) ack)
-  unfolding readingOf
+  unfolding readingOf placesOf
   reading-same at ack acked tlvs bears = simp (tlvs, type-same, bears) (ap Reading.Whole (message-same at ack acked))
 
 -- the FT TLVs are 16 bytes at most

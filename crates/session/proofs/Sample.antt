@@ -10,7 +10,7 @@ use Rattle.tlv.specs.Tlv.{tlvOf}
 use Rattle.tlv.specs.Value.{fieldAt, numberAt}
 use Rattle.tlv.specs.Walk.{tlvsOf, walkOf, turnOf, notedOf}
 use Rattle.message.specs.Kinds.{kindOf}
-use Rattle.message.specs.Reading.{typeOf, messageOf, readingOf}
+use Rattle.message.specs.Reading.{typeOf, messageOf, placesOf, readingOf}
 use Rattle.message.specs.Submission.{noLabel, bearsFt, submissionOf}
 use Rattle.message.specs.declared.Kind
 use Rattle.message.specs.declared.Kind.{Kind}
@@ -49,7 +49,7 @@ abbrev pub address : List ℕ
 address = 3 ∷ 0 ∷ 0 ∷ 4 ∷ 0 ∷ 0 ∷ 0 ∷ 1 ∷ []
 
 address-accepted : submissionOf address ≡ Submission.Accepted Kind.Address noLabel
-unfolding submissionOf readingOf tlvsOf walkOf fix steps turnOf typeOf bearsFt messageOf kindOf
+unfolding submissionOf readingOf placesOf tlvsOf walkOf fix steps turnOf typeOf bearsFt messageOf kindOf
 address-accepted = refl
 
 -- while state is kept it passes every test but the last
@@ -70,9 +70,9 @@ aliveWith n = 2 ∷ 1 ∷ 0 ∷ 12 ∷ 0 ∷ 0 ∷ 0 ∷ 1 ∷ 5 ∷ 4 ∷ 0 ∷
 
 -- nothing was issued: zero says so, and one was never sent
 pub alive-right : receiveRule (fresh terms) (Phase.UpFT 0) (readingOf (aliveWith 0)) ≡ Answer.Done
-unfolding fresh readingOf tlvsOf walkOf fix steps turnOf notedOf tlvOf typeOf messageOf kindOf fieldAt numberAt ftRule messageRule ackOn ackOf stepsOf labelsRule protectionRule labelEffect
+unfolding fresh readingOf placesOf tlvsOf walkOf fix steps turnOf notedOf tlvOf typeOf messageOf kindOf fieldAt numberAt ftRule messageRule ackOn ackOf stepsOf labelsRule protectionRule labelEffect
 alive-right = refl
 
 pub alive-wrong : receiveRule (fresh terms) (Phase.UpFT 0) (readingOf (aliveWith 1)) ≡ Answer.AckSequenceError
-unfolding fresh readingOf tlvsOf walkOf fix steps turnOf notedOf tlvOf typeOf messageOf kindOf fieldAt numberAt ftRule messageRule ackOn ackOf stepsOf
+unfolding fresh readingOf placesOf tlvsOf walkOf fix steps turnOf notedOf tlvOf typeOf messageOf kindOf fieldAt numberAt ftRule messageRule ackOn ackOf stepsOf
 alive-wrong = refl

@@ -10,7 +10,7 @@ use Rattle.tlv.specs.Tlv.{tlvOf}
 use Rattle.tlv.specs.Value.{partAt, fecAt, fieldAt, numberAt, parametersAt, sessionAt}
 use Rattle.tlv.specs.Walk.{notedOf, turnOf, walkOf, tlvsOf}
 use Rattle.message.specs.Kinds.{kindOf}
-use Rattle.message.specs.Reading.{typeOf, messageOf, readingOf}
+use Rattle.message.specs.Reading.{typeOf, messageOf, placesOf, readingOf}
 use Rattle.message.specs.Submission.{noLabel, bearsFt, submissionOf}
 use Rattle.message.specs.declared.Kind
 use Rattle.message.specs.declared.Kind.{Kind}
@@ -57,7 +57,7 @@ bytes (suc (suc (suc (suc (suc (suc (suc zero))))))) = omega arith
 bytes (suc (suc (suc (suc (suc (suc (suc (suc i)))))))) = omega arith
 
 is-address : submissionOf (address 7) ≡ Submission.Accepted Kind.Address noLabel
-unfolding submissionOf bearsFt readingOf messageOf kindOf tlvsOf walkOf turnOf notedOf tlvOf typeOf fix steps partAt fecAt fieldAt numberAt parametersAt sessionAt
+unfolding submissionOf bearsFt readingOf placesOf messageOf kindOf tlvsOf walkOf turnOf notedOf tlvOf typeOf fix steps partAt fecAt fieldAt numberAt parametersAt sessionAt
 is-address = refl
 
 -- ---- one submission, in a world whose end a has begun

@@ -10,7 +10,7 @@ use Rattle.tlv.specs.Tlv.{tlvOf}
 use Rattle.tlv.specs.Value.{fecAt, fieldAt, numberAt as numberAt-tlv, parametersAt, partAt, sessionAt}
 use Rattle.tlv.specs.Walk.{notedOf, tlvsOf, turnOf, walkOf}
 use Rattle.message.specs.Kinds.{kindOf}
-use Rattle.message.specs.Reading.{messageOf as messageOf-message, readingOf, typeOf}
+use Rattle.message.specs.Reading.{messageOf as messageOf-message, placesOf, readingOf, typeOf}
 use Rattle.message.specs.Submission.{bearsFt, submissionOf}
 use Rattle.message_writer.specs.Forms.{raised}
 use Rattle.message_writer.specs.Payload.{keptOf, payloadOf}
@@ -56,5 +56,5 @@ use Rattle.receive.specs.Rule.{ackOn, ftRule, labelsRule, messageRule, receiveA
 
 -- to unfold this is to unfold all of them
 unfoldable pub everything : ℕ
-unfolding differ filled fix steps ackOf after stepsOf lesserOf tlvOf fecAt fieldAt numberAt-tlv parametersAt partAt sessionAt notedOf tlvsOf turnOf walkOf kindOf messageOf-message readingOf typeOf bearsFt submissionOf raised keptOf payloadOf any findOf barsProtection codeProtection needsProtection codeAccepted codeAcked codeReceived codeSwept receivedSide sentSide wordSwept validOf validWord isFree onSide standsFor wordOf acceptedOf planOf ackedAt changeAt changed codeIn protectionOf receivedChange receivedOf checkOf sealed sound sums withWords wordsAt allZero fieldsOk headerOk block0 headerOf labelsOf slotOk slotVerdict slotFor messageOf-slot paddingOf slotBlock breakOf newImage releaseOf ring decode slotsOf store0 storeSlot scan verdict acked releasedKind releasedLabels effectOf admitted failedWith releasedWith settleOf issuedCount phaseFits restingPhase queued submitImage submitOf submitted acceptedAs isBarred isHeld kindRule submitAnswer submitRule ackAsked numberAt-send numbered sendAnswer sendBytes sendImage sendOf sendRule connectionFailedOf eventAnswer restoreOf keepaliveOf keptAck openOf writerOf begunAs fresh initReceivedOf resumed startImage bothSet startOf labelEffect protectionRule ackOn ftRule labelsRule messageRule receiveAnswer receiveOf receivedState taken slotAlone
+unfolding differ filled fix steps ackOf after stepsOf lesserOf tlvOf fecAt fieldAt numberAt-tlv parametersAt partAt sessionAt notedOf tlvsOf turnOf walkOf kindOf messageOf-message placesOf readingOf typeOf bearsFt submissionOf raised keptOf payloadOf any findOf barsProtection codeProtection needsProtection codeAccepted codeAcked codeReceived codeSwept receivedSide sentSide wordSwept validOf validWord isFree onSide standsFor wordOf acceptedOf planOf ackedAt changeAt changed codeIn protectionOf receivedChange receivedOf checkOf sealed sound sums withWords wordsAt allZero fieldsOk headerOk block0 headerOf labelsOf slotOk slotVerdict slotFor messageOf-slot paddingOf slotBlock breakOf newImage releaseOf ring decode slotsOf store0 storeSlot scan verdict acked releasedKind releasedLabels effectOf admitted failedWith releasedWith settleOf issuedCount phaseFits restingPhase queued submitImage submitOf submitted acceptedAs isBarred isHeld kindRule submitAnswer submitRule ackAsked numberAt-send numbered sendAnswer sendBytes sendImage sendOf sendRule connectionFailedOf eventAnswer restoreOf keepaliveOf keptAck openOf writerOf begunAs fresh initReceivedOf resumed startImage bothSet startOf labelEffect protectionRule ackOn ftRule labelsRule messageRule receiveAnswer receiveOf receivedState taken slotAlone
 everything = 0
