@@ -34,4 +34,5 @@ returns-2 c = sym (after-is _ _ (omega arith) (omega arith))
 
 pub advance-spec : {M : Type 1} → statement M
 advance-spec =
-    tie.close (tie.spec cast-sum add-sum returns sub-t4 cast-t5 rem-t7 add-t8 cast-t9 returns-2)
+    let answers = tie.spec cast-sum add-sum returns sub-t4 cast-t5 rem-t7 add-t8 cast-t9 returns-2 in
+    tie.close answers

@@ -16,4 +16,6 @@ returns-4 : tie.Need-returns-4
 returns-4 c = lesser-of _ _ _ (omega arith)
 
 pub lesser-timeout-spec : {M : Type 1} → statement M
-lesser-timeout-spec = tie.close (tie.spec returns returns-2 returns-3 returns-4)
+lesser-timeout-spec =
+    let answers = tie.spec returns returns-2 returns-3 returns-4 in
+    tie.close answers

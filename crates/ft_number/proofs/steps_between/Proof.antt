@@ -17,4 +17,6 @@ returns-3 : tie.Need-returns-3
 returns-3 c = steps-on _ _ (omega arith) (omega arith) (c .places .ensures)
 
 pub steps-between-spec : {M : Type 1} → statement M
-steps-between-spec = tie.close (tie.spec returns returns-2 places-requires returns-3)
+steps-between-spec =
+    let answers = tie.spec returns returns-2 places-requires returns-3 in
+    tie.close answers
