@@ -9,8 +9,9 @@ use Rattle.octets.specs.Pick.{pick}
 use Rattle.octets.specs.Bytes.{Bytes}
 use Rattle.octets.proofs.Differ.{differ-self}
 use Rattle.block0.specs.declared.Header.{Header}
+use Rattle.block0.specs.Unprotected.{unprotected}
 use Rattle.image.specs.State.{decode}
-use Rattle.image.specs.Events.{releaseOf, breakOf, unprotected}
+use Rattle.image.specs.Events.{releaseOf, breakOf}
 use Rattle.image.specs.Verdict.{IsSound}
 use Rattle.image.proofs.Same.{break-same, break-changed, release-same, release-changed}
 use Rattle.calls.specs.declared.Answer

@@ -1,16 +1,14 @@
 -- A store of what the image says already changes nothing, and a store of anything else changes the bytes of block 0; so do a break and a release. Assumes nothing.
-use mathlib.Core.Path.{_≡_, refl, sym, ap, ap₂, _∙_}
+use mathlib.Core.Path.{_≡_, sym, ap, ap₂, _∙_}
 use mathlib.Core.Bool.{true, false, false≢true}
 use mathlib.Core.List.{List, [], _∷_}
 use mathlib.Core.Logic.{_≢_}
-use Prim.Native.Nat.{ℕ, zero, suc, _+_, _<_}
-use native.Mathlib.Numerals.{add-one}
+use Prim.Native.Nat.{ℕ, zero, suc}
 use native.Mathlib.Omega.{arith}
 use borrow.Author.Tests.{eqb-true, eqb-false, ne-eqb}
 use lib.Dec.{eqb}
 use lib.ListN.{length, getD, drop, take-append-drop, length-map, List·getD-map}
-use lib.Seq.{drop-cons, ext-getD}
-use Rattle.octets.specs.Pick.{pick}
+use lib.Seq.{ext-getD}
 use Rattle.octets.specs.Bytes.{Bytes}
 use Rattle.octets.specs.Differ.{differ}
 use Rattle.octets.proofs.Choice.{by-test, cleared}
@@ -25,11 +23,12 @@ use Rattle.block.specs.Run.{Words}
 use Rattle.block0.specs.declared.Header.{Header}
 use Rattle.block0.specs.Layout.{headerOf, labelsOf}
 use Rattle.block0.specs.Fields.{Fits}
+use Rattle.block0.specs.Unprotected.{unprotected}
 use Rattle.block0.proofs.Same.{block0-same}
 use Rattle.image.specs.Sizes.{imageSize, block}
 use Rattle.image.specs.State.{State, decode, store0}
 use Rattle.image.specs.Verdict.{IsSound}
-use Rattle.image.specs.Events.{releaseOf, breakOf, unprotected}
+use Rattle.image.specs.Events.{releaseOf, breakOf}
 use Rattle.image.proofs.Changes.{release-decodes, break-decodes}
 use Rattle.image.proofs.Ranges.{bytes-block, bytes-in-range}
 use Rattle.image.proofs.Sound.{sound-valid}
@@ -77,15 +76,6 @@ word-kept w range other =
   where
     free : codeOf w ≡ 0 → 0 ≡ w
     free z = by-test (eqb w 0) (λ e. sym (eqb-true w 0 e)) (λ e. let r : InRange w = range (eqb-false w 0 e) in absurd (omega arith))
-
--- the word at i, and the rest
-pub unprotected-turn : (ls : List ℕ) (i : ℕ) → i < length ls → unprotected (drop i ls) ≡ pick (eqb (codeOf (getD ls i 0)) 6) true (unprotected (drop (i + 1) ls))
-unfolding unprotected
-unprotected-turn ls i h = rw (add-one, drop-cons ls i 0 h)
-
-pub unprotected-none : unprotected [] ≡ false
-unfolding unprotected
-unprotected-none = refl
 
 none-at : (ls : List ℕ) → unprotected ls ≡ false → (i : ℕ) → codeOf (getD ls i 0) ≡ 6 → ⊥
 unfolding unprotected
