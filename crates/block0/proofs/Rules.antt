@@ -38,8 +38,11 @@ free-labels : (b : List ℕ) → ((k : ℕ) → k < 480 → getD b (labelsAt + k
 unfolding labelsOf
 free-labels b z = zeros-words wordCount b labelsAt z
 
+pub free-words : (b : List ℕ) → allZero (part b labelsAt checkAt) ≡ true → labelsOf b ≡ noLabels
+free-words b zero = free-labels b (λ k l. sym (part-at b labelsAt checkAt k l) ∙ zero-bytes (part b labelsAt checkAt) zero k)
+
 pub free-valid : (b : List ℕ) → allZero (part b labelsAt checkAt) ≡ true → validOf (labelsOf b) ≡ true
-free-valid b zero = ap validOf (free-labels b (λ k l. sym (part-at b labelsAt checkAt k l) ∙ zero-bytes (part b labelsAt checkAt) zero k)) ∙ none-valid
+free-valid b zero = ap validOf (free-words b zero) ∙ none-valid
 
 -- with kept 0
 module _ (b : List ℕ) (zero : allZero (bodyOf b) ≡ true) where

@@ -9,6 +9,7 @@ ghost use Rattle.block.specs.Run.{putRun};
 ghost use Rattle.block0.specs.Layout.{widths, values, headerOf, labelsOf, block0};
 ghost use Rattle.ft_number.specs.Circle.{stepsOf};
 ghost use Rattle.block0.specs.Fields.{atMost, headerOk, fieldsOk};
+ghost use Rattle.block0.specs.Unprotected.{isUnprotected, unprotected};
 use ft_number::FtNumber;
 use ft_number::Steps;
 
@@ -148,6 +149,35 @@ fn labels_are_valid(block: &[u8]) -> bool
     let mut words = [0u32; label_list::WORD_COUNT];
     read_labels(block, &mut words);
     label_list::valid(&words)
+}
+
+// Whether the label at a place is used without protection. Code 6 shows in the second byte, which nearly every other word fails.
+fn is_unprotected(block: &[u8], place: usize) -> bool
+    requires { ⌜ (length (now block) ≡ blockSize) × (place < wordCount) ⌝ }
+    ensures { λ r. ⌜ r ≡ isUnprotected (getD (labelsOf (now (block .entry))) place 0) ⌝ }
+{
+    if octets::get_u8(block, LABELS_AT + place * 4 + 1) / 16 != 6 {
+        return false;
+    }
+    read_label(block, place) / label_list::LABEL_COUNT == 6
+}
+
+// Whether any label is. Where all words are free they are not read one by one.
+pub fn has_unprotected(block: &[u8]) -> bool
+    requires { ⌜ length (now block) ≡ blockSize ⌝ }
+    ensures { λ r. ⌜ r ≡ unprotected (labelsOf (now (block .entry))) ⌝ }
+{
+    if block::zeros::all_zero(&block[LABELS_AT..block::CHECK_AT]) {
+        return false;
+    }
+    let mut i: usize = 0;
+    while i < label_list::WORD_COUNT {
+        if is_unprotected(block, i) {
+            return true;
+        }
+        i += 1;
+    }
+    false
 }
 
 // Whether block 0's fields are right. Its check is not looked at.

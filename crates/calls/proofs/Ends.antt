@@ -1,19 +1,19 @@
 -- How a call ends, by its answer's effect. Assumes nothing.
-use mathlib.Core.Path.{_≡_, refl, sym, ap, _∙_}
+use mathlib.Core.Path.{_≡_, refl, sym, _∙_}
 use mathlib.Core.Bool.{Bool, true, false}
 use mathlib.Core.List.{List}
+use mathlib.Core.Logic.{_≢_}
 use Prim.Native.Nat.{ℕ}
 use lib.Dec.{eqb, ltb}
 use Rattle.octets.specs.Pick.{pick}
 use Rattle.octets.specs.Bytes.{Bytes}
-use Rattle.octets.specs.Differ.{differ}
 use Rattle.octets.proofs.Differ.{differ-self}
 use Rattle.block0.specs.declared.Header.{Header}
-use Rattle.image.specs.Sizes.{block}
+use Rattle.block0.specs.Unprotected.{unprotected}
 use Rattle.image.specs.State.{decode}
-use Rattle.image.specs.Events.{releaseOf, breakOf, unprotected}
+use Rattle.image.specs.Events.{releaseOf, breakOf}
 use Rattle.image.specs.Verdict.{IsSound}
-use Rattle.image.proofs.Same.{break-same}
+use Rattle.image.proofs.Same.{break-same, break-changed, release-same, release-changed}
 use Rattle.calls.specs.declared.Answer
 use Rattle.calls.specs.declared.Answer.{Answer}
 use Rattle.calls.specs.declared.Effect
@@ -25,25 +25,32 @@ use Rattle.calls.specs.Answers.{answerNumber, effectBy, effectOf}
 use Rattle.calls.specs.Phases.{restingPhase}
 use Rattle.calls.specs.Outcomes.{After, after, isDone, refusal, unchanged, failedWith, releasedWith, settledBy, settleOf}
 
--- the premises are what the callees ensure
-pub fail-is : (a : Answer) (im o : List ℕ) {old im′ : List ℕ} {h : Header} {ph : Phase} {b : Bool}
-    → old ≡ block im 0 → h ≡ decode im .header → ph ≡ restingPhase h → im′ ≡ breakOf im → b ≡ differ old (block im′ 0)
-    → after (record { answer = a; phase = ph; written = 0; slot = 0; block0 = b }) im′ o ≡ failedWith a im o
-unfolding failedWith
-fail-is a im o e₁ e₂ e₃ e₄ e₅ = rw (e₅, e₄, e₁, e₃, e₂)
+-- ---- as connection failed; the premises are what the callees ensure
+module _ (a : Answer) (im o : List ℕ) (s : IsSound im) (byte : Bytes im) {h : Header} {ph : Phase} {b : Bool}
+    (e₁ : h ≡ decode im .header) (e₂ : ph ≡ restingPhase h) (e₃ : b ≡ unprotected (decode im .labels)) where
+  -- no label is used without protection: the image stays as it is
+  pub fail-none : {r : Outcome} → b ≡ false → r ≡ refusal a ph → after r im o ≡ failedWith a im o
+  unfolding failedWith
+  fail-none f e = rw (break-same im s byte (sym e₃ ∙ f), differ-self, e, e₂, e₁)
 
--- no label is used without protection: the image stays as it is
-pub fail-none : (a : Answer) (im o : List ℕ) {h : Header} {ph : Phase} {b : Bool} {r : Outcome} → IsSound im → Bytes im
-    → h ≡ decode im .header → ph ≡ restingPhase h → b ≡ unprotected (decode im .labels) → b ≡ false → r ≡ refusal a ph → after r im o ≡ failedWith a im o
-unfolding failedWith
-fail-none a im o s byte e₁ e₂ e₃ f e₄ = rw (break-same im s byte (sym e₃ ∙ f), differ-self, e₄, e₂, e₁)
+  pub fail-some : {im′ : List ℕ} → b ≡ true → im′ ≡ breakOf im
+      → after (record { answer = a; phase = ph; written = 0; slot = 0; block0 = true }) im′ o ≡ failedWith a im o
+  unfolding failedWith
+  fail-some t e = rw (← break-changed im s byte (sym e₃ ∙ t), e, e₂, e₁)
 
-pub release-is : (a : Answer) (im o : List ℕ) {old im′ : List ℕ} {b : Bool}
-    → old ≡ block im 0 → im′ ≡ releaseOf im → b ≡ differ old (block im′ 0)
-    → after (record { answer = a; phase = Phase.Idle; written = 0; slot = 0; block0 = b }) im′ o ≡ releasedWith a im o
-unfolding releasedWith
-release-is a im o e₁ e₂ e₃ = rw (e₃, e₂, e₁)
+-- ---- released
+module _ (a : Answer) (im o : List ℕ) (s : IsSound im) {h : Header} (e : h ≡ decode im .header) where
+  -- with kept 0 the image stays as it is
+  pub release-none : {r : Outcome} → Bytes im → h .kept ≡ 0 → r ≡ refusal a Phase.Idle → after r im o ≡ releasedWith a im o
+  unfolding releasedWith
+  release-none byte idle p = rw (release-same im s byte (rw e at idle), differ-self, p)
 
+  pub release-some : {im′ : List ℕ} → h .kept ≢ 0 → im′ ≡ releaseOf im
+      → after (record { answer = a; phase = Phase.Idle; written = 0; slot = 0; block0 = true }) im′ o ≡ releasedWith a im o
+  unfolding releasedWith
+  release-some kept p = rw (← release-changed im (s .size) (rw e at kept), p)
+
+-- ---- by the answer's effect
 module _ (a : Answer) (ph : Phase) (im o : List ℕ) (done : After) {f : Effect} (e : f ≡ effectOf a) where
   pub settle-nothing : {r : Outcome} → f ≡ Effect.Nothing → r ≡ refusal a ph → after r im o ≡ settleOf a ph im o done
   unfolding settleOf
@@ -87,7 +94,3 @@ settle-refusal a ph im o d e = rw e
 
 pub unchanged-is : (a : Answer) (ph : Phase) (im o : List ℕ) {r : Outcome} → r ≡ refusal a ph → after r im o ≡ unchanged a ph im o
 unchanged-is a ph im o e = rw e
-
--- what was compared is block 0 as it was
-pub compared : (old x y : List ℕ) {b : Bool} → b ≡ differ old y → old ≡ x → b ≡ differ x y
-compared old x y e p = e ∙ ap (λ (k : List ℕ). differ k y) p

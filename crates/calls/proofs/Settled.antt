@@ -5,10 +5,7 @@ use mathlib.Core.List.{List}
 use Prim.Native.Nat.{ℕ, _<_}
 use native.Mathlib.Omega.{arith}
 use borrow.Author.Tests.{eqb-true}
-use lib.ListN.{length}
 use Rattle.octets.specs.Pick.{pick}
-use Rattle.octets.specs.Fill.{copied}
-use Rattle.octets.proofs.Copied.{copied-all}
 use Rattle.block0.specs.declared.Header.{Header}
 use Rattle.image.specs.State.{decode}
 use Rattle.image.specs.Verdict.{verdict, IsSound}
@@ -104,7 +101,3 @@ admitted-is {im} {ph} d a = sym (admit-rest im ph a (d .passes) (d .fits))
 
 pub admitted-sound : {im : List ℕ} {ph : Phase} → Admitted im ph → IsSound im
 admitted-sound {im} d = sound-parts im (d .passes)
-
--- a copy over a list of the same size
-pub copied-over : (s b x : List ℕ) {r : List ℕ} → r ≡ copied s 0 b → (b ≡ x) × (length b ≡ length s) → r ≡ x
-copied-over s b x e p = e ∙ copied-all s b (sym (p .1)) ∙ p .0

@@ -1,8 +1,6 @@
 // How a call ends that is not Done: nothing changed, as connection failed, or released.
 ghost use mathlib.Core.Path.{_≡_};
 ghost use mathlib.Core.List.{[]};
-ghost use lib.ListN.{length};
-ghost use Rattle.image.specs.Sizes.{imageSize};
 ghost use Rattle.image.specs.Verdict.{IsSound};
 ghost use Rattle.calls.specs.Outcomes.{after, unchanged, failedWith, releasedWith, settleOf};
 use crate::Answer;
@@ -12,8 +10,6 @@ use crate::Phase;
 use crate::admitting::refuse;
 use crate::answers::effect_of;
 use crate::phases::resting_phase;
-use crate::storing::block0_changed;
-use crate::storing::copy_block0;
 
 // As connection failed: the labels used without protection are freed, and the session rests. Where there are none, nothing is stored.
 pub fn fail(image: &mut [u8], answer: Answer) -> Outcome
@@ -24,30 +20,32 @@ pub fn fail(image: &mut [u8], answer: Answer) -> Outcome
     if !image::has_unprotected(image) {
         return refuse(answer, phase);
     }
-    let old = copy_block0(image);
     image::free_unprotected(image);
     Outcome {
         answer: answer,
         phase: phase,
         written: 0,
         slot: 0,
-        block0: block0_changed(&old, image),
+        block0: true,
     }
 }
 
-// The state is released, and the session is idle.
+// The state is released, and the session is idle. With kept 0 the image says so already, and nothing is stored.
 pub fn release(image: &mut [u8], answer: Answer) -> Outcome
-    requires { ⌜ length (now image) ≡ imageSize ⌝ }
+    requires { ⌜ IsSound (now image) ⌝ }
     ensures { λ r. ⌜ after r (now (image .exit)) [] ≡ releasedWith answer (now (image .entry)) [] ⌝ }
 {
-    let old = copy_block0(image);
+    let h = image::header_of(image);
+    if h.kept == 0 {
+        return refuse(answer, Phase::Idle);
+    }
     image::release(image);
     Outcome {
         answer: answer,
         phase: Phase::Idle,
         written: 0,
         slot: 0,
-        block0: block0_changed(&old, image),
+        block0: true,
     }
 }
 

@@ -1,6 +1,7 @@
-// Block 0 before and after a store: the owner stores it where its bytes changed.
+// Stores of block 0, which the owner stores where its bytes changed: they changed exactly where block 0 says something else.
 ghost use mathlib.Core.Path.{_≡_};
-ghost use mathlib.Core.Bool.{true};
+ghost use mathlib.Core.Bool.{true, false};
+ghost use mathlib.Core.Logic.{_≢_};
 ghost use lib.ListN.{length};
 ghost use Rattle.octets.specs.Differ.{differ};
 ghost use Rattle.label_list.specs.Word.{wordCount};
@@ -9,27 +10,9 @@ ghost use Rattle.image.specs.State.{decode, store0};
 ghost use Rattle.image.specs.Verdict.{IsSound};
 use block0::Header;
 
-// A copy of block 0, to see later whether it changed.
-pub fn copy_block0(image: &[u8]) -> [u8; block::BLOCK_SIZE]
-    requires { ⌜ length (now image) ≡ imageSize ⌝ }
-    ensures { λ r. ⌜ r ≡ block (now (image .entry)) 0 ⌝ }
-{
-    let mut old = [0u8; block::BLOCK_SIZE];
-    octets::copy_to(&mut old, 0, image::block_at(image, 0));
-    old
-}
-
-// Whether block 0 is no longer what it was.
-pub fn block0_changed(old: &[u8], image: &[u8]) -> bool
-    requires { ⌜ length (now image) ≡ imageSize ⌝ }
-    ensures { λ r. ⌜ r ≡ differ (now (old .entry)) (block (now (image .entry)) 0) ⌝ }
-{
-    octets::bytes_differ(old, image::block_at(image, 0))
-}
-
 // Whether two headers are the same.
 fn same_numbers(a: Header, b: Header) -> bool
-    ensures { λ r. ⌜ (r ≡ true → a ≡ b) ⌝ }
+    ensures { λ r. ⌜ (r ≡ true → a ≡ b) × (r ≡ false → a ≢ b) ⌝ }
 {
     if a.released.0 != b.released.0 {
         return false;
@@ -63,13 +46,10 @@ fn same_numbers(a: Header, b: Header) -> bool
 
 // Whether the image says these numbers and words already: each word is compared where it stands, up to the first that is another.
 fn says(image: &[u8], h: Header, words: &[u32]) -> bool
-    requires { ⌜ length (now image) ≡ imageSize ⌝ }
-    ensures { λ r. ⌜ (r ≡ true → (h ≡ decode (now (image .entry)) .header) × (now (words .entry) ≡ decode (now (image .entry)) .labels)) ⌝ }
+    requires { ⌜ (length (now image) ≡ imageSize) × (length (now words) ≡ wordCount) ⌝ }
+    ensures { λ r. ⌜ (r ≡ true → (h ≡ decode (now (image .entry)) .header) × (now (words .entry) ≡ decode (now (image .entry)) .labels)) × (r ≡ false → h ≡ decode (now (image .entry)) .header → now (words .entry) ≢ decode (now (image .entry)) .labels) ⌝ }
 {
     if !same_numbers(h, image::header_of(image)) {
-        return false;
-    }
-    if words.len() != label_list::WORD_COUNT {
         return false;
     }
     let mut i: usize = 0;
@@ -90,9 +70,8 @@ pub fn store_changed(image: &mut [u8], h: Header, words: &[u32]) -> bool
     if says(image, h, words) {
         return false;
     }
-    let old = copy_block0(image);
     image::store_block0(image, h, words);
-    block0_changed(&old, image)
+    true
 }
 
 // The same where the label words stay.
@@ -103,7 +82,6 @@ pub fn store_numbers(image: &mut [u8], h: Header) -> bool
     if same_numbers(h, image::header_of(image)) {
         return false;
     }
-    let old = copy_block0(image);
     image::store_header(image, h);
-    block0_changed(&old, image)
+    true
 }

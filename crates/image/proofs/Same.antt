@@ -1,36 +1,71 @@
--- A store of what the image says already changes nothing; nor does a break that frees no label. Assumes nothing.
-use mathlib.Core.Path.{_≡_, refl, sym, _∙_}
-use mathlib.Core.Bool.{true, false}
+-- A store of what the image says already changes nothing, and a store of anything else changes the bytes of block 0; so do a break and a release. Assumes nothing.
+use mathlib.Core.Path.{_≡_, sym, ap, ap₂, _∙_}
+use mathlib.Core.Bool.{true, false, false≢true}
 use mathlib.Core.List.{List, [], _∷_}
 use mathlib.Core.Logic.{_≢_}
-use Prim.Native.Nat.{ℕ, zero, suc, _+_, _<_}
-use native.Mathlib.Numerals.{add-one}
+use Prim.Native.Nat.{ℕ, zero, suc}
 use native.Mathlib.Omega.{arith}
 use borrow.Author.Tests.{eqb-true, eqb-false, ne-eqb}
 use lib.Dec.{eqb}
 use lib.ListN.{length, getD, drop, take-append-drop, length-map, List·getD-map}
-use lib.Seq.{drop-cons, ext-getD}
-use Rattle.octets.specs.Pick.{pick}
+use lib.Seq.{ext-getD}
 use Rattle.octets.specs.Bytes.{Bytes}
+use Rattle.octets.specs.Differ.{differ}
 use Rattle.octets.proofs.Choice.{by-test, cleared}
-use Rattle.label_list.specs.Word.{codeOf, wordOf}
+use Rattle.octets.proofs.Differ.{differ-false}
+use Rattle.label_list.specs.Word.{wordCount, codeOf, wordOf}
 use Rattle.label_list.specs.Rules.{codeSwept}
 use Rattle.label_list.specs.Sweep.{wordSwept, sweptOf}
 use Rattle.label_list.specs.declared.SweepRule.the-variants.{AfterBreak}
 use Rattle.label_meaning.specs.Valid.{InRange, IsValid}
 use Rattle.label_meaning.proofs.Meaning.{valid-means}
+use Rattle.block.specs.Run.{Words}
+use Rattle.block0.specs.declared.Header.{Header}
+use Rattle.block0.specs.Layout.{headerOf, labelsOf}
+use Rattle.block0.specs.Fields.{Fits}
+use Rattle.block0.specs.Unprotected.{unprotected}
 use Rattle.block0.proofs.Same.{block0-same}
-use Rattle.image.specs.Sizes.{block}
-use Rattle.image.specs.State.{decode, store0}
+use Rattle.image.specs.Sizes.{imageSize, block}
+use Rattle.image.specs.State.{State, decode, store0}
 use Rattle.image.specs.Verdict.{IsSound}
-use Rattle.image.specs.Events.{breakOf, unprotected}
-use Rattle.image.proofs.Ranges.{bytes-block}
+use Rattle.image.specs.Events.{releaseOf, breakOf}
+use Rattle.image.proofs.Changes.{release-decodes, break-decodes}
+use Rattle.image.proofs.Ranges.{bytes-block, bytes-in-range}
 use Rattle.image.proofs.Sound.{sound-valid}
+use Rattle.image.proofs.Stored.{decode-store0}
 
+-- a block 0 that says something else has other bytes
+pub said-changed : (image next : List ℕ) → (decode image .header ≡ decode next .header → decode image .labels ≡ decode next .labels → ⊥)
+    → true ≡ differ (block image 0) (block next 0)
+unfolding decode
+said-changed image next other =
+    by-test (differ (block image 0) (block next 0)) sym (λ same.
+    let e : block image 0 ≡ block next 0 = differ-false (block image 0) (block next 0) same in
+    absurd (other (ap headerOf e) (ap labelsOf e)))
+
+-- ---- a store
 pub store-same : (image : List ℕ) → IsSound image → Bytes image → store0 image (decode image .header) (decode image .labels) ≡ image
 unfolding store0 decode
 store-same image s byte = rw (block0-same (block image 0) (bytes-block image 0 byte) (s .check) (s .fields)) (take-append-drop 512 image)
 
+pub store-changed : (image : List ℕ) (h : Header) (ls : List ℕ) → length image ≡ imageSize → Fits h → Words wordCount ls
+    → (h ≡ decode image .header → ls ≡ decode image .labels → ⊥) → true ≡ differ (block image 0) (block (store0 image h ls) 0)
+store-changed image h ls size fh fl other =
+    let e = decode-store0 image size h ls fh fl in
+    said-changed image (store0 image h ls) (λ p q. other (sym (p ∙ ap (λ (t : State). t .header) e)) (sym (q ∙ ap (λ (t : State). t .labels) e)))
+
+-- ---- a release: with kept 0 the image says so already
+pub release-same : (image : List ℕ) → IsSound image → Bytes image → decode image .header .kept ≡ 0 → releaseOf image ≡ image
+unfolding releaseOf
+release-same image s byte idle =
+    let v = sound-valid image s .idle idle in
+    ap₂ (λ (h : Header) (ls : List ℕ). store0 image h ls) (sym (v .0)) (sym (v .1)) ∙ store-same image s byte
+
+pub release-changed : (image : List ℕ) → length image ≡ imageSize → (decode image .header .kept ≡ 0 → ⊥) → true ≡ differ (block image 0) (block (releaseOf image) 0)
+release-changed image size kept =
+    said-changed image (releaseOf image) (λ p q. kept (ap (λ (h : Header). h .kept) (p ∙ ap (λ (t : State). t .header) (release-decodes image size))))
+
+-- ---- a break
 -- a word that is free or in range, and whose code is not 6
 pub word-kept : (w : ℕ) → (w ≢ 0 → InRange w) → (codeOf w ≡ 6 → ⊥) → wordSwept AfterBreak w ≡ w
 unfolding wordSwept wordOf codeSwept
@@ -41,15 +76,6 @@ word-kept w range other =
   where
     free : codeOf w ≡ 0 → 0 ≡ w
     free z = by-test (eqb w 0) (λ e. sym (eqb-true w 0 e)) (λ e. let r : InRange w = range (eqb-false w 0 e) in absurd (omega arith))
-
--- the word at i, and the rest
-pub unprotected-turn : (ls : List ℕ) (i : ℕ) → i < length ls → unprotected (drop i ls) ≡ pick (eqb (codeOf (getD ls i 0)) 6) true (unprotected (drop (i + 1) ls))
-unfolding unprotected
-unprotected-turn ls i h = rw (add-one, drop-cons ls i 0 h)
-
-pub unprotected-none : unprotected [] ≡ false
-unfolding unprotected
-unprotected-none = refl
 
 none-at : (ls : List ℕ) → unprotected ls ≡ false → (i : ℕ) → codeOf (getD ls i 0) ≡ 6 → ⊥
 unfolding unprotected
@@ -67,3 +93,17 @@ pub break-same : (image : List ℕ) → IsSound image → Bytes image → unprot
 unfolding breakOf
 break-same image s byte none =
     rw (words-kept (decode image .labels) (valid-means (decode image .labels) (sound-valid image s .labels)) none) (store-same image s byte)
+
+-- a word of code 6 becomes a free one, which has another code
+swept-other : (ls : List ℕ) → unprotected ls ≡ true → ls ≡ sweptOf ls AfterBreak → ⊥
+unfolding unprotected wordSwept wordOf codeSwept
+swept-other [] some same = absurd (false≢true some)
+swept-other (w ∷ ws) some same =
+    by-test (eqb (codeOf w) 6)
+    (λ t. let e : w ≡ 0 = ap (λ (l : List ℕ). getD l 0 0) same ∙ rw t in omega (arith, eqb-true (codeOf w) 6 t))
+    (λ f. swept-other ws (rw f at some) (ap (λ (l : List ℕ). drop 1 l) same))
+
+pub break-changed : (image : List ℕ) → IsSound image → Bytes image → unprotected (decode image .labels) ≡ true → true ≡ differ (block image 0) (block (breakOf image) 0)
+break-changed image s byte some =
+    said-changed image (breakOf image) (λ p q.
+    swept-other (decode image .labels) some (q ∙ ap (λ (t : State). t .labels) (break-decodes image s (bytes-in-range image byte))))

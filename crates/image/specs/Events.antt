@@ -1,11 +1,9 @@
 -- What is made of a whole image: a new one, one released, one as after a break.
 use Prim.Native.Nat.{ℕ}
-use mathlib.Core.Bool.{Bool, true, false}
-use mathlib.Core.List.{List, [], _∷_}
+use mathlib.Core.List.{List, []}
 use lib.Dec.{eqb}
 use lib.ListN.{length, replicate}
 use Rattle.octets.specs.Pick.{pick}
-use Rattle.label_list.specs.Word.{codeOf}
 use Rattle.label_list.specs.Sweep.{sweptOf}
 use Rattle.label_list.specs.declared.SweepRule.the-variants.{AfterBreak}
 use Rattle.block0.specs.Layout.{releasedHeader, noLabels}
@@ -38,8 +36,3 @@ broken s = record { header = s .header; labels = sweptOf (s .labels) AfterBreak;
 
 unfoldable pub breakOf : List ℕ → List ℕ
 breakOf image = store image (broken (decode image))
-
--- a label word is used without protection
-unfoldable pub unprotected : List ℕ → Bool
-unprotected [] = false
-unprotected (w ∷ ws) = pick (eqb (codeOf w) 6) true (unprotected ws)

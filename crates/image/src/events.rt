@@ -1,8 +1,9 @@
 // What is made of a whole image: a new one, one released, one as after a break.
 ghost use mathlib.Core.Path.{_≡_};
 ghost use lib.ListN.{length};
+ghost use Rattle.block0.specs.Unprotected.{unprotected};
 ghost use Rattle.image.specs.Sizes.{imageSize};
-ghost use Rattle.image.specs.Events.{sizeVerdict, formatOf, releaseOf, breakOf, unprotected};
+ghost use Rattle.image.specs.Events.{sizeVerdict, formatOf, releaseOf, breakOf};
 ghost use Rattle.image.specs.State.{decode};
 use crate::Verdict;
 use block0::Header;
@@ -41,19 +42,12 @@ pub fn format(image: &mut [u8]) -> Verdict
     Verdict::Sound
 }
 
-// Whether a break frees a label word: each is read where it stands, up to the first of code 6. Where none is freed the image stays as it is.
+// Whether a break frees a label word. Where none is freed the image stays as it is.
 pub fn has_unprotected(image: &[u8]) -> bool
     requires { ⌜ length (now image) ≡ imageSize ⌝ }
     ensures { λ r. ⌜ r ≡ unprotected (decode (now (image .entry)) .labels) ⌝ }
 {
-    let mut i: usize = 0;
-    while i < label_list::WORD_COUNT {
-        if crate::label_at(image, i) / label_list::LABEL_COUNT == 6 {
-            return true;
-        }
-        i += 1;
-    }
-    false
+    block0::has_unprotected(crate::block_at(image, 0))
 }
 
 // As after a break: the label words of code 6 are freed.

@@ -72,7 +72,7 @@ fn wide(x: u16) -> usize
 }
 
 // Block b, as that very part of the image.
-pub fn block_at(image: &[u8], b: usize) -> &[u8]
+fn block_at(image: &[u8], b: usize) -> &[u8]
     requires { ⌜ (length (now image) ≡ imageSize) × (b ≤ slotCount) ⌝ }
     ensures { λ r. ⌜ (now r ≡ block (now (image .entry)) b) × (length (now r) ≡ blockSize) ⌝ }
     ensures place { λ r. ⌜ (r .ptr .0 ≡ image .entry .ptr .0) × (r .ptr .1 ≡ b * blockSize + image .entry .ptr .1) ⌝ }

@@ -49,12 +49,3 @@ take-copied s t room =
     let inside : i < length t = omega arith in
     let start : 0 + i ≡ i = omega arith in
     rw (getD-take (length t) (copied s 0 t) i 0) (ap (λ (k : ℕ). getD (copied s 0 t) k 0) (sym start) ∙ filled-at (length t) (λ k. getD t k 0) s 0 i (omega arith) inside))
-
--- a copy over the whole list
-pub copied-all : (s m : List ℕ) → length s ≡ length m → copied s 0 m ≡ m
-copied-all s m e =
-    ext-getD 0 (copied s 0 m) m (length-filled (length m) (λ i. getD m i 0) s 0 ∙ e) (λ i h.
-    let inside : i < length m = omega (arith, length-filled (length m) (λ k. getD m k 0) s 0) in
-    let at : getD (copied s 0 m) (0 + i) 0 ≡ getD m i 0 = filled-at (length m) (λ k. getD m k 0) s 0 i (omega arith) inside in
-    let same : 0 + i ≡ i = omega arith in
-    rw same at at)

@@ -21,7 +21,7 @@ time-passed-spec =
     (λ c κs. search needs)
     (λ c. search needs)
     (λ c. event-done _ _ _ (c .before .before .before .before .before .before .before .before .is-waiting .ensures) (c .before .before .before .before .before .before .before .judge-event .ensures) _ (granted (c .before .before .before .before .before .before .is-done .ensures) (c .before .before .before .before .before .if1 .left)) (too-early _ _ _ (c .before .before .before .header-of .ensures) (c .before .before .has-expired .ensures) (not-true (c .before .before .has-expired .result) (c .before .if2 .taken)) (c .refuse2 .ensures)))
-    (λ c κs. event-sound _ _ _ (c .before .before .before .before .before .before .before .before .is-waiting .ensures) (c .before .before .before .before .before .before .before .judge-event .ensures) (granted (c .before .before .before .before .before .before .is-done .ensures) (c .before .before .before .before .before .if1 .left)) .size)
+    (λ c κs. event-sound _ _ _ (c .before .before .before .before .before .before .before .before .is-waiting .ensures) (c .before .before .before .before .before .before .before .judge-event .ensures) (granted (c .before .before .before .before .before .before .is-done .ensures) (c .before .before .before .before .before .if1 .left)))
     (λ c. search needs)
     (λ c. event-done _ _ _ (c .before .before .before .before .before .before .before .before .before .before .before .is-waiting .ensures) (c .before .before .before .before .before .before .before .before .before .before .judge-event .ensures) _ (granted (c .before .before .before .before .before .before .before .before .before .is-done .ensures) (c .before .before .before .before .before .before .before .before .if1 .left)) (late _ _ _ (c .before .before .before .before .before .before .header-of .ensures) (c .before .before .before .before .before .has-expired .ensures) (not-false (c .before .before .before .before .before .has-expired .result) (c .before .before .before .before .if2 .left)) (c .before .before .release .ensures))) in
     tie.close answers

@@ -1,6 +1,6 @@
 use borrow.Author.Needs.{needs}
-use borrow.Author.Tests.{not-true}
-use Rattle.calls.proofs.Ends.{fail-none, fail-is}
+use borrow.Author.Tests.{not-true, not-false}
+use Rattle.calls.proofs.Ends.{fail-none, fail-some}
 use Rattle.calls.proofs.ending.fail.Statement.{statement}
 use Rattle.calls.proofs.ending.fail.Tie as tie
 
@@ -14,9 +14,6 @@ fail-spec =
     (λ c. search needs)
     (λ c. fail-none _ _ _ (c .before .before .before .before .before .before .before .before .pre) (λ k. c .before .before .before .before .before .before .before .slice-known .given k .fits) (c .before .before .before .before .before .header-of .ensures) (c .before .before .before .before .resting-phase .ensures) (c .before .before .has-unprotected .ensures) (not-true _ (c .before .if1 .taken)) (c .refuse .ensures))
     (λ c κs. search needs)
-    (λ c κs. search needs)
     (λ c. search needs)
-    (λ c κs. search needs)
-    (λ c. search needs)
-    (λ c. fail-is _ _ _ (c .before .before .before .before .before .before .before .copy-block0 .ensures) (c .before .before .before .before .before .before .before .before .before .before .before .before .before .header-of .ensures) (c .before .before .before .before .before .before .before .before .before .before .before .before .resting-phase .ensures) (c .before .before .before .before .before .free-unprotected .ensures) (c .block0-changed .ensures)) in
+    (λ c. fail-some _ _ _ (c .before .before .before .before .before .before .before .before .before .before .before .pre) (λ k. c .before .before .before .before .before .before .before .before .before .before .slice-known .given k .fits) (c .before .before .before .before .before .before .before .before .header-of .ensures) (c .before .before .before .before .before .before .before .resting-phase .ensures) (c .before .before .before .before .before .has-unprotected .ensures) (not-false _ (c .before .before .before .before .if1 .left)) (c .before .before .free-unprotected .ensures)) in
     tie.close answers

@@ -1,7 +1,7 @@
-use mathlib.Core.Path.{refl, _∙_}
+use mathlib.Core.Path.{refl, sym, _∙_}
 use borrow.Author.Needs.{needs}
-use Rattle.calls.proofs.Ends.{compared}
-use Rattle.calls.proofs.Saying.{stored-same}
+use Rattle.image.proofs.Ranges.{bytes-in-range}
+use Rattle.calls.proofs.Saying.{header-fits, stored-same, stored-other}
 use Rattle.calls.proofs.storing.store_numbers.Statement.{statement}
 use Rattle.calls.proofs.storing.store_numbers.Tie as tie
 
@@ -11,11 +11,8 @@ store-numbers-spec =
     (λ c κs. search needs)
     (λ c κs. search needs)
     (λ c. search needs)
-    (λ c. stored-same _ (c .before .before .before .before .before .pre) (λ k. c .before .before .before .before .slice-known .given k .fits) (c .before .same-numbers .ensures (c .if1 .taken) ∙ c .before .before .header-of .ensures) refl)
-    (λ c κs. search needs)
-    (λ c κs. search needs)
-    (λ c. search needs)
+    (λ c. stored-same _ (c .before .before .before .before .before .pre) (λ k. c .before .before .before .before .slice-known .given k .fits) (c .before .same-numbers .ensures .0 (c .if1 .taken) ∙ c .before .before .header-of .ensures) refl)
     (λ c κs. search needs)
     (λ c. search needs)
-    (λ c. (c .before .before .before .before .before .store-header .ensures, compared _ _ _ (c .block0-changed .ensures) (c .before .before .before .before .before .before .before .copy-block0 .ensures))) in
+    (λ c. stored-other _ _ _ (c .before .before .before .before .before .before .before .before .before .pre) (header-fits (c .before .before .before .before .before .before .before .before .before .good .1 .0)) (bytes-in-range _ (λ k. c .before .before .before .before .before .before .before .before .slice-known .given k .fits) .labels) (λ same _. c .before .before .before .before .before .same-numbers .ensures .1 (c .before .before .before .before .if1 .left) (same ∙ sym (c .before .before .before .before .before .before .header-of .ensures))) (c .before .before .store-header .ensures)) in
     tie.close answers
