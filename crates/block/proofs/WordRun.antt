@@ -1,13 +1,16 @@
 -- The laws of a run of 32-bit words, from those of a run. Assumes nothing.
-use mathlib.Core.Path.{_≡_, refl, ap, _∙_}
+use mathlib.Core.Path.{_≡_, refl, sym, ap, _∙_}
 use mathlib.Core.List.{List, [], _∷_}
-use mathlib.Core.Logic.{_≢_}
+use mathlib.Core.Logic.{_≢_, ⊎-elim}
 use Prim.Native.Nat.{ℕ, zero, suc, _+_, _-_, _*_, _≤_, _<_}
 use native.Mathlib.Numerals.{add-one}
 use native.Mathlib.Omega.{arith}
 use lib.ListN.{length, getD, drop, replicate}
-use lib.Seq.{drop-cons}
+use lib.Seq.{drop-cons, ext-getD}
 use Rattle.octets.specs.Be.{beAt, putBe}
+use Rattle.octets.specs.Fill.{zeroed}
+use Rattle.octets.proofs.Choice.{below-or-not}
+use Rattle.octets.proofs.Fill.{length-filled, filled-at, filled-else, length-zeros, zeros-at}
 use Rattle.block.specs.Run.{runSize, wordsAt, withWords, Words}
 use Rattle.block.proofs.Run.{Fit, none, one, length-putRun, getD-putRun, getRun-putRun, getRun-same, zeros-getRun, getRun-zeros}
 
@@ -84,3 +87,32 @@ zeros-words n s at z = rw (count n) at (zeros-getRun (replicate n 4) s at (λ k 
 pub words-zeros : (n : ℕ) (s : List ℕ) (at : ℕ) → wordsAt n s at ≡ replicate n 0 → (k : ℕ) → k < n * 4 → getD s (at + k) 0 ≡ 0
 unfolding wordsAt
 words-zeros n s at e k l = getRun-zeros (replicate n 4) s at (rw (count n) e) k (rw size l)
+
+-- ---- words of zero
+pub none-fit : (n : ℕ) → Words n (replicate n 0)
+none-fit n = record { count = length-zeros n; each = λ i. rw (zeros-at n i) (omega arith) }
+
+-- they are bytes of zero
+pub zeroed-words : (n : ℕ) (s : List ℕ) (at : ℕ) → at + n * 4 ≤ length s → zeroed s at (n * 4) ≡ withWords n (replicate n 0) s at
+zeroed-words n s at room =
+    ext-getD 0 (zeroed s at (n * 4)) (withWords n (replicate n 0) s at)
+    (length-filled (n * 4) (λ i. 0) s at ∙ sym (length-withWords n (replicate n 0) s at))
+    (λ j l.
+    ⊎-elim
+    (λ (before : j < at). outside j (λ k h e. omega arith))
+    (λ (from : at ≤ j).
+    ⊎-elim
+    (λ (within : j < at + n * 4).
+    let place : at + (j - at) ≡ j = omega arith in
+    rw place at (inside (j - at) (omega arith)))
+    (λ (behind : at + n * 4 ≤ j). outside j (λ k h e. omega arith))
+    (below-or-not j (at + n * 4)))
+    (below-or-not j at))
+  where
+    outside : (j : ℕ) → ((k : ℕ) → k < n * 4 → j ≢ at + k) → getD (zeroed s at (n * 4)) j 0 ≡ getD (withWords n (replicate n 0) s at) j 0
+    outside j out = filled-else (n * 4) (λ i. 0) s at j out ∙ sym (getD-withWords n (replicate n 0) s at j out)
+
+    inside : (k : ℕ) → k < n * 4 → getD (zeroed s at (n * 4)) (at + k) 0 ≡ getD (withWords n (replicate n 0) s at) (at + k) 0
+    inside k l =
+        filled-at (n * 4) (λ i. 0) s at k room l
+        ∙ sym (words-zeros n (withWords n (replicate n 0) s at) at (words-put n (replicate n 0) s at (none-fit n) room) k l)

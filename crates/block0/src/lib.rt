@@ -6,7 +6,7 @@ ghost use Rattle.label_list.specs.Valid.{validOf};
 ghost use Rattle.label_list.specs.Word.{wordCount};
 ghost use Rattle.block.specs.Check.{blockSize};
 ghost use Rattle.block.specs.Run.{putRun};
-ghost use Rattle.block0.specs.Layout.{widths, values, headerOf, labelsOf, block0};
+ghost use Rattle.block0.specs.Layout.{widths, values, headerOf, labelsOf, releasedHeader, noLabels, block0};
 ghost use Rattle.ft_number.specs.Circle.{stepsOf};
 ghost use Rattle.block0.specs.Fields.{atMost, headerOk, fieldsOk};
 ghost use Rattle.block0.specs.Unprotected.{isUnprotected, unprotected};
@@ -111,6 +111,28 @@ pub fn write_header(block: &mut [u8], h: Header)
     put_numbers(block, h);
     put_rest(block, h);
     block::seal(block);
+}
+
+// Writes a released block 0. No label stands in it, so only the fields are summed for the check.
+pub fn write_released(block: &mut [u8])
+    requires { ⌜ length (now block) ≡ blockSize ⌝ }
+    ensures { λ _. ⌜ now (block .exit) ≡ block0 (now (block .entry)) releasedHeader noLabels ⌝ }
+{
+    let h = Header {
+        released: FtNumber(0),
+        issued: FtNumber(0),
+        secured: FtNumber(0),
+        first: 0,
+        held: 0,
+        timeout: 0,
+        kept: 0,
+        keepalive: 0,
+        maxpdu: 0,
+    };
+    put_numbers(block, h);
+    put_rest(block, h);
+    octets::zero_to(block, LABELS_AT, block::CHECK_AT - LABELS_AT);
+    block::seal_before(block, LABELS_AT);
 }
 
 // R to I no longer than held, and I not zero unless R is.

@@ -6,7 +6,7 @@ use mathlib.Core.Logic.{_≢_}
 use Prim.Native.Nat.{ℕ, _<_}
 use native.Mathlib.Omega.{arith}
 use lib.ListN.{length, replicate, length-map}
-use Rattle.octets.proofs.Fill.{length-zeros, zeros-at}
+use Rattle.octets.proofs.Fill.{length-zeros}
 use Rattle.ft_number.specs.Circle.{stepsOf}
 use Rattle.label_list.specs.Word.{wordCount, wordOf}
 use Rattle.label_list.specs.Rules.{codeSwept}
@@ -17,6 +17,7 @@ use Rattle.label_meaning.proofs.Meaning.{valid-means, means-valid}
 use Rattle.label_meaning.proofs.Swept.{sweep-valid}
 use Rattle.block.specs.Check.{blockSize}
 use Rattle.block.specs.Run.{Words}
+use Rattle.block.proofs.WordRun.{none-fit}
 use Rattle.block0.specs.Layout.{slotCount, releasedHeader, noLabels}
 use Rattle.block0.specs.Fields.{Fits, Valid}
 use Rattle.block0.proofs.Rules.{none-valid}
@@ -45,7 +46,7 @@ fits-released = record {
 }
 
 words-none : Words wordCount noLabels
-words-none = record { count = length-zeros wordCount; each = λ i. rw (zeros-at wordCount i) (omega arith) }
+words-none = none-fit wordCount
 
 pub in-range-released : InRange released
 in-range-released = record { header = fits-released; labels = words-none }

@@ -6,8 +6,6 @@ ghost use Rattle.image.specs.Sizes.{imageSize};
 ghost use Rattle.image.specs.Events.{sizeVerdict, formatOf, releaseOf, breakOf};
 ghost use Rattle.image.specs.State.{decode};
 use crate::Verdict;
-use block0::Header;
-use ft_number::FtNumber;
 use label_list::SweepRule;
 
 // Released: block 0 with kept 0. The slots keep their bytes.
@@ -15,19 +13,7 @@ pub fn release(image: &mut [u8])
     requires { ⌜ length (now image) ≡ imageSize ⌝ }
     ensures { λ _. ⌜ now (image .exit) ≡ releaseOf (now (image .entry)) ⌝ }
 {
-    let h = Header {
-        released: FtNumber(0),
-        issued: FtNumber(0),
-        secured: FtNumber(0),
-        first: 0,
-        held: 0,
-        timeout: 0,
-        kept: 0,
-        keepalive: 0,
-        maxpdu: 0,
-    };
-    let labels = [0u32; label_list::WORD_COUNT];
-    crate::store_block0(image, h, &labels);
+    block0::write_released(&mut image[0..block::BLOCK_SIZE]);
 }
 
 // A new image: released, with slots of zeros.

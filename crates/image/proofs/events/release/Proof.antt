@@ -1,14 +1,18 @@
 -- `image::release` meets its contract, by the definition. Assumes nothing.
+use native.Mathlib.Omega.{arith}
 use borrow.Author.Needs.{needs}
 use Rattle.image.specs.Events.{releaseOf}
+use Rattle.image.specs.State.{store0}
 use Rattle.image.proofs.events.release.Statement.{statement}
 use Rattle.image.proofs.events.release.Tie as tie
 
 pub release-spec : {M : Type 1} → statement M
-unfolding releaseOf
+unfolding releaseOf store0
 release-spec =
     let answers = tie.spec
-    (λ c. search needs)
+    (λ c. omega arith)
+    (λ c. omega arith)
+    (λ c. omega arith)
     (λ c κs. search needs)
     (λ c. search needs)
     (λ c. cc) in
