@@ -10,6 +10,7 @@ ghost use Rattle.calls.specs.declared.Answer;
 ghost use Rattle.calls.specs.Acked.{releasedLabels};
 ghost use Rattle.receive.specs.Rule.{plainRule, labelsRule, ackOn, ackCount, ackRule, ftRule, labelsStay, messageLabels, receivedState};
 use crate::labels::change_labels;
+use crate::labels::effect_place;
 use crate::labels::judge_protection;
 use crate::labels::label_effect;
 use crate::labels::labels_stay;
@@ -49,7 +50,9 @@ pub fn judge_plain(g: Message) -> Answer
 fn judge_labels(words: &mut [u32], secured: FtNumber, g: Message) -> Answer
     ensures { λ r. ⌜ (r ≡ labelsRule (now (words .entry)) (secured .0) g) × (r ≡ Answer.Done → now (words .exit) ≡ messageLabels (now (words .entry)) g) ⌝ }
 {
-    match judge_protection(words, g) {
+    let effect = label_effect(g);
+    let place = effect_place(words, effect);
+    match judge_protection(words, place, g) {
         Protection::Missing => {
             return Answer::ProtectionMissing;
         }
@@ -62,7 +65,7 @@ fn judge_labels(words: &mut [u32], secured: FtNumber, g: Message) -> Answer
     if !in_turn(secured, number) {
         return Answer::OutOfTurn;
     }
-    match change_labels(words, is_protected(number), label_effect(g)) {
+    match change_labels(words, place, is_protected(number), effect) {
         Reception::Taken => Answer::Done,
         Reception::NoRoom => Answer::NoWordForMapping,
     }
