@@ -1,7 +1,10 @@
 // What a received message does to the label words, and whether it is protected as they demand.
 ghost use mathlib.Core.Path.{_≡_};
 ghost use mathlib.Core.Bool.{not};
+ghost use Prim.Native.Nat.{_≤_};
 ghost use Rattle.octets.specs.Pick.{both};
+ghost use Rattle.image.specs.State.{decode};
+ghost use Rattle.image.specs.Verdict.{IsSound};
 ghost use Rattle.receive.specs.Labels.{touchedBy, effectOn, labelEffect, effectPlace, alwaysProtected, effectProtection, protectionRule, effectReception, effectLabels};
 ghost use Rattle.receive.specs.Rule.{labelsStay};
 use crate::LabelEffect;
@@ -69,15 +72,13 @@ pub fn effect_place(words: &[u32], effect: LabelEffect) -> Found
     }
 }
 
-// Whether an ACK that releases so many messages, and then the message, leave every label word as it is.
-pub fn labels_stay(count: u32, g: Message) -> bool
-    ensures { λ r. ⌜ r ≡ labelsStay count g ⌝ }
+// Whether an ACK that releases so many messages, and then the message, leave every label word as it is: told without a look at the words.
+pub fn labels_stay(image: &[u8], count: u32, g: Message) -> bool
+    requires { ⌜ IsSound (now image) × (count ≤ decode (now image) .header .held) ⌝ }
+    ensures { λ r. ⌜ r ≡ labelsStay (decode (now (image .entry))) count g ⌝ }
 {
-    if count != 0 {
-        return false;
-    }
     match label_effect(g) {
-        LabelEffect::Nothing => true,
+        LabelEffect::Nothing => calls::frees_none(image, count as usize),
         LabelEffect::Change(_, _) => false,
     }
 }
