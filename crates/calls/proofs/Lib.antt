@@ -2,5 +2,6 @@ pub mod Effects
 pub mod Phasing
 pub mod Settled
 pub mod Releasing
+pub mod Freeing
 pub mod Ends
 pub mod Saying

@@ -1,5 +1,6 @@
 -- What an acknowledgement makes of the state: "it releases every message through it".
 use Prim.Native.Nat.{ℕ, _-_}
+use mathlib.Core.Bool.{Bool, true, false}
 use mathlib.Core.List.{List, [], _∷_}
 use lib.Dec.{eqb}
 use lib.ListN.{take, drop}
@@ -29,6 +30,15 @@ releasedKind kind label ls =
 unfoldable pub releasedLabels : List (List ℕ) → List ℕ → List ℕ
 releasedLabels [] ls = ls
 releasedLabels (m ∷ ms) ls = releasedLabels ms (releasedKind (kindIn (submissionOf m)) (labelIn (submissionOf m)) ls)
+
+-- of the kinds, those whose release may free a label
+unfoldable pub freesLabel : ℕ → Bool
+freesLabel kind = pick (eqb kind (kindNumber Kind.Withdraw)) true (eqb kind (kindNumber Kind.Release))
+
+-- none of these messages is of such a kind: the label words stay as they are, whatever they are
+unfoldable pub freesNone : List (List ℕ) → Bool
+freesNone [] = true
+freesNone (m ∷ ms) = pick (freesLabel (kindIn (submissionOf m))) false (freesNone ms)
 
 -- R is the number acknowledged, and the oldest k slots are free
 abbrev pub withReleased : Header → ℕ → ℕ → Header

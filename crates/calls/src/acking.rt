@@ -4,7 +4,7 @@ ghost use Prim.Native.Nat.{_≤_};
 ghost use lib.ListN.{take};
 ghost use Rattle.image.specs.State.{decode};
 ghost use Rattle.image.specs.Verdict.{IsSound};
-ghost use Rattle.calls.specs.Acked.{releasedKind, releasedLabels, withReleased};
+ghost use Rattle.calls.specs.Acked.{releasedKind, releasedLabels, freesLabel, freesNone, withReleased};
 use block0::Header;
 use ft_number::FtNumber;
 use label_list::LabelMessage;
@@ -38,6 +38,33 @@ pub fn release_labels(image: &[u8], count: usize, words: &mut [u32])
         );
         i += 1;
     }
+}
+
+// Whether the release of a held message of that kind may free a label.
+fn frees_label(kind: u8) -> bool
+    ensures { λ r. ⌜ r ≡ freesLabel kind ⌝ }
+{
+    let withdraw = message::kind_number(Kind::Withdraw);
+    let release = message::kind_number(Kind::Release);
+    if kind == withdraw {
+        return true;
+    }
+    kind == release
+}
+
+// Whether the release of the oldest `count` held messages leaves every label word as it is, told by their kinds alone.
+pub fn frees_none(image: &[u8], count: usize) -> bool
+    requires { ⌜ IsSound (now image) × (count ≤ decode (now image) .header .held) ⌝ }
+    ensures { λ r. ⌜ r ≡ freesNone (take count (decode (now (image .entry)) .queue)) ⌝ }
+{
+    let mut i = 0;
+    while i < count {
+        if frees_label(image::held_kind(image, i)) {
+            return false;
+        }
+        i += 1;
+    }
+    true
 }
 
 // The header after an ACK: R is the number acknowledged, and the oldest `count` slots are free.

@@ -7,6 +7,7 @@ mod phases;
 mod receiving;
 mod storing;
 
+pub use acking::frees_none;
 pub use acking::release_labels;
 pub use acking::released_header;
 pub use admitting::admit;

@@ -1,5 +1,5 @@
 -- The ways through the definitions of a change, of a message accepted, acknowledged and received. Assumes nothing.
-use mathlib.Core.Path.{_≡_, sym}
+use mathlib.Core.Path.{_≡_, sym, _∙_}
 use mathlib.Core.Bool.{Bool, true, false}
 use mathlib.Core.List.{List}
 use mathlib.Core.Logic.{_≢_}
@@ -10,15 +10,18 @@ use borrow.Author.Tests.{eq-eqb, ne-eqb}
 use Rattle.octets.proofs.Choice.{pick-all}
 use Rattle.label_list.specs.Word.{labelCount, codeOf, wordOf, isFree, listable, standsFor}
 use Rattle.label_list.specs.Rules.{sentSide, receivedSide, codeAccepted, codeAcked, codeReceived}
-use Rattle.label_list.specs.Find.{findOf}
+use Rattle.label_list.specs.Protection.{codeProtection}
+use Rattle.label_list.specs.Find.{findOf, FoundIn}
 use Rattle.label_events.specs.Change.{ChangeIn, codeIn, codeAt, changeAt, changed}
 use Rattle.label_events.specs.Accept.{planBy, planOf, acceptanceOf, acceptedOf}
 use Rattle.label_events.specs.Ack.{ackedAt, ackedOf}
-use Rattle.label_events.specs.Receive.{receivedChange, receptionOf, everyReceived, receivedOf}
+use Rattle.label_events.specs.Protect.{protectionOf}
+use Rattle.label_events.specs.Receive.{receivedPlace, receivedChange, receptionOf, everyReceived, receivedOf}
 use Rattle.label_list.specs.declared.Side.{Side}
 use Rattle.label_list.specs.declared.Found.{Found}
 use Rattle.label_list.specs.declared.Found.the-variants.{At, Nowhere}
 use Rattle.label_list.specs.declared.LabelMessage.{LabelMessage}
+use Rattle.label_list.specs.declared.Protection.{Protection}
 use Rattle.label_list.specs.declared.Next.{Next}
 use Rattle.label_list.specs.declared.Next.the-variants.{Code, NotAllowed as Never}
 use Rattle.label_events.specs.declared.Change.{Change}
@@ -32,7 +35,7 @@ use Rattle.label_events.specs.declared.Touched.the-variants.{Label, Ever
 use Rattle.label_events.specs.declared.Reception.{Reception}
 use Rattle.label_events.specs.declared.Reception.the-variants.{Taken}
 use Rattle.label_list.proofs.Standing.{within-in, within-below, within-above, stands-parts}
-use Rattle.label_list.proofs.Reached.{found-passes}
+use Rattle.label_list.proofs.Reached.{found-in, found-passes}
 use Rattle.label_events.proofs.Written.{change-of-in}
 
 -- A change, by what the two searches found.
@@ -125,7 +128,18 @@ module _ (words : List ℕ) (message : LabelMessage) (label : ℕ) where
     unfolding ackedAt
     acked-absent g = rw (← es, ← ef, g)
 
--- A message of the peer's: its change, and what becomes of it.
+-- A message of the peer's: its place, its change, and what becomes of it.
+pub place-in : (words : List ℕ) (message : LabelMessage) (t : Touched) {f : Found} → f ≡ receivedPlace words message t → FoundIn words f
+unfolding receivedPlace
+place-in words message (Label label) e = found-in (standsFor (receivedSide message) label) words e
+place-in words message Every e = rw e tt
+place-in words message Nothing e = rw e tt
+
+pub protection-label : (words : List ℕ) (message : LabelMessage) (protected : Bool) (label : ℕ) {t : Touched} {f : Found} {c : ℕ} {p : Protection}
+    → t ≡ Label label → f ≡ receivedPlace words message t → c ≡ codeIn words f → p ≡ codeProtection message protected c → p ≡ protectionOf words message protected t
+unfolding receivedPlace protectionOf
+protection-label words message protected label et ef ec ep = ep ∙ rw (ec, ef, et)
+
 module _ (words : List ℕ) (message : LabelMessage) (protected : Bool) where
   module _ (label : ℕ) where
     pub received-low : label < 16 → Keep ≡ receivedChange words message protected label
@@ -136,11 +150,11 @@ module _ (words : List ℕ) (message : LabelMessage) (protected : Bool) where
     unfolding receivedChange
     received-high h = rw (listable-high label h)
 
-    pub received-is : 16 ≤ label → label < labelCount → {s : Side} {f : Found} {c n : ℕ}
-        → s ≡ receivedSide message → f ≡ findOf (standsFor s label) words → c ≡ codeIn words f → n ≡ codeReceived message protected c
+    pub received-is : 16 ≤ label → label < labelCount → {f : Found} {c n : ℕ}
+        → f ≡ receivedPlace words message (Label label) → c ≡ codeIn words f → n ≡ codeReceived message protected c
         → changeAt f (findOf isFree words) label n ≡ receivedChange words message protected label
-    unfolding receivedChange
-    received-is l h es ef ec en = rw (listable-yes label l h, en, ec, ef, es)
+    unfolding receivedChange receivedPlace
+    received-is l h ef ec en = rw (listable-yes label l h, en, ec, ef)
 
     pub received-in : {change : Change} → change ≡ receivedChange words message protected label → ChangeIn words change
     unfolding receivedChange

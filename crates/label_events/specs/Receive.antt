@@ -3,12 +3,15 @@ use Prim.Native.Nat.{ℕ}
 use mathlib.Core.Bool.{Bool}
 use mathlib.Core.List.{List}
 use Rattle.octets.specs.Pick.{pick}
-use Rattle.label_list.specs.Word.{listable}
+use Rattle.label_list.specs.Word.{listable, standsFor}
 use Rattle.label_list.specs.Rules.{receivedSide, codeReceived}
+use Rattle.label_list.specs.Find.{findOf}
 use Rattle.label_list.specs.Sweep.{sweptOf}
 use Rattle.label_events.specs.Change.{codeAt, changeOf, changed}
 use Rattle.label_list.specs.declared.LabelMessage.{LabelMessage}
 use Rattle.label_list.specs.declared.LabelMessage.the-variants.{Mapping, Withdraw, Release}
+use Rattle.label_list.specs.declared.Found.{Found}
+use Rattle.label_list.specs.declared.Found.the-variants.{Nowhere}
 use Rattle.label_list.specs.declared.SweepRule.the-variants.{WithdrawAll, ReleaseAll}
 use Rattle.label_events.specs.declared.Touched.{Touched}
 use Rattle.label_events.specs.declared.Touched.the-variants.{Label, Every, Nothing}
@@ -21,6 +24,12 @@ use Rattle.label_events.specs.declared.Reception.the-variants.{Taken, No
 abbrev pub receptionNumber : Reception → ℕ
 receptionNumber Taken = 0
 receptionNumber NoRoom = 21
+
+-- where the label stands that a message names, on the message's own side; one that names none has no place
+unfoldable pub receivedPlace : List ℕ → LabelMessage → Touched → Found
+receivedPlace words message (Label label) = findOf (standsFor (receivedSide message) label) words
+receivedPlace words message Every = Nowhere
+receivedPlace words message Nothing = Nowhere
 
 -- 01: "Labels 0 to 15 are never listed, and passed on when received"; so is what is no label of 20 bits
 unfoldable pub receivedChange : List ℕ → LabelMessage → Bool → ℕ → Change

@@ -10,6 +10,7 @@ pub use accepting::accept;
 pub use accepting::release_by_ack;
 pub use protecting::judge_protection;
 pub use receiving::receive;
+pub use receiving::received_place;
 
 // What an event makes of the list: nothing, one word written at an index, or a word is needed and none is free.
 pub enum Change {

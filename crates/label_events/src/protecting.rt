@@ -1,6 +1,7 @@
 // Whether a received message bears the protection that the labels it touches demand.
 ghost use mathlib.Core.Path.{_≡_};
 ghost use Rattle.label_events.specs.Protect.{protectionOf};
+ghost use Rattle.label_events.specs.Receive.{receivedPlace};
 ghost use Rattle.label_events.specs.declared.Touched.the-variants.{Every};
 use crate::Touched;
 use crate::changing::code_at;
@@ -24,20 +25,19 @@ fn protection_of_every(words: &[u32], message: LabelMessage, protected: bool) ->
     }
 }
 
-// The verdict on the protection of a received message, as the list stands before it acts.
+// The verdict on the protection of a received message, whose label was found at that place, as the list stands before it acts.
 pub fn judge_protection(
     words: &[u32],
+    place: Found,
     message: LabelMessage,
     protected: bool,
     touched: Touched,
 ) -> Protection
+    requires { ⌜ place ≡ receivedPlace (now words) message touched ⌝ }
     ensures { λ r. ⌜ r ≡ protectionOf (now (words .entry)) message protected touched ⌝ }
 {
     match touched {
-        Touched::Label(label) => {
-            let place = find(words, Wanted::Label(received_side(message), label));
-            code_protection(message, protected, code_at(words, place))
-        }
+        Touched::Label(_) => code_protection(message, protected, code_at(words, place)),
         Touched::Every => protection_of_every(words, message, protected),
         Touched::Nothing => Protection::Right,
     }

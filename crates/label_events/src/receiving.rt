@@ -1,6 +1,7 @@
 // Messages of the peer's: what they make of the list.
 ghost use mathlib.Core.Path.{_≡_};
-ghost use Rattle.label_events.specs.Receive.{receivedChange, receptionOf, everyReceived, receivedOf};
+ghost use Rattle.label_events.specs.Receive.{receivedPlace, receivedChange, receptionOf, everyReceived, receivedOf};
+ghost use Rattle.label_events.specs.declared.Touched.the-variants.{Label};
 use crate::Change;
 use crate::Reception;
 use crate::Touched;
@@ -8,6 +9,7 @@ use crate::changing::code_at;
 use crate::changing::make_change;
 use crate::changing::plan_change;
 use label_list::FIRST_LABEL;
+use label_list::Found;
 use label_list::LABEL_COUNT;
 use label_list::LabelMessage;
 use label_list::SweepRule;
@@ -17,7 +19,25 @@ use label_list::find;
 use label_list::received_side;
 use label_list::sweep;
 
-fn plan_received(words: &[u32], message: LabelMessage, protected: bool, label: u32) -> Change
+// The place of the label that a received message names: found once, for its protection and for its change.
+pub fn received_place(words: &[u32], message: LabelMessage, touched: Touched) -> Found
+    ensures { λ r. ⌜ r ≡ receivedPlace (now (words .entry)) message touched ⌝ }
+{
+    match touched {
+        Touched::Label(label) => find(words, Wanted::Label(received_side(message), label)),
+        Touched::Every => Found::Nowhere,
+        Touched::Nothing => Found::Nowhere,
+    }
+}
+
+fn plan_received(
+    words: &[u32],
+    place: Found,
+    message: LabelMessage,
+    protected: bool,
+    label: u32,
+) -> Change
+    requires { ⌜ place ≡ receivedPlace (now words) message (Label label) ⌝ }
     ensures { λ r. ⌜ r ≡ receivedChange (now (words .entry)) message protected label ⌝ }
 {
     if label < FIRST_LABEL {
@@ -26,7 +46,6 @@ fn plan_received(words: &[u32], message: LabelMessage, protected: bool, label: u
     if label >= LABEL_COUNT {
         return Change::Keep;
     }
-    let place = find(words, Wanted::Label(received_side(message), label));
     let code = code_received(message, protected, code_at(words, place));
     plan_change(words, place, label, code)
 }
@@ -51,18 +70,20 @@ fn receive_every(words: &mut [u32], message: LabelMessage)
     }
 }
 
-// Receives the message; where there is no room the list stays as it was.
+// Receives the message, whose label was found at that place; where there is no room the list stays as it was.
 pub fn receive(
     words: &mut [u32],
+    place: Found,
     message: LabelMessage,
     protected: bool,
     touched: Touched,
 ) -> Reception
+    requires { ⌜ place ≡ receivedPlace (now words) message touched ⌝ }
     ensures { λ r. ⌜ (r ≡ receivedOf (now (words .entry)) message protected touched .0) × (now (words .exit) ≡ receivedOf (now (words .entry)) message protected touched .1) ⌝ }
 {
     match touched {
         Touched::Label(label) => {
-            let change = plan_received(words, message, protected, label);
+            let change = plan_received(words, place, message, protected, label);
             make_change(words, change);
             reception(change)
         }

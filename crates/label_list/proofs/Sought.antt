@@ -3,38 +3,83 @@ use mathlib.Core.Path.{_≡_, refl, sym, _∙_}
 use mathlib.Core.Bool.{Bool, true, false}
 use mathlib.Core.List.{List, [], _∷_}
 use mathlib.Core.Logic.{_≢_}
-use Prim.Native.Nat.{ℕ, suc, _+_, _≤_, _<_}
+use Prim.Native.Nat.{ℕ, zero, suc, _+_, _-_, _≤_, _<_}
 use native.Mathlib.Numerals.{add-one}
 use native.Mathlib.Omega.{arith}
 use lib.ListN.{length, getD, drop, drop-of-length-le}
 use lib.Seq.{drop-cons}
 use borrow.Author.Tests.{ne-eqb}
 use Rattle.octets.specs.Pick.{pick}
+use Rattle.octets.proofs.Choice.{by-test, no}
 use Rattle.label_list.specs.Word.{isFree}
-use Rattle.label_list.specs.Find.{findOf, findFrom, any, countOf}
+use Rattle.label_list.specs.Find.{findOf, findFrom, nextOf, any, countOf}
 use Rattle.label_list.specs.declared.Found.{Found}
 use Rattle.label_list.specs.declared.Found.the-variants.{At, Nowhere}
 
--- A search that has passed i words: what is left to findOf is in the rest.
-pub record Sought (test : ℕ → Bool) (words : List ℕ) (i : ℕ) : Type 0 where
-  pub inside : i ≤ length words
-  pub rest : findOf test words ≡ findFrom test i (drop i words)
+-- A search is one from the first word on.
+pub find-next : (test : ℕ → Bool) (words : List ℕ) → findOf test words ≡ nextOf test words 0
+unfolding findOf nextOf
+find-next test words = refl
 
-module _ (test : ℕ → Bool) (words : List ℕ) where
-  pub sought-none : Sought test words 0
-  unfolding findOf
-  sought-none = record { inside = omega arith; rest = refl }
+-- What is left to find after one word more.
+module _ (test : ℕ → Bool) (words : List ℕ) (i : ℕ) where
+  pub next-more : i < length words → test (getD words i 0) ≡ false → nextOf test words i ≡ nextOf test words (i + 1)
+  unfolding nextOf
+  next-more h e = rw (drop-cons words i 0 h, e, add-one)
 
-  module _ (i : ℕ) (s : Sought test words i) where
-    pub sought-more : i < length words → test (getD words i 0) ≡ false → Sought test words (i + 1)
-    sought-more h e =
-        record { inside = omega arith; rest = s .rest ∙ rw (drop-cons words i 0 h, e, add-one) }
+  pub next-found : i < length words → test (getD words i 0) ≡ true → nextOf test words i ≡ At i
+  unfolding nextOf
+  next-found h e = rw (drop-cons words i 0 h, e)
 
-    pub sought-found : i < length words → test (getD words i 0) ≡ true → At i ≡ findOf test words
-    sought-found h e = sym (s .rest ∙ rw (drop-cons words i 0 h, e))
+  pub next-end : length words ≤ i → nextOf test words i ≡ Nowhere
+  unfolding nextOf
+  next-end h = rw (drop-of-length-le words h)
 
-    pub sought-end : length words ≤ i → Nowhere ≡ findOf test words
-    sought-end h = sym (s .rest ∙ rw (drop-of-length-le words h))
+-- A search by a test that lets through all that is wanted: the word to which it leads, with nothing wanted on the way.
+pub record Led (test wanted : ℕ → Bool) (words : List ℕ) (i place : ℕ) : Type 0 where
+  pub ahead : i ≤ place
+  pub inside : place < length words
+  pub passes : test (getD words place 0) ≡ true
+  pub rest : nextOf wanted words i ≡ nextOf wanted words place
+
+module _ (test wanted : ℕ → Bool) (wider : (w : ℕ) → test w ≡ false → wanted w ≡ false) (words : List ℕ) where
+  led : (n i place : ℕ) → i + n ≡ length words → nextOf test words i ≡ At place → Led test wanted words i place
+  led zero i place size e =
+      let none : Nowhere ≡ At place = sym (next-end test words i (omega arith)) ∙ e in
+      no cc
+  led (suc n) i place size e =
+      let h : i < length words = omega arith in
+      by-test
+      (test (getD words i 0))
+      (λ t.
+      let here : At i ≡ At place = sym (next-found test words i h t) ∙ e in
+      let same : i ≡ place = cc in
+      rw (← same) (record { ahead = omega arith; inside = h; passes = t; rest = refl }))
+      (λ f.
+      let next : Led test wanted words (i + 1) place = led n (i + 1) place (omega arith) (sym (next-more test words i h f) ∙ e) in
+      record {
+        ahead = omega (arith, next .ahead);
+        inside = next .inside;
+        passes = next .passes;
+        rest = next-more wanted words i h (wider (getD words i 0) f) ∙ next .rest;
+      })
+
+  none-from : (n i : ℕ) → i + n ≡ length words → nextOf test words i ≡ Nowhere → nextOf wanted words i ≡ Nowhere
+  none-from zero i size e = next-end wanted words i (omega arith)
+  none-from (suc n) i size e =
+      let h : i < length words = omega arith in
+      by-test
+      (test (getD words i 0))
+      (λ t. let found : At i ≡ Nowhere = sym (next-found test words i h t) ∙ e in no cc)
+      (λ f.
+      next-more wanted words i h (wider (getD words i 0) f) ∙ none-from n (i + 1) (omega arith) (sym (next-more test words i h f) ∙ e))
+
+  module _ (i : ℕ) (h : i ≤ length words) {f : Found} (is : f ≡ nextOf test words i) where
+    pub led-to : (place : ℕ) → f ≡ At place → Led test wanted words i place
+    led-to place e = led (length words - i) i place (omega arith) (sym is ∙ e)
+
+    pub led-nowhere : f ≡ Nowhere → nextOf wanted words i ≡ Nowhere
+    led-nowhere e = none-from (length words - i) i (omega arith) (sym is ∙ e)
 
 -- A search finds a word exactly if any word passes.
 abbrev pub isAt : Found → Bool

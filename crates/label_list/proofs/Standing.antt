@@ -5,8 +5,9 @@ use Prim.Native.Nat.{ℕ, _≤_, _<_}
 use native.Mathlib.Omega.{arith}
 use lib.Dec.{eqb, leb}
 use borrow.Author.Tests.{le-leb, lt-leb, leb-true, eq-eqb, eqb-true}
-use Rattle.octets.proofs.Choice.{both-true}
+use Rattle.octets.proofs.Choice.{both-true, both-commutes}
 use Rattle.label_list.specs.Word.{labelOf, codeOf, within, onSide, standsFor}
+use Rattle.label_list.specs.Find.{bears}
 use Rattle.label_list.specs.declared.Side.{Side}
 use Rattle.label_list.specs.declared.Side.the-variants.{Given, Used}
 
@@ -54,6 +55,15 @@ stands-parts s l w e =
 pub parts-stands : (s : Side) (l w : ℕ) → onSide s (codeOf w) ≡ true → labelOf w ≡ l → standsFor s l w ≡ true
 unfolding standsFor
 parts-stands s l w p q = simp (p, eq-eqb (labelOf w) l q)
+
+-- Of a word that bears the label the side decides; another stands for it on no side.
+pub bears-stands : (s : Side) (l w : ℕ) → bears l w ≡ true → standsFor s l w ≡ onSide s (codeOf w)
+unfolding standsFor bears
+bears-stands s l w e = rw (both-commutes (onSide s (codeOf w)) (eqb (labelOf w) l), e)
+
+pub other-stands : (s : Side) (l w : ℕ) → bears l w ≡ false → standsFor s l w ≡ false
+unfolding standsFor bears
+other-stands s l w e = rw (both-commutes (onSide s (codeOf w)) (eqb (labelOf w) l), e)
 
 pub free-stands : (s : Side) (l : ℕ) → standsFor s l 0 ≡ false
 unfolding standsFor onSide

@@ -2,9 +2,10 @@
 use Prim.Native.Nat.{ℕ, suc, _<_}
 use mathlib.Core.Bool.{Bool, true, false}
 use mathlib.Core.List.{List, [], _∷_}
-use lib.ListN.{length}
+use lib.Dec.{eqb}
+use lib.ListN.{length, drop}
 use Rattle.octets.specs.Pick.{pick}
-use Rattle.label_list.specs.Word.{isFree, standsFor}
+use Rattle.label_list.specs.Word.{labelOf, isFree, standsFor}
 use Rattle.label_list.specs.Protection.{protectedOn}
 use Rattle.label_list.specs.declared.Found.{Found}
 use Rattle.label_list.specs.declared.Found.the-variants.{At, Nowhere}
@@ -24,6 +25,14 @@ findFrom test k (w ∷ ws) = pick (test w) (At k) (findFrom test (suc k) ws)
 
 unfoldable pub findOf : (ℕ → Bool) → List ℕ → Found
 findOf test words = findFrom test 0 words
+
+-- the index of the first word that passes, from the word at index k on
+unfoldable pub nextOf : (ℕ → Bool) → List ℕ → ℕ → Found
+nextOf test words k = findFrom test k (drop k words)
+
+-- the word bears that label, whatever its code
+unfoldable pub bears : ℕ → ℕ → Bool
+bears label w = eqb (labelOf w) label
 
 -- whether any word passes
 unfoldable pub any : (ℕ → Bool) → List ℕ → Bool

@@ -1,10 +1,13 @@
 // Searches of the label words.
 ghost use mathlib.Core.Path.{_≡_};
-ghost use Rattle.label_list.specs.Find.{passes, findOf, countOf};
+ghost use Rattle.label_list.specs.Word.{standsFor};
+ghost use Rattle.label_list.specs.Find.{passes, bears, nextOf, findOf, countOf};
 use crate::Found;
+use crate::Side;
 use crate::Wanted;
 use crate::rules::needs_protection;
 use crate::word::LABEL_COUNT;
+use crate::word::on_side;
 use crate::word::stands_for;
 
 fn is_wanted(wanted: Wanted, word: u32) -> bool
@@ -17,8 +20,8 @@ fn is_wanted(wanted: Wanted, word: u32) -> bool
     }
 }
 
-// The first word that is wanted.
-pub fn find(words: &[u32], wanted: Wanted) -> Found
+// The first word that is wanted, by a look at the whole of each word.
+fn find_passing(words: &[u32], wanted: Wanted) -> Found
     ensures { λ r. ⌜ r ≡ findOf (passes wanted) (now (words .entry)) ⌝ }
 {
     let mut i: usize = 0;
@@ -29,6 +32,52 @@ pub fn find(words: &[u32], wanted: Wanted) -> Found
         i += 1;
     }
     Found::Nowhere
+}
+
+// The first word from an index on that bears the label, on either side: one short test a word.
+fn next_bearing(words: &[u32], label: u32, from: usize) -> Found
+    ensures { λ r. ⌜ r ≡ nextOf (bears label) (now (words .entry)) from ⌝ }
+{
+    let mut at = from;
+    while at < words.len() {
+        if words[at] % LABEL_COUNT == label {
+            return Found::At(at);
+        }
+        at += 1;
+    }
+    Found::Nowhere
+}
+
+// The first word that lists the label on that side: the side is looked at only where the label stands.
+fn find_label(words: &[u32], side: Side, label: u32) -> Found
+    ensures { λ r. ⌜ r ≡ findOf (standsFor side label) (now (words .entry)) ⌝ }
+{
+    let mut from: usize = 0;
+    while from < words.len() {
+        match next_bearing(words, label, from) {
+            Found::Nowhere => {
+                return Found::Nowhere;
+            }
+            Found::At(place) => {
+                if on_side(side, words[place] / LABEL_COUNT) {
+                    return Found::At(place);
+                }
+                from = place + 1;
+            }
+        }
+    }
+    Found::Nowhere
+}
+
+// The first word that is wanted.
+pub fn find(words: &[u32], wanted: Wanted) -> Found
+    ensures { λ r. ⌜ r ≡ findOf (passes wanted) (now (words .entry)) ⌝ }
+{
+    match wanted {
+        Wanted::Label(side, label) => find_label(words, side, label),
+        Wanted::Free => find_passing(words, wanted),
+        Wanted::ProtectedOn(_) => find_passing(words, wanted),
+    }
 }
 
 // How many words are not free.

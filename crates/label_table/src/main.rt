@@ -65,8 +65,10 @@ fn protection_number(verdict: Protection) -> u32
 
 // The protection is judged first; a message whose protection is missing or wrong is not received.
 fn receive(words: &mut [u32], message: LabelMessage, protected: bool, touched: Touched) -> u32 {
+    let place = label_events::received_place(words, message, touched);
     let refusal = protection_number(label_events::judge_protection(
         words,
+        place,
         message,
         protected,
         touched,
@@ -74,7 +76,7 @@ fn receive(words: &mut [u32], message: LabelMessage, protected: bool, touched: T
     if refusal != 0 {
         return refusal;
     }
-    reception_number(label_events::receive(words, message, protected, touched))
+    reception_number(label_events::receive(words, place, message, protected, touched))
 }
 
 // The answer's number; 0 where the event has no answer.

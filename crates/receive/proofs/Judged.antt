@@ -4,7 +4,6 @@ use mathlib.Core.Bool.{Bool, true, false, not, false≢true}
 use mathlib.Core.List.{List}
 use Prim.Native.Nat.{ℕ, _≤_}
 use native.Mathlib.Omega.{arith}
-use lib.Dec.{eqb}
 use lib.ListN.{take}
 use Rattle.octets.specs.Pick.{pick, both}
 use Rattle.octets.proofs.Choice.{by-test, both-true}
@@ -22,7 +21,7 @@ use Rattle.block0.specs.declared.Header.{Header}
 use Rattle.image.specs.State.{State, decode}
 use Rattle.image.specs.Verdict.{IsSound}
 use Rattle.image.proofs.Sound.{sound-valid}
-use Rattle.calls.specs.Acked.{ackBorne, releasedLabels, acked}
+use Rattle.calls.specs.Acked.{ackBorne, releasedLabels, freesNone, acked}
 use Rattle.calls.specs.Outcomes.{isDone}
 use Rattle.calls.specs.Received.{isInit}
 use Rattle.call_meaning.proofs.Released.{ack-held}
@@ -93,13 +92,13 @@ pub ack-within : (im : List ℕ) (h : Header) (a k : ℕ) {x : Ack} → IsSound 
 ack-within im h a k s eh e t = ack-held (decode im .header) a k (sound-valid im s .window) (rw (← eh) (sym e ∙ t))
 
 module _ (s : State) (g : Message) (h : Header) {x : Ack} (e : x ≡ ackOn h g) where
-  pub ack-error : {ws : List ℕ} → x ≡ Ack.SequenceError → (Answer.AckSequenceError ≡ ackRule s g (ackOn h g)) × (Answer.AckSequenceError ≡ Answer.Done → labelsStay (ackCount (ackOn h g)) g ≡ false → ws ≡ receivedState s g .labels)
+  pub ack-error : {ws : List ℕ} → x ≡ Ack.SequenceError → (Answer.AckSequenceError ≡ ackRule s g (ackOn h g)) × (Answer.AckSequenceError ≡ Answer.Done → labelsStay s (ackCount (ackOn h g)) g ≡ false → ws ≡ receivedState s g .labels)
   ack-error t = (rw (← e, t), never Answer.AckSequenceError refl)
 
   pub ack-right : {k : ℕ} {ws ws₂ : List ℕ} {r : Answer} → h ≡ s .header → x ≡ Ack.Releases k
-      → (labelsStay k g ≡ false → ws ≡ releasedLabels (take k (s .queue)) (s .labels))
+      → (labelsStay s k g ≡ false → ws ≡ releasedLabels (take k (s .queue)) (s .labels))
       → (r ≡ labelsRule ws (h .secured .0) g) × (r ≡ Answer.Done → ws₂ ≡ messageLabels ws g)
-      → (r ≡ ackRule s g (ackOn h g)) × (r ≡ Answer.Done → labelsStay (ackCount (ackOn h g)) g ≡ false → ws₂ ≡ receivedState s g .labels)
+      → (r ≡ ackRule s g (ackOn h g)) × (r ≡ Answer.Done → labelsStay s (ackCount (ackOn h g)) g ≡ false → ws₂ ≡ receivedState s g .labels)
   unfolding acked taken receivedState
   ack-right {k} {ws} eh t ew er = (
     rw (← e, t) (er .0 ∙ judged ∙ ap (λ (y : Header). labelsRule (releasedLabels (take k (s .queue)) (s .labels)) (y .secured .0) g) eh),
@@ -107,11 +106,11 @@ module _ (s : State) (g : Message) (h : Header) {x : Ack} (e : x ≡ ackOn h g) 
   )
     where
       judged : labelsRule ws (h .secured .0) g ≡ labelsRule (releasedLabels (take k (s .queue)) (s .labels)) (h .secured .0) g
-      judged = by-test (labelsStay k g) (λ y. labels-unseen ws _ (h .secured .0) g (both-true (eqb k 0) (touchesNone (labelEffect g)) y .1)) (λ y. ap (λ (l : List ℕ). labelsRule l (h .secured .0) g) (ew y))
+      judged = by-test (labelsStay s k g) (λ y. labels-unseen ws _ (h .secured .0) g (both-true (touchesNone (labelEffect g)) (freesNone (take k (s .queue))) y .0)) (λ y. ap (λ (l : List ℕ). labelsRule l (h .secured .0) g) (ew y))
 
 module _ (s : State) (g : Message) (h : Header) {ws : List ℕ} where
   -- a test before the ACK refuses
-  pub ft-refused : {x : Answer} → isDone x ≡ false → x ≡ ftRule s g → (x ≡ ftRule s g) × (x ≡ Answer.Done → labelsStay (ackCount (ackOn h g)) g ≡ false → ws ≡ receivedState s g .labels)
+  pub ft-refused : {x : Answer} → isDone x ≡ false → x ≡ ftRule s g → (x ≡ ftRule s g) × (x ≡ Answer.Done → labelsStay s (ackCount (ackOn h g)) g ≡ false → ws ≡ receivedState s g .labels)
   ft-refused {x} n e = (e, never x n)
 
 pub ft-is : (s : State) (g : Message) {x : Answer} → x ≡ messageRule g (pick (isZero (g .protection)) Answer.ZeroNumber (ackRule s g (ackOn (s .header) g))) → x ≡ ftRule s g

@@ -4,8 +4,7 @@ use mathlib.Core.Bool.{Bool, true, false, false≢true}
 use mathlib.Core.List.{List, []}
 use Prim.Native.Nat.{ℕ, _-_, _≤_}
 use native.Mathlib.Omega.{arith}
-use borrow.Author.Tests.{eqb-true}
-use lib.Dec.{eqb}
+use lib.ListN.{take}
 use Rattle.octets.specs.Differ.{differ}
 use Rattle.ft_number.specs.declared.Ack
 use Rattle.ft_number.specs.declared.Ack.{Ack}
@@ -24,9 +23,10 @@ use Rattle.calls.specs.declared.Outcome.{Outcome}
 use Rattle.calls.specs.declared.Phase
 use Rattle.calls.specs.declared.Phase.{Phase}
 use Rattle.calls.specs.Answers.{effectOf}
-use Rattle.calls.specs.Acked.{ackBorne, releasedLabels, withReleased, acked}
+use Rattle.calls.specs.Acked.{ackBorne, freesNone, withReleased, acked}
 use Rattle.calls.specs.Outcomes.{After, after, isDone, refusal, unchanged, admitted, settleOf}
 use Rattle.calls.proofs.Ends.{settle-other}
+use Rattle.calls.proofs.Freeing.{none-freed}
 use Rattle.calls.proofs.Effects.{done-is}
 use Rattle.call_meaning.proofs.Calling.{call-refused, call-own, own-done, own-refused}
 use Rattle.receive.specs.declared.LabelEffect
@@ -38,17 +38,19 @@ use Rattle.receive.proofs.Judged.{ack-within}
 use Rattle.receive.proofs.Cases.{wrong-by}
 
 -- where the label words stay they are those that the message leaves
-stay-labels : (s : State) (g : Message) (k : ℕ) → k ≡ ackCount (ackOn (s .header) g) → labelsStay k g ≡ true → s .labels ≡ receivedState s g .labels
-unfolding receivedState taken acked releasedLabels
-stay-labels s g k ek y = let p = both-true (eqb k 0) (touchesNone (labelEffect g)) y in rw (← ek, eqb-true k 0 (p .0)) (by (labelEffect g) (p .1))
+stay-labels : (s : State) (g : Message) (k : ℕ) → k ≡ ackCount (ackOn (s .header) g) → labelsStay s k g ≡ true → s .labels ≡ receivedState s g .labels
+unfolding receivedState taken acked
+stay-labels s g k ek y =
+    let p = both-true (touchesNone (labelEffect g)) (freesNone (take k (s .queue))) y in
+    rw (← ek, none-freed (take k (s .queue)) (s .labels) (p .1)) (by (labelEffect g) (p .0))
   where
     by : (f : LabelEffect) → touchesNone f ≡ true → s .labels ≡ effectLabels (s .labels) (isProtected (g .protection)) f
     by LabelEffect.Nothing t = refl
     by (LabelEffect.Change m t) e = absurd (false≢true e)
 
 -- what is said of the header read is said of the image's
-pub count-of : (im : List ℕ) (g : Message) {h : Header} {k : ℕ} {b : Bool} → h ≡ decode im .header → k ≡ ackCount (ackOn h g) → labelsStay k g ≡ b
-    → labelsStay (ackCount (ackOn (decode im .header) g)) g ≡ b
+pub count-of : (im : List ℕ) (g : Message) {h : Header} {k : ℕ} {b : Bool} → h ≡ decode im .header → k ≡ ackCount (ackOn h g) → labelsStay (decode im) k g ≡ b
+    → labelsStay (decode im) (ackCount (ackOn (decode im .header) g)) g ≡ b
 count-of im g eh ek e = rw (← eh, ← ek) e
 
 -- what is stored is the state that the message makes
@@ -58,7 +60,7 @@ module _ (im : List ℕ) (g : Message) {h h′ : Header} {k : ℕ} (eh : h ≡ d
   unfolding receivedState taken acked
   stored ew e = (e .0 ∙ rw (eh′, ew, ek, eh), e .1)
 
-  pub stored-stays : {im′ : List ℕ} {d : Type 0} → labelsStay k g ≡ true → (im′ ≡ store0 im h′ (decode im .labels)) × d → (im′ ≡ store im (receivedState (decode im) g)) × d
+  pub stored-stays : {im′ : List ℕ} {d : Type 0} → labelsStay (decode im) k g ≡ true → (im′ ≡ store0 im h′ (decode im .labels)) × d → (im′ ≡ store im (receivedState (decode im) g)) × d
   stored-stays y e = stored (stay-labels (decode im) g k (ek ∙ ap (λ (x : Header). ackCount (ackOn x g)) eh) y) e
 
 pub take-is : (im : List ℕ) (sent : ℕ) (g : Message) {im′ : List ℕ} {h : Header} {k n : ℕ} {b : Bool}

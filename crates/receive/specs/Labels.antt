@@ -18,7 +18,9 @@ use Rattle.message.specs.declared.MessageType.{MessageType}
 use Rattle.label_list.specs.declared.LabelMessage
 use Rattle.label_list.specs.declared.LabelMessage.{LabelMessage}
 use Rattle.label_events.specs.Protect.{protectionOf}
-use Rattle.label_events.specs.Receive.{receivedOf}
+use Rattle.label_events.specs.Receive.{receivedPlace, receivedOf}
+use Rattle.label_list.specs.declared.Found
+use Rattle.label_list.specs.declared.Found.{Found}
 use Rattle.label_list.specs.declared.Protection
 use Rattle.label_list.specs.declared.Protection.{Protection}
 use Rattle.label_events.specs.declared.Reception
@@ -51,6 +53,11 @@ effectOn MessageType.Other t = LabelEffect.Nothing
 
 unfoldable pub labelEffect : Message → LabelEffect
 labelEffect g = effectOn (g .typename) (touchedBy (g .label) (g .fec))
+
+-- where the label stands that the message names
+abbrev pub effectPlace : List ℕ → LabelEffect → Found
+effectPlace ls LabelEffect.Nothing = Found.Nowhere
+effectPlace ls (LabelEffect.Change m t) = receivedPlace ls m t
 
 -- a message with FT Protection is a protected one
 abbrev pub isProtected : FtField → Bool

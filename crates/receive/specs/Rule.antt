@@ -5,7 +5,7 @@ use mathlib.Core.Path.{_≡_}
 use mathlib.Core.Bool.{Bool, true, false}
 use mathlib.Core.List.{List, []}
 use lib.Dec.{eqb}
-use lib.ListN.{length}
+use lib.ListN.{length, take}
 use Rattle.octets.specs.Pick.{pick, both}
 use Rattle.ft_number.specs.Circle.{next}
 use Rattle.ft_number.specs.Ack.{ackOf}
@@ -35,7 +35,7 @@ use Rattle.calls.specs.declared.Answer.{Answer}
 use Rattle.calls.specs.declared.Phase
 use Rattle.calls.specs.declared.Phase.{Phase}
 use Rattle.calls.specs.Received.{isInit}
-use Rattle.calls.specs.Acked.{ackBorne, acked}
+use Rattle.calls.specs.Acked.{ackBorne, freesNone, acked}
 use Rattle.calls.specs.Outcomes.{After, after, unchanged, restored, settleOf, admitted}
 use Rattle.receive.specs.Labels.{labelEffect, isProtected, protectionRule, effectReception, effectLabels, touchesNone}
 
@@ -124,9 +124,9 @@ withSecured h n = record {
 abbrev pub messageLabels : List ℕ → Message → List ℕ
 messageLabels ls g = effectLabels ls (isProtected (g .protection)) (labelEffect g)
 
--- no label word changes, by an ACK that releases k messages and then the message: they need no look
-abbrev pub labelsStay : ℕ → Message → Bool
-labelsStay k g = both (eqb k 0) (touchesNone (labelEffect g))
+-- no label word changes, by an ACK that releases the oldest k messages held and then the message: they need no look
+abbrev pub labelsStay : State → ℕ → Message → Bool
+labelsStay s k g = both (touchesNone (labelEffect g)) (freesNone (take k (s .queue)))
 
 -- then the message: the state s as the ACK leaves it
 unfoldable pub taken : State → Message → State
@@ -175,5 +175,5 @@ receiveOf im ph m = settleOf (receiveAnswer im ph m) ph im [] (takenAs im ph (re
 pub record Taken (im : List ℕ) (g : Message) (words : List ℕ) : Type 0 where
   pub sound : IsSound im
   pub within : ackCount (ackOn (decode im .header) g) ≤ decode im .header .held
-  pub labels : labelsStay (ackCount (ackOn (decode im .header) g)) g ≡ false → words ≡ receivedState (decode im) g .labels
+  pub labels : labelsStay (decode im) (ackCount (ackOn (decode im .header) g)) g ≡ false → words ≡ receivedState (decode im) g .labels
   pub count : length words ≡ wordCount

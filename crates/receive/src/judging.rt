@@ -10,6 +10,7 @@ ghost use Rattle.calls.specs.declared.Answer;
 ghost use Rattle.calls.specs.Acked.{releasedLabels};
 ghost use Rattle.receive.specs.Rule.{plainRule, labelsRule, ackOn, ackCount, ackRule, ftRule, labelsStay, messageLabels, receivedState};
 use crate::labels::change_labels;
+use crate::labels::effect_place;
 use crate::labels::judge_protection;
 use crate::labels::label_effect;
 use crate::labels::labels_stay;
@@ -49,7 +50,9 @@ pub fn judge_plain(g: Message) -> Answer
 fn judge_labels(words: &mut [u32], secured: FtNumber, g: Message) -> Answer
     ensures { λ r. ⌜ (r ≡ labelsRule (now (words .entry)) (secured .0) g) × (r ≡ Answer.Done → now (words .exit) ≡ messageLabels (now (words .entry)) g) ⌝ }
 {
-    match judge_protection(words, g) {
+    let effect = label_effect(g);
+    let place = effect_place(words, effect);
+    match judge_protection(words, place, g) {
         Protection::Missing => {
             return Answer::ProtectionMissing;
         }
@@ -62,7 +65,7 @@ fn judge_labels(words: &mut [u32], secured: FtNumber, g: Message) -> Answer
     if !in_turn(secured, number) {
         return Answer::OutOfTurn;
     }
-    match change_labels(words, is_protected(number), label_effect(g)) {
+    match change_labels(words, place, is_protected(number), effect) {
         Reception::Taken => Answer::Done,
         Reception::NoRoom => Answer::NoWordForMapping,
     }
@@ -71,9 +74,9 @@ fn judge_labels(words: &mut [u32], secured: FtNumber, g: Message) -> Answer
 // The label words as an ACK leaves them that releases so many messages; where nothing changes they are not read.
 fn load_acked(image: &[u8], count: u32, g: Message, words: &mut [u32])
     requires { ⌜ IsSound (now image) × (count ≤ decode (now image) .header .held) × (length (now words) ≡ wordCount) ⌝ }
-    ensures { λ _. ⌜ (labelsStay count g ≡ false → now (words .exit) ≡ releasedLabels (take count (decode (now (image .entry)) .queue)) (decode (now (image .entry)) .labels)) ⌝ }
+    ensures { λ _. ⌜ (labelsStay (decode (now (image .entry))) count g ≡ false → now (words .exit) ≡ releasedLabels (take count (decode (now (image .entry)) .queue)) (decode (now (image .entry)) .labels)) ⌝ }
 {
-    if labels_stay(count, g) {
+    if labels_stay(image, count, g) {
         return;
     }
     image::labels_of(image, words);
@@ -83,7 +86,7 @@ fn load_acked(image: &[u8], count: u32, g: Message, words: &mut [u32])
 // 34 and later: the ACK, and then the message. Where the answer is Done and a label may have changed, the words are those that both leave.
 fn judge_ack(image: &[u8], h: Header, g: Message, words: &mut [u32]) -> Answer
     requires { ⌜ IsSound (now image) × (h ≡ decode (now image) .header) × (length (now words) ≡ wordCount) ⌝ }
-    ensures { λ r. ⌜ (r ≡ ackRule (decode (now (image .entry))) g (ackOn h g)) × (r ≡ Answer.Done → labelsStay (ackCount (ackOn h g)) g ≡ false → now (words .exit) ≡ receivedState (decode (now (image .entry))) g .labels) ⌝ }
+    ensures { λ r. ⌜ (r ≡ ackRule (decode (now (image .entry))) g (ackOn h g)) × (r ≡ Answer.Done → labelsStay (decode (now (image .entry))) (ackCount (ackOn h g)) g ≡ false → now (words .exit) ≡ receivedState (decode (now (image .entry))) g .labels) ⌝ }
 {
     let ack = g.ack;
     match ft_number::acknowledge(h.released, h.issued, ack_borne(h, ack)) {
@@ -98,7 +101,7 @@ fn judge_ack(image: &[u8], h: Header, g: Message, words: &mut [u32]) -> Answer
 // 22, 36, 30, and then the ACK: a message in UpFT.
 pub fn judge_ft(image: &[u8], h: Header, g: Message, words: &mut [u32]) -> Answer
     requires { ⌜ IsSound (now image) × (h ≡ decode (now image) .header) × (length (now words) ≡ wordCount) ⌝ }
-    ensures { λ r. ⌜ (r ≡ ftRule (decode (now (image .entry))) g) × (r ≡ Answer.Done → labelsStay (ackCount (ackOn h g)) g ≡ false → now (words .exit) ≡ receivedState (decode (now (image .entry))) g .labels) ⌝ }
+    ensures { λ r. ⌜ (r ≡ ftRule (decode (now (image .entry))) g) × (r ≡ Answer.Done → labelsStay (decode (now (image .entry))) (ackCount (ackOn h g)) g ≡ false → now (words .exit) ≡ receivedState (decode (now (image .entry))) g .labels) ⌝ }
 {
     let t = g.typename;
     if calls::is_init(t) {

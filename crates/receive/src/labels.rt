@@ -1,13 +1,17 @@
 // What a received message does to the label words, and whether it is protected as they demand.
 ghost use mathlib.Core.Path.{_≡_};
 ghost use mathlib.Core.Bool.{not};
+ghost use Prim.Native.Nat.{_≤_};
 ghost use Rattle.octets.specs.Pick.{both};
-ghost use Rattle.receive.specs.Labels.{touchedBy, effectOn, labelEffect, alwaysProtected, effectProtection, protectionRule, effectReception, effectLabels};
+ghost use Rattle.image.specs.State.{decode};
+ghost use Rattle.image.specs.Verdict.{IsSound};
+ghost use Rattle.receive.specs.Labels.{touchedBy, effectOn, labelEffect, effectPlace, alwaysProtected, effectProtection, protectionRule, effectReception, effectLabels};
 ghost use Rattle.receive.specs.Rule.{labelsStay};
 use crate::LabelEffect;
 use crate::reading::is_protected;
 use label_events::Reception;
 use label_events::Touched;
+use label_list::Found;
 use label_list::LabelMessage;
 use label_list::Protection;
 use message::Fec;
@@ -58,15 +62,23 @@ pub fn label_effect(g: Message) -> LabelEffect
     effect_on(t, touched_by(label, fec))
 }
 
-// Whether an ACK that releases so many messages, and then the message, leave every label word as it is.
-pub fn labels_stay(count: u32, g: Message) -> bool
-    ensures { λ r. ⌜ r ≡ labelsStay count g ⌝ }
+// The place of the label that a message names: found once, for its protection and for its change.
+pub fn effect_place(words: &[u32], effect: LabelEffect) -> Found
+    ensures { λ r. ⌜ r ≡ effectPlace (now (words .entry)) effect ⌝ }
 {
-    if count != 0 {
-        return false;
+    match effect {
+        LabelEffect::Nothing => Found::Nowhere,
+        LabelEffect::Change(m, t) => label_events::received_place(words, m, t),
     }
+}
+
+// Whether an ACK that releases so many messages, and then the message, leave every label word as it is: told without a look at the words.
+pub fn labels_stay(image: &[u8], count: u32, g: Message) -> bool
+    requires { ⌜ IsSound (now image) × (count ≤ decode (now image) .header .held) ⌝ }
+    ensures { λ r. ⌜ r ≡ labelsStay (decode (now (image .entry))) count g ⌝ }
+{
     match label_effect(g) {
-        LabelEffect::Nothing => true,
+        LabelEffect::Nothing => calls::frees_none(image, count as usize),
         LabelEffect::Change(_, _) => false,
     }
 }
@@ -96,17 +108,19 @@ fn lacks_protection(protected: bool, kind: Kind) -> bool
     always_protected(kind)
 }
 
-fn judge_effect(words: &[u32], protected: bool, effect: LabelEffect) -> Protection
+fn judge_effect(words: &[u32], place: Found, protected: bool, effect: LabelEffect) -> Protection
+    requires { ⌜ place ≡ effectPlace (now words) effect ⌝ }
     ensures { λ r. ⌜ r ≡ effectProtection (now (words .entry)) protected effect ⌝ }
 {
     match effect {
         LabelEffect::Nothing => Protection::Right,
-        LabelEffect::Change(m, t) => label_events::judge_protection(words, m, protected, t),
+        LabelEffect::Change(m, t) => label_events::judge_protection(words, place, m, protected, t),
     }
 }
 
-// Whether a message is protected as it must be.
-pub fn judge_protection(words: &[u32], g: Message) -> Protection
+// Whether a message, whose label was found at that place, is protected as it must be.
+pub fn judge_protection(words: &[u32], place: Found, g: Message) -> Protection
+    requires { ⌜ place ≡ effectPlace (now words) (labelEffect g) ⌝ }
     ensures { λ r. ⌜ r ≡ protectionRule (now (words .entry)) g ⌝ }
 {
     let number = g.protection;
@@ -114,15 +128,21 @@ pub fn judge_protection(words: &[u32], g: Message) -> Protection
     if lacks_protection(protected, message::kind_of(g)) {
         return Protection::Missing;
     }
-    judge_effect(words, protected, label_effect(g))
+    judge_effect(words, place, protected, label_effect(g))
 }
 
-// The label words after the message, and whether there was a word for what it lists.
-pub fn change_labels(words: &mut [u32], protected: bool, effect: LabelEffect) -> Reception
+// The label words after the message, whose label was found at that place, and whether there was a word for what it lists.
+pub fn change_labels(
+    words: &mut [u32],
+    place: Found,
+    protected: bool,
+    effect: LabelEffect,
+) -> Reception
+    requires { ⌜ place ≡ effectPlace (now words) effect ⌝ }
     ensures { λ r. ⌜ (r ≡ effectReception (now (words .entry)) protected effect) × (now (words .exit) ≡ effectLabels (now (words .entry)) protected effect) ⌝ }
 {
     match effect {
         LabelEffect::Nothing => Reception::Taken,
-        LabelEffect::Change(m, t) => label_events::receive(words, m, protected, t),
+        LabelEffect::Change(m, t) => label_events::receive(words, place, m, protected, t),
     }
 }

@@ -74,7 +74,7 @@ fn store_taken(image: &mut [u8], h: Header, k: u32, g: Message, words: &[u32]) -
     ensures { λ r. ⌜ (now (image .exit) ≡ store (now (image .entry)) (receivedState (decode (now (image .entry))) g)) × (r ≡ differ (block (now (image .entry)) 0) (block (now (image .exit)) 0)) ⌝ }
 {
     let next = next_header(h, k, g);
-    if labels_stay(k, g) {
+    if labels_stay(image, k, g) {
         return calls::store_numbers(image, next);
     }
     calls::store_changed(image, next, words)

@@ -1,8 +1,7 @@
 use mathlib.Core.Path.{_∙_}
 use native.Mathlib.Omega.{arith}
 use Rattle.label_list.proofs.Small.{received-small}
-use Rattle.label_list.proofs.Reached.{found-in}
-use Rattle.label_events.proofs.Planned.{received-low, received-high, received-is}
+use Rattle.label_events.proofs.Planned.{place-in, received-low, received-high, received-is}
 use Rattle.label_events.proofs.receiving.plan_received.Statement.{statement}
 use Rattle.label_events.proofs.receiving.plan_received.Tie as tie
 
@@ -11,10 +10,8 @@ plan-received-spec =
     let answers = tie.spec
     (λ c. received-low _ _ _ _ (c .if1 .taken))
     (λ c. received-high _ _ _ _ (c .if2 .taken))
+    (λ c κs. place-in _ _ _ (c .before .before .before .pre))
     (λ c κs. tt)
-    (λ c κs. tt)
-    (λ c κs. found-in _ _ (c .find .ensures))
-    (λ c κs. tt)
-    (λ c κs. (omega arith, rw (c .code-received .ensures) (received-small (c .before .before .before .before .before .before .before .args .message) (c .before .before .before .before .before .before .before .args .protected) _ (c .before .code-at .ensures .1))))
-    (λ c. c .plan-change .ensures ∙ received-is _ _ _ _ (omega arith) (omega arith) (c .before .before .before .before .received-side .ensures) (c .before .before .before .find .ensures) (c .before .before .code-at .ensures .0) (c .before .code-received .ensures)) in
+    (λ c κs. (omega arith, rw (c .code-received .ensures) (received-small (c .before .before .before .before .before .args .message) (c .before .before .before .before .before .args .protected) _ (c .before .code-at .ensures .1))))
+    (λ c. c .plan-change .ensures ∙ received-is _ _ _ _ (omega arith) (omega arith) (c .before .before .before .before .before .before .pre) (c .before .before .code-at .ensures .0) (c .before .code-received .ensures)) in
     tie.close answers

@@ -7,7 +7,7 @@ pub receive-spec : {M : Type 1} → statement M
 receive-spec =
     let answers = tie.spec
     (λ c. search needs)
-    (λ c κs. tt)
+    (λ c κs. rw (c .before .before .touched .given .1) at (c .before .before .before .before .before .pre))
     (λ c κs. received-in _ _ _ _ (c .before .plan-received .ensures))
     (λ c κs. tt)
     (λ c. search needs)

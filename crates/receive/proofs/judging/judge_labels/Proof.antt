@@ -9,6 +9,8 @@ pub judge-labels-spec : {M : Type 1} → statement M
 judge-labels-spec =
     let answers = tie.spec
     (λ c κs. search needs)
+    (λ c κs. search needs)
+    (λ c κs. rw (← c .before .before .before .label-effect .ensures) (c .before .effect-place .ensures))
     (λ c. search needs)
     (λ c. search needs)
     (λ c. labels-protection _ _ _ (c .before .before .judge-protection .ensures) refl (c .enum-told .given .1))
@@ -20,12 +22,11 @@ judge-labels-spec =
     (λ c. search needs)
     (λ c. labels-turn _ _ _ (c .before .before .before .before .judge-protection .ensures) (c .before .before .enum-told3 .given .1) (c .before .in-turn .ensures) (not-true (c .before .in-turn .result) (c .if1 .taken)))
     (λ c κs. search needs)
-    (λ c κs. search needs)
-    (λ c κs. search needs)
+    (λ c κs. c .before .before .before .before .before .before .before .before .effect-place .ensures)
     (λ c. search needs)
     (λ c. search needs)
     (λ c. search needs)
-    (λ c. labels-reception _ _ _ (c .before .before .before .before .before .before .before .before .before .before .before .before .judge-protection .ensures) (c .before .before .before .before .before .before .before .before .before .before .enum-told3 .given .1) (c .before .before .before .before .before .before .before .before .before .in-turn .ensures) (not-false (c .before .before .before .before .before .before .before .before .before .in-turn .result) (c .before .before .before .before .before .before .before .before .if1 .left)) (c .before .before .before .before .before .before .is-protected .ensures) (c .before .before .before .before .before .label-effect .ensures) (c .before .before .before .before .change-labels .ensures) (c .enum-told4 .given .1))
+    (λ c. labels-reception _ _ _ (c .before .before .before .before .before .before .before .before .before .before .before .judge-protection .ensures) (c .before .before .before .before .before .before .before .before .before .enum-told3 .given .1) (c .before .before .before .before .before .before .before .before .in-turn .ensures) (not-false (c .before .before .before .before .before .before .before .before .in-turn .result) (c .before .before .before .before .before .before .before .if1 .left)) (c .before .before .before .before .before .is-protected .ensures) (c .before .before .before .before .before .before .before .before .before .before .before .before .before .before .before .label-effect .ensures) (c .before .before .before .before .change-labels .ensures) (c .enum-told4 .given .1))
     (λ c. search needs)
-    (λ c. labels-reception _ _ _ (c .before .before .before .before .before .before .before .before .before .before .before .before .judge-protection .ensures) (c .before .before .before .before .before .before .before .before .before .before .enum-told3 .given .1) (c .before .before .before .before .before .before .before .before .before .in-turn .ensures) (not-false (c .before .before .before .before .before .before .before .before .before .in-turn .result) (c .before .before .before .before .before .before .before .before .if1 .left)) (c .before .before .before .before .before .before .is-protected .ensures) (c .before .before .before .before .before .label-effect .ensures) (c .before .before .before .before .change-labels .ensures) (c .enum-told5 .given .1)) in
+    (λ c. labels-reception _ _ _ (c .before .before .before .before .before .before .before .before .before .before .before .judge-protection .ensures) (c .before .before .before .before .before .before .before .before .before .enum-told3 .given .1) (c .before .before .before .before .before .before .before .before .in-turn .ensures) (not-false (c .before .before .before .before .before .before .before .before .in-turn .result) (c .before .before .before .before .before .before .before .if1 .left)) (c .before .before .before .before .before .is-protected .ensures) (c .before .before .before .before .before .before .before .before .before .before .before .before .before .before .before .label-effect .ensures) (c .before .before .before .before .change-labels .ensures) (c .enum-told5 .given .1)) in
     tie.close answers

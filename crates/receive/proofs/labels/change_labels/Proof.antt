@@ -7,7 +7,7 @@ change-labels-spec =
     let answers = tie.spec
     (λ c. search needs)
     (λ c. search needs)
-    (λ c κs. search needs)
+    (λ c κs. rw (c .before .before .effect .given .1) at (c .before .before .before .before .before .pre))
     (λ c. search needs)
     (λ c. search needs)
     (λ c. rw (c .before .before .before .before .before .effect .given .1) (c .before .before .receive .ensures)) in
