@@ -1,35 +1,60 @@
--- Block 0 written with the label words that it has: the words need no writing; and with its own numbers too, it is the same. Assumes nothing.
-use mathlib.Core.Path.{_≡_, sym, ap, _∙_}
+-- Block 0 written without a look at every label word: with those that it has, with one of them changed, or with none left; and with its own numbers
+-- too, it is the same. Assumes nothing.
+use mathlib.Core.Path.{_≡_, sym, ap, ap₂, _∙_}
 use mathlib.Core.Bool.{true}
 use mathlib.Core.List.{List}
-use Prim.Native.Nat.{ℕ, _+_}
+use Prim.Native.Nat.{ℕ, _+_, _*_, _<_}
 use native.Mathlib.Omega.{arith}
-use lib.ListN.{getD, take, drop}
+use lib.ListN.{length, getD, set, take, drop}
 use borrow.Author.Tests.{eqb-true}
-use Rattle.octets.specs.Be.{beAt}
+use Rattle.octets.specs.Be.{beAt, putBe}
 use Rattle.octets.specs.Bytes.{Bytes}
+use Rattle.octets.specs.Fill.{zeroed}
 use Rattle.octets.proofs.Choice.{both-true}
 use Rattle.label_list.specs.Word.{wordCount}
 use Rattle.block.specs.Check.{sound, sealed}
 use Rattle.block.specs.Run.{getRun, putRun, wordsAt, withWords}
 use Rattle.block.proofs.Run.{getD-putRun}
-use Rattle.block.proofs.WordRun.{words-same as words-agree}
-use Rattle.block.proofs.Same.{putRun-same, words-same, sealed-same}
+use Rattle.block.proofs.WordRun.{words-same as words-agree, zeroed-words}
+use Rattle.block.proofs.Same.{putRun-same, words-same, word-put, sealed-same}
 use Rattle.block0.specs.declared.Header.{Header}
-use Rattle.block0.specs.Layout.{widths, labelsAt, values, headerOf, labelsOf, block0}
+use Rattle.block0.specs.Layout.{widths, labelsAt, values, headerOf, labelsOf, block0, noLabels}
 use Rattle.block0.specs.Fields.{fieldsOk}
 
--- the fields stand before the label words
-pub labels-kept : (b : List ℕ) (h : Header) {m n x : List ℕ} → m ≡ putRun (take 4 widths) (take 4 (values h)) b 0
-    → n ≡ putRun (drop 4 widths) (drop 4 (values h)) m 16 → Bytes n → x ≡ sealed n → x ≡ block0 b h (labelsOf b)
-unfolding block0 labelsOf
-labels-kept b h {m} {n} em en byte p =
-    let e : n ≡ putRun widths (values h) b 0 = en ∙ ap (λ (s : List ℕ). putRun (drop 4 widths) (drop 4 (values h)) s 16) em in
-    p
-    ∙ ap sealed
-    (sym (words-same wordCount n labelsAt byte)
-    ∙ ap (λ (l : List ℕ). withWords wordCount l n labelsAt) (words-agree wordCount n b labelsAt (λ k l. ap (λ (s : List ℕ). getD s (labelsAt + k) 0) e ∙ getD-putRun widths (values h) b 0 (labelsAt + k) (λ i m. omega arith)))
-    ∙ ap (λ (s : List ℕ). withWords wordCount (wordsAt wordCount b labelsAt) s labelsAt) e)
+-- the fields stand before the label words: `n` is the block with its fields written
+module _ (b : List ℕ) (h : Header) {m n : List ℕ} (em : m ≡ putRun (take 4 widths) (take 4 (values h)) b 0)
+    (en : n ≡ putRun (drop 4 widths) (drop 4 (values h)) m 16) where
+  fields-put : n ≡ putRun widths (values h) b 0
+  fields-put = en ∙ ap (λ (s : List ℕ). putRun (drop 4 widths) (drop 4 (values h)) s 16) em
+
+  words-stay : wordsAt wordCount n labelsAt ≡ wordsAt wordCount b labelsAt
+  words-stay =
+      words-agree wordCount n b labelsAt (λ k l.
+      ap (λ (s : List ℕ). getD s (labelsAt + k) 0) fields-put ∙ getD-putRun widths (values h) b 0 (labelsAt + k) (λ i m. omega arith))
+
+  pub labels-kept : {x : List ℕ} → Bytes n → x ≡ sealed n → x ≡ block0 b h (labelsOf b)
+  unfolding block0 labelsOf
+  labels-kept byte p =
+      p
+      ∙ ap sealed (sym (words-same wordCount n labelsAt byte) ∙ ap₂ (λ (ls s : List ℕ). withWords wordCount ls s labelsAt) words-stay fields-put)
+
+  -- one label word is another
+  pub label-put : (i w : ℕ) {o x : List ℕ} → i < wordCount → o ≡ putBe 4 n (labelsAt + i * 4) w → Bytes n → Bytes o → x ≡ sealed o
+      → x ≡ block0 b h (set (labelsOf b) i w)
+  unfolding block0 labelsOf
+  label-put i w l eo byte after p =
+      p
+      ∙ ap sealed
+      (eo
+      ∙ sym (word-put wordCount n labelsAt i w byte (rw eo at after) l)
+      ∙ ap₂ (λ (ls s : List ℕ). withWords wordCount (set ls i w) s labelsAt) words-stay fields-put)
+
+  -- no label word is left
+  pub labels-zeroed : {z x : List ℕ} → length n ≡ 512 → z ≡ zeroed n labelsAt 480 → x ≡ sealed z → x ≡ block0 b h noLabels
+  unfolding block0
+  labels-zeroed long ez p =
+      p
+      ∙ ap sealed (ez ∙ zeroed-words wordCount n labelsAt (omega arith) ∙ ap (λ (s : List ℕ). withWords wordCount noLabels s labelsAt) fields-put)
 
 -- the version and the zero are those that are written
 values-same : (b : List ℕ) → fieldsOk b ≡ true → values (headerOf b) ≡ getRun widths b 0

@@ -4,16 +4,15 @@ use mathlib.Core.Bool.{true}
 use mathlib.Core.List.{List}
 use Prim.Native.Nat.{ℕ, _+_, _^_, _<_}
 use native.Mathlib.Omega.{arith}
-use lib.ListN.{length, getD, take, drop}
-use Rattle.octets.specs.Fill.{zeroed}
+use lib.ListN.{length, getD}
 use Rattle.label_list.specs.Word.{wordCount}
 use Rattle.block.specs.Check.{sealed, sound}
 use Rattle.block.specs.Run.{getRun, putRun, withWords, Words}
 use Rattle.block.proofs.Sealed.{sealed-else, length-sealed, sealed-sound}
 use Rattle.block.proofs.Run.{Fit, none, one, length-putRun, getRun-putRun, getRun-same}
-use Rattle.block.proofs.WordRun.{length-withWords, getD-withWords, words-put, words-same, zeroed-words}
+use Rattle.block.proofs.WordRun.{length-withWords, getD-withWords, words-put, words-same}
 use Rattle.block0.specs.declared.Header.{Header}
-use Rattle.block0.specs.Layout.{widths, labelsAt, values, fromValues, headerOf, labelsOf, block0, releasedHeader, noLabels}
+use Rattle.block0.specs.Layout.{widths, labelsAt, values, fromValues, headerOf, labelsOf, block0}
 use Rattle.block0.specs.Fields.{Fits}
 
 fits : (h : Header) → Fits h → Fit widths (values h)
@@ -70,16 +69,3 @@ module _ (b : List ℕ) (h : Header) (ls : List ℕ) (long : length b ≡ 512) w
         words-same wordCount (block0 b h ls) filled labelsAt (λ k l.
         ap (λ (x : List ℕ). getD x (labelsAt + k) 0) is-sealed ∙ sealed-else filled (labelsAt + k) (omega arith))
         ∙ words-put wordCount ls numbered labelsAt fl (omega (arith, long-numbered))
-
--- a released block 0, whose label words are written as zeros
-pub released-written : (b : List ℕ) {m n z x : List ℕ} → m ≡ putRun (take 4 widths) (take 4 (values releasedHeader)) b 0
-    → n ≡ putRun (drop 4 widths) (drop 4 (values releasedHeader)) m 16 → length n ≡ 512 → z ≡ zeroed n labelsAt 480 → x ≡ sealed z
-    → x ≡ block0 b releasedHeader noLabels
-unfolding block0
-released-written b {m} {n} em en long ez ex =
-    ex
-    ∙ ap sealed
-    (ez
-    ∙ zeroed-words wordCount n labelsAt (omega arith)
-    ∙ ap (λ (s : List ℕ). withWords wordCount noLabels s labelsAt)
-    (en ∙ ap (λ (s : List ℕ). putRun (drop 4 widths) (drop 4 (values releasedHeader)) s 16) em))

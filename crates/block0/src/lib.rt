@@ -1,7 +1,7 @@
 // Block 0 of the stored image: the session's numbers and its 120 label words.
 ghost use mathlib.Core.Path.{_≡_};
 ghost use Prim.Native.Nat.{_<_};
-ghost use lib.ListN.{length, getD, take, drop};
+ghost use lib.ListN.{length, getD, set, take, drop};
 ghost use Rattle.label_list.specs.Valid.{validOf};
 ghost use Rattle.label_list.specs.Word.{wordCount};
 ghost use Rattle.block.specs.Check.{blockSize};
@@ -110,6 +110,17 @@ pub fn write_header(block: &mut [u8], h: Header)
 {
     put_numbers(block, h);
     put_rest(block, h);
+    block::seal(block);
+}
+
+// Writes the fields, one label word and the check: the other label words stay.
+pub fn write_label(block: &mut [u8], h: Header, place: usize, word: u32)
+    requires { ⌜ (length (now block) ≡ blockSize) × (place < wordCount) ⌝ }
+    ensures { λ _. ⌜ now (block .exit) ≡ block0 (now (block .entry)) h (set (labelsOf (now (block .entry))) place word) ⌝ }
+{
+    put_numbers(block, h);
+    put_rest(block, h);
+    octets::put_u32(block, LABELS_AT + place * 4, word);
     block::seal(block);
 }
 

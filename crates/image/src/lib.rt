@@ -3,7 +3,7 @@ ghost use mathlib.Core.Path.{_≡_};
 ghost use mathlib.Core.Bool.{true};
 ghost use mathlib.Core.List.{[]};
 ghost use Prim.Native.Nat.{_+_, _*_, _≤_, _<_};
-ghost use lib.ListN.{length, getD};
+ghost use lib.ListN.{length, getD, set};
 ghost use Rattle.label_list.specs.Word.{wordCount};
 ghost use Rattle.message.specs.Submission.{submissionOf};
 ghost use Rattle.message.specs.declared.Submission.the-variants.{Accepted};
@@ -169,4 +169,12 @@ pub fn store_header(image: &mut [u8], h: Header)
     ensures { λ _. ⌜ now (image .exit) ≡ store0 (now (image .entry)) h (decode (now (image .entry)) .labels) ⌝ }
 {
     block0::write_header(&mut image[0..block::BLOCK_SIZE], h);
+}
+
+// The second stage where one label word changes.
+pub fn store_label(image: &mut [u8], h: Header, place: usize, word: u32)
+    requires { ⌜ (length (now image) ≡ imageSize) × (place < wordCount) ⌝ }
+    ensures { λ _. ⌜ now (image .exit) ≡ store0 (now (image .entry)) h (set (decode (now (image .entry)) .labels) place word) ⌝ }
+{
+    block0::write_label(&mut image[0..block::BLOCK_SIZE], h, place, word);
 }

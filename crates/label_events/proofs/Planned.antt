@@ -1,5 +1,5 @@
 -- The ways through the definitions of a change, of a message accepted, acknowledged and received. Assumes nothing.
-use mathlib.Core.Path.{_≡_, sym, _∙_}
+use mathlib.Core.Path.{_≡_, refl, sym, _∙_}
 use mathlib.Core.Bool.{Bool, true, false}
 use mathlib.Core.List.{List}
 use mathlib.Core.Logic.{_≢_}
@@ -106,14 +106,14 @@ module _ (words : List ℕ) (message : LabelMessage) (label : ℕ) where
 
   pub accepted-is : {p : Plan} {change : Change} {a : Acceptance} {after : List ℕ}
       → p ≡ planOf words message label → p ≡ Allowed change → a ≡ acceptanceOf change → after ≡ changed words change
-      → (a ≡ acceptedOf words message label .0) × (after ≡ acceptedOf words message label .1)
+      → (a ≡ acceptedOf words message label .0) × (after ≡ acceptedOf words message label .1) × (after ≡ changed words change) × ChangeIn words change
   unfolding acceptedOf
-  accepted-is e g ea el = (rw (← e, g) ea, rw (← e, g) el)
+  accepted-is e g ea el = (rw (← e, g) ea, rw (← e, g) el, el, plan-in e g)
 
   pub refused-is : {p : Plan} → p ≡ planOf words message label → p ≡ Refused
-      → (NotAllowed ≡ acceptedOf words message label .0) × (words ≡ acceptedOf words message label .1)
-  unfolding acceptedOf
-  refused-is e g = (rw (← e, g), rw (← e, g))
+      → (NotAllowed ≡ acceptedOf words message label .0) × (words ≡ acceptedOf words message label .1) × (words ≡ changed words Keep) × ChangeIn words Keep
+  unfolding acceptedOf changed
+  refused-is e g = (rw (← e, g), rw (← e, g), refl, tt)
 
   -- an ACK of it
   module _ {s : Side} {f : Found} (es : s ≡ sentSide message) (ef : f ≡ findOf (standsFor s label) words) where

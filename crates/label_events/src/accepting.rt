@@ -2,7 +2,9 @@
 ghost use mathlib.Core.Path.{_≡_};
 ghost use Rattle.label_events.specs.Accept.{planOf, acceptanceOf, acceptedOf};
 ghost use Rattle.label_events.specs.Ack.{ackedOf};
+ghost use Rattle.label_events.specs.Change.{ChangeIn, changed};
 use crate::Acceptance;
+use crate::Accepted;
 use crate::Change;
 use crate::Plan;
 use crate::changing::code_at;
@@ -46,16 +48,22 @@ fn acceptance(change: Change) -> Acceptance
     }
 }
 
-// Accepts the message for sending; a refusal leaves the list as it was.
-pub fn accept(words: &mut [u32], message: LabelMessage, label: u32) -> Acceptance
-    ensures { λ r. ⌜ (r ≡ acceptedOf (now (words .entry)) message label .0) × (now (words .exit) ≡ acceptedOf (now (words .entry)) message label .1) ⌝ }
+// Accepts the message for sending; a refusal leaves the list as it was. The change says which word is another now.
+pub fn accept(words: &mut [u32], message: LabelMessage, label: u32) -> Accepted
+    ensures { λ r. ⌜ (r .acceptance ≡ acceptedOf (now (words .entry)) message label .0) × (now (words .exit) ≡ acceptedOf (now (words .entry)) message label .1) × (now (words .exit) ≡ changed (now (words .entry)) (r .change)) × ChangeIn (now (words .entry)) (r .change) ⌝ }
 {
     match plan_accept(words, message, label) {
         Plan::Allowed(change) => {
             make_change(words, change);
-            acceptance(change)
+            Accepted {
+                acceptance: acceptance(change),
+                change: change,
+            }
         }
-        Plan::Refused => Acceptance::NotAllowed,
+        Plan::Refused => Accepted {
+            acceptance: Acceptance::NotAllowed,
+            change: Change::Keep,
+        },
     }
 }
 

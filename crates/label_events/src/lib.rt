@@ -32,6 +32,12 @@ pub enum Acceptance {
     NoRoom,
 }
 
+// A message of ours as it was answered, with the change that it made of the list: none where it was refused.
+pub struct Accepted {
+    pub acceptance: Acceptance,
+    pub change: Change,
+}
+
 // The answer to a message of the peer's: 0, 21.
 pub enum Reception {
     Taken,

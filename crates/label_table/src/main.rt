@@ -82,11 +82,11 @@ fn receive(words: &mut [u32], message: LabelMessage, protected: bool, touched: T
 // The answer's number; 0 where the event has no answer.
 fn happen(words: &mut [u32], event: Event) -> u32 {
     match event {
-        Event::Accepted(message, label) => acceptance_number(label_events::accept(
-            words,
-            message,
-            label,
-        )),
+        Event::Accepted(message, label) => {
+            let accepted = label_events::accept(words, message, label);
+            let acceptance = accepted.acceptance;
+            acceptance_number(acceptance)
+        }
         Event::Acked(message, label) => {
             label_events::release_by_ack(words, message, label);
             0

@@ -1,38 +1,56 @@
 -- The image with one more message held: what it stands for, that it is sound again, and that block 0 is another. Assumes nothing.
-use mathlib.Core.Path.{_≡_, refl, sym, ap, _∙_}
+use mathlib.Core.Path.{_≡_, refl, ap, _∙_}
 use mathlib.Core.Bool.{true}
 use mathlib.Core.List.{List}
 use mathlib.Core.Logic.{_≢_}
 use Prim.Native.Nat.{ℕ, _+_, _≤_, _<_}
 use native.Mathlib.Omega.{arith}
 use borrow.Author.Tests.{leb-true, le-leb}
+use lib.ListN.{length}
 use Rattle.octets.specs.Differ.{differ}
-use Rattle.octets.proofs.Differ.{differ-false}
-use Rattle.octets.proofs.Choice.{by-test}
 use Rattle.ft_number.specs.Circle.{stepsOf}
 use Rattle.ft_number.specs.declared.Steps.{Steps}
 use Rattle.ft_number.specs.declared.Steps.the-variants.{Count, Unreachable}
 use Rattle.message.specs.Submission.{submissionOf}
 use Rattle.label_list.specs.Word.{wordCount}
+use Rattle.label_events.specs.Change.{ChangeIn, changed}
+use Rattle.label_events.specs.declared.Change.{Change}
+use Rattle.label_events.specs.declared.Change.the-variants.{Put}
+use Rattle.label_events.proofs.Written.{change-place}
 use Rattle.block.specs.Run.{Words}
 use Rattle.block0.specs.declared.Header.{Header}
-use Rattle.block0.specs.Layout.{slotCount, headerOf}
+use Rattle.block0.specs.Layout.{slotCount, labelsOf}
 use Rattle.block0.specs.Fields.{atMost, Fits, Valid}
 use Rattle.slot.specs.Held.{Storable}
-use Rattle.image.specs.Sizes.{block, blockOf, slotAt}
+use Rattle.image.specs.Sizes.{imageSize, block, blockOf, slotAt}
 use Rattle.image.specs.State.{State, decode, storeSlot, store0, InRange}
 use Rattle.image.specs.Verdict.{IsSound}
 use Rattle.image.proofs.Stored.{length-storeSlot, slot-other, zeroth-other, decode-accept}
 use Rattle.image.proofs.Sound.{sound-valid, sound-accept}
+use Rattle.image.proofs.Same.{said-changed}
+use Rattle.image.proofs.Ranges.{labels-count}
 use Rattle.submit.specs.Act.{withHeld, submitted, submitSlot, submitImage}
 use Rattle.submit.proofs.Accepted.{labels-valid, labels-fit}
 
+-- the place of the label word that a change writes
+pub change-at : (im : List ℕ) (change : Change) (i w : ℕ) → ChangeIn (decode im .labels) change → change ≡ Put i w → i < wordCount
+change-at im change i w inside e = rw (labels-count im) at (change-place (decode im .labels) change i w inside e)
+
+-- the slot's store leaves the label words as they are
+pub labels-slotted : (im m : List ℕ) (k : ℕ) → length im ≡ imageSize → k < slotCount → Storable m → decode (storeSlot im k m) .labels ≡ decode im .labels
+unfolding decode
+labels-slotted im m k size low fits = ap labelsOf (slot-other im size k low m fits 0 (omega arith))
+
 -- the stores, one after the other: the premises are what the callees ensure
-pub stored-is : (im m ls : List ℕ) {h h′ : Header} {k : ℕ} {slotted stored : List ℕ} → h ≡ decode im .header → k ≡ slotAt (h .first) (h .held)
-    → slotted ≡ storeSlot im k m → h′ ≡ withHeld h (h .held + 1) → stored ≡ store0 slotted h′ ls
-    → (k + 1 ≡ blockOf (submitSlot (decode im)))
-    × (stored ≡ store0 (storeSlot im (submitSlot (decode im)) m) (withHeld (decode im .header) (decode im .header .held + 1)) ls)
-stored-is im m ls eh ek es en e = (rw (ek, eh), rw (e, en, es, ek, eh))
+module _ (im m : List ℕ) (change : Change) (size : length im ≡ imageSize) (fits : Storable m) {h : Header} (eh : h ≡ decode im .header) {k : ℕ}
+    (ek : (k ≡ slotAt (h .first) (h .held)) × (k < slotCount)) {slotted : List ℕ} (es : slotted ≡ storeSlot im k m) where
+  pub change-slotted : ChangeIn (decode im .labels) change → ChangeIn (decode slotted .labels) change
+  change-slotted inside = rw (es, labels-slotted im m k size (ek .1) fits) inside
+
+  pub stored-is : {h′ : Header} {stored : List ℕ} → h′ ≡ withHeld h (h .held + 1) → stored ≡ store0 slotted h′ (changed (decode slotted .labels) change)
+      → (k + 1 ≡ blockOf (submitSlot (decode im)))
+      × (stored ≡ store0 (storeSlot im (submitSlot (decode im)) m) (withHeld (decode im .header) (decode im .header .held + 1)) (changed (decode im .labels) change))
+  stored-is en e = (rw (ek .0, eh), rw (e, en, es, labels-slotted im m k size (ek .1) fits, ek .0, eh))
 
 -- a window that was no longer than n is no longer than n + 1
 window-more : (n : ℕ) (k : Steps) → atMost n k ≡ true → atMost (n + 1) k ≡ true
@@ -98,13 +116,8 @@ module _ (im m : List ℕ) (s : IsSound im) (r : InRange (decode im)) (fits : St
 
   -- the count of held messages is another
   pub image-changed : true ≡ differ (block im 0) (block (submitImage im m) 0)
-  unfolding decode submitted
+  unfolding submitted
   image-changed =
-      by-test
-      (differ (block im 0) (block (submitImage im m) 0))
-      sym
-      (λ same.
-      let kept : headerOf (block im 0) .held ≡ headerOf (block (submitImage im m) 0) .held =
-      ap (λ (b : List ℕ). headerOf b .held) (differ-false (block im 0) (block (submitImage im m) 0) same) in
-      let more : headerOf (block (submitImage im m) 0) .held ≡ headerOf (block im 0) .held + 1 = ap (λ (t : State). t .header .held) image-decodes in
-      absurd (omega arith))
+      said-changed im (submitImage im m) (λ p q.
+      let more : decode im .header .held ≡ decode im .header .held + 1 = ap (λ (x : Header). x .held) (p ∙ ap (λ (t : State). t .header) image-decodes) in
+      omega arith)

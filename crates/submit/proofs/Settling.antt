@@ -9,6 +9,8 @@ use Rattle.message.specs.Submission.{submissionOf}
 use Rattle.message.specs.declared.Kind.{Kind}
 use Rattle.message.specs.declared.Submission
 use Rattle.message.specs.declared.Submission.{Submission}
+use Rattle.label_events.specs.Change.{changed}
+use Rattle.label_events.specs.declared.Change.{Change}
 use Rattle.block0.specs.declared.Header.{Header}
 use Rattle.block0.specs.Layout.{slotCount}
 use Rattle.slot.specs.Layout.{shortest, longest}
@@ -34,23 +36,23 @@ use Rattle.submit.proofs.Queueing.{image-changed}
 
 -- ---- the message is queued; the premises are what the callees ensure
 module _ (im : List ℕ) (ph : Phase) (m : List ℕ) (kind : Kind) (label : ℕ) (j : submissionOf m ≡ Submission.Accepted kind label) where
-  queued-image : {words words′ im′ : List ℕ} → words ≡ decode im .labels → words′ ≡ acceptedAs words kind label .1
-      → im′ ≡ store0 (storeSlot im (submitSlot (decode im)) m) (withHeld (decode im .header) (decode im .header .held + 1)) words′
+  queued-image : (change : Change) {words words′ im′ : List ℕ} → words ≡ decode im .labels → words′ ≡ acceptedAs words kind label .1 → words′ ≡ changed words change
+      → im′ ≡ store0 (storeSlot im (submitSlot (decode im)) m) (withHeld (decode im .header) (decode im .header .held + 1)) (changed (decode im .labels) change)
       → im′ ≡ submitImage im m
   unfolding submitImage submitted
-  queued-image ew el e = rw (e, el, ew, j)
+  queued-image change ew el ec e = rw (e, ← ew, ← ec, el, ew, j)
 
   pub queued-is : {x : Answer} → Answer.Done ≡ x → IsSound im → Bytes im → shortest ≤ length m → length m ≤ longest
       → {h : Header} → h ≡ decode im .header → h .held < slotCount
-      → {words words′ im′ : List ℕ} → words ≡ decode im .labels → words′ ≡ acceptedAs words kind label .1
+      → (change : Change) {words words′ im′ : List ℕ} → words ≡ decode im .labels → words′ ≡ acceptedAs words kind label .1 → words′ ≡ changed words change
       → {k : ℕ} → (k ≡ blockOf (submitSlot (decode im)))
-      × (im′ ≡ store0 (storeSlot im (submitSlot (decode im)) m) (withHeld (decode im .header) (decode im .header .held + 1)) words′)
+      × (im′ ≡ store0 (storeSlot im (submitSlot (decode im)) m) (withHeld (decode im .header) (decode im .header .held + 1)) (changed (decode im .labels) change))
       → after (record { answer = Answer.Done; phase = ph; written = 0; slot = k; block0 = true }) im′ [] ≡ settleOf x ph im [] (queued im ph m)
   unfolding queued
-  queued-is done s bytes low high eh room ew el e =
+  queued-is done s bytes low high eh room change ew el ec e =
       let few : decode im .header .held < slotCount = rw eh at room in
-      let changed = image-changed im m s (bytes-in-range im bytes) (record { low = low; short = high; kind = kind; label = label; accepted = j }) few in
-      rw (← done, settle-done, e .0, queued-image ew el (e .1), changed)
+      let other = image-changed im m s (bytes-in-range im bytes) (record { low = low; short = high; kind = kind; label = label; accepted = j }) few in
+      rw (← done, settle-done, e .0, queued-image change ew el ec (e .1), other)
 
 -- ---- the public call
 module _ (im : List ℕ) (ph : Phase) (m : List ℕ) where

@@ -4,11 +4,15 @@ ghost use mathlib.Core.List.{[]};
 ghost use Prim.Native.Nat.{_<_};
 ghost use lib.ListN.{getD};
 ghost use Rattle.message.specs.Submission.{submissionOf};
+ghost use Rattle.label_events.specs.Change.{ChangeIn, changed};
+ghost use Rattle.label_events.specs.declared.Change;
 ghost use Rattle.slot.specs.Fields.{bears};
 ghost use Rattle.image.specs.State.{decode};
 ghost use Rattle.image.specs.Verdict.{IsSound};
 ghost use Rattle.submit.specs.Labels.{isHeld, isBarred, acceptedAs};
 use label_events::Acceptance;
+use label_events::Accepted;
+use label_events::Change;
 use label_list::LabelMessage;
 use message::Kind;
 
@@ -55,17 +59,27 @@ pub fn is_barred(image: &[u8], kind: Kind, label: u32) -> bool
     }
 }
 
+// The answer to a message that names no label: no word is another.
+fn without_label(acceptance: Acceptance) -> Accepted
+    ensures { λ r. ⌜ (r .acceptance ≡ acceptance) × (r .change ≡ Change.Keep) ⌝ }
+{
+    Accepted {
+        acceptance: acceptance,
+        change: Change::Keep,
+    }
+}
+
 // Accepts a message of that kind and label for sending; a refusal leaves the words as they were.
-pub fn accept_as(words: &mut [u32], kind: Kind, label: u32) -> Acceptance
-    ensures { λ r. ⌜ (r ≡ acceptedAs (now (words .entry)) kind label .0) × (now (words .exit) ≡ acceptedAs (now (words .entry)) kind label .1) ⌝ }
+pub fn accept_as(words: &mut [u32], kind: Kind, label: u32) -> Accepted
+    ensures { λ r. ⌜ (r .acceptance ≡ acceptedAs (now (words .entry)) kind label .0) × (now (words .exit) ≡ acceptedAs (now (words .entry)) kind label .1) × (now (words .exit) ≡ changed (now (words .entry)) (r .change)) × ChangeIn (now (words .entry)) (r .change) ⌝ }
 {
     match kind {
         Kind::Mapping => label_events::accept(words, LabelMessage::Mapping, label),
         Kind::Withdraw => label_events::accept(words, LabelMessage::Withdraw, label),
         Kind::Release => label_events::accept(words, LabelMessage::Release, label),
-        Kind::Address => Acceptance::Taken,
-        Kind::AddressWithdraw => Acceptance::Taken,
-        Kind::ResourcesAvailable => Acceptance::Taken,
-        Kind::NoKind => Acceptance::NotAllowed,
+        Kind::Address => without_label(Acceptance::Taken),
+        Kind::AddressWithdraw => without_label(Acceptance::Taken),
+        Kind::ResourcesAvailable => without_label(Acceptance::Taken),
+        Kind::NoKind => without_label(Acceptance::NotAllowed),
     }
 }

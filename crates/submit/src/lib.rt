@@ -31,7 +31,10 @@ fn submit_accepted(image: &mut [u8], phase: Phase, msg: &[u8], kind: Kind, label
     }
     let mut words = [0u32; label_list::WORD_COUNT];
     image::labels_of(image, &mut words);
-    match labels::accept_as(&mut words, kind, label) {
+    let accepted = labels::accept_as(&mut words, kind, label);
+    let acceptance = accepted.acceptance;
+    let change = accepted.change;
+    match acceptance {
         Acceptance::Taken => {}
         Acceptance::NotAllowed => {
             return calls::refuse(Answer::LabelNotAllowed, phase);
@@ -43,7 +46,7 @@ fn submit_accepted(image: &mut [u8], phase: Phase, msg: &[u8], kind: Kind, label
     if image::header_of(image).held as usize >= image::SLOT_COUNT {
         return calls::refuse(Answer::StoreFull, phase);
     }
-    let slot = storing::store_message(image, msg, kind, label, &words);
+    let slot = storing::store_message(image, msg, kind, label, change);
     // The count of held messages is another, so block 0 changed.
     Outcome {
         answer: Answer::Done,

@@ -4,13 +4,14 @@ ghost use Prim.Native.Nat.{_+_, _≤_, _<_};
 ghost use lib.ListN.{length};
 ghost use Rattle.message.specs.Submission.{submissionOf};
 ghost use Rattle.message.specs.declared.Submission.the-variants.{Accepted};
-ghost use Rattle.label_list.specs.Word.{wordCount};
+ghost use Rattle.label_events.specs.Change.{ChangeIn, changed};
 ghost use Rattle.block0.specs.Layout.{slotCount};
-ghost use Rattle.slot.specs.Layout.{longest};
+ghost use Rattle.slot.specs.Layout.{shortest, longest};
 ghost use Rattle.image.specs.Sizes.{imageSize, blockOf, slotAt};
 ghost use Rattle.image.specs.State.{decode, storeSlot, store0};
 ghost use Rattle.submit.specs.Act.{withHeld, submitSlot};
 use block0::Header;
+use label_events::Change;
 use message::Kind;
 
 // The slot after that of the newest held.
@@ -29,14 +30,26 @@ fn with_held(h: Header, held: u16) -> Header
     next
 }
 
-// Stores the message as the newest held, with the label words that it leads to. The block of its slot.
-pub fn store_message(image: &mut [u8], msg: &[u8], kind: Kind, label: u32, words: &[u32]) -> usize
-    requires { ⌜ (length (now image) ≡ imageSize) × (decode (now image) .header .held < slotCount) × (length (now msg) ≤ longest) × (submissionOf (now msg) ≡ Accepted kind label) × (length (now words) ≡ wordCount) ⌝ }
-    ensures { λ r. ⌜ (r ≡ blockOf (submitSlot (decode (now (image .entry))))) × (now (image .exit) ≡ store0 (storeSlot (now (image .entry)) (submitSlot (decode (now (image .entry)))) (now (msg .entry))) (withHeld (decode (now (image .entry)) .header) (decode (now (image .entry)) .header .held + 1)) (now (words .entry))) ⌝ }
+// Stores block 0 with that header and that change of its label words: only the word that is another is written.
+fn store_change(image: &mut [u8], h: Header, change: Change)
+    requires { ⌜ (length (now image) ≡ imageSize) × ChangeIn (decode (now image) .labels) change ⌝ }
+    ensures { λ _. ⌜ now (image .exit) ≡ store0 (now (image .entry)) h (changed (decode (now (image .entry)) .labels) change) ⌝ }
+{
+    match change {
+        Change::Keep => image::store_header(image, h),
+        Change::Put(place, word) => image::store_label(image, h, place, word),
+        Change::NoRoom => image::store_header(image, h),
+    }
+}
+
+// Stores the message as the newest held, with the change that it makes of the label words. The block of its slot.
+pub fn store_message(image: &mut [u8], msg: &[u8], kind: Kind, label: u32, change: Change) -> usize
+    requires { ⌜ (length (now image) ≡ imageSize) × (decode (now image) .header .held < slotCount) × (shortest ≤ length (now msg)) × (length (now msg) ≤ longest) × (submissionOf (now msg) ≡ Accepted kind label) × ChangeIn (decode (now image) .labels) change ⌝ }
+    ensures { λ r. ⌜ (r ≡ blockOf (submitSlot (decode (now (image .entry))))) × (now (image .exit) ≡ store0 (storeSlot (now (image .entry)) (submitSlot (decode (now (image .entry)))) (now (msg .entry))) (withHeld (decode (now (image .entry)) .header) (decode (now (image .entry)) .header .held + 1)) (changed (decode (now (image .entry)) .labels) change)) ⌝ }
 {
     let h = image::header_of(image);
     let k = next_slot(h);
     image::store_slot(image, k, msg, kind, label);
-    image::store_block0(image, with_held(h, h.held + 1), words);
+    store_change(image, with_held(h, h.held + 1), change);
     k + 1
 }

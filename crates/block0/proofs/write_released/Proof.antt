@@ -2,7 +2,7 @@
 use native.Mathlib.Omega.{arith}
 use borrow.Author.Needs.{needs}
 use Rattle.block.proofs.ZeroBytes.{zeroed-zero}
-use Rattle.block0.proofs.Written.{released-written}
+use Rattle.block0.proofs.Same.{labels-zeroed}
 use Rattle.block0.proofs.write_released.Statement.{statement}
 use Rattle.block0.proofs.write_released.Tie as tie
 
@@ -15,5 +15,5 @@ write-released-spec =
     (λ c κs. search needs)
     (λ c κs. (search needs, omega arith, rw (c .before .before .before .zero-to .ensures) (zeroed-zero (c .before .before .before .before .before .before .before .put-rest .last .0) 28 480 508 (search needs) (omega arith))))
     (λ c. search needs)
-    (λ c. released-written _ (c .before .before .before .before .before .before .before .before .before .before .before .before .before .before .put-numbers .ensures) (c .before .before .before .before .before .before .before .before .before .before .put-rest .ensures) (search needs) (c .before .before .before .before .before .before .zero-to .ensures) (c .before .before .seal-before .ensures)) in
+    (λ c. labels-zeroed _ _ (c .before .before .before .before .before .before .before .before .before .before .before .before .before .before .put-numbers .ensures) (c .before .before .before .before .before .before .before .before .before .before .put-rest .ensures) (search needs) (c .before .before .before .before .before .before .zero-to .ensures) (c .before .before .seal-before .ensures)) in
     tie.close answers

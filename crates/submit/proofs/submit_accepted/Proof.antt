@@ -1,5 +1,5 @@
 use borrow.Author.Needs.{needs}
-use mathlib.Core.Path.{refl, _∙_}
+use mathlib.Core.Path.{refl}
 use denote.Ref.{now}
 use Rattle.image.specs.State.{decode}
 use Rattle.call_meaning.proofs.Calling.{found-refused}
@@ -10,7 +10,7 @@ use Rattle.submit.proofs.submit_accepted.Statement.{statement}
 use Rattle.submit.proofs.submit_accepted.Tie as tie
 
 -- nothing held bars the message, and the label's code was asked
-judged : (c : tie.After-accept-as) → Judged (decode (now (c .before .before .before .before .before .before .before .before .before .before .before .args .image))) (c .before .before .before .before .before .before .before .before .before .before .before .args .kind) (c .before .before .before .before .before .before .before .before .before .before .before .args .label) (c .accept-as .result)
+judged : (c : tie.After-accept-as) → Judged (decode (now (c .before .before .before .before .before .before .before .before .before .before .before .args .image))) (c .before .before .before .before .before .before .before .before .before .before .before .args .kind) (c .before .before .before .before .before .before .before .before .before .before .before .args .label) (c .accept-as .result .acceptance)
 judged c = judged-is _ _ _ (c .before .before .before .before .before .before .before .is-barred .ensures) (c .before .before .before .before .before .before .if1 .left) (c .before .before .before .labels-of .ensures) (c .accept-as .ensures .0)
 
 pub submit-accepted-spec : {M : Type 1} → statement M
@@ -38,8 +38,7 @@ submit-accepted-spec =
     (λ c κs. search needs)
     (λ c. search needs)
     (λ c. found-refused _ _ _ _ (full-is (judged (c .before .before .before .before .before .before .before .before)) (c .before .before .before .before .before .enum-told .given .1) (c .before .before .before .header-of .ensures) (c .before .if2 .taken)) (c .refuse4 .ensures) refl)
+    (λ c κs. (c .before .before .before .before .before .before .before .before .before .before .before .before .before .before .before .before .before .before .before .pre .0 .size, rw (c .before .before .before .header-of .ensures) at (c .before .if2 .left), c .before .before .before .before .before .before .before .before .before .before .before .before .before .before .before .before .before .before .before .pre .1, c .before .before .before .before .before .before .before .before .before .before .before .before .before .before .before .before .before .before .before .pre .2, c .before .before .before .before .before .before .before .before .before .before .before .before .before .before .before .before .before .before .before .pre .3, rw (c .before .before .before .before .before .before .before .before .before .before .before .labels-of .ensures) at (c .before .before .before .before .before .before .before .before .accept-as .ensures .3)))
     (λ c. search needs)
-    (λ c κs. (c .before .before .before .before .before .before .before .before .before .before .before .before .before .before .before .before .before .before .before .before .pre .0 .size, rw (c .before .before .before .before .header-of .ensures) at (c .before .before .if2 .left), c .before .before .before .before .before .before .before .before .before .before .before .before .before .before .before .before .before .before .before .before .pre .2, c .before .before .before .before .before .before .before .before .before .before .before .before .before .before .before .before .before .before .before .before .pre .3, c .before .before .before .before .before .before .before .before .before .accept-as .kept .0 ∙ c .before .before .before .before .before .before .before .before .before .before .before .before .labels-of .kept .1 .0))
-    (λ c. search needs)
-    (λ c. queued-is _ _ _ _ _ (c .before .before .before .before .before .before .before .before .before .before .before .before .before .before .before .before .before .before .before .before .before .before .before .pre .3) (done-is (judged (c .before .before .before .before .before .before .before .before .before .before .before .before)) (c .before .before .before .before .before .before .before .before .before .enum-told .given .1) (c .before .before .before .before .before .before .before .header-of .ensures) (c .before .before .before .before .before .if2 .left)) (c .before .before .before .before .before .before .before .before .before .before .before .before .before .before .before .before .before .before .before .before .before .before .before .pre .0) (λ i. c .before .before .before .before .before .before .before .before .before .before .before .before .before .before .before .before .before .before .before .before .before .before .slice-known .given i .fits) (c .before .before .before .before .before .before .before .before .before .before .before .before .before .before .before .before .before .before .before .before .before .before .before .pre .1) (c .before .before .before .before .before .before .before .before .before .before .before .before .before .before .before .before .before .before .before .before .before .before .before .pre .2) (c .before .before .before .before .before .before .before .header-of .ensures) (c .before .before .before .before .before .if2 .left) (c .before .before .before .before .before .before .before .before .before .before .before .before .before .before .before .labels-of .ensures) (c .before .before .before .before .before .before .before .before .before .before .before .before .accept-as .ensures .1) (c .before .before .store-message .ensures)) in
+    (λ c. queued-is _ _ _ _ _ (c .before .before .before .before .before .before .before .before .before .before .before .before .before .before .before .before .before .before .before .before .before .before .pre .3) (done-is (judged (c .before .before .before .before .before .before .before .before .before .before .before)) (c .before .before .before .before .before .before .before .before .enum-told .given .1) (c .before .before .before .before .before .before .header-of .ensures) (c .before .before .before .before .if2 .left)) (c .before .before .before .before .before .before .before .before .before .before .before .before .before .before .before .before .before .before .before .before .before .before .pre .0) (λ i. c .before .before .before .before .before .before .before .before .before .before .before .before .before .before .before .before .before .before .before .before .before .slice-known .given i .fits) (c .before .before .before .before .before .before .before .before .before .before .before .before .before .before .before .before .before .before .before .before .before .before .pre .1) (c .before .before .before .before .before .before .before .before .before .before .before .before .before .before .before .before .before .before .before .before .before .before .pre .2) (c .before .before .before .before .before .before .header-of .ensures) (c .before .before .before .before .if2 .left) (c .before .before .before .before .before .before .before .before .before .before .before .accept-as .result .change) (c .before .before .before .before .before .before .before .before .before .before .before .before .before .before .labels-of .ensures) (c .before .before .before .before .before .before .before .before .before .before .before .accept-as .ensures .1) (c .before .before .before .before .before .before .before .before .before .before .before .accept-as .ensures .2) (c .before .before .store-message .ensures)) in
     tie.close answers

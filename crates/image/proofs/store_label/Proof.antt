@@ -1,0 +1,18 @@
+-- `image::store_label` meets its contract, by the definition. Assumes nothing.
+use native.Mathlib.Omega.{arith}
+use borrow.Author.Needs.{needs}
+use Rattle.image.specs.State.{store0, decode}
+use Rattle.image.proofs.store_label.Statement.{statement}
+use Rattle.image.proofs.store_label.Tie as tie
+
+pub store-label-spec : {M : Type 1} → statement M
+unfolding store0 decode
+store-label-spec =
+    let answers = tie.spec
+    (λ c. omega arith)
+    (λ c. omega arith)
+    (λ c. omega arith)
+    (λ c κs. search needs)
+    (λ c. search needs)
+    (λ c. rw (c .before .before .write-label .ensures)) in
+    tie.close answers
