@@ -3,7 +3,6 @@ use message::Message;
 use message::Reading;
 use tlv::Part;
 ghost use mathlib.Core.Path.{_≡_};
-ghost use mathlib.Core.List.{_++_};
 ghost use Prim.Native.Nat.{_+_, _-_, _*_, _≤_};
 ghost use lib.ListN.{length};
 ghost use Rattle.message.specs.Reading.{readingOf};

@@ -1,7 +1,5 @@
 // The stored image: 65 blocks of 512 bytes. Block 0 holds the session's numbers and label words, the others are slots of a ring.
 ghost use mathlib.Core.Path.{_≡_};
-ghost use mathlib.Core.Bool.{true};
-ghost use mathlib.Core.List.{[]};
 ghost use Prim.Native.Nat.{_+_, _*_, _≤_, _<_};
 ghost use lib.ListN.{length, getD, set};
 ghost use Rattle.label_list.specs.Word.{wordCount};

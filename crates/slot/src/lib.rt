@@ -2,12 +2,12 @@
 ghost use mathlib.Core.Path.{_≡_};
 ghost use mathlib.Core.Bool.{true, false};
 ghost use mathlib.Core.List.{[], _∷_};
-ghost use Prim.Native.Nat.{_+_, _*_, _≤_, _<_};
+ghost use Prim.Native.Nat.{_+_, _≤_, _<_};
 ghost use lib.ListN.{length};
 ghost use Rattle.message.specs.Kinds.{kindNumber};
 ghost use Rattle.block.specs.Check.{blockSize};
 ghost use Rattle.block.specs.Run.{putRun};
-ghost use Rattle.slot.specs.Layout.{shortest, longest, headWidths, lengthOf, kindOf, labelOf, messageAt, messageOf, slotBlock};
+ghost use Rattle.slot.specs.Layout.{longest, headWidths, lengthOf, kindOf, labelOf, messageAt, messageOf, slotBlock};
 ghost use Rattle.slot.specs.Fields.{bears, slotOk, Padded, slotVerdict};
 use message::Kind;
 use message::Submission;

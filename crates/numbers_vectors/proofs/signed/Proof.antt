@@ -2,11 +2,6 @@ use Rattle.numbers_vectors.proofs.Laws.{wide-fits, minus-fits, size-bel
 use borrow.Author.Needs.{needs}
 use Rattle.numbers_vectors.proofs.signed.Statement.{statement}
 use Rattle.numbers_vectors.proofs.signed.Tie as tie
-use Rattle.numbers_vectors.proofs.signed.Reads as reads
-use Rattle.numbers_vectors.proofs.signed.Lts as lts
-use Rattle.io.proofs.print_decimal.Reads as print-decimal-reads
-use Rattle.numbers_vectors.proofs.number.Reads as number-reads
-use Rattle.numbers_vectors.proofs.text.Reads as text-reads
 
 -- src/main.rt:49:14
 slice-aggregate-text : tie.Need-slice-aggregate-text
