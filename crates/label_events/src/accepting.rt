@@ -15,10 +15,9 @@ use label_list::Found;
 use label_list::LABEL_COUNT;
 use label_list::LabelMessage;
 use label_list::Next;
-use label_list::Wanted;
 use label_list::code_accepted;
 use label_list::code_acked;
-use label_list::find;
+use label_list::find_label;
 use label_list::sent_side;
 use label_list::word_of;
 
@@ -31,7 +30,7 @@ fn plan_accept(words: &[u32], message: LabelMessage, label: u32) -> Plan
     if label >= LABEL_COUNT {
         return Plan::Refused;
     }
-    let place = find(words, Wanted::Label(sent_side(message), label));
+    let place = find_label(words, sent_side(message), label);
     match code_accepted(message, code_at(words, place)) {
         Next::Code(code) => Plan::Allowed(plan_change(words, place, label, code)),
         Next::NotAllowed => Plan::Refused,
@@ -71,7 +70,7 @@ pub fn accept(words: &mut [u32], message: LabelMessage, label: u32) -> Accepted
 pub fn release_by_ack(words: &mut [u32], message: LabelMessage, label: u32)
     ensures { λ _. ⌜ now (words .exit) ≡ ackedOf (now (words .entry)) message label ⌝ }
 {
-    match find(words, Wanted::Label(sent_side(message), label)) {
+    match find_label(words, sent_side(message), label) {
         Found::At(i) => {
             words[i] = word_of(label, code_acked(message, words[i] / LABEL_COUNT));
         }

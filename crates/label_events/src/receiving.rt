@@ -13,9 +13,8 @@ use label_list::Found;
 use label_list::LABEL_COUNT;
 use label_list::LabelMessage;
 use label_list::SweepRule;
-use label_list::Wanted;
 use label_list::code_received;
-use label_list::find;
+use label_list::find_label;
 use label_list::received_side;
 use label_list::sweep;
 
@@ -24,7 +23,7 @@ pub fn received_place(words: &[u32], message: LabelMessage, touched: Touched) ->
     ensures { λ r. ⌜ r ≡ receivedPlace (now (words .entry)) message touched ⌝ }
 {
     match touched {
-        Touched::Label(label) => find(words, Wanted::Label(received_side(message), label)),
+        Touched::Label(label) => find_label(words, received_side(message), label),
         Touched::Every => Found::Nowhere,
         Touched::Nothing => Found::Nowhere,
     }

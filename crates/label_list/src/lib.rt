@@ -15,6 +15,7 @@ pub use rules::received_side;
 pub use rules::sent_side;
 pub use search::count_listed;
 pub use search::find;
+pub use search::find_label;
 pub use sweeping::sweep;
 pub use validity::valid;
 pub use word::FIRST_LABEL;
@@ -54,9 +55,8 @@ pub enum Next {
     NotAllowed,
 }
 
-// What is looked for in the words: a label on a side, a free word, or a word on a side that no message may touch without protection.
+// What is looked for in the words beside a label: a free word, or a word on a side that no message may touch without protection.
 pub enum Wanted {
-    Label(Side, u32),
     Free,
     ProtectedOn(Side),
 }

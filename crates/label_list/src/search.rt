@@ -8,20 +8,18 @@ use crate::Wanted;
 use crate::rules::needs_protection;
 use crate::word::LABEL_COUNT;
 use crate::word::on_side;
-use crate::word::stands_for;
 
 fn is_wanted(wanted: Wanted, word: u32) -> bool
     ensures { λ r. ⌜ r ≡ passes wanted word ⌝ }
 {
     match wanted {
-        Wanted::Label(side, label) => stands_for(side, label, word),
         Wanted::Free => word == 0,
         Wanted::ProtectedOn(side) => needs_protection(side, word / LABEL_COUNT),
     }
 }
 
-// The first word that is wanted, by a look at the whole of each word.
-fn find_passing(words: &[u32], wanted: Wanted) -> Found
+// The first word that is wanted.
+pub fn find(words: &[u32], wanted: Wanted) -> Found
     ensures { λ r. ⌜ r ≡ findOf (passes wanted) (now (words .entry)) ⌝ }
 {
     let mut i: usize = 0;
@@ -49,7 +47,7 @@ fn next_bearing(words: &[u32], label: u32, from: usize) -> Found
 }
 
 // The first word that lists the label on that side: the side is looked at only where the label stands.
-fn find_label(words: &[u32], side: Side, label: u32) -> Found
+pub fn find_label(words: &[u32], side: Side, label: u32) -> Found
     ensures { λ r. ⌜ r ≡ findOf (standsFor side label) (now (words .entry)) ⌝ }
 {
     let mut from: usize = 0;
@@ -67,17 +65,6 @@ fn find_label(words: &[u32], side: Side, label: u32) -> Found
         }
     }
     Found::Nowhere
-}
-
-// The first word that is wanted.
-pub fn find(words: &[u32], wanted: Wanted) -> Found
-    ensures { λ r. ⌜ r ≡ findOf (passes wanted) (now (words .entry)) ⌝ }
-{
-    match wanted {
-        Wanted::Label(side, label) => find_label(words, side, label),
-        Wanted::Free => find_passing(words, wanted),
-        Wanted::ProtectedOn(_) => find_passing(words, wanted),
-    }
 }
 
 // How many words are not free.

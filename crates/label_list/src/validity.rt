@@ -10,8 +10,7 @@ ghost use Rattle.label_list.specs.Valid.{absent, validWord, validOf};
 ghost use Rattle.label_list.specs.Marks.{placeOf, Marked};
 use crate::Found;
 use crate::Side;
-use crate::Wanted;
-use crate::search::find;
+use crate::search::find_label;
 use crate::word::FIRST_LABEL;
 use crate::word::LABEL_COUNT;
 use crate::word::on_side;
@@ -30,7 +29,7 @@ fn place_of(side: Side, label: u32) -> usize
 fn is_absent(side: Side, label: u32, words: &[u32]) -> bool
     ensures { λ r. ⌜ r ≡ absent side label (now (words .entry)) ⌝ }
 {
-    match find(words, Wanted::Label(side, label)) {
+    match find_label(words, side, label) {
         Found::At(_) => false,
         Found::Nowhere => true,
     }

@@ -1,7 +1,7 @@
 // One label word: its label, its code, and the side on which it stands.
 ghost use mathlib.Core.Path.{_≡_};
 ghost use Prim.Native.Nat.{_<_};
-ghost use Rattle.label_list.specs.Word.{labelCount, wordOf, onSide, standsFor};
+ghost use Rattle.label_list.specs.Word.{labelCount, wordOf, onSide};
 use crate::Side;
 
 // The number of label words in the stored image.
@@ -28,17 +28,6 @@ pub fn on_side(side: Side, code: u32) -> bool
         },
         _ => false,
     }
-}
-
-// Whether the word lists that label on that side.
-pub fn stands_for(side: Side, label: u32, word: u32) -> bool
-    ensures { λ r. ⌜ r ≡ standsFor side label word ⌝ }
-{
-    // Few words have the label, so it is looked at first.
-    if word % LABEL_COUNT == label {
-        return on_side(side, word / LABEL_COUNT);
-    }
-    false
 }
 
 // The word of a label under a code; under code 0 a free word.

@@ -14,7 +14,7 @@ plan-accept-spec =
     (λ c. plan-high _ _ _ (c .if2 .taken))
     (λ c κs. tt)
     (λ c κs. tt)
-    (λ c κs. found-in _ _ (c .find .ensures))
+    (λ c κs. found-in _ _ (c .find-label .ensures))
     (λ c κs. tt)
     (λ c. search needs)
     (λ c κs. (
@@ -22,6 +22,6 @@ plan-accept-spec =
       subst SmallNext (sym (c .before .before .before .code-accepted .ensures) ∙ c .before .code .given .1) (accepted-small (c .before .before .before .before .before .before .before .before .before .before .args .message) (c .before .before .before .before .code-at .result)),
     ))
     (λ c. search needs)
-    (λ c. plan-allowed _ _ _ (omega arith) (omega arith) (c .before .before .before .before .before .before .before .sent-side .ensures) (c .before .before .before .before .before .before .find .ensures) (c .before .before .before .before .before .code-at .ensures .0) (c .before .before .before .before .code-accepted .ensures) (c .before .before .code .given .1) (c .plan-change .ensures))
-    (λ c. plan-refused _ _ _ (omega arith) (omega arith) (c .before .before .before .before .before .sent-side .ensures) (c .before .before .before .before .find .ensures) (c .before .before .before .code-at .ensures .0) (c .before .before .code-accepted .ensures) (c .enum-told .given .1)) in
+    (λ c. plan-allowed _ _ _ (omega arith) (omega arith) (c .before .before .before .before .before .before .before .sent-side .ensures) (c .before .before .before .before .before .before .find-label .ensures) (c .before .before .before .before .before .code-at .ensures .0) (c .before .before .before .before .code-accepted .ensures) (c .before .before .code .given .1) (c .plan-change .ensures))
+    (λ c. plan-refused _ _ _ (omega arith) (omega arith) (c .before .before .before .before .before .sent-side .ensures) (c .before .before .before .before .find-label .ensures) (c .before .before .before .code-at .ensures .0) (c .before .before .code-accepted .ensures) (c .enum-told .given .1)) in
     tie.close answers

@@ -12,18 +12,18 @@ release-by-ack-spec =
     (λ c κs. tt)
     (λ c κs. tt)
     (λ c. search needs)
-    (λ c. omega (arith, found-place _ _ _ (found-in _ _ (c .before .before .before .find .ensures)) (c .before .i .given .1)))
-    (λ c. found-place _ _ _ (found-in _ _ (c .before .before .before .before .find .ensures)) (c .before .before .i .given .1))
+    (λ c. omega (arith, found-place _ _ _ (found-in _ _ (c .before .before .before .find-label .ensures)) (c .before .i .given .1)))
+    (λ c. found-place _ _ _ (found-in _ _ (c .before .before .before .before .find-label .ensures)) (c .before .before .i .given .1))
     (λ c κs. tt)
     (λ c κs. (
-      acked-small-label _ (c .before .before .before .before .before .before .before .before .before .args .message) _ (c .before .before .before .before .before .before .sent-side .ensures) (c .before .before .before .before .before .find .ensures) _ (c .before .before .before .i .given .1),
+      acked-small-label _ (c .before .before .before .before .before .before .before .before .before .args .message) _ (c .before .before .before .before .before .before .sent-side .ensures) (c .before .before .before .before .before .find-label .ensures) _ (c .before .before .before .i .given .1),
       rw (c .code-acked .ensures) (acked-small (c .before .before .before .before .before .before .before .before .before .args .message) _ (omega (arith, c .before .slice-known2 .given (c .before .before .before .i .given .0 .0)))),
     ))
-    (λ c. omega (arith, found-place _ _ _ (found-in _ _ (c .before .before .before .before .before .before .find .ensures)) (c .before .before .before .before .i .given .1)))
-    (λ c. found-place _ _ _ (found-in _ _ (c .before .before .before .before .before .before .find .ensures)) (c .before .before .before .before .i .given .1))
+    (λ c. omega (arith, found-place _ _ _ (found-in _ _ (c .before .before .before .before .before .before .find-label .ensures)) (c .before .before .before .before .i .given .1)))
+    (λ c. found-place _ _ _ (found-in _ _ (c .before .before .before .before .before .before .find-label .ensures)) (c .before .before .before .before .i .given .1))
     (λ c. search needs)
     (λ c. search needs)
-    (λ c. acked-found _ _ _ (c .before .before .before .before .before .before .before .sent-side .ensures) (c .before .before .before .before .before .before .find .ensures) _ (c .before .before .before .before .i .given .1) (c .before .code-acked .ensures) (c .word-of .ensures))
+    (λ c. acked-found _ _ _ (c .before .before .before .before .before .before .before .sent-side .ensures) (c .before .before .before .before .before .before .find-label .ensures) _ (c .before .before .before .before .i .given .1) (c .before .code-acked .ensures) (c .word-of .ensures))
     (λ c. search needs)
-    (λ c. acked-absent _ _ _ (c .before .before .before .sent-side .ensures) (c .before .before .find .ensures) (c .enum-told .given .1)) in
+    (λ c. acked-absent _ _ _ (c .before .before .before .sent-side .ensures) (c .before .before .find-label .ensures) (c .enum-told .given .1)) in
     tie.close answers

@@ -8,11 +8,8 @@ unfolding isFree
 is-wanted-spec =
     let answers = tie.spec
     (λ c. search needs)
-    (λ c κs. tt)
-    (λ c. search needs)
     (λ c. search needs)
     (λ c κs. tt)
-    (λ c. rw (c .before .before .wanted .given .1) (c .stands-for .ensures))
     (λ c. rw (c .enum-told .given .1))
-    (λ c. rw (c .before .before .wanted2 .given .1) (c .needs-protection .ensures)) in
+    (λ c. rw (c .before .before .wanted .given .1) (c .needs-protection .ensures)) in
     tie.close answers

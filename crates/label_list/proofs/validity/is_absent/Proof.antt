@@ -10,6 +10,6 @@ is-absent-spec =
     (λ c κs. tt)
     (λ c. search needs)
     (λ c. search needs)
-    (λ c. rw (sym (found-any _ _ (c .before .before .find .ensures)), c .enum-told .given .1))
-    (λ c. rw (sym (found-any _ _ (c .before .before .find .ensures)), c .enum-told2 .given .1)) in
+    (λ c. rw (sym (found-any _ _ (c .before .before .find-label .ensures)), c .enum-told .given .1))
+    (λ c. rw (sym (found-any _ _ (c .before .before .find-label .ensures)), c .enum-told2 .given .1)) in
     tie.close answers
