@@ -5,7 +5,7 @@ use mathlib.Core.Bool.{true}
 use mathlib.Core.List.{List}
 use Prim.Native.Nat.{ℕ, _+_, _*_, _<_}
 use native.Mathlib.Omega.{arith}
-use lib.ListN.{length, getD, set, take, drop}
+use lib.ListN.{length, getD, set}
 use borrow.Author.Tests.{eqb-true}
 use Rattle.octets.specs.Be.{beAt, putBe}
 use Rattle.octets.specs.Bytes.{Bytes}
@@ -22,21 +22,17 @@ use Rattle.block0.specs.Layout.{widths, labelsAt, values, headerOf, labe
 use Rattle.block0.specs.Fields.{fieldsOk}
 
 -- the fields stand before the label words: `n` is the block with its fields written
-module _ (b : List ℕ) (h : Header) {m n : List ℕ} (em : m ≡ putRun (take 4 widths) (take 4 (values h)) b 0)
-    (en : n ≡ putRun (drop 4 widths) (drop 4 (values h)) m 16) where
-  fields-put : n ≡ putRun widths (values h) b 0
-  fields-put = en ∙ ap (λ (s : List ℕ). putRun (drop 4 widths) (drop 4 (values h)) s 16) em
-
+module _ (b : List ℕ) (h : Header) {n : List ℕ} (e : n ≡ putRun widths (values h) b 0) where
   words-stay : wordsAt wordCount n labelsAt ≡ wordsAt wordCount b labelsAt
   words-stay =
       words-agree wordCount n b labelsAt (λ k l.
-      ap (λ (s : List ℕ). getD s (labelsAt + k) 0) fields-put ∙ getD-putRun widths (values h) b 0 (labelsAt + k) (λ i m. omega arith))
+      ap (λ (s : List ℕ). getD s (labelsAt + k) 0) e ∙ getD-putRun widths (values h) b 0 (labelsAt + k) (λ i m. omega arith))
 
   pub labels-kept : {x : List ℕ} → Bytes n → x ≡ sealed n → x ≡ block0 b h (labelsOf b)
   unfolding block0 labelsOf
   labels-kept byte p =
       p
-      ∙ ap sealed (sym (words-same wordCount n labelsAt byte) ∙ ap₂ (λ (ls s : List ℕ). withWords wordCount ls s labelsAt) words-stay fields-put)
+      ∙ ap sealed (sym (words-same wordCount n labelsAt byte) ∙ ap₂ (λ (ls s : List ℕ). withWords wordCount ls s labelsAt) words-stay e)
 
   -- one label word is another
   pub label-put : (i w : ℕ) {o x : List ℕ} → i < wordCount → o ≡ putBe 4 n (labelsAt + i * 4) w → Bytes n → Bytes o → x ≡ sealed o
@@ -47,14 +43,14 @@ module _ (b : List ℕ) (h : Header) {m n : List ℕ} (em : m ≡ putRun (take 4
       ∙ ap sealed
       (eo
       ∙ sym (word-put wordCount n labelsAt i w byte (rw eo at after) l)
-      ∙ ap₂ (λ (ls s : List ℕ). withWords wordCount (set ls i w) s labelsAt) words-stay fields-put)
+      ∙ ap₂ (λ (ls s : List ℕ). withWords wordCount (set ls i w) s labelsAt) words-stay e)
 
   -- no label word is left
   pub labels-zeroed : {z x : List ℕ} → length n ≡ 512 → z ≡ zeroed n labelsAt 480 → x ≡ sealed z → x ≡ block0 b h noLabels
   unfolding block0
   labels-zeroed long ez p =
       p
-      ∙ ap sealed (ez ∙ zeroed-words wordCount n labelsAt (omega arith) ∙ ap (λ (s : List ℕ). withWords wordCount noLabels s labelsAt) fields-put)
+      ∙ ap sealed (ez ∙ zeroed-words wordCount n labelsAt (omega arith) ∙ ap (λ (s : List ℕ). withWords wordCount noLabels s labelsAt) e)
 
 -- the version and the zero are those that are written
 values-same : (b : List ℕ) → fieldsOk b ≡ true → values (headerOf b) ≡ getRun widths b 0

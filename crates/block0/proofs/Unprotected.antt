@@ -13,6 +13,7 @@ use Rattle.octets.specs.Bytes.{Bytes}
 use Rattle.octets.specs.Part.{part}
 use Rattle.octets.specs.Pick.{pick}
 use Rattle.label_list.specs.Word.{wordCount, codeOf}
+use Rattle.label_list.specs.Find.{any}
 use Rattle.block.specs.Check.{checkAt}
 use Rattle.block.specs.Run.{wordsAt}
 use Rattle.block.specs.Zeros.{allZero}
@@ -33,7 +34,7 @@ other-byte b i byte l e other =
 
 -- no label is used where every word is free
 pub none-used : (b : List ℕ) → allZero (part b labelsAt checkAt) ≡ true → unprotected (labelsOf b) ≡ false
-unfolding unprotected
+unfolding any
 none-used b zero = ap unprotected (free-words b zero)
 
 -- ---- the words passed are none: the rest decides
@@ -46,7 +47,7 @@ passed-none b = record { inside = omega arith; rest = refl }
 
 module _ (b : List ℕ) (i : ℕ) (p : Passed b i) where
   turn : i < wordCount → unprotected (labelsOf b) ≡ pick (isUnprotected (getD (labelsOf b) i 0)) true (unprotected (drop (i + 1) (labelsOf b)))
-  unfolding unprotected labelsOf
+  unfolding any labelsOf
   turn l = p .rest ∙ rw (add-one, drop-cons (labelsOf b) i 0 (rw (length-wordsAt wordCount b labelsAt) l))
 
   pub passed-one : i < wordCount → false ≡ isUnprotected (getD (labelsOf b) i 0) → Passed b (i + 1)
@@ -56,5 +57,5 @@ module _ (b : List ℕ) (i : ℕ) (p : Passed b i) where
   found-one l t = sym (turn l ∙ rw (sym t))
 
   pub passed-all : wordCount ≤ i → false ≡ unprotected (labelsOf b)
-  unfolding unprotected labelsOf
+  unfolding any labelsOf
   passed-all l = sym (p .rest ∙ rw (drop-of-length-le (labelsOf b) {i = i} (rw (length-wordsAt wordCount b labelsAt) l)))

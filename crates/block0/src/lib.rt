@@ -92,13 +92,21 @@ fn put_rest(block: &mut [u8], h: Header)
     octets::put_u16(block, 26, h.maxpdu);
 }
 
+// The fields, from the version to the label words.
+fn put_fields(block: &mut [u8], h: Header)
+    requires { ⌜ length (now block) ≡ blockSize ⌝ }
+    ensures { λ _. ⌜ now (block .exit) ≡ putRun widths (values h) (now (block .entry)) 0 ⌝ }
+{
+    put_numbers(block, h);
+    put_rest(block, h);
+}
+
 // Writes block 0 whole: its fields, its label words and its check.
 pub fn write_block0(block: &mut [u8], h: Header, labels: &[u32])
     requires { ⌜ (length (now block) ≡ blockSize) × (length (now labels) ≡ wordCount) ⌝ }
     ensures { λ _. ⌜ now (block .exit) ≡ block0 (now (block .entry)) h (now (labels .entry)) ⌝ }
 {
-    put_numbers(block, h);
-    put_rest(block, h);
+    put_fields(block, h);
     block::words::store_words(block, LABELS_AT, labels);
     block::seal(block);
 }
@@ -108,8 +116,7 @@ pub fn write_header(block: &mut [u8], h: Header)
     requires { ⌜ length (now block) ≡ blockSize ⌝ }
     ensures { λ _. ⌜ now (block .exit) ≡ block0 (now (block .entry)) h (labelsOf (now (block .entry))) ⌝ }
 {
-    put_numbers(block, h);
-    put_rest(block, h);
+    put_fields(block, h);
     block::seal(block);
 }
 
@@ -118,8 +125,7 @@ pub fn write_label(block: &mut [u8], h: Header, place: usize, word: u32)
     requires { ⌜ (length (now block) ≡ blockSize) × (place < wordCount) ⌝ }
     ensures { λ _. ⌜ now (block .exit) ≡ block0 (now (block .entry)) h (set (labelsOf (now (block .entry))) place word) ⌝ }
 {
-    put_numbers(block, h);
-    put_rest(block, h);
+    put_fields(block, h);
     octets::put_u32(block, LABELS_AT + place * 4, word);
     block::seal(block);
 }
@@ -140,8 +146,7 @@ pub fn write_released(block: &mut [u8])
         keepalive: 0,
         maxpdu: 0,
     };
-    put_numbers(block, h);
-    put_rest(block, h);
+    put_fields(block, h);
     octets::zero_to(block, LABELS_AT, block::CHECK_AT - LABELS_AT);
     block::seal_before(block, LABELS_AT);
 }

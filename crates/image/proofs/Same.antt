@@ -14,6 +14,7 @@ use Rattle.octets.specs.Differ.{differ}
 use Rattle.octets.proofs.Choice.{by-test, cleared}
 use Rattle.octets.proofs.Differ.{differ-false}
 use Rattle.label_list.specs.Word.{wordCount, codeOf, wordOf}
+use Rattle.label_list.specs.Find.{any}
 use Rattle.label_list.specs.Rules.{codeSwept}
 use Rattle.label_list.specs.Sweep.{wordSwept, sweptOf}
 use Rattle.label_list.specs.declared.SweepRule.the-variants.{AfterBreak}
@@ -78,7 +79,7 @@ word-kept w range other =
     free z = by-test (eqb w 0) (λ e. sym (eqb-true w 0 e)) (λ e. let r : InRange w = range (eqb-false w 0 e) in absurd (omega arith))
 
 none-at : (ls : List ℕ) → unprotected ls ≡ false → (i : ℕ) → codeOf (getD ls i 0) ≡ 6 → ⊥
-unfolding unprotected
+unfolding any
 none-at [] e i six = omega (arith, six)
 none-at (w ∷ ws) e zero six = eqb-false (codeOf w) 6 (cleared (eqb (codeOf w) 6) true (unprotected ws) false (λ z. cc) e .0) six
 none-at (w ∷ ws) e (suc i) six = none-at ws (cleared (eqb (codeOf w) 6) true (unprotected ws) false (λ z. cc) e .1) i six
@@ -96,7 +97,7 @@ break-same image s byte none =
 
 -- a word of code 6 becomes a free one, which has another code
 swept-other : (ls : List ℕ) → unprotected ls ≡ true → ls ≡ sweptOf ls AfterBreak → ⊥
-unfolding unprotected wordSwept wordOf codeSwept
+unfolding any wordSwept wordOf codeSwept
 swept-other [] some same = absurd (false≢true some)
 swept-other (w ∷ ws) some same =
     by-test (eqb (codeOf w) 6)

@@ -11,7 +11,6 @@ write-block0-spec =
     (λ c κs. search needs)
     (λ c κs. search needs)
     (λ c κs. search needs)
-    (λ c κs. search needs)
     (λ c. search needs)
     (λ c. cc) in
     tie.close answers

@@ -9,7 +9,6 @@ write-header-spec =
     let answers = tie.spec
     (λ c κs. search needs)
     (λ c κs. search needs)
-    (λ c κs. search needs)
     (λ c. search needs)
-    (λ c. labels-kept _ _ (c .before .before .before .before .before .before .before .before .before .before .put-numbers .ensures) (c .before .before .before .before .before .before .put-rest .ensures) (λ k. c .before .before .before .before .slice-known3 .given k .fits) (c .before .before .seal .ensures)) in
+    (λ c. labels-kept _ _ (c .before .before .before .before .before .before .put-fields .ensures) (λ k. c .before .before .before .before .slice-known2 .given k .fits) (c .before .before .seal .ensures)) in
     tie.close answers

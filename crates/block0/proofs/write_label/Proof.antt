@@ -8,11 +8,10 @@ pub write-label-spec : {M : Type 1} → statement M
 write-label-spec =
     let answers = tie.spec
     (λ c κs. search needs)
-    (λ c κs. search needs)
     (λ c. search needs)
     (λ c. search needs)
     (λ c κs. search needs)
     (λ c κs. search needs)
     (λ c. search needs)
-    (λ c. label-put _ _ (c .before .before .before .before .before .before .before .before .before .before .before .before .before .before .put-numbers .ensures) (c .before .before .before .before .before .before .before .before .before .before .put-rest .ensures) _ _ (c .before .before .before .before .before .before .before .before .before .before .before .before .before .before .before .before .before .pre .1) (c .before .before .before .before .before .before .put-u32 .ensures) (λ k. c .before .before .before .before .before .before .before .before .slice-known3 .given k .fits) (λ k. c .before .before .before .before .slice-known4 .given k .fits) (c .before .before .seal .ensures)) in
+    (λ c. label-put _ _ (c .before .before .before .before .before .before .before .before .before .before .put-fields .ensures) _ _ (c .before .before .before .before .before .before .before .before .before .before .before .before .before .pre .1) (c .before .before .before .before .before .before .put-u32 .ensures) (λ k. c .before .before .before .before .before .before .before .before .slice-known2 .given k .fits) (λ k. c .before .before .before .before .slice-known3 .given k .fits) (c .before .before .seal .ensures)) in
     tie.close answers

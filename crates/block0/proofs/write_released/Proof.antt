@@ -10,10 +10,9 @@ pub write-released-spec : {M : Type 1} → statement M
 write-released-spec =
     let answers = tie.spec
     (λ c κs. search needs)
-    (λ c κs. search needs)
     (λ c. search needs)
     (λ c κs. search needs)
-    (λ c κs. (search needs, omega arith, rw (c .before .before .before .zero-to .ensures) (zeroed-zero (c .before .before .before .before .before .before .before .put-rest .last .0) 28 480 508 (search needs) (omega arith))))
+    (λ c κs. (search needs, omega arith, rw (c .before .before .before .zero-to .ensures) (zeroed-zero (c .before .before .before .before .before .before .before .put-fields .last .0) 28 480 508 (search needs) (omega arith))))
     (λ c. search needs)
-    (λ c. labels-zeroed _ _ (c .before .before .before .before .before .before .before .before .before .before .before .before .before .before .put-numbers .ensures) (c .before .before .before .before .before .before .before .before .before .before .put-rest .ensures) (search needs) (c .before .before .before .before .before .before .zero-to .ensures) (c .before .before .seal-before .ensures)) in
+    (λ c. labels-zeroed _ _ (c .before .before .before .before .before .before .before .before .before .before .put-fields .ensures) (search needs) (c .before .before .before .before .before .before .zero-to .ensures) (c .before .before .seal-before .ensures)) in
     tie.close answers
