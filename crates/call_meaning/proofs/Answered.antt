@@ -3,11 +3,11 @@ use mathlib.Core.Path.{_≡_, refl, sym, _∙_}
 use mathlib.Core.List.{List}
 use Prim.Native.Nat.{ℕ, _≤_, _<_}
 use Rattle.octets.proofs.Choice.{by-test}
-use Rattle.calls.specs.declared.Answer
-use Rattle.calls.specs.declared.Answer.{Answer}
-use Rattle.calls.specs.declared.Effect
-use Rattle.calls.specs.declared.Effect.{Effect}
-use Rattle.calls.specs.declared.Phase.{Phase}
+use Rattle.protocol.specs.declared.Answer
+use Rattle.protocol.specs.declared.Answer.{Answer}
+use Rattle.protocol.specs.declared.Effect
+use Rattle.protocol.specs.declared.Effect.{Effect}
+use Rattle.protocol.specs.declared.Phase.{Phase}
 use Rattle.calls.specs.Answers.{answerNumber, effectOf}
 use Rattle.calls.specs.Outcomes.{After, isDone, unchanged, failedWith, releasedWith, settledBy, settleOf}
 use Rattle.calls.proofs.Effects.{effect-nothing, effect-fail, effect-release, done-is}

@@ -13,11 +13,11 @@ use Rattle.image.specs.State.{State, decode, InRange}
 use Rattle.image.specs.Verdict.{IsSound}
 use Rattle.image.proofs.Changes.{in-range-released, release-decodes, release-sound, break-decodes, break-sound, in-range-broken}
 use Rattle.image.proofs.Sound.{parts-sound, sound-valid}
-use Rattle.calls.specs.declared.Answer.{Answer}
-use Rattle.calls.specs.declared.Effect
-use Rattle.calls.specs.declared.Effect.{Effect}
-use Rattle.calls.specs.declared.Phase
-use Rattle.calls.specs.declared.Phase.{Phase}
+use Rattle.protocol.specs.declared.Answer.{Answer}
+use Rattle.protocol.specs.declared.Effect
+use Rattle.protocol.specs.declared.Effect.{Effect}
+use Rattle.protocol.specs.declared.Phase
+use Rattle.protocol.specs.declared.Phase.{Phase}
 use Rattle.calls.specs.Answers.{effectOf}
 use Rattle.calls.specs.Phases.{phaseFits, restingPhase}
 use Rattle.calls.specs.Outcomes.{After, isDone, unchanged, failedWith, releasedWith, settledBy, settleOf}

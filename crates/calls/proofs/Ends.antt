@@ -14,13 +14,13 @@ use Rattle.image.specs.State.{decode}
 use Rattle.image.specs.Events.{releaseOf, breakOf}
 use Rattle.image.specs.Verdict.{IsSound}
 use Rattle.image.proofs.Same.{break-same, break-changed, release-same, release-changed}
-use Rattle.calls.specs.declared.Answer
-use Rattle.calls.specs.declared.Answer.{Answer}
-use Rattle.calls.specs.declared.Effect
-use Rattle.calls.specs.declared.Effect.{Effect}
+use Rattle.protocol.specs.declared.Answer
+use Rattle.protocol.specs.declared.Answer.{Answer}
+use Rattle.protocol.specs.declared.Effect
+use Rattle.protocol.specs.declared.Effect.{Effect}
 use Rattle.calls.specs.declared.Outcome.{Outcome}
-use Rattle.calls.specs.declared.Phase
-use Rattle.calls.specs.declared.Phase.{Phase}
+use Rattle.protocol.specs.declared.Phase
+use Rattle.protocol.specs.declared.Phase.{Phase}
 use Rattle.calls.specs.Answers.{answerNumber, effectBy, effectOf}
 use Rattle.calls.specs.Phases.{restingPhase}
 use Rattle.calls.specs.Outcomes.{After, after, isDone, refusal, unchanged, failedWith, releasedWith, settledBy, settleOf}

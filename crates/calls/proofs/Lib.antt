@@ -1,4 +1,3 @@
-pub mod Effects
 pub mod Phasing
 pub mod Settled
 pub mod Releasing

@@ -22,11 +22,11 @@ pub fn phase_fits(phase: Phase, h: Header) -> bool
     match phase {
         Phase::Idle => h.kept == 0,
         Phase::InitWait(_) => true,
-        Phase::UpFT(sent) => {
+        Phase::UpFT(u) => {
             if h.kept != 1 {
                 return false;
             }
-            sent <= issued_count(h)
+            u.sent <= issued_count(h)
         }
         Phase::UpPlain => h.kept == 0,
         Phase::Failed => h.kept == 1,

@@ -30,12 +30,12 @@ use Rattle.image.specs.declared.Verdict
 use Rattle.image.specs.declared.Verdict.{Verdict}
 use Rattle.image.proofs.Changes.{in-range-released, new-decodes, new-sound, break-decodes}
 use Rattle.image.proofs.Sound.{parts-sound}
-use Rattle.calls.specs.declared.Answer
-use Rattle.calls.specs.declared.Answer.{Answer}
-use Rattle.calls.specs.declared.Phase
-use Rattle.calls.specs.declared.Phase.{Phase}
+use Rattle.protocol.specs.declared.Answer
+use Rattle.protocol.specs.declared.Answer.{Answer}
+use Rattle.protocol.specs.declared.Phase
+use Rattle.protocol.specs.declared.Phase.{Phase}
 use Rattle.calls.specs.Answers.{answerNumber, effectOf}
-use Rattle.calls.specs.Phases.{phaseFits, restingPhase}
+use Rattle.calls.specs.Phases.{phaseFits, restingPhase, waitingFor}
 use Rattle.calls.specs.Outcomes.{After, checked, admitted, roomFor, wrote, unchanged, failedWith, settleOf}
 use Rattle.calls.proofs.Effects.{effect-nothing}
 use Rattle.calls.proofs.Settled.{admitted-all}
@@ -132,11 +132,11 @@ module _ (im : List ℕ) (ph : Phase) (may : Bool) (next : Phase) (out bytes : L
 module _ (im : List ℕ) (ph : Phase) (id : MessageId) (p : OwnParameters) (t : Proposal) (out : List ℕ) where
   pub open-leaves : Leaves im (openOf im ph id p t out)
   unfolding openOf
-  open-leaves = writer-leaves im ph (opens ph) (Phase.InitWait (proposedOf t)) out (openBytes (decode im .header) id p t)
+  open-leaves = writer-leaves im ph (opens ph) (waitingFor (proposedOf t)) out (openBytes (decode im .header) id p t)
 
   pub open-stands : Standing im ph → Stands (openOf im ph id p t out)
   unfolding openOf phaseFits
-  open-stands st = writer-stands im ph (opens ph) (Phase.InitWait (proposedOf t)) out (openBytes (decode im .header) id p t) st refl
+  open-stands st = writer-stands im ph (opens ph) (waitingFor (proposedOf t)) out (openBytes (decode im .header) id p t) st refl
 
 module _ (im : List ℕ) (ph : Phase) (id : MessageId) (out : List ℕ) where
   pub alive-leaves : Leaves im (keepaliveOf im ph id out)

@@ -22,16 +22,17 @@ use Rattle.message_writer.specs.declared.Written.{Written}
 use Rattle.block0.specs.declared.Header.{Header}
 use Rattle.image.specs.Sizes.{block}
 use Rattle.image.specs.State.{decode}
-use Rattle.calls.specs.declared.Answer
-use Rattle.calls.specs.declared.Answer.{Answer}
+use Rattle.protocol.specs.declared.Answer
+use Rattle.protocol.specs.declared.Answer.{Answer}
 use Rattle.calls.specs.declared.Outcome.{Outcome}
-use Rattle.calls.specs.declared.Phase
-use Rattle.calls.specs.declared.Phase.{Phase}
+use Rattle.protocol.specs.declared.Phase
+use Rattle.protocol.specs.declared.Phase.{Phase}
 use Rattle.calls.specs.Answers.{effectOf}
 use Rattle.calls.specs.Outcomes.{after, isDone, refusal, admitted, roomFor, wrote, settleOf}
 use Rattle.calls.proofs.Ends.{settle-done}
 use Rattle.connect.specs.Writers.{writerOf, writtenAs, opens, keptAck, openBytes, openOf, isUp, aliveAck, aliveBytes, keepaliveOf}
 use Rattle.call_meaning.proofs.Calling.{call-refused, call-own, own-refused}
+use Rattle.calls.specs.Phases.{waitingFor}
 
 -- the ACK of our Init
 pub kept-set : (h : Header) → h .kept ≡ 1 → FtField.Number (h .secured) ≡ keptAck h
@@ -82,18 +83,18 @@ module _ (im : List ℕ) (ph : Phase) (may : Bool) (next : Phase) (out bytes : L
 module _ (im : List ℕ) (ph : Phase) (id : MessageId) (o : OwnParameters) (t : Proposal) (out : List ℕ) {r : Answer} (e : r ≡ admitted im ph Answer.Done) where
   pub open-refused : {x : Outcome} → isDone r ≡ false → x ≡ refusal r ph → after x im out ≡ openOf im ph id o t out
   unfolding openOf
-  open-refused n p = writer-refused im ph (opens ph) (Phase.InitWait (proposedOf t)) out (openBytes (decode im .header) id o t) e n p
+  open-refused n p = writer-refused im ph (opens ph) (waitingFor (proposedOf t)) out (openBytes (decode im .header) id o t) e n p
 
   pub open-barred : {x : Outcome} → isDone r ≡ true → opens ph ≡ false → x ≡ refusal Answer.WrongPhase ph → after x im out ≡ openOf im ph id o t out
   unfolding openOf
-  open-barred d f p = writer-barred im ph (opens ph) (Phase.InitWait (proposedOf t)) out (openBytes (decode im .header) id o t) e d f p
+  open-barred d f p = writer-barred im ph (opens ph) (waitingFor (proposedOf t)) out (openBytes (decode im .header) id o t) e d f p
 
   pub open-wrote : {x : Outcome} {s : ℕ} {h : Header} {ack : FtField} {w : Written} {out′ : List ℕ} → isDone r ≡ true → opens ph ≡ true
-      → s ≡ proposedOf t → h ≡ decode im .header → ack ≡ keptAck h → (w, out′) ≡ writtenOf out (initBytes id o s ack) → x ≡ writtenAs w ph (Phase.InitWait s)
+      → s ≡ proposedOf t → h ≡ decode im .header → ack ≡ keptAck h → (w, out′) ≡ writtenOf out (initBytes id o s ack) → x ≡ writtenAs w ph (waitingFor s)
       → after x im out′ ≡ openOf im ph id o t out
   unfolding openOf
   open-wrote d f es eh ea q p =
-      writer-wrote im ph (opens ph) (Phase.InitWait (proposedOf t)) out (openBytes (decode im .header) id o t) e d f
+      writer-wrote im ph (opens ph) (waitingFor (proposedOf t)) out (openBytes (decode im .header) id o t) e d f
       (rw (ea, eh, es) at q) (rw es at p)
 
 -- ---- KeepAlive

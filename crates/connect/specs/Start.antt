@@ -8,10 +8,10 @@ use Rattle.octets.specs.Pick.{pick}
 use Rattle.image.specs.Sizes.{imageSize}
 use Rattle.image.specs.Events.{newImage}
 use Rattle.image.specs.Verdict.{verdict}
-use Rattle.calls.specs.declared.Answer
-use Rattle.calls.specs.declared.Answer.{Answer}
-use Rattle.calls.specs.declared.Phase
-use Rattle.calls.specs.declared.Phase.{Phase}
+use Rattle.protocol.specs.declared.Answer
+use Rattle.protocol.specs.declared.Answer.{Answer}
+use Rattle.protocol.specs.declared.Phase
+use Rattle.protocol.specs.declared.Phase.{Phase}
 use Rattle.calls.specs.Outcomes.{After, after, settleOf, checked, failedWith}
 
 -- a new image, and no session; every block is to be stored

@@ -18,12 +18,13 @@ use Rattle.message_writer.specs.declared.Written
 use Rattle.message_writer.specs.declared.Written.{Written}
 use Rattle.block0.specs.declared.Header.{Header}
 use Rattle.image.specs.State.{decode}
-use Rattle.calls.specs.declared.Answer
-use Rattle.calls.specs.declared.Answer.{Answer}
+use Rattle.protocol.specs.declared.Answer
+use Rattle.protocol.specs.declared.Answer.{Answer}
 use Rattle.calls.specs.declared.Outcome.{Outcome}
-use Rattle.calls.specs.declared.Phase
-use Rattle.calls.specs.declared.Phase.{Phase}
+use Rattle.protocol.specs.declared.Phase
+use Rattle.protocol.specs.declared.Phase.{Phase}
 use Rattle.calls.specs.Outcomes.{After, settleOf, admitted, refusal, roomFor, wrote}
+use Rattle.calls.specs.Phases.{waitingFor}
 
 -- "other writers 12, 1, 9": in a phase that allows it the bytes are written, if there is room, and the phase is then `next`; the image is left as it is
 unfoldable pub writerOf : List ℕ → Phase → Bool → Phase → List ℕ → List ℕ → After
@@ -38,8 +39,8 @@ writtenAs (Written.Bytes n) ph next = record { answer = Answer.Done; phase = nex
 -- ---- Open
 abbrev pub opens : Phase → Bool
 opens Phase.Idle = true
-opens (Phase.InitWait t) = false
-opens (Phase.UpFT sent) = false
+opens (Phase.InitWait v) = false
+opens (Phase.UpFT u) = false
 opens Phase.UpPlain = false
 opens Phase.Failed = true
 
@@ -53,21 +54,21 @@ openBytes h id p t = initBytes id p (proposedOf t) (keptAck h)
 
 -- then the peer's Init is awaited; the phase bears our proposed timeout
 unfoldable pub openOf : List ℕ → Phase → MessageId → OwnParameters → Proposal → List ℕ → After
-openOf im ph id p t out = writerOf im ph (opens ph) (Phase.InitWait (proposedOf t)) out (openBytes (decode im .header) id p t)
+openOf im ph id p t out = writerOf im ph (opens ph) (waitingFor (proposedOf t)) out (openBytes (decode im .header) id p t)
 
 -- ---- KeepAlive
 abbrev pub isUp : Phase → Bool
 isUp Phase.Idle = false
-isUp (Phase.InitWait t) = false
-isUp (Phase.UpFT sent) = true
+isUp (Phase.InitWait v) = false
+isUp (Phase.UpFT u) = true
 isUp Phase.UpPlain = true
 isUp Phase.Failed = false
 
 -- the ACK that a KeepAlive bears, S in UpFT
 abbrev pub aliveAck : Phase → FtNumber → FtField
 aliveAck Phase.Idle secured = FtField.Absent
-aliveAck (Phase.InitWait t) secured = FtField.Absent
-aliveAck (Phase.UpFT sent) secured = FtField.Number secured
+aliveAck (Phase.InitWait v) secured = FtField.Absent
+aliveAck (Phase.UpFT u) secured = FtField.Number secured
 aliveAck Phase.UpPlain secured = FtField.Absent
 aliveAck Phase.Failed secured = FtField.Absent
 

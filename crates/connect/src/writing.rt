@@ -6,6 +6,7 @@ use block0::Header;
 use calls::Answer;
 use calls::Outcome;
 use calls::Phase;
+use calls::Waiting;
 use ft_number::FtNumber;
 use ft_number::MessageId;
 use ft_number::Proposal;
@@ -100,7 +101,7 @@ pub fn open_session(
     let seconds = ft_number::proposed_timeout(proposal);
     let ack = kept_ack(image::header_of(image));
     let written = message_writer::write_init(out, id, parameters, seconds, ack);
-    answer_written(written, phase, Phase::InitWait(seconds))
+    answer_written(written, phase, Phase::InitWait(Waiting { timeout: seconds }))
 }
 
 // Writes a KeepAlive.

@@ -24,10 +24,10 @@ use Rattle.image.specs.Events.{released}
 use Rattle.image.proofs.Changes.{in-range-released, release-decodes, release-sound}
 use Rattle.image.proofs.Sound.{sound-valid, sound-store0, sound-release}
 use Rattle.image.proofs.Stored.{decode-store0, decode-release}
-use Rattle.calls.specs.declared.Phase
-use Rattle.calls.specs.declared.Phase.{Phase}
+use Rattle.protocol.specs.declared.Phase
+use Rattle.protocol.specs.declared.Phase.{Phase}
 use Rattle.calls.specs.Acked.{releasedLabels, withReleased, acked}
-use Rattle.calls.specs.Phases.{phaseFits}
+use Rattle.calls.specs.Phases.{phaseFits, upWith}
 use Rattle.calls.proofs.Phasing.{fits-up}
 use Rattle.call_meaning.specs.Standing.{Stored}
 use Rattle.call_meaning.proofs.Released.{ack-held, ack-window, released-valid, released-words}
@@ -70,7 +70,7 @@ module _ (t : Terms) (f : TermsFit t) where
   }
 
   -- whatever the image held
-  pub fresh-stored : (im : List ℕ) → length im ≡ imageSize → Stored (store im (fresh t)) (fresh t) (Phase.UpFT 0)
+  pub fresh-stored : (im : List ℕ) → length im ≡ imageSize → Stored (store im (fresh t)) (fresh t) (upWith 0)
   unfolding fresh ring
   fresh-stored im size = record {
     decodes = decode-store0 im size (freshHeader t) noLabels fresh-fits (in-range-released .labels);
@@ -123,7 +123,7 @@ module _ (im : List ℕ) (s : IsSound im) (r : InRange (decode im)) (t : Terms) 
   resumed-words : Words wordCount words
   resumed-words = released-words (take k (decode im .queue)) (decode im .labels) (r .labels .count) (valid .labels)
 
-  pub resumed-stored : Stored (store im (resumed (decode im) t k a)) (resumed (decode im) t k a) (Phase.UpFT 0)
+  pub resumed-stored : Stored (store im (resumed (decode im) t k a)) (resumed (decode im) t k a) (upWith 0)
   unfolding resumed acked
   resumed-stored = record {
     decodes = decode-release im next words k (s .size) resumed-fits resumed-words few refl refl;

@@ -23,8 +23,8 @@ use Rattle.message.specs.declared.Reading
 use Rattle.message.specs.declared.Reading.{Reading}
 use Rattle.block0.specs.declared.Header.{Header}
 use Rattle.block0.specs.Fields.{atMost}
-use Rattle.calls.specs.declared.Answer
-use Rattle.calls.specs.declared.Answer.{Answer}
+use Rattle.protocol.specs.declared.Answer
+use Rattle.protocol.specs.declared.Answer.{Answer}
 use Rattle.calls.specs.Answers.{answerNumber}
 use Rattle.calls.specs.Received.{isInit}
 use Rattle.call_meaning.proofs.Released.{ack-held}

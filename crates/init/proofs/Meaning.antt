@@ -12,9 +12,9 @@ use Rattle.message.specs.Reading.{readingOf}
 use Rattle.block0.specs.Layout.{noLabels}
 use Rattle.image.specs.Sizes.{imageSize}
 use Rattle.image.specs.State.{State, decode, store}
-use Rattle.calls.specs.declared.Answer
-use Rattle.calls.specs.declared.Answer.{Answer}
-use Rattle.calls.specs.declared.Phase.{Phase}
+use Rattle.protocol.specs.declared.Answer
+use Rattle.protocol.specs.declared.Answer.{Answer}
+use Rattle.protocol.specs.declared.Phase.{Phase}
 use Rattle.calls.specs.Acked.{acked}
 use Rattle.calls.specs.Answers.{answerNumber}
 use Rattle.calls.specs.Outcomes.{isDone, admitted}

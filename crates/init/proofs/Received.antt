@@ -14,10 +14,10 @@ use Rattle.image.specs.State.{decode, store0, store}
 use Rattle.image.specs.Events.{releaseOf}
 use Rattle.image.specs.Verdict.{IsSound}
 use Rattle.image.proofs.Sound.{sound-valid}
-use Rattle.calls.specs.declared.Answer
-use Rattle.calls.specs.declared.Answer.{Answer}
+use Rattle.protocol.specs.declared.Answer
+use Rattle.protocol.specs.declared.Answer.{Answer}
 use Rattle.calls.specs.declared.Outcome.{Outcome}
-use Rattle.calls.specs.declared.Phase.{Phase}
+use Rattle.protocol.specs.declared.Phase.{Phase}
 use Rattle.calls.specs.Answers.{effectOf}
 use Rattle.calls.specs.Acked.{releasedLabels, withReleased, acked}
 use Rattle.calls.specs.Outcomes.{After, after, isDone, refusal, unchanged, releasedWith, admitted, settleOf}

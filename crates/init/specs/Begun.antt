@@ -8,16 +8,17 @@ use Rattle.block0.specs.declared.Header.{Header}
 use Rattle.block0.specs.Layout.{noLabels}
 use Rattle.image.specs.State.{State, decode, store}
 use Rattle.image.specs.Events.{released, releaseOf}
-use Rattle.calls.specs.declared.Answer
-use Rattle.calls.specs.declared.Answer.{Answer}
-use Rattle.calls.specs.declared.Phase
-use Rattle.calls.specs.declared.Phase.{Phase}
+use Rattle.protocol.specs.declared.Answer
+use Rattle.protocol.specs.declared.Answer.{Answer}
+use Rattle.protocol.specs.declared.Phase
+use Rattle.protocol.specs.declared.Phase.{Phase}
 use Rattle.calls.specs.Acked.{acked}
 use Rattle.calls.specs.Outcomes.{After, after, restored, admitted, settleOf}
 use Rattle.init.specs.declared.Start
 use Rattle.init.specs.declared.Start.{Start}
 use Rattle.init.specs.declared.Terms.{Terms}
 use Rattle.init.specs.Judged.{startOf, startAnswer}
+use Rattle.calls.specs.Phases.{upWith}
 
 -- ---- the state that each start leads to
 -- "state released, then fresh UpFT, kept 1, peer's parameters stored"
@@ -82,24 +83,24 @@ StartFits held (Start.Resumed t k a) = k ≤ held
 -- ---- the phase
 abbrev pub awaits : Phase → Bool
 awaits Phase.Idle = false
-awaits (Phase.InitWait seconds) = true
-awaits (Phase.UpFT sent) = false
+awaits (Phase.InitWait v) = true
+awaits (Phase.UpFT u) = false
 awaits Phase.UpPlain = false
 awaits Phase.Failed = false
 
 -- "InitWait (.. it bears our proposed timeout)"; no other phase bears one
 abbrev pub proposalOf : Phase → ℕ
 proposalOf Phase.Idle = 0
-proposalOf (Phase.InitWait seconds) = seconds
-proposalOf (Phase.UpFT sent) = 0
+proposalOf (Phase.InitWait v) = v .timeout
+proposalOf (Phase.UpFT u) = 0
 proposalOf Phase.UpPlain = 0
 proposalOf Phase.Failed = 0
 
 abbrev pub startPhase : Phase → Start → Phase
 startPhase ph (Start.Refused a) = ph
 startPhase ph Start.Plain = Phase.UpPlain
-startPhase ph (Start.Fresh t) = Phase.UpFT 0
-startPhase ph (Start.Resumed t k a) = Phase.UpFT 0
+startPhase ph (Start.Fresh t) = upWith 0
+startPhase ph (Start.Resumed t k a) = upWith 0
 
 -- ---- the call
 abbrev pub initStart : List ℕ → Phase → List ℕ → Start

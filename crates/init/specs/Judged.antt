@@ -19,8 +19,8 @@ use Rattle.tlv.specs.declared.Session.{Session}
 use Rattle.message.specs.declared.Reading
 use Rattle.message.specs.declared.Reading.{Reading}
 use Rattle.block0.specs.declared.Header.{Header}
-use Rattle.calls.specs.declared.Answer
-use Rattle.calls.specs.declared.Answer.{Answer}
+use Rattle.protocol.specs.declared.Answer
+use Rattle.protocol.specs.declared.Answer.{Answer}
 use Rattle.calls.specs.Received.{isInit}
 use Rattle.init.specs.declared.Start
 use Rattle.init.specs.declared.Start.{Start}

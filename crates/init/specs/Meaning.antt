@@ -12,9 +12,9 @@ use Rattle.message.specs.declared.Reading
 use Rattle.message.specs.declared.Reading.{Reading}
 use Rattle.block0.specs.declared.Header.{Header}
 use Rattle.image.specs.State.{State, decode}
-use Rattle.calls.specs.declared.Answer
-use Rattle.calls.specs.declared.Answer.{Answer}
-use Rattle.calls.specs.declared.Phase.{Phase}
+use Rattle.protocol.specs.declared.Answer
+use Rattle.protocol.specs.declared.Answer.{Answer}
+use Rattle.protocol.specs.declared.Phase.{Phase}
 use Rattle.calls.specs.Outcomes.{After}
 use Rattle.init.specs.declared.Start
 use Rattle.init.specs.declared.Start.{Start}

@@ -17,6 +17,7 @@ use block0::Header;
 use calls::Answer;
 use calls::Outcome;
 use calls::Phase;
+use calls::Progress;
 use ft_number::FtNumber;
 
 // Whether the peer's Init is awaited.
@@ -38,7 +39,7 @@ fn proposal_of(phase: Phase) -> u16
 {
     match phase {
         Phase::Idle => 0,
-        Phase::InitWait(seconds) => seconds,
+        Phase::InitWait(v) => v.timeout,
         Phase::UpFT(_) => 0,
         Phase::UpPlain => 0,
         Phase::Failed => 0,
@@ -112,8 +113,8 @@ fn start_phase(start: Start, phase: Phase) -> Phase
     match start {
         Start::Refused(_) => phase,
         Start::Plain => Phase::UpPlain,
-        Start::Fresh(_) => Phase::UpFT(0),
-        Start::Resumed(_, _, _) => Phase::UpFT(0),
+        Start::Fresh(_) => Phase::UpFT(Progress { sent: 0 }),
+        Start::Resumed(_, _, _) => Phase::UpFT(Progress { sent: 0 }),
     }
 }
 

@@ -7,11 +7,11 @@ use native.Mathlib.Omega.{arith}
 use Rattle.image.specs.Verdict.{verdict}
 use Rattle.image.specs.declared.Verdict
 use Rattle.image.specs.declared.Verdict.{Verdict}
-use Rattle.calls.specs.declared.Answer
-use Rattle.calls.specs.declared.Answer.{Answer}
+use Rattle.protocol.specs.declared.Answer
+use Rattle.protocol.specs.declared.Answer.{Answer}
 use Rattle.calls.specs.declared.Outcome.{Outcome}
-use Rattle.calls.specs.declared.Phase
-use Rattle.calls.specs.declared.Phase.{Phase}
+use Rattle.protocol.specs.declared.Phase
+use Rattle.protocol.specs.declared.Phase.{Phase}
 use Rattle.calls.specs.Outcomes.{After, after, isDone, refusal, checked}
 use Rattle.calls.proofs.Settled.{checks-sound}
 use Rattle.ldp_ft.specs.declared.Given

@@ -12,7 +12,7 @@ use Rattle.message_writer.specs.Forms.{ackTlv, ftTlvs, initBytes, keepaliveByte
 use Rattle.message_writer.specs.declared.OwnParameters.{OwnParameters}
 use Rattle.message_writer.proofs.Puts.{length-raised}
 use Rattle.image.specs.State.{decode}
-use Rattle.calls.specs.declared.Phase.{Phase}
+use Rattle.protocol.specs.declared.Phase.{Phase}
 use Rattle.send.specs.Rule.{sentOf, nextMessage, numberAt, ackAsked, sendBytes}
 use Rattle.send.proofs.Judged.{Sendable, sendable-sound}
 use Rattle.send.proofs.Acts.{next-fits}

@@ -23,9 +23,9 @@ use Rattle.block0.specs.declared.Header.{Header}
 use Rattle.block0.specs.Layout.{slotCount}
 use Rattle.slot.specs.Layout.{shortest, longest}
 use Rattle.image.specs.State.{State}
-use Rattle.calls.specs.declared.Answer.{Answer}
-use Rattle.calls.specs.declared.Phase
-use Rattle.calls.specs.declared.Phase.{Phase}
+use Rattle.protocol.specs.declared.Answer.{Answer}
+use Rattle.protocol.specs.declared.Phase
+use Rattle.protocol.specs.declared.Phase.{Phase}
 use Rattle.calls.specs.Outcomes.{roomFor}
 use Rattle.calls.specs.Received.{isInit}
 use Rattle.submit.specs.Labels.{isBarred, acceptedAs}

@@ -14,8 +14,8 @@ use Rattle.image.specs.State.{decode}
 use Rattle.image.specs.Verdict.{verdict}
 use Rattle.image.specs.declared.Verdict
 use Rattle.image.specs.declared.Verdict.{Verdict}
-use Rattle.calls.specs.declared.Answer
-use Rattle.calls.specs.declared.Answer.{Answer}
+use Rattle.protocol.specs.declared.Answer
+use Rattle.protocol.specs.declared.Answer.{Answer}
 use Rattle.calls.specs.Answers.{answerNumber}
 use Rattle.ldp_ft.specs.declared.DistanceNumbers.{DistanceNumbers}
 

@@ -20,8 +20,8 @@ use Rattle.message.specs.Kinds.{kindOf, kindNumber}
 use Rattle.message.specs.declared.Message.{Message}
 use Rattle.message.specs.declared.Reading
 use Rattle.message.specs.declared.Reading.{Reading}
-use Rattle.calls.specs.declared.Answer
-use Rattle.calls.specs.declared.Answer.{Answer}
+use Rattle.protocol.specs.declared.Answer
+use Rattle.protocol.specs.declared.Answer.{Answer}
 use Rattle.calls.specs.Answers.{answerNumber}
 use Rattle.ldp_ft.specs.declared.MessageNumbers.{MessageNumbers}
 use Rattle.ldp_ft.specs.declared.PartNumbers.{PartNumbers}

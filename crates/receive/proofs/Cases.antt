@@ -14,15 +14,16 @@ use Rattle.label_list.specs.declared.Protection.{Protection}
 use Rattle.label_events.specs.declared.Reception
 use Rattle.label_events.specs.declared.Reception.{Reception}
 use Rattle.image.specs.State.{State}
-use Rattle.calls.specs.declared.Answer
-use Rattle.calls.specs.declared.Answer.{Answer}
-use Rattle.calls.specs.declared.Phase
-use Rattle.calls.specs.declared.Phase.{Phase}
+use Rattle.protocol.specs.declared.Answer
+use Rattle.protocol.specs.declared.Answer.{Answer}
+use Rattle.protocol.specs.declared.Phase
+use Rattle.protocol.specs.declared.Phase.{Phase}
 use Rattle.calls.specs.Acked.{acked}
 use Rattle.calls.specs.Received.{isInit}
 use Rattle.receive.specs.Labels.{labelEffect, isProtected, protectionRule, effectReception}
 use Rattle.receive.specs.Rule.{isFatal, messageRule, plainRule, isZero, inTurn, receptionRule, protectedRule, labelsRule, ackRule, ackOn, ftRule, readRule, receiveRule, ackCount}
 use Rattle.receive.specs.Cases.{receives, wordsAfter, Heard, AckRight, ProtectionRight, TurnRight, Takes, Case, wrong-phase, malformed, an-init, fatal, ft-tlv, passed-on, zero-number, wrong-ack, missing, wrong, out-of-turn, no-word, taken}
+use Rattle.calls.specs.Phases.{upWith}
 
 -- 22 and 36, then the tests of the phase
 heard-case : (P : Answer → Type 0) (g : Message) (a : Answer) → (isInit (g .typename) ≡ true → P Answer.MalformedReceived)
@@ -38,7 +39,7 @@ heard-case P g a i f h = by (isInit (g .typename)) refl (isFatal (g .status)) re
 -- ---- UpFT
 module _ (s : State) (sent : ℕ) (g : Message) where
   abbrev Here : Answer → Type 0
-  Here a = Case s (Phase.UpFT sent) (Reading.Whole g) a
+  Here a = Case s (upWith sent) (Reading.Whole g) a
 
   room-case : {k : ℕ} → TurnRight s g k → (r : Reception) → effectReception (wordsAfter s k) (isProtected (g .protection)) (labelEffect g) ≡ r → Here (receptionRule r)
   room-case t Reception.Taken e = taken (record { turn = t; room = e })
@@ -67,7 +68,7 @@ module _ (s : State) (sent : ℕ) (g : Message) where
   unfolding ftRule
   ft-case = heard-case Here g (pick (isZero (g .protection)) Answer.ZeroNumber (ackRule s g (ackOn (s .header) g))) (an-init refl) (fatal refl) (λ h. zero-case h (isZero (g .protection)) refl)
 
-up-case : (s : State) (sent : ℕ) (rd : Reading) → Case s (Phase.UpFT sent) rd (readRule rd (ftRule s))
+up-case : (s : State) (sent : ℕ) (rd : Reading) → Case s (upWith sent) rd (readRule rd (ftRule s))
 up-case s sent Reading.Malformed = malformed refl
 up-case s sent (Reading.Whole g) = ft-case s sent g
 
@@ -85,16 +86,16 @@ plain-case s (Reading.Whole g) =
 -- ---- every phase
 pub cases : (s : State) (ph : Phase) (rd : Reading) → Case s ph rd (receiveRule s ph rd)
 cases s Phase.Idle rd = wrong-phase refl
-cases s (Phase.InitWait t) rd = wrong-phase refl
-cases s (Phase.UpFT sent) rd = up-case s sent rd
+cases s (Phase.InitWait v) rd = wrong-phase refl
+cases s (Phase.UpFT u) rd = up-case s (u .sent) rd
 cases s Phase.UpPlain rd = plain-case s rd
 cases s Phase.Failed rd = wrong-phase refl
 
 -- ---- and each case has its answer
 pub wrong-by : (s : State) (ph : Phase) (rd : Reading) → receives ph ≡ false → receiveRule s ph rd ≡ Answer.WrongPhase
 wrong-by s Phase.Idle rd e = refl
-wrong-by s (Phase.InitWait t) rd e = refl
-wrong-by s (Phase.UpFT sent) rd e = absurd (true≢false e)
+wrong-by s (Phase.InitWait v) rd e = refl
+wrong-by s (Phase.UpFT u) rd e = absurd (true≢false e)
 wrong-by s Phase.UpPlain rd e = absurd (true≢false e)
 wrong-by s Phase.Failed rd e = refl
 
@@ -103,14 +104,14 @@ alike : (s : State) (ph : Phase) (rd : Reading) (x : Answer) → receives ph ≡
     → receiveRule s ph rd ≡ x
 unfolding ftRule
 alike s Phase.Idle rd x e f = absurd (false≢true e)
-alike s (Phase.InitWait t) rd x e f = absurd (false≢true e)
-alike s (Phase.UpFT sent) rd x e f = f (λ g. pick (isZero (g .protection)) Answer.ZeroNumber (ackRule s g (ackOn (s .header) g)))
+alike s (Phase.InitWait v) rd x e f = absurd (false≢true e)
+alike s (Phase.UpFT u) rd x e f = f (λ g. pick (isZero (g .protection)) Answer.ZeroNumber (ackRule s g (ackOn (s .header) g)))
 alike s Phase.UpPlain rd x e f = f (λ g. pick (bearsFt (g .found)) Answer.FtTlvInPlain Answer.Done)
 alike s Phase.Failed rd x e f = absurd (false≢true e)
 
 -- past 30 and 34 the labels are judged, as the ACK leaves them
 acked-rule : (s : State) (sent : ℕ) (g : Message) (k : ℕ) → AckRight s g k
-    → receiveRule s (Phase.UpFT sent) (Reading.Whole g) ≡ protectedRule (wordsAfter s k) (s .header .secured .0) g (protectionRule (wordsAfter s k) g)
+    → receiveRule s (upWith sent) (Reading.Whole g) ≡ protectedRule (wordsAfter s k) (s .header .secured .0) g (protectionRule (wordsAfter s k) g)
 unfolding ftRule messageRule labelsRule acked
 acked-rule s sent g k a = rw (a .heard .another, a .heard .mild, a .nonzero, a .acks)
 
@@ -131,5 +132,5 @@ case-answer {s} (no-word {sent} {k} {g} t e) = rw (acked-rule s sent g k (t .pro
 case-answer {s} (taken {sent} {k} {g} t) = rw (acked-rule s sent g k (t .turn .protection .ack), t .turn .protection .right, t .turn .turn, t .room)
 
 -- ---- done in UpFT: every test is passed
-pub done-takes : {s : State} {sent : ℕ} {g : Message} → Case s (Phase.UpFT sent) (Reading.Whole g) Answer.Done → Takes s g (ackCount (ackOn (s .header) g))
+pub done-takes : {s : State} {sent : ℕ} {g : Message} → Case s (upWith sent) (Reading.Whole g) Answer.Done → Takes s g (ackCount (ackOn (s .header) g))
 done-takes (taken t) = let e = t .turn .protection .ack .acks in rw e t

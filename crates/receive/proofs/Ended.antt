@@ -9,10 +9,10 @@ use Rattle.octets.proofs.Choice.{by-test}
 use Rattle.message.specs.Reading.{readingOf}
 use Rattle.message.specs.declared.Reading.{Reading}
 use Rattle.image.specs.State.{State, decode}
-use Rattle.calls.specs.declared.Answer
-use Rattle.calls.specs.declared.Answer.{Answer}
-use Rattle.calls.specs.declared.Phase
-use Rattle.calls.specs.declared.Phase.{Phase}
+use Rattle.protocol.specs.declared.Answer
+use Rattle.protocol.specs.declared.Answer.{Answer}
+use Rattle.protocol.specs.declared.Phase
+use Rattle.protocol.specs.declared.Phase.{Phase}
 use Rattle.calls.specs.Answers.{answerNumber}
 use Rattle.calls.specs.Outcomes.{unchanged, failedWith, releasedWith, settleOf}
 use Rattle.calls.proofs.Ends.{settle-done}

@@ -25,8 +25,8 @@ use Rattle.calls.specs.Acked.{ackBorne, releasedLabels, freesNone, acked}
 use Rattle.calls.specs.Outcomes.{isDone}
 use Rattle.calls.specs.Received.{isInit}
 use Rattle.call_meaning.proofs.Released.{ack-held}
-use Rattle.calls.specs.declared.Answer
-use Rattle.calls.specs.declared.Answer.{Answer}
+use Rattle.protocol.specs.declared.Answer
+use Rattle.protocol.specs.declared.Answer.{Answer}
 use Rattle.receive.specs.declared.LabelEffect
 use Rattle.receive.specs.declared.LabelEffect.{LabelEffect}
 use Rattle.receive.specs.Labels.{labelEffect, isProtected, protectionRule, effectReception, effectLabels, touchesNone, alwaysProtected}

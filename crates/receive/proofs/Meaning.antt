@@ -10,10 +10,10 @@ use Rattle.message.specs.declared.Reading.{Reading}
 use Rattle.image.specs.State.{decode, store}
 use Rattle.octets.specs.Bytes.{Bytes}
 use Rattle.image.proofs.Sound.{parts-sound}
-use Rattle.calls.specs.declared.Answer
-use Rattle.calls.specs.declared.Answer.{Answer}
-use Rattle.calls.specs.declared.Phase
-use Rattle.calls.specs.declared.Phase.{Phase}
+use Rattle.protocol.specs.declared.Answer
+use Rattle.protocol.specs.declared.Answer.{Answer}
+use Rattle.protocol.specs.declared.Phase
+use Rattle.protocol.specs.declared.Phase.{Phase}
 use Rattle.calls.proofs.Settled.{admitted-is}
 use Rattle.calls.proofs.Ends.{settle-done}
 use Rattle.call_meaning.specs.Standing.{Standing, Stands, Stored}
@@ -27,14 +27,15 @@ use Rattle.receive.specs.Meaning.{ReceivedFrom, AckThenMessage, SecuresF
 use Rattle.receive.proofs.Cases.{cases, case-answer, done-takes}
 use Rattle.receive.proofs.Stored.{received-stored}
 use Rattle.receive.proofs.Acting.{received-acts, taken-secures}
+use Rattle.calls.specs.Phases.{upWith}
 
 -- what is taken is answered Done
 pub taken-says : (im : List ℕ) (ph : Phase) (rd : Reading) → takenAs im ph rd .outcome .answer ≡ Answer.Done
 taken-says im Phase.Idle rd = refl
-taken-says im (Phase.InitWait t) rd = refl
-taken-says im (Phase.UpFT sent) rd = by rd
+taken-says im (Phase.InitWait v) rd = refl
+taken-says im (Phase.UpFT u) rd = by rd
   where
-    by : (rd : Reading) → takenAs im (Phase.UpFT sent) rd .outcome .answer ≡ Answer.Done
+    by : (rd : Reading) → takenAs im (Phase.UpFT u) rd .outcome .answer ≡ Answer.Done
     by Reading.Malformed = refl
     by (Reading.Whole g) = refl
 taken-says im Phase.UpPlain rd = refl
@@ -61,48 +62,48 @@ module _ (im : List ℕ) (ph : Phase) (m : List ℕ) (st : Standing im ph) where
 
 -- ---- a message taken in UpFT
 -- it was read whole
-pub receive-read : (im : List ℕ) (sent : ℕ) (m : List ℕ) → Standing im (Phase.UpFT sent) → receiveOf im (Phase.UpFT sent) m .outcome .answer ≡ Answer.Done
+pub receive-read : (im : List ℕ) (sent : ℕ) (m : List ℕ) → Standing im (upWith sent) → receiveOf im (upWith sent) m .outcome .answer ≡ Answer.Done
     → (g : Message) × (readingOf m ≡ Reading.Whole g)
-receive-read im sent m st done = by (readingOf m) (rw done at (receive-case im (Phase.UpFT sent) m st))
+receive-read im sent m st done = by (readingOf m) (rw done at (receive-case im (upWith sent) m st))
   where
-    by : (rd : Reading) → Case (decode im) (Phase.UpFT sent) rd Answer.Done → (g : Message) × (rd ≡ Reading.Whole g)
+    by : (rd : Reading) → Case (decode im) (upWith sent) rd Answer.Done → (g : Message) × (rd ≡ Reading.Whole g)
     by Reading.Malformed c = let z : Answer.MalformedReceived ≡ Answer.Done = case-answer c in let y : _≡_ {A = ℕ} 0 1 = cc in absurd (omega arith)
     by (Reading.Whole g) c = (g, refl)
 
-module _ (im : List ℕ) (sent : ℕ) (m : List ℕ) (st : Standing im (Phase.UpFT sent)) (byte : Bytes m) (g : Message) (read : readingOf m ≡ Reading.Whole g) where
+module _ (im : List ℕ) (sent : ℕ) (m : List ℕ) (st : Standing im (upWith sent)) (byte : Bytes m) (g : Message) (read : readingOf m ≡ Reading.Whole g) where
   stored : Takes (decode im) g (ackCount (ackOn (decode im .header) g)) → Stored (store im (receivedState (decode im) g)) (receivedState (decode im) g) (receivedPhase (decode im) sent g)
   stored t = received-stored im sent st g (read-widths m byte g read) (ackCount (ackOn (decode im .header) g)) (t .turn .protection .ack .acks)
 
-  module _ (done : receiveOf im (Phase.UpFT sent) m .outcome .answer ≡ Answer.Done) where
+  module _ (done : receiveOf im (upWith sent) m .outcome .answer ≡ Answer.Done) where
     -- every test was passed
     pub receive-takes : Takes (decode im) g (ackCount (ackOn (decode im .header) g))
-    receive-takes = done-takes (rw (read, done) at (receive-case im (Phase.UpFT sent) m st))
+    receive-takes = done-takes (rw (read, done) at (receive-case im (upWith sent) m st))
 
-    taken-is : receiveOf im (Phase.UpFT sent) m ≡ takenFt im sent g
+    taken-is : receiveOf im (upWith sent) m ≡ takenFt im sent g
     unfolding receiveOf
-    taken-is = rw (sym (receive-answered im (Phase.UpFT sent) m) ∙ done, settle-done, read)
+    taken-is = rw (sym (receive-answered im (upWith sent) m) ∙ done, settle-done, read)
 
-    pub receive-decodes : ReceivedFrom (decode im) sent g (receiveOf im (Phase.UpFT sent) m)
+    pub receive-decodes : ReceivedFrom (decode im) sent g (receiveOf im (upWith sent) m)
     receive-decodes = rw taken-is (record { answer = refl; state = stored receive-takes .decodes; phase = refl })
 
     -- what that state is
-    pub receive-acts : AckThenMessage (decode im) g (ackCount (ackOn (decode im .header) g)) (decode (receiveOf im (Phase.UpFT sent) m .image))
+    pub receive-acts : AckThenMessage (decode im) g (ackCount (ackOn (decode im .header) g)) (decode (receiveOf im (upWith sent) m .image))
     receive-acts =
         rw (receive-decodes .state) (received-acts (decode im) g (ackCount (ackOn (decode im .header) g)) (receive-takes .turn .protection .ack .acks))
 
     -- S moves to the number that the message bears, the successor of S; without one it stays
-    pub receive-secures : SecuresFrom (decode im) g (decode (receiveOf im (Phase.UpFT sent) m .image))
+    pub receive-secures : SecuresFrom (decode im) g (decode (receiveOf im (upWith sent) m .image))
     receive-secures = rw (receive-decodes .state) (taken-secures (decode im) g (ackCount (ackOn (decode im .header) g)) receive-takes)
 
 -- ---- whatever the answer is, what is left stands
 taken-stands : (im : List ℕ) (ph : Phase) (m : List ℕ) → Standing im ph → Bytes m → receiveOf im ph m .outcome .answer ≡ Answer.Done → Stands (takenAs im ph (readingOf m))
 taken-stands im Phase.Idle m st byte d = st
-taken-stands im (Phase.InitWait t) m st byte d = st
-taken-stands im (Phase.UpFT sent) m st byte d = by (readingOf m) refl
+taken-stands im (Phase.InitWait v) m st byte d = st
+taken-stands im (Phase.UpFT u) m st byte d = by (readingOf m) refl
   where
-    by : (rd : Reading) → readingOf m ≡ rd → Stands (takenAs im (Phase.UpFT sent) rd)
+    by : (rd : Reading) → readingOf m ≡ rd → Stands (takenAs im (Phase.UpFT u) rd)
     by Reading.Malformed e = st
-    by (Reading.Whole g) e = stored-stands (stored im sent m st byte g e (receive-takes im sent m st byte g e d))
+    by (Reading.Whole g) e = stored-stands (stored im (u .sent) m st byte g e (receive-takes im (u .sent) m st byte g e d))
 taken-stands im Phase.UpPlain m st byte d = st
 taken-stands im Phase.Failed m st byte d = st
 

@@ -23,10 +23,10 @@ use Rattle.block0.specs.Fields.{Fits, Valid}
 use Rattle.image.specs.State.{decode, store}
 use Rattle.image.proofs.Sound.{sound-valid, sound-release}
 use Rattle.image.proofs.Stored.{decode-release}
-use Rattle.calls.specs.declared.Phase
-use Rattle.calls.specs.declared.Phase.{Phase}
+use Rattle.protocol.specs.declared.Phase
+use Rattle.protocol.specs.declared.Phase.{Phase}
 use Rattle.calls.specs.Acked.{ackBorne, withReleased, acked}
-use Rattle.calls.specs.Phases.{issuedCount}
+use Rattle.calls.specs.Phases.{issuedCount, upWith}
 use Rattle.call_meaning.specs.Standing.{Standing, Stored}
 use Rattle.call_meaning.proofs.Released.{ack-held, ack-window, ack-issued, released-valid, released-words}
 use Rattle.image.proofs.Ranges.{valid-words}
@@ -58,7 +58,7 @@ secured-width : (s : FtNumber) → s .0 < 4294967296 → (f : FtField) → ((a :
 secured-width s l FtField.Absent w = l
 secured-width s l (FtField.Number n) w = w n refl
 
-module _ (im : List ℕ) (sent : ℕ) (st : Standing im (Phase.UpFT sent)) (g : Message) (w : Widths g) (k : ℕ) (acks : ackOn (decode im .header) g ≡ Ack.Releases k) where
+module _ (im : List ℕ) (sent : ℕ) (st : Standing im (upWith sent)) (g : Message) (w : Widths g) (k : ℕ) (acks : ackOn (decode im .header) g ≡ Ack.Releases k) where
   abbrev h : Header
   h = decode im .header
 

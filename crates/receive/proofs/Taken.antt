@@ -17,11 +17,11 @@ use Rattle.block0.specs.declared.Header.{Header}
 use Rattle.image.specs.Sizes.{block}
 use Rattle.image.specs.State.{State, decode, store0, store}
 use Rattle.image.specs.Verdict.{IsSound}
-use Rattle.calls.specs.declared.Answer
-use Rattle.calls.specs.declared.Answer.{Answer}
+use Rattle.protocol.specs.declared.Answer
+use Rattle.protocol.specs.declared.Answer.{Answer}
 use Rattle.calls.specs.declared.Outcome.{Outcome}
-use Rattle.calls.specs.declared.Phase
-use Rattle.calls.specs.declared.Phase.{Phase}
+use Rattle.protocol.specs.declared.Phase
+use Rattle.protocol.specs.declared.Phase.{Phase}
 use Rattle.calls.specs.Answers.{effectOf}
 use Rattle.calls.specs.Acked.{ackBorne, freesNone, withReleased, acked}
 use Rattle.calls.specs.Outcomes.{After, after, isDone, refusal, unchanged, admitted, settleOf}
@@ -36,6 +36,7 @@ use Rattle.receive.specs.Rule.{ackOn, ackCount, labelsStay, securedBy, w
 use Rattle.receive.specs.Cases.{receives}
 use Rattle.receive.proofs.Judged.{ack-within}
 use Rattle.receive.proofs.Cases.{wrong-by}
+use Rattle.calls.specs.Phases.{upWith}
 
 -- where the label words stay they are those that the message leaves
 stay-labels : (s : State) (g : Message) (k : ℕ) → k ≡ ackCount (ackOn (s .header) g) → labelsStay s k g ≡ true → s .labels ≡ receivedState s g .labels
@@ -65,7 +66,7 @@ module _ (im : List ℕ) (g : Message) {h h′ : Header} {k : ℕ} (eh : h ≡ d
 
 pub take-is : (im : List ℕ) (sent : ℕ) (g : Message) {im′ : List ℕ} {h : Header} {k n : ℕ} {b : Bool}
     → h ≡ decode im .header → k ≡ ackCount (ackOn h g) → (im′ ≡ store im (receivedState (decode im) g)) × (b ≡ differ (block im 0) (block im′ 0)) → n ≡ sent - k
-    → after (record { answer = Answer.Done; phase = Phase.UpFT n; written = 0; slot = 0; block0 = b }) im′ [] ≡ takenFt im sent g
+    → after (record { answer = Answer.Done; phase = upWith n; written = 0; slot = 0; block0 = b }) im′ [] ≡ takenFt im sent g
 take-is im sent g eh ek e en = rw (e .1, e .0, en, ek, eh)
 
 -- the ACK releases no more than is held, whatever it is
@@ -79,12 +80,12 @@ count-within im g s = by (ackOn (decode im .header) g) refl
 
 -- ---- how the answer settles
 module _ (im : List ℕ) (sent : ℕ) (g : Message) {a : Answer} (e : a ≡ ftRule (decode im) g) {x : After} where
-  pub ft-settled : isDone a ≡ false → x ≡ settleOf a (Phase.UpFT sent) im [] (unchanged a (Phase.UpFT sent) im [])
-      → x ≡ settleOf (ftRule (decode im) g) (Phase.UpFT sent) im [] (takenFt im sent g)
-  ft-settled n p = rw (← e) (p ∙ settle-other a (Phase.UpFT sent) im [] (unchanged a (Phase.UpFT sent) im []) (takenFt im sent g) n)
+  pub ft-settled : isDone a ≡ false → x ≡ settleOf a (upWith sent) im [] (unchanged a (upWith sent) im [])
+      → x ≡ settleOf (ftRule (decode im) g) (upWith sent) im [] (takenFt im sent g)
+  ft-settled n p = rw (← e) (p ∙ settle-other a (upWith sent) im [] (unchanged a (upWith sent) im []) (takenFt im sent g) n)
 
-  pub ft-taken : isDone a ≡ true → x ≡ takenFt im sent g → x ≡ settleOf (ftRule (decode im) g) (Phase.UpFT sent) im [] (takenFt im sent g)
-  ft-taken t p = rw (← e) (own-done a (Phase.UpFT sent) im [] (takenFt im sent g) t p)
+  pub ft-taken : isDone a ≡ true → x ≡ takenFt im sent g → x ≡ settleOf (ftRule (decode im) g) (upWith sent) im [] (takenFt im sent g)
+  ft-taken t p = rw (← e) (own-done a (upWith sent) im [] (takenFt im sent g) t p)
 
 -- Done in UpPlain changes nothing
 pub plain-settled : (im : List ℕ) (g : Message) {a : Answer} {x : After} → a ≡ plainRule g → x ≡ settleOf a Phase.UpPlain im [] (unchanged a Phase.UpPlain im [])

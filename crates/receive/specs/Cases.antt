@@ -16,20 +16,21 @@ use Rattle.label_list.specs.declared.Protection.{Protection}
 use Rattle.label_events.specs.declared.Reception
 use Rattle.label_events.specs.declared.Reception.{Reception}
 use Rattle.image.specs.State.{State}
-use Rattle.calls.specs.declared.Answer
-use Rattle.calls.specs.declared.Answer.{Answer}
-use Rattle.calls.specs.declared.Phase
-use Rattle.calls.specs.declared.Phase.{Phase}
+use Rattle.protocol.specs.declared.Answer
+use Rattle.protocol.specs.declared.Answer.{Answer}
+use Rattle.protocol.specs.declared.Phase
+use Rattle.protocol.specs.declared.Phase.{Phase}
 use Rattle.calls.specs.Acked.{releasedLabels}
 use Rattle.calls.specs.Received.{isInit}
 use Rattle.receive.specs.Labels.{labelEffect, isProtected, protectionRule, effectReception}
 use Rattle.receive.specs.Rule.{isFatal, isZero, inTurn, ackOn}
+use Rattle.calls.specs.Phases.{upWith}
 
 -- the phases in which messages are received
 abbrev pub receives : Phase → Bool
 receives Phase.Idle = false
-receives (Phase.InitWait t) = false
-receives (Phase.UpFT sent) = true
+receives (Phase.InitWait v) = false
+receives (Phase.UpFT u) = true
 receives Phase.UpPlain = true
 receives Phase.Failed = false
 
@@ -76,20 +77,20 @@ pub data Case (s : State) : Phase → Reading → Answer → Type 0 where
   -- "In UpPlain messages are passed on."
   passed-on : {g : Message} → Heard g → bearsFt (g .found) ≡ false → Case s Phase.UpPlain (Reading.Whole g) Answer.Done
   -- "30: zero number"
-  zero-number : {sent : ℕ} {g : Message} → Heard g → isZero (g .protection) ≡ true → Case s (Phase.UpFT sent) (Reading.Whole g) Answer.ZeroNumber
+  zero-number : {sent : ℕ} {g : Message} → Heard g → isZero (g .protection) ≡ true → Case s (upWith sent) (Reading.Whole g) Answer.ZeroNumber
   -- "34: ACK sequence error"
   wrong-ack : {sent : ℕ} {g : Message} → Heard g → isZero (g .protection) ≡ false → ackOn (s .header) g ≡ Ack.SequenceError
-      → Case s (Phase.UpFT sent) (Reading.Whole g) Answer.AckSequenceError
+      → Case s (upWith sent) (Reading.Whole g) Answer.AckSequenceError
   -- "32, 33: protection wrong, missing"
   missing : {sent k : ℕ} {g : Message} → AckRight s g k → protectionRule (wordsAfter s k) g ≡ Protection.Missing
-      → Case s (Phase.UpFT sent) (Reading.Whole g) Answer.ProtectionMissing
+      → Case s (upWith sent) (Reading.Whole g) Answer.ProtectionMissing
   wrong : {sent k : ℕ} {g : Message} → AckRight s g k → protectionRule (wordsAfter s k) g ≡ Protection.Wrong
-      → Case s (Phase.UpFT sent) (Reading.Whole g) Answer.ProtectionWrong
+      → Case s (upWith sent) (Reading.Whole g) Answer.ProtectionWrong
   -- "20: number out of turn"
   out-of-turn : {sent k : ℕ} {g : Message} → ProtectionRight s g k → inTurn (s .header .secured .0) (g .protection) ≡ false
-      → Case s (Phase.UpFT sent) (Reading.Whole g) Answer.OutOfTurn
+      → Case s (upWith sent) (Reading.Whole g) Answer.OutOfTurn
   -- "21: Mapping received that needs a word, none free"
   no-word : {sent k : ℕ} {g : Message} → TurnRight s g k
       → effectReception (wordsAfter s k) (isProtected (g .protection)) (labelEffect g) ≡ Reception.NoRoom
-      → Case s (Phase.UpFT sent) (Reading.Whole g) Answer.NoWordForMapping
-  taken : {sent k : ℕ} {g : Message} → Takes s g k → Case s (Phase.UpFT sent) (Reading.Whole g) Answer.Done
+      → Case s (upWith sent) (Reading.Whole g) Answer.NoWordForMapping
+  taken : {sent k : ℕ} {g : Message} → Takes s g k → Case s (upWith sent) (Reading.Whole g) Answer.Done

@@ -8,8 +8,8 @@ use Rattle.tlv.specs.declared.FtField
 use Rattle.tlv.specs.declared.FtField.{FtField}
 use Rattle.message.specs.declared.Message.{Message}
 use Rattle.image.specs.State.{State, decode}
-use Rattle.calls.specs.declared.Answer
-use Rattle.calls.specs.declared.Answer.{Answer}
+use Rattle.protocol.specs.declared.Answer
+use Rattle.protocol.specs.declared.Answer.{Answer}
 use Rattle.calls.specs.Acked.{ackBorne}
 use Rattle.calls.specs.Outcomes.{After}
 use Rattle.receive.specs.Labels.{labelEffect, isProtected, effectLabels}

@@ -30,14 +30,15 @@ use Rattle.block0.specs.declared.Header.{Header}
 use Rattle.image.specs.State.{State, decode, store}
 use Rattle.image.specs.Verdict.{IsSound}
 use Rattle.label_list.specs.Word.{wordCount}
-use Rattle.calls.specs.declared.Answer
-use Rattle.calls.specs.declared.Answer.{Answer}
-use Rattle.calls.specs.declared.Phase
-use Rattle.calls.specs.declared.Phase.{Phase}
+use Rattle.protocol.specs.declared.Answer
+use Rattle.protocol.specs.declared.Answer.{Answer}
+use Rattle.protocol.specs.declared.Phase
+use Rattle.protocol.specs.declared.Phase.{Phase}
 use Rattle.calls.specs.Received.{isInit}
 use Rattle.calls.specs.Acked.{ackBorne, freesNone, acked}
 use Rattle.calls.specs.Outcomes.{After, after, unchanged, restored, settleOf, admitted}
 use Rattle.receive.specs.Labels.{labelEffect, isProtected, protectionRule, effectReception, effectLabels, touchesNone}
+use Rattle.calls.specs.Phases.{upWith}
 
 -- "36: Status with E set"
 abbrev pub isFatal : Field → Bool
@@ -94,8 +95,8 @@ readRule (Reading.Whole g) rule = rule g
 
 abbrev pub receiveRule : State → Phase → Reading → Answer
 receiveRule s Phase.Idle r = Answer.WrongPhase
-receiveRule s (Phase.InitWait t) r = Answer.WrongPhase
-receiveRule s (Phase.UpFT sent) r = readRule r (ftRule s)
+receiveRule s (Phase.InitWait v) r = Answer.WrongPhase
+receiveRule s (Phase.UpFT u) r = readRule r (ftRule s)
 receiveRule s Phase.UpPlain r = readRule r plainRule
 receiveRule s Phase.Failed r = Answer.WrongPhase
 
@@ -150,7 +151,7 @@ receivedState s g = taken (afterAck s g) g
 
 -- "An ACK lowers that count by the messages it releases, not below 0."
 abbrev pub receivedPhase : State → ℕ → Message → Phase
-receivedPhase s sent g = Phase.UpFT (sent - ackCount (ackOn (s .header) g))
+receivedPhase s sent g = upWith (sent - ackCount (ackOn (s .header) g))
 
 abbrev pub takenFt : List ℕ → ℕ → Message → After
 takenFt im sent g =
@@ -162,9 +163,9 @@ takenFt im sent g =
 -- what a message leaves that is taken; a malformed one is not
 abbrev pub takenAs : List ℕ → Phase → Reading → After
 takenAs im Phase.Idle r = unchanged Answer.Done Phase.Idle im []
-takenAs im (Phase.InitWait t) r = unchanged Answer.Done (Phase.InitWait t) im []
-takenAs im (Phase.UpFT sent) Reading.Malformed = unchanged Answer.Done (Phase.UpFT sent) im []
-takenAs im (Phase.UpFT sent) (Reading.Whole g) = takenFt im sent g
+takenAs im (Phase.InitWait v) r = unchanged Answer.Done (Phase.InitWait v) im []
+takenAs im (Phase.UpFT u) Reading.Malformed = unchanged Answer.Done (Phase.UpFT u) im []
+takenAs im (Phase.UpFT u) (Reading.Whole g) = takenFt im (u .sent) g
 takenAs im Phase.UpPlain r = unchanged Answer.Done Phase.UpPlain im []
 takenAs im Phase.Failed r = unchanged Answer.Done Phase.Failed im []
 

@@ -6,7 +6,7 @@ ghost use lib.ListN.{length, take};
 ghost use Rattle.label_list.specs.Word.{wordCount};
 ghost use Rattle.image.specs.State.{decode};
 ghost use Rattle.image.specs.Verdict.{IsSound};
-ghost use Rattle.calls.specs.declared.Answer;
+ghost use Rattle.protocol.specs.declared.Answer;
 ghost use Rattle.calls.specs.Acked.{releasedLabels};
 ghost use Rattle.receive.specs.Rule.{plainRule, labelsRule, ackOn, ackCount, ackRule, ftRule, labelsStay, messageLabels, receivedState};
 use crate::labels::change_labels;

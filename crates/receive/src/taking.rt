@@ -1,4 +1,5 @@
 // The public call, and what a message leaves that is taken.
+ghost use Rattle.calls.specs.Phases.{upWith};
 ghost use mathlib.Core.Path.{_≡_};
 ghost use mathlib.Core.List.{[]};
 ghost use Prim.Native.Nat.{_-_, _≤_, _<_};
@@ -7,7 +8,7 @@ ghost use Rattle.octets.specs.Differ.{differ};
 ghost use Rattle.image.specs.Sizes.{block};
 ghost use Rattle.image.specs.State.{decode, store};
 ghost use Rattle.image.specs.Verdict.{IsSound};
-ghost use Rattle.calls.specs.declared.Phase;
+ghost use Rattle.protocol.specs.declared.Phase;
 ghost use Rattle.calls.specs.Acked.{ackBorne, withReleased};
 ghost use Rattle.calls.specs.Outcomes.{after, settleOf};
 ghost use Rattle.receive.specs.Rule.{ackOn, ackCount, securedBy, withSecured, receivedState, Taken, takenFt, takenAs, readRule, ftRule, plainRule, receiveOf};
@@ -19,6 +20,7 @@ use block0::Header;
 use calls::Answer;
 use calls::Outcome;
 use calls::Phase;
+use calls::Progress;
 use ft_number::Ack;
 use ft_number::FtNumber;
 use message::FtField;
@@ -90,7 +92,7 @@ fn take_ft(image: &mut [u8], sent: u32, g: Message, words: &[u32]) -> Outcome
     let changed = store_taken(image, h, k, g, words);
     Outcome {
         answer: Answer::Done,
-        phase: Phase::UpFT(lowered(sent, k)),
+        phase: Phase::UpFT(Progress { sent: lowered(sent, k) }),
         written: 0,
         slot: 0,
         block0: changed,
@@ -100,22 +102,22 @@ fn take_ft(image: &mut [u8], sent: u32, g: Message, words: &[u32]) -> Outcome
 // A well-formed message in UpFT.
 fn receive_ft(image: &mut [u8], sent: u32, g: Message) -> Outcome
     requires { ⌜ IsSound (now image) ⌝ }
-    ensures { λ r. ⌜ after r (now (image .exit)) [] ≡ settleOf (ftRule (decode (now (image .entry))) g) (Phase.UpFT sent) (now (image .entry)) [] (takenFt (now (image .entry)) sent g) ⌝ }
+    ensures { λ r. ⌜ after r (now (image .exit)) [] ≡ settleOf (ftRule (decode (now (image .entry))) g) (upWith sent) (now (image .entry)) [] (takenFt (now (image .entry)) sent g) ⌝ }
 {
     let mut words = [0u32; label_list::WORD_COUNT];
     let a = judge_ft(image, image::header_of(image), g, &mut words);
     if !calls::is_done(a) {
-        return calls::settle(image, a, Phase::UpFT(sent));
+        return calls::settle(image, a, Phase::UpFT(Progress { sent: sent }));
     }
     take_ft(image, sent, g, &words)
 }
 
 fn receive_up(image: &mut [u8], sent: u32, msg: &[u8]) -> Outcome
     requires { ⌜ IsSound (now image) ⌝ }
-    ensures { λ r. ⌜ after r (now (image .exit)) [] ≡ settleOf (readRule (readingOf (now (msg .entry))) (ftRule (decode (now (image .entry))))) (Phase.UpFT sent) (now (image .entry)) [] (takenAs (now (image .entry)) (Phase.UpFT sent) (readingOf (now (msg .entry)))) ⌝ }
+    ensures { λ r. ⌜ after r (now (image .exit)) [] ≡ settleOf (readRule (readingOf (now (msg .entry))) (ftRule (decode (now (image .entry))))) (upWith sent) (now (image .entry)) [] (takenAs (now (image .entry)) (upWith sent) (readingOf (now (msg .entry)))) ⌝ }
 {
     match message::read_message(msg) {
-        Reading::Malformed => calls::settle(image, Answer::MalformedReceived, Phase::UpFT(sent)),
+        Reading::Malformed => calls::settle(image, Answer::MalformedReceived, Phase::UpFT(Progress { sent: sent })),
         Reading::Whole(g) => receive_ft(image, sent, g),
     }
 }
@@ -142,7 +144,7 @@ pub fn receive(image: &mut [u8], phase: Phase, msg: &[u8]) -> Outcome
     match phase {
         Phase::Idle => calls::refuse(Answer::WrongPhase, phase),
         Phase::InitWait(_) => calls::refuse(Answer::WrongPhase, phase),
-        Phase::UpFT(sent) => receive_up(image, sent, msg),
+        Phase::UpFT(u) => receive_up(image, u.sent, msg),
         Phase::UpPlain => receive_plain(image, msg),
         Phase::Failed => calls::refuse(Answer::WrongPhase, phase),
     }

@@ -24,13 +24,13 @@ use Rattle.image.specs.Sizes.{block}
 use Rattle.image.specs.State.{decode, store0}
 use Rattle.image.specs.Verdict.{IsSound}
 use Rattle.image.proofs.Queue.{queue-storable}
-use Rattle.calls.specs.declared.Answer
-use Rattle.calls.specs.declared.Answer.{Answer}
+use Rattle.protocol.specs.declared.Answer
+use Rattle.protocol.specs.declared.Answer.{Answer}
 use Rattle.calls.specs.declared.Outcome.{Outcome}
-use Rattle.calls.specs.declared.Phase
-use Rattle.calls.specs.declared.Phase.{Phase}
+use Rattle.protocol.specs.declared.Phase
+use Rattle.protocol.specs.declared.Phase.{Phase}
 use Rattle.calls.specs.Answers.{effectOf}
-use Rattle.calls.specs.Phases.{issuedCount}
+use Rattle.calls.specs.Phases.{issuedCount, upWith}
 use Rattle.calls.specs.Outcomes.{after, refusal}
 use Rattle.calls.proofs.Ends.{settle-refusal, settle-done, unchanged-is}
 use Rattle.send.specs.Rule.{sentOf, numberAt, ackAsked, sendBytes, sendAnswer, withIssued, numbered, sendImage, sendOf}
@@ -84,7 +84,7 @@ module _ (im : List ℕ) (ph : Phase) (ask : Bool) (o : List ℕ) (d : Sendable 
       rw (short, p .1) (unchanged-is Answer.OutputTooShort ph im o ex ∙ sym (settle-refusal Answer.OutputTooShort ph im o _ refl))
 
   pub send-acts : {n : ℕ} {b : Bool} {im′ : List ℕ} → w ≡ Written.Bytes n → (b ≡ differ (block im 0) (block im′ 0)) × (im′ ≡ sendImage im sent)
-      → after (record { answer = Answer.Done; phase = Phase.UpFT (sent + 1); written = n; slot = 0; block0 = b }) im′ o′ ≡ sendOf im ph ask o
+      → after (record { answer = Answer.Done; phase = upWith (sent + 1); written = n; slot = 0; block0 = b }) im′ o′ ≡ sendOf im ph ask o
   unfolding sendOf
   send-acts {n} {b} {im′} t q =
       let p : (ltb (length o) (length bytes) ≡ false) × ((n ≡ length bytes) × (o′ ≡ overlaid o bytes)) = long-enough o bytes written t in

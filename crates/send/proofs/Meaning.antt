@@ -14,11 +14,11 @@ use Rattle.image.specs.State.{decode, store, InRange}
 use Rattle.image.specs.Verdict.{IsSound}
 use Rattle.image.proofs.Stored.{decode-keep}
 use Rattle.image.proofs.Sound.{sound-valid, sound-keep}
-use Rattle.calls.specs.declared.Answer
-use Rattle.calls.specs.declared.Answer.{Answer}
-use Rattle.calls.specs.declared.Phase
-use Rattle.calls.specs.declared.Phase.{Phase}
-use Rattle.calls.specs.Phases.{phaseFits, issuedCount}
+use Rattle.protocol.specs.declared.Answer
+use Rattle.protocol.specs.declared.Answer.{Answer}
+use Rattle.protocol.specs.declared.Phase
+use Rattle.protocol.specs.declared.Phase.{Phase}
+use Rattle.calls.specs.Phases.{phaseFits, issuedCount, upWith}
 use Rattle.calls.proofs.Ends.{settle-done}
 use Rattle.calls.proofs.Phasing.{fits-up, up-fits}
 use Rattle.call_meaning.specs.Standing.{Standing, Stands}
@@ -31,8 +31,8 @@ use Rattle.send.proofs.Numbers.{number-stays, number-next, number-fits,
 -- what UpFT tells of the image
 ft-fits : (ph : Phase) (h : Header) → isUpFT ph ≡ true → phaseFits ph h ≡ true → (h .kept ≡ 1) × (sentOf ph ≤ issuedCount h)
 ft-fits Phase.Idle h u f = no (cc)
-ft-fits (Phase.InitWait t) h u f = no (cc)
-ft-fits (Phase.UpFT sent) h u f = up-fits h sent f
+ft-fits (Phase.InitWait v) h u f = no (cc)
+ft-fits (Phase.UpFT on) h u f = up-fits h (on .sent) f
 ft-fits Phase.UpPlain h u f = no (cc)
 ft-fits Phase.Failed h u f = no (cc)
 
@@ -73,7 +73,7 @@ module _ (im : List ℕ) (s : IsSound im) (r : InRange (decode im)) (sent : ℕ)
   unfolding numbered
   numbered-decodes = decode-keep im (withIssued (decode im .header) (numberAt (decode im .header) sent)) (decode im .labels) (s .size) fit (r .labels) refl refl
 
-  numbered-stands : Standing (store im (numbered (decode im) sent)) (Phase.UpFT (sent + 1))
+  numbered-stands : Standing (store im (numbered (decode im) sent)) (upWith (sent + 1))
   unfolding numbered
   numbered-stands = record {
     sound = sound-keep im (withIssued (decode im .header) (numberAt (decode im .header) sent)) (decode im .labels) s fit (r .labels) valid refl refl;
@@ -92,7 +92,7 @@ module _ (im : List ℕ) (s : IsSound im) (r : InRange (decode im)) (sent : ℕ)
       (λ t. rw t)
       (λ n. rw n numbered-decodes)
 
-  pub image-stands : Standing (sendImage im sent) (Phase.UpFT (sent + 1))
+  pub image-stands : Standing (sendImage im sent) (upWith (sent + 1))
   unfolding sendImage
   image-stands =
       by-test (ltb sent (issuedCount (decode im .header)))
@@ -110,17 +110,17 @@ send-keeps im ph ask out st =
     let d : Sendable im ph = answered-sendable im ph ask (length out) t in
     image-stands im (st .sound) (st .range) (sentOf ph) (d .some) (ft-fits ph (decode im .header) (d .up) (st .fits) .0))
 
-module _ (im : List ℕ) (sent : ℕ) (st : Standing im (Phase.UpFT sent)) where
+module _ (im : List ℕ) (sent : ℕ) (st : Standing im (upWith sent)) where
   up : (decode im .header .kept ≡ 1) × (sent ≤ issuedCount (decode im .header))
   up = up-fits (decode im .header) sent (st .fits)
 
   -- a message unsent and enough room: it is sent
   pub send-leaves : (ask : Bool) (out : List ℕ) → sent < decode im .header .held → length (sendBytes (decode im) sent ask) ≤ length out
-      → SentFrom (decode im) sent ask out (sendOf im (Phase.UpFT sent) ask out)
+      → SentFrom (decode im) sent ask out (sendOf im (upWith sent) ask out)
   unfolding sendOf sendBytes
   send-leaves ask out l room =
-      let d : Sendable im (Phase.UpFT sent) = record { admitted = standing-admitted st; up = refl; some = l } in
-      let done : sendAnswer im (Phase.UpFT sent) ask (length out) ≡ Answer.Done = sendable-answer d ask (length out) ∙ (rw (le-ltb (length out) (length (sendBytes (decode im) sent ask)) room)) in
+      let d : Sendable im (upWith sent) = record { admitted = standing-admitted st; up = refl; some = l } in
+      let done : sendAnswer im (upWith sent) ask (length out) ≡ Answer.Done = sendable-answer d ask (length out) ∙ (rw (le-ltb (length out) (length (sendBytes (decode im) sent ask)) room)) in
       rw (done, settle-done)
       (record { answer = refl; phase = refl; state = image-decodes im (st .sound) (st .range) sent l (up .0); output = refl; written = refl })
 

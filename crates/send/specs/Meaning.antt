@@ -8,18 +8,18 @@ use Rattle.octets.specs.Part.{overlaid}
 use Rattle.ft_number.specs.Circle.{next}
 use Rattle.message_writer.specs.Forms.{protectedBytes}
 use Rattle.image.specs.State.{State, decode}
-use Rattle.calls.specs.declared.Answer
-use Rattle.calls.specs.declared.Answer.{Answer}
-use Rattle.calls.specs.declared.Phase
-use Rattle.calls.specs.declared.Phase.{Phase}
-use Rattle.calls.specs.Phases.{issuedCount}
+use Rattle.protocol.specs.declared.Answer
+use Rattle.protocol.specs.declared.Answer.{Answer}
+use Rattle.protocol.specs.declared.Phase
+use Rattle.protocol.specs.declared.Phase.{Phase}
+use Rattle.calls.specs.Phases.{issuedCount, upWith}
 use Rattle.calls.specs.Outcomes.{After}
 use Rattle.send.specs.Rule.{nextMessage, numberAt, ackAsked, sentState}
 
 -- "gives the oldest not sent on this connection .. and adds at its end FT Protection, then FT ACK if asked, raising its length"
 pub record SentFrom (s : State) (sent : ℕ) (ask : Bool) (out : List ℕ) (x : After) : Type 0 where
   pub answer : x .outcome .answer ≡ Answer.Done
-  pub phase : x .outcome .phase ≡ Phase.UpFT (sent + 1)
+  pub phase : x .outcome .phase ≡ upWith (sent + 1)
   pub state : decode (x .image) ≡ sentState s sent
   pub output : x .out ≡ overlaid out (protectedBytes (nextMessage s sent) (numberAt (s .header) sent) (ackAsked ask (s .header)))
   pub written : x .outcome .written ≡ length (protectedBytes (nextMessage s sent) (numberAt (s .header) sent) (ackAsked ask (s .header)))

@@ -13,26 +13,26 @@ use Rattle.tlv.specs.declared.FtField.{FtField}
 use Rattle.message_writer.specs.Forms.{protectedBytes}
 use Rattle.block0.specs.declared.Header.{Header}
 use Rattle.image.specs.State.{State, decode, store}
-use Rattle.calls.specs.declared.Answer
-use Rattle.calls.specs.declared.Answer.{Answer}
-use Rattle.calls.specs.declared.Phase
-use Rattle.calls.specs.declared.Phase.{Phase}
-use Rattle.calls.specs.Phases.{issuedCount}
+use Rattle.protocol.specs.declared.Answer
+use Rattle.protocol.specs.declared.Answer.{Answer}
+use Rattle.protocol.specs.declared.Phase
+use Rattle.protocol.specs.declared.Phase.{Phase}
+use Rattle.calls.specs.Phases.{issuedCount, upWith}
 use Rattle.calls.specs.Outcomes.{After, settleOf, admitted, roomFor, wrote}
 
 -- "Send next (UpFT)"
 abbrev pub isUpFT : Phase → Bool
 isUpFT Phase.Idle = false
-isUpFT (Phase.InitWait t) = false
-isUpFT (Phase.UpFT sent) = true
+isUpFT (Phase.InitWait v) = false
+isUpFT (Phase.UpFT u) = true
 isUpFT Phase.UpPlain = false
 isUpFT Phase.Failed = false
 
 -- the count sent on this connection; of UpFT alone
 abbrev pub sentOf : Phase → ℕ
 sentOf Phase.Idle = 0
-sentOf (Phase.InitWait t) = 0
-sentOf (Phase.UpFT sent) = sent
+sentOf (Phase.InitWait v) = 0
+sentOf (Phase.UpFT u) = u .sent
 sentOf Phase.UpPlain = 0
 sentOf Phase.Failed = 0
 
@@ -87,4 +87,4 @@ sendImage im sent = pick (ltb sent (issuedCount (decode im .header))) im (store 
 unfoldable pub sendOf : List ℕ → Phase → Bool → List ℕ → After
 sendOf im ph ask out =
     settleOf (sendAnswer im ph ask (length out)) ph im out
-    (wrote (Phase.UpFT (sentOf ph + 1)) im (sendImage im (sentOf ph)) out (sendBytes (decode im) (sentOf ph) ask))
+    (wrote (upWith (sentOf ph + 1)) im (sendImage im (sentOf ph)) out (sendBytes (decode im) (sentOf ph) ask))

@@ -6,13 +6,14 @@ ghost use Rattle.message_writer.specs.Written.{writtenOf};
 ghost use Rattle.image.specs.Sizes.{block};
 ghost use Rattle.image.specs.State.{decode};
 ghost use Rattle.image.specs.Verdict.{IsSound};
-ghost use Rattle.calls.specs.declared.Answer;
+ghost use Rattle.protocol.specs.declared.Answer;
 ghost use Rattle.calls.specs.Outcomes.{after, admitted};
 ghost use Rattle.send.specs.Rule.{isUpFT, sentOf, numberAt, ackAsked, sendBytes, sendRule, sendImage, sendOf};
 use block0::Header;
 use calls::Answer;
 use calls::Outcome;
 use calls::Phase;
+use calls::Progress;
 use ft_number::FtNumber;
 use message_writer::Written;
 use tlv::FtField;
@@ -37,7 +38,7 @@ fn sent_of(phase: Phase) -> u32
     match phase {
         Phase::Idle => 0,
         Phase::InitWait(_) => 0,
-        Phase::UpFT(sent) => sent,
+        Phase::UpFT(u) => u.sent,
         Phase::UpPlain => 0,
         Phase::Failed => 0,
     }
@@ -117,7 +118,7 @@ pub fn send_next(image: &mut [u8], phase: Phase, ack: bool, out: &mut [u8]) -> O
         Written::TooShort => calls::refuse(Answer::OutputTooShort, phase),
         Written::Bytes(n) => Outcome {
             answer: Answer::Done,
-            phase: Phase::UpFT(sent + 1),
+            phase: Phase::UpFT(Progress { sent: sent + 1 }),
             written: n,
             slot: 0,
             block0: issue(image, sent),

@@ -7,9 +7,9 @@ use native.Mathlib.Omega.{arith}
 use Rattle.octets.proofs.Choice.{pick-all}
 use Rattle.message.specs.Reading.{readingOf}
 use Rattle.image.specs.State.{decode}
-use Rattle.calls.specs.declared.Answer
-use Rattle.calls.specs.declared.Answer.{Answer}
-use Rattle.calls.specs.declared.Phase.{Phase}
+use Rattle.protocol.specs.declared.Answer
+use Rattle.protocol.specs.declared.Answer.{Answer}
+use Rattle.protocol.specs.declared.Phase.{Phase}
 use Rattle.calls.specs.Answers.{answerNumber}
 use Rattle.calls.specs.Outcomes.{After, unchanged, failedWith, releasedWith}
 use Rattle.call_meaning.specs.Standing.{Standing}

@@ -15,10 +15,10 @@ use Rattle.image.specs.Events.{broken}
 use Rattle.image.specs.Verdict.{IsSound}
 use Rattle.image.proofs.Stored.{Idle}
 use Rattle.image.proofs.Sound.{sound-parts, parts-sound, idle-last}
-use Rattle.calls.specs.declared.Answer
-use Rattle.calls.specs.declared.Answer.{Answer}
-use Rattle.calls.specs.declared.Phase
-use Rattle.calls.specs.declared.Phase.{Phase}
+use Rattle.protocol.specs.declared.Answer
+use Rattle.protocol.specs.declared.Answer.{Answer}
+use Rattle.protocol.specs.declared.Phase
+use Rattle.protocol.specs.declared.Phase.{Phase}
 use Rattle.calls.specs.Phases.{restingPhase}
 use Rattle.calls.specs.Outcomes.{After, failedWith, releasedWith}
 use Rattle.timers.specs.Events.{expired}

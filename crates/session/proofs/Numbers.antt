@@ -16,8 +16,8 @@ use Rattle.image.specs.State.{State}
 use Rattle.image.specs.Verdict.{verdictNumber, verdictBlock}
 use Rattle.image.specs.declared.Verdict
 use Rattle.image.specs.declared.Verdict.{Verdict}
-use Rattle.calls.specs.declared.Answer
-use Rattle.calls.specs.declared.Answer.{Answer}
+use Rattle.protocol.specs.declared.Answer
+use Rattle.protocol.specs.declared.Answer.{Answer}
 use Rattle.calls.specs.Answers.{answerNumber, answerBlock}
 use Rattle.calls.specs.Outcomes.{checked}
 use Rattle.submit.specs.Rule.{acceptanceRule}

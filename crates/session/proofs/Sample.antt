@@ -20,10 +20,10 @@ use Rattle.image.specs.State.{decode, store}
 use Rattle.image.specs.Events.{newImage}
 use Rattle.image.proofs.Changes.{new-sound}
 use Rattle.image.proofs.Sound.{parts-sound}
-use Rattle.calls.specs.declared.Answer
-use Rattle.calls.specs.declared.Answer.{Answer}
-use Rattle.calls.specs.declared.Phase
-use Rattle.calls.specs.declared.Phase.{Phase}
+use Rattle.protocol.specs.declared.Answer
+use Rattle.protocol.specs.declared.Answer.{Answer}
+use Rattle.protocol.specs.declared.Phase
+use Rattle.protocol.specs.declared.Phase.{Phase}
 use Rattle.call_meaning.specs.Standing.{Standing, Stored}
 use Rattle.init.specs.declared.Terms.{Terms}
 use Rattle.init.specs.Begun.{fresh}

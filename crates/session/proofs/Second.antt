@@ -12,10 +12,10 @@ use Rattle.block0.specs.Layout.{slotCount}
 use Rattle.slot.specs.Held.{Storable}
 use Rattle.image.specs.State.{State, decode}
 use Rattle.image.proofs.Queue.{queue-storable}
-use Rattle.calls.specs.declared.Answer
-use Rattle.calls.specs.declared.Answer.{Answer}
-use Rattle.calls.specs.declared.Phase
-use Rattle.calls.specs.declared.Phase.{Phase}
+use Rattle.protocol.specs.declared.Answer
+use Rattle.protocol.specs.declared.Answer.{Answer}
+use Rattle.protocol.specs.declared.Phase
+use Rattle.protocol.specs.declared.Phase.{Phase}
 use Rattle.calls.specs.Phases.{issuedCount}
 use Rattle.call_meaning.specs.Standing.{Standing}
 use Rattle.call_meaning.proofs.Stands.{stored-stands}

@@ -10,7 +10,7 @@ use Rattle.ft_number.specs.declared.Steps.the-variants.{Count, Unreachable}
 use Rattle.image.specs.State.{decode}
 use Rattle.image.specs.Verdict.{IsSound}
 use Rattle.image.proofs.Sound.{sound-valid}
-use Rattle.calls.specs.declared.Phase.{Phase}
+use Rattle.protocol.specs.declared.Phase.{Phase}
 use Rattle.call_meaning.specs.Standing.{Standing, Stands}
 use Rattle.connect.proofs.Meaning.{format-formats, formatted-stands, restore-stands, open-stands, alive-stands}
 use Rattle.init.proofs.Meaning.{init-stands}

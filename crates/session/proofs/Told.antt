@@ -11,10 +11,10 @@ use Rattle.message.specs.declared.Reading
 use Rattle.message.specs.declared.Reading.{Reading}
 use Rattle.image.specs.Sizes.{block}
 use Rattle.image.specs.State.{decode}
-use Rattle.calls.specs.declared.Answer
-use Rattle.calls.specs.declared.Answer.{Answer}
-use Rattle.calls.specs.declared.Phase
-use Rattle.calls.specs.declared.Phase.{Phase}
+use Rattle.protocol.specs.declared.Answer
+use Rattle.protocol.specs.declared.Answer.{Answer}
+use Rattle.protocol.specs.declared.Phase
+use Rattle.protocol.specs.declared.Phase.{Phase}
 use Rattle.calls.specs.Outcomes.{After, unchanged, failedWith, releasedWith}
 use Rattle.timers.specs.Events.{expired}
 use Rattle.init.specs.Begun.{begunAs}

@@ -13,10 +13,10 @@ use Rattle.message_writer.specs.declared.OwnParameters.{OwnParameters}
 use Rattle.image.specs.Sizes.{imageSize}
 use Rattle.image.specs.State.{decode}
 use Rattle.image.specs.Verdict.{verdict}
-use Rattle.calls.specs.declared.Answer
-use Rattle.calls.specs.declared.Answer.{Answer}
-use Rattle.calls.specs.declared.Phase
-use Rattle.calls.specs.declared.Phase.{Phase}
+use Rattle.protocol.specs.declared.Answer
+use Rattle.protocol.specs.declared.Answer.{Answer}
+use Rattle.protocol.specs.declared.Phase
+use Rattle.protocol.specs.declared.Phase.{Phase}
 use Rattle.calls.specs.Outcomes.{After, unchanged, failedWith, releasedWith, checked, admitted, roomFor, wrote}
 use Rattle.connect.specs.Start.{formatted, formatOf, restoreOf}
 use Rattle.connect.specs.Writers.{opens, openBytes, openOf, isUp as isConnected, aliveBytes, keepaliveOf}

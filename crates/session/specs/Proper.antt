@@ -1,7 +1,7 @@
 -- What the code's types say of a call's input: a message is bytes, and a proposed timeout has 16 bits.
 use Prim.Native.Nat.{_<_}
 use Rattle.octets.specs.Bytes.{Bytes}
-use Rattle.calls.specs.declared.Phase.{Phase}
+use Rattle.protocol.specs.declared.Phase.{Phase}
 use Rattle.init.specs.Begun.{proposalOf}
 use Rattle.session.specs.Call.{Call, format, restore, connection-failed, open-session, init-received, time-passed, submit, send-next, keepalive, receive}
 

@@ -21,7 +21,7 @@ use Rattle.label_meaning.proofs.Kept.{step-length}
 use Rattle.label_meaning.proofs.Step.{step-valid}
 use Rattle.block.specs.Run.{Words}
 use Rattle.image.proofs.Ranges.{valid-words}
-use Rattle.submit.specs.Labels.{acceptedAs}
+use Rattle.protocol.specs.Accepting.{acceptedAs}
 use Rattle.submit.specs.Act.{acceptedLabels}
 
 -- the answer to a message that names no label

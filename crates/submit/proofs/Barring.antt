@@ -18,7 +18,7 @@ use Rattle.slot.specs.Held.{Storable, kindIn, labelIn}
 use Rattle.slot.proofs.Judged.{bears-kind, bears-other}
 use Rattle.image.specs.State.{decode}
 use Rattle.image.proofs.Queue.{queue-length}
-use Rattle.submit.specs.Labels.{isHeld}
+use Rattle.protocol.specs.Held.{isHeld}
 
 -- ---- one message, by the kind and the label that its slot gives
 module _ (m : List ℕ) (s : Storable m) (kind label : ℕ) {k : ℕ} (ek : k ≡ kindIn (submissionOf m)) where

@@ -6,7 +6,7 @@ use mathlib.Core.List.{List, [], _∷_}
 use mathlib.Core.Logic.{_≢_}
 use Prim.Native.Nat.{ℕ, _≤_, _<_}
 use native.Mathlib.Omega.{arith}
-use borrow.Author.Tests.{leb-true, ne-eqb}
+use borrow.Author.Tests.{leb-true, ne-eqb, eqb-true}
 use lib.ListN.{getD, List·getD-append}
 use lib.Seq.{getD-append-seam}
 use Rattle.octets.proofs.Choice.{by-test}
@@ -22,12 +22,12 @@ use Rattle.image.specs.Verdict.{verdict, IsSound}
 use Rattle.image.proofs.Stored.{Idle, length-storeSlot, slot-put, zeroth-other, decode-slot}
 use Rattle.image.proofs.Sound.{parts-sound, sound-valid, idle-last, sound-slot}
 use Rattle.image.proofs.Queue.{queue-length}
-use Rattle.calls.specs.declared.Answer
-use Rattle.calls.specs.declared.Answer.{Answer}
-use Rattle.calls.specs.declared.Effect
-use Rattle.calls.specs.declared.Effect.{Effect}
-use Rattle.calls.specs.declared.Phase
-use Rattle.calls.specs.declared.Phase.{Phase}
+use Rattle.protocol.specs.declared.Answer
+use Rattle.protocol.specs.declared.Answer.{Answer}
+use Rattle.protocol.specs.declared.Effect
+use Rattle.protocol.specs.declared.Effect.{Effect}
+use Rattle.protocol.specs.declared.Phase
+use Rattle.protocol.specs.declared.Phase.{Phase}
 use Rattle.calls.specs.Answers.{effectOf}
 use Rattle.calls.specs.Phases.{countOf, issuedCount, phaseFits}
 use Rattle.calls.specs.Outcomes.{After, isDone, unchanged}
@@ -49,8 +49,8 @@ window-count Unreachable e = omega arith
 still-fits : (ph : Phase) (s : State) (m : List ℕ) → phaseFits ph (submitted s m .header) ≡ phaseFits ph (s .header)
 unfolding phaseFits submitted issuedCount
 still-fits Phase.Idle s m = refl
-still-fits (Phase.InitWait t) s m = refl
-still-fits (Phase.UpFT sent) s m = refl
+still-fits (Phase.InitWait v) s m = refl
+still-fits (Phase.UpFT u) s m = refl
 still-fits Phase.UpPlain s m = refl
 still-fits Phase.Failed s m = refl
 
@@ -163,7 +163,7 @@ module _ (im : List ℕ) (ph : Phase) (m : List ℕ) where
     submit-sound =
         every
         (λ (x : After). IsSound (x .image))
-        (λ e. image-sound im m s r (storable e) (room e) (done-passes im ph m e .0 .fitting .kept))
+        (λ e. image-sound im m s r (storable e) (room e) (eqb-true (decode im .header .kept) 1 (done-passes im ph m e .0 .fitting .kept)))
         s
 
     pub submit-in-range : InRange (decode (submitOf im ph m .image))

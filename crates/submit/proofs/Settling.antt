@@ -18,19 +18,21 @@ use Rattle.image.specs.Sizes.{blockOf}
 use Rattle.image.specs.State.{decode, storeSlot, store0}
 use Rattle.image.specs.Verdict.{IsSound}
 use Rattle.image.proofs.Ranges.{bytes-in-range}
-use Rattle.calls.specs.declared.Answer
-use Rattle.calls.specs.declared.Answer.{Answer}
-use Rattle.calls.specs.declared.Effect
-use Rattle.calls.specs.declared.Effect.{Effect}
+use Rattle.protocol.specs.declared.Answer
+use Rattle.protocol.specs.declared.Answer.{Answer}
+use Rattle.protocol.specs.declared.Effect
+use Rattle.protocol.specs.declared.Effect.{Effect}
 use Rattle.calls.specs.declared.Outcome.{Outcome}
-use Rattle.calls.specs.declared.Phase.{Phase}
+use Rattle.protocol.specs.declared.Phase.{Phase}
 use Rattle.calls.specs.Answers.{answerNumber, effectBy}
 use Rattle.calls.specs.Outcomes.{After, after, refusal, isDone, admitted, settleOf}
 use Rattle.calls.proofs.Settled.{Admitted, admitted-is}
 use Rattle.calls.proofs.Ends.{settle-done}
 use Rattle.call_meaning.proofs.Calling.{call-refused, found-refused}
-use Rattle.submit.specs.Labels.{acceptedAs}
-use Rattle.submit.specs.Rule.{submitRule, submitAnswer}
+use Rattle.protocol.specs.Accepting.{acceptedAs}
+use Rattle.submit.specs.Rule.{submitAnswer}
+use Rattle.protocol.specs.Submit.{submitRule}
+use Rattle.submit.specs.Seen.{stateOf}
 use Rattle.submit.specs.Act.{withHeld, submitted, submitSlot, submitImage, queued, submitOf}
 use Rattle.submit.proofs.Queueing.{image-changed}
 
@@ -58,13 +60,13 @@ module _ (im : List ℕ) (ph : Phase) (m : List ℕ) (kind : Kind) (label : ℕ)
 module _ (im : List ℕ) (ph : Phase) (m : List ℕ) where
   pub admit-is : {a : Answer} {r : Outcome} → a ≡ admitted im ph Answer.Done → isDone a ≡ false → r ≡ refusal a ph → after r im [] ≡ submitOf im ph m
   unfolding submitOf submitAnswer
-  admit-is e n p = call-refused im ph e [] (submitRule (decode im) m) (queued im ph m) n p
+  admit-is e n p = call-refused im ph e [] (submitRule (stateOf im) m) (queued im ph m) n p
 
   module _ (w : Admitted im ph) where
-    pub submit-judged : {a : Answer} {x : After} → a ≡ submitRule (decode im) m → x ≡ settleOf a ph im [] (queued im ph m) → x ≡ submitOf im ph m
+    pub submit-judged : {a : Answer} {x : After} → a ≡ submitRule (stateOf im) m → x ≡ settleOf a ph im [] (queued im ph m) → x ≡ submitOf im ph m
     unfolding submitOf submitAnswer
-    submit-judged e p = rw (admitted-is w (submitRule (decode im) m), ← e) p
+    submit-judged e p = rw (admitted-is w (submitRule (stateOf im) m), ← e) p
 
-    pub submit-refused : {a : Answer} {r : Outcome} → a ≡ submitRule (decode im) m → r ≡ refusal a ph → effectBy (answerNumber a) ≡ Effect.Nothing
+    pub submit-refused : {a : Answer} {r : Outcome} → a ≡ submitRule (stateOf im) m → r ≡ refusal a ph → effectBy (answerNumber a) ≡ Effect.Nothing
         → after r im [] ≡ submitOf im ph m
     submit-refused e p n = submit-judged e (found-refused ph im [] (queued im ph m) refl p n)

@@ -9,11 +9,11 @@ use Rattle.message.specs.declared.Submission.{Submission}
 use Rattle.block0.specs.declared.Header.{Header}
 use Rattle.image.specs.Sizes.{block, blockOf, slotAt}
 use Rattle.image.specs.State.{State, decode, storeSlot, store}
-use Rattle.calls.specs.declared.Answer
-use Rattle.calls.specs.declared.Answer.{Answer}
-use Rattle.calls.specs.declared.Phase.{Phase}
+use Rattle.protocol.specs.declared.Answer
+use Rattle.protocol.specs.declared.Answer.{Answer}
+use Rattle.protocol.specs.declared.Phase.{Phase}
 use Rattle.calls.specs.Outcomes.{After, after, settleOf}
-use Rattle.submit.specs.Labels.{acceptedAs}
+use Rattle.protocol.specs.Accepting.{acceptedAs}
 use Rattle.submit.specs.Rule.{submitAnswer}
 
 -- R, I and S

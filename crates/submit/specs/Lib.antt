@@ -1,4 +1,4 @@
-pub mod Labels
+pub mod Seen
 pub mod Rule
 pub mod Act
 pub mod Passed

@@ -9,7 +9,8 @@ ghost use Rattle.slot.specs.Layout.{shortest, longest};
 ghost use Rattle.image.specs.State.{decode};
 ghost use Rattle.image.specs.Verdict.{IsSound};
 ghost use Rattle.calls.specs.Outcomes.{after, settleOf};
-ghost use Rattle.submit.specs.Rule.{kindRule};
+ghost use Rattle.protocol.specs.Submit.{kindRule};
+ghost use Rattle.submit.specs.Seen.{stateOf};
 ghost use Rattle.submit.specs.Act.{queued, submitOf};
 use calls::Answer;
 use calls::Outcome;
@@ -24,7 +25,7 @@ mod storing;
 // A message that passes 3, 4 and 5, with its kind and label: 6, 13 and 7 are asked, and it is queued.
 fn submit_accepted(image: &mut [u8], phase: Phase, msg: &[u8], kind: Kind, label: u32) -> Outcome
     requires { ⌜ IsSound (now image) × (shortest ≤ length (now msg)) × (length (now msg) ≤ longest) × (submissionOf (now msg) ≡ Accepted kind label) ⌝ }
-    ensures { λ r. ⌜ after r (now (image .exit)) [] ≡ settleOf (kindRule (decode (now (image .entry))) kind label) phase (now (image .entry)) [] (queued (now (image .entry)) phase (now (msg .entry))) ⌝ }
+    ensures { λ r. ⌜ after r (now (image .exit)) [] ≡ settleOf (kindRule (stateOf (now (image .entry))) kind label) phase (now (image .entry)) [] (queued (now (image .entry)) phase (now (msg .entry))) ⌝ }
 {
     if labels::is_barred(image, kind, label) {
         return calls::refuse(Answer::LabelNotAllowed, phase);

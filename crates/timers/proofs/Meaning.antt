@@ -22,10 +22,10 @@ use Rattle.image.proofs.Stored.{state-eq}
 use Rattle.image.proofs.Same.{word-kept}
 use Rattle.image.proofs.Sound.{sound-valid}
 use Rattle.image.proofs.Changes.{release-decodes, break-decodes}
-use Rattle.calls.specs.declared.Answer
-use Rattle.calls.specs.declared.Answer.{Answer}
-use Rattle.calls.specs.declared.Phase
-use Rattle.calls.specs.declared.Phase.{Phase}
+use Rattle.protocol.specs.declared.Answer
+use Rattle.protocol.specs.declared.Answer.{Answer}
+use Rattle.protocol.specs.declared.Phase
+use Rattle.protocol.specs.declared.Phase.{Phase}
 use Rattle.calls.specs.Outcomes.{unchanged, failedWith, releasedWith}
 use Rattle.calls.proofs.Settled.{admitted-is}
 use Rattle.calls.proofs.Phasing.{resting-failed, resting-idle}

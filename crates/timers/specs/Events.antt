@@ -8,25 +8,25 @@ use lib.Dec.{eqb, leb}
 use Rattle.octets.specs.Pick.{pick}
 use Rattle.block0.specs.declared.Header.{Header}
 use Rattle.image.specs.State.{decode}
-use Rattle.calls.specs.declared.Answer
-use Rattle.calls.specs.declared.Answer.{Answer}
-use Rattle.calls.specs.declared.Phase
-use Rattle.calls.specs.declared.Phase.{Phase}
+use Rattle.protocol.specs.declared.Answer
+use Rattle.protocol.specs.declared.Answer.{Answer}
+use Rattle.protocol.specs.declared.Phase
+use Rattle.protocol.specs.declared.Phase.{Phase}
 use Rattle.calls.specs.Outcomes.{After, unchanged, failedWith, releasedWith, settleOf, admitted}
 
 -- the phases with a connection
 abbrev pub connected : Phase → Bool
 connected Phase.Idle = false
-connected (Phase.InitWait t) = true
-connected (Phase.UpFT sent) = true
+connected (Phase.InitWait v) = true
+connected (Phase.UpFT u) = true
 connected Phase.UpPlain = true
 connected Phase.Failed = false
 
 -- the phase in which the timeout runs
 abbrev pub waiting : Phase → Bool
 waiting Phase.Idle = false
-waiting (Phase.InitWait t) = false
-waiting (Phase.UpFT sent) = false
+waiting (Phase.InitWait v) = false
+waiting (Phase.UpFT u) = false
 waiting Phase.UpPlain = false
 waiting Phase.Failed = true
 

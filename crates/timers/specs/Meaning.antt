@@ -7,10 +7,10 @@ use Rattle.octets.specs.Pick.{pick}
 use Rattle.label_list.specs.Word.{codeOf}
 use Rattle.image.specs.State.{State, decode}
 use Rattle.image.specs.Events.{released, releaseOf}
-use Rattle.calls.specs.declared.Answer
-use Rattle.calls.specs.declared.Answer.{Answer}
-use Rattle.calls.specs.declared.Phase
-use Rattle.calls.specs.declared.Phase.{Phase}
+use Rattle.protocol.specs.declared.Answer
+use Rattle.protocol.specs.declared.Answer.{Answer}
+use Rattle.protocol.specs.declared.Phase
+use Rattle.protocol.specs.declared.Phase.{Phase}
 use Rattle.calls.specs.Outcomes.{After, unchanged}
 use Rattle.timers.specs.Events.{timePassedOf}
 

@@ -23,10 +23,10 @@ use Rattle.message_writer.proofs.RoundTrip.{submitted, sent-reads, sent-kind, s
 use Rattle.image.specs.State.{decode}
 use Rattle.image.proofs.Sound.{sound-valid}
 use Rattle.calls.specs.Received.{isInit}
-use Rattle.calls.specs.declared.Answer
-use Rattle.calls.specs.declared.Answer.{Answer}
-use Rattle.calls.specs.declared.Phase
-use Rattle.calls.specs.declared.Phase.{Phase}
+use Rattle.protocol.specs.declared.Answer
+use Rattle.protocol.specs.declared.Answer.{Answer}
+use Rattle.protocol.specs.declared.Phase
+use Rattle.protocol.specs.declared.Phase.{Phase}
 use Rattle.receive.specs.Labels.{labelEffect, protectionRule}
 use Rattle.receive.specs.Rule.{ackOn, receivedState, receiveAnswer, receiveOf}
 use Rattle.two_ends.specs.World.{History, End}

@@ -17,9 +17,9 @@ use Rattle.octets.proofs.Choice.{pick-all}
 use Rattle.block0.specs.declared.Header.{Header}
 use Rattle.image.specs.State.{decode}
 use Rattle.image.specs.Events.{released}
-use Rattle.calls.specs.declared.Answer
-use Rattle.calls.specs.declared.Answer.{Answer}
-use Rattle.calls.specs.declared.Phase.{Phase}
+use Rattle.protocol.specs.declared.Answer
+use Rattle.protocol.specs.declared.Answer.{Answer}
+use Rattle.protocol.specs.declared.Phase.{Phase}
 use Rattle.calls.specs.Phases.{phaseFits}
 use Rattle.calls.specs.Outcomes.{After, roomFor, wrote}
 use Rattle.calls.proofs.Settled.{admitted-is}

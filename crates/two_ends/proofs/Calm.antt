@@ -16,10 +16,10 @@ use Rattle.message_writer.specs.declared.OwnParameters.{OwnParameters}
 use Rattle.message_writer.proofs.Own.{init-reads}
 use Rattle.image.specs.State.{State, decode}
 use Rattle.octets.specs.Bytes.{Bytes}
-use Rattle.calls.specs.declared.Answer
-use Rattle.calls.specs.declared.Answer.{Answer}
-use Rattle.calls.specs.declared.Phase
-use Rattle.calls.specs.declared.Phase.{Phase}
+use Rattle.protocol.specs.declared.Answer
+use Rattle.protocol.specs.declared.Answer.{Answer}
+use Rattle.protocol.specs.declared.Phase
+use Rattle.protocol.specs.declared.Phase.{Phase}
 use Rattle.calls.specs.Acked.{acked}
 use Rattle.calls.specs.Outcomes.{After}
 use Rattle.call_meaning.specs.Standing.{Standing}

@@ -6,7 +6,7 @@ use mathlib.Core.List.{List}
 use Rattle.image.specs.State.{decode}
 use Rattle.image.specs.Verdict.{IsSound}
 use Rattle.image.proofs.Sound.{sound-parts, parts-sound}
-use Rattle.calls.specs.declared.Phase.{Phase}
+use Rattle.protocol.specs.declared.Phase.{Phase}
 use Rattle.calls.specs.Outcomes.{failedWith}
 use Rattle.call_meaning.specs.Standing.{Standing}
 use Rattle.submit.specs.Act.{submitOf}

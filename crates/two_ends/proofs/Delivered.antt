@@ -6,8 +6,8 @@ use mathlib.Core.List.{List, [], _∷_, map}
 use Rattle.octets.specs.Pick.{both}
 use Rattle.octets.proofs.Choice.{both-true}
 use Rattle.image.specs.State.{decode}
-use Rattle.calls.specs.declared.Phase
-use Rattle.calls.specs.declared.Phase.{Phase}
+use Rattle.protocol.specs.declared.Phase
+use Rattle.protocol.specs.declared.Phase.{Phase}
 use Rattle.init.specs.Begun.{initStart, initReceivedOf}
 use Rattle.receive.specs.Rule.{receiveOf}
 use Rattle.two_ends.specs.World.{History, End, World}

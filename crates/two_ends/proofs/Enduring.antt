@@ -7,7 +7,7 @@ use mathlib.Core.List.{List, [], _∷_}
 use Rattle.ft_number.specs.Timeout.{proposedOf}
 use Rattle.message_writer.specs.declared.OwnParameters.{OwnParameters}
 use Rattle.image.specs.State.{decode}
-use Rattle.calls.specs.declared.Answer.{Answer}
+use Rattle.protocol.specs.declared.Answer.{Answer}
 use Rattle.calls.specs.Answers.{answerNumber}
 use Rattle.connect.specs.Writers.{keptAck}
 use Rattle.two_ends.specs.World.{World, swap}

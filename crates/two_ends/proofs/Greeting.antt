@@ -4,8 +4,8 @@ use mathlib.Core.Path.{_≡_, sym}
 use mathlib.Core.Bool.{Bool, true, false, true≢false}
 use mathlib.Core.List.{List, _∷_, map}
 use Rattle.image.specs.State.{decode}
-use Rattle.calls.specs.declared.Phase
-use Rattle.calls.specs.declared.Phase.{Phase}
+use Rattle.protocol.specs.declared.Phase
+use Rattle.protocol.specs.declared.Phase.{Phase}
 use Rattle.two_ends.specs.World.{History, End}
 use Rattle.two_ends.specs.Calls.{keeps}
 use Rattle.two_ends.proofs.Packets.{Packet, first, again, alive, carried, bytesOf}

@@ -9,8 +9,8 @@ use Rattle.tlv.specs.declared.FtField
 use Rattle.tlv.specs.declared.FtField.{FtField}
 use Rattle.image.specs.State.{State, decode}
 use Rattle.image.specs.Events.{released}
-use Rattle.calls.specs.declared.Phase
-use Rattle.calls.specs.declared.Phase.{Phase}
+use Rattle.protocol.specs.declared.Phase
+use Rattle.protocol.specs.declared.Phase.{Phase}
 use Rattle.call_meaning.specs.Standing.{Standing}
 use Rattle.send.specs.Rule.{isUpFT, sentOf}
 use Rattle.init.specs.Begun.{awaits, proposalOf}

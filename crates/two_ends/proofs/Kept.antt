@@ -6,7 +6,7 @@ use mathlib.Core.List.{List, [], _∷_}
 use borrow.Author.Tests.{eqb-true}
 use Rattle.octets.proofs.Choice.{pick-all}
 use Rattle.image.specs.State.{decode}
-use Rattle.calls.specs.declared.Phase.{Phase}
+use Rattle.protocol.specs.declared.Phase.{Phase}
 use Rattle.calls.specs.Outcomes.{After, isDone}
 use Rattle.call_meaning.specs.Standing.{Standing}
 use Rattle.connect.specs.Start.{restoreOf}

@@ -11,12 +11,12 @@ use Rattle.ft_number.specs.declared.Proposal.{Proposal}
 use Rattle.message_writer.specs.declared.OwnParameters.{OwnParameters}
 use Rattle.octets.proofs.Choice.{by-test, pick-all}
 use Rattle.image.specs.State.{State, decode}
-use Rattle.calls.specs.declared.Answer
-use Rattle.calls.specs.declared.Answer.{Answer}
-use Rattle.calls.specs.declared.Effect
-use Rattle.calls.specs.declared.Effect.{Effect}
-use Rattle.calls.specs.declared.Phase
-use Rattle.calls.specs.declared.Phase.{Phase}
+use Rattle.protocol.specs.declared.Answer
+use Rattle.protocol.specs.declared.Answer.{Answer}
+use Rattle.protocol.specs.declared.Effect
+use Rattle.protocol.specs.declared.Effect.{Effect}
+use Rattle.protocol.specs.declared.Phase
+use Rattle.protocol.specs.declared.Phase.{Phase}
 use Rattle.calls.specs.Answers.{effectOf}
 use Rattle.calls.specs.Phases.{issuedCount}
 use Rattle.calls.specs.Outcomes.{After, isDone, failedWith}

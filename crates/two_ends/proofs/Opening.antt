@@ -16,8 +16,8 @@ use Rattle.message_writer.specs.Forms.{initBytes}
 use Rattle.message_writer.specs.ReadBack.{InitFits}
 use Rattle.message_writer.specs.declared.OwnParameters.{OwnParameters}
 use Rattle.image.specs.State.{decode}
-use Rattle.calls.specs.declared.Phase
-use Rattle.calls.specs.declared.Phase.{Phase}
+use Rattle.protocol.specs.declared.Phase
+use Rattle.protocol.specs.declared.Phase.{Phase}
 use Rattle.calls.specs.Phases.{phaseFits}
 use Rattle.calls.specs.Outcomes.{After, isDone, wrote}
 use Rattle.call_meaning.specs.Standing.{Standing}

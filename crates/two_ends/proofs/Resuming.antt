@@ -12,10 +12,10 @@ use Rattle.message_writer.specs.declared.OwnParameters.{OwnParameters}
 use Rattle.image.specs.State.{State, decode}
 use Rattle.octets.specs.Bytes.{Bytes}
 use Rattle.image.proofs.Sound.{sound-valid}
-use Rattle.calls.specs.declared.Answer
-use Rattle.calls.specs.declared.Answer.{Answer}
-use Rattle.calls.specs.declared.Phase
-use Rattle.calls.specs.declared.Phase.{Phase}
+use Rattle.protocol.specs.declared.Answer
+use Rattle.protocol.specs.declared.Answer.{Answer}
+use Rattle.protocol.specs.declared.Phase
+use Rattle.protocol.specs.declared.Phase.{Phase}
 use Rattle.calls.specs.Outcomes.{releasedWith}
 use Rattle.call_meaning.specs.Standing.{Standing}
 use Rattle.init.specs.declared.Start

@@ -10,8 +10,8 @@ use lib.Seq.{drop-cons}
 use Rattle.octets.proofs.Choice.{by-test}
 use Rattle.image.specs.State.{State, decode}
 use Rattle.image.proofs.Queue.{queue-length}
-use Rattle.calls.specs.declared.Phase
-use Rattle.calls.specs.declared.Phase.{Phase}
+use Rattle.protocol.specs.declared.Phase
+use Rattle.protocol.specs.declared.Phase.{Phase}
 use Rattle.calls.specs.Outcomes.{isDone, wrote}
 use Rattle.call_meaning.specs.Standing.{Standing}
 use Rattle.send.specs.Rule.{sentOf, nextMessage, numberAt, ackAsked, sendBytes, sendAnswer, sentState, sendImage, sendOf}

@@ -12,8 +12,8 @@ use Rattle.tlv.specs.declared.FtField
 use Rattle.tlv.specs.declared.FtField.{FtField}
 use Rattle.octets.proofs.Choice.{pick-all}
 use Rattle.image.specs.State.{State}
-use Rattle.calls.specs.declared.Phase
-use Rattle.calls.specs.declared.Phase.{Phase}
+use Rattle.protocol.specs.declared.Phase
+use Rattle.protocol.specs.declared.Phase.{Phase}
 use Rattle.calls.specs.Phases.{issuedCount}
 use Rattle.send.specs.Rule.{numberAt, ackAsked, numbered, sentState}
 use Rattle.two_ends.specs.World.{History}

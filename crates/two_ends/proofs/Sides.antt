@@ -9,8 +9,8 @@ use Rattle.ft_number.specs.declared.MessageId.{MessageId}
 use Rattle.message_writer.specs.declared.OwnParameters.{OwnParameters}
 use Rattle.image.specs.State.{State}
 use Rattle.image.specs.Events.{broken}
-use Rattle.calls.specs.declared.Phase
-use Rattle.calls.specs.declared.Phase.{Phase}
+use Rattle.protocol.specs.declared.Phase
+use Rattle.protocol.specs.declared.Phase.{Phase}
 use Rattle.submit.specs.Act.{submitted}
 use Rattle.two_ends.specs.World.{History}
 use Rattle.two_ends.specs.Calls.{accepts}

@@ -7,8 +7,8 @@ use Rattle.message_writer.specs.declared.OwnParameters.{OwnParameters}
 use borrow.Author.Tests.{eqb-true}
 use Rattle.octets.proofs.Choice.{by-test, pick-all}
 use Rattle.image.specs.State.{decode}
-use Rattle.calls.specs.declared.Phase
-use Rattle.calls.specs.declared.Phase.{Phase}
+use Rattle.protocol.specs.declared.Phase
+use Rattle.protocol.specs.declared.Phase.{Phase}
 use Rattle.calls.specs.Outcomes.{After, isDone}
 use Rattle.call_meaning.specs.Standing.{Standing}
 use Rattle.connect.specs.Start.{restoreOf}

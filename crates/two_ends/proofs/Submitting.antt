@@ -13,11 +13,11 @@ use Rattle.image.specs.State.{decode}
 use Rattle.image.proofs.Queue.{queue-length}
 use Rattle.octets.specs.Bytes.{Bytes}
 use Rattle.image.proofs.Sound.{sound-valid}
-use Rattle.calls.specs.declared.Answer
-use Rattle.calls.specs.declared.Answer.{Answer}
-use Rattle.calls.specs.declared.Effect
-use Rattle.calls.specs.declared.Effect.{Effect}
-use Rattle.calls.specs.declared.Phase.{Phase}
+use Rattle.protocol.specs.declared.Answer
+use Rattle.protocol.specs.declared.Answer.{Answer}
+use Rattle.protocol.specs.declared.Effect
+use Rattle.protocol.specs.declared.Effect.{Effect}
+use Rattle.protocol.specs.declared.Phase.{Phase}
 use Rattle.calls.specs.Answers.{effectOf}
 use Rattle.call_meaning.specs.Standing.{Standing}
 use Rattle.submit.specs.Rule.{submitAnswer}

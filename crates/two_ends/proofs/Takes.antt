@@ -17,8 +17,8 @@ use Rattle.message.specs.declared.Message.{Message}
 use Rattle.message_writer.specs.declared.OwnParameters.{OwnParameters}
 use Rattle.image.specs.State.{State}
 use Rattle.image.specs.Events.{released}
-use Rattle.calls.specs.declared.Phase
-use Rattle.calls.specs.declared.Phase.{Phase}
+use Rattle.protocol.specs.declared.Phase
+use Rattle.protocol.specs.declared.Phase.{Phase}
 use Rattle.calls.specs.Acked.{releasedLabels, ackBorne, acked}
 use Rattle.init.specs.declared.Terms.{Terms}
 use Rattle.init.specs.Begun.{fresh, resumed}

@@ -6,8 +6,8 @@ use mathlib.Core.List.{List, [], _∷_}
 use Rattle.octets.specs.Pick.{both}
 use Rattle.message_writer.specs.declared.OwnParameters.{OwnParameters}
 use Rattle.image.specs.State.{decode}
-use Rattle.calls.specs.declared.Phase
-use Rattle.calls.specs.declared.Phase.{Phase}
+use Rattle.protocol.specs.declared.Phase
+use Rattle.protocol.specs.declared.Phase.{Phase}
 use Rattle.init.specs.Begun.{initStart, initReceivedOf}
 use Rattle.receive.specs.Rule.{receiveOf}
 use Rattle.receive.proofs.Meaning.{receive-answered}

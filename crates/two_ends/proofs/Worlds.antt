@@ -9,8 +9,8 @@ use Rattle.octets.specs.Pick.{pick, both}
 use Rattle.octets.proofs.Choice.{both-true}
 use Rattle.image.specs.State.{decode}
 use Rattle.image.specs.Events.{released}
-use Rattle.calls.specs.declared.Phase
-use Rattle.calls.specs.declared.Phase.{Phase}
+use Rattle.protocol.specs.declared.Phase
+use Rattle.protocol.specs.declared.Phase.{Phase}
 use Rattle.calls.specs.Outcomes.{After}
 use Rattle.timers.specs.Events.{connected}
 use Rattle.two_ends.specs.World.{History, End, World, swap}

@@ -4,8 +4,8 @@ use mathlib.Core.Path.{_≡_}
 use mathlib.Core.Bool.{true}
 use mathlib.Core.List.{List, _∷_}
 use Rattle.octets.specs.Pick.{pick}
-use Rattle.calls.specs.declared.Answer
-use Rattle.calls.specs.declared.Answer.{Answer}
+use Rattle.protocol.specs.declared.Answer
+use Rattle.protocol.specs.declared.Answer.{Answer}
 use Rattle.init.specs.Begun.{awaits, initReceivedOf}
 use Rattle.receive.specs.Rule.{receiveOf}
 use Rattle.two_ends.specs.World.{End, World}

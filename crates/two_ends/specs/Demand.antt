@@ -6,8 +6,8 @@ use mathlib.Core.List.{List, [], _∷_, _++_}
 use lib.ListN.{length}
 use Rattle.block0.specs.Layout.{slotCount}
 use Rattle.image.specs.State.{decode}
-use Rattle.calls.specs.declared.Answer
-use Rattle.calls.specs.declared.Answer.{Answer}
+use Rattle.protocol.specs.declared.Answer
+use Rattle.protocol.specs.declared.Answer.{Answer}
 use Rattle.submit.specs.Act.{submitOf}
 use Rattle.submit.specs.Passed.{Passes}
 use Rattle.two_ends.specs.World.{End, World}

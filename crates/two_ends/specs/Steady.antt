@@ -9,8 +9,8 @@ use Rattle.message.specs.declared.Reading
 use Rattle.message.specs.declared.Reading.{Reading}
 use Rattle.message_writer.specs.declared.OwnParameters.{OwnParameters}
 use Rattle.image.specs.State.{decode}
-use Rattle.calls.specs.declared.Answer
-use Rattle.calls.specs.declared.Answer.{Answer}
+use Rattle.protocol.specs.declared.Answer
+use Rattle.protocol.specs.declared.Answer.{Answer}
 use Rattle.timers.specs.Events.{waiting, expired}
 use Rattle.receive.specs.Rule.{isFatal}
 use Rattle.two_ends.specs.World.{World, swap}

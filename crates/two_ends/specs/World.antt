@@ -2,7 +2,7 @@
 use Prim.Native.Nat.{ℕ}
 use mathlib.Core.Bool.{Bool}
 use mathlib.Core.List.{List, []}
-use Rattle.calls.specs.declared.Phase.{Phase}
+use Rattle.protocol.specs.declared.Phase.{Phase}
 
 -- the messages, as submitted: accepted to send, let go by an ACK, and secured of the peer's
 pub record History : Type 0 where

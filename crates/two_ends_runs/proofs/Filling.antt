@@ -20,8 +20,8 @@ use Rattle.image.specs.State.{State, decode}
 use Rattle.image.specs.Events.{newImage}
 use Rattle.image.proofs.Changes.{in-range-released, new-decodes, new-sound}
 use Rattle.octets.specs.Bytes.{Bytes}
-use Rattle.calls.specs.declared.Answer
-use Rattle.calls.specs.declared.Answer.{Answer}
+use Rattle.protocol.specs.declared.Answer
+use Rattle.protocol.specs.declared.Answer.{Answer}
 use Rattle.submit.specs.Act.{submitted, submitOf}
 use Rattle.submit.specs.Labels.{isBarred, acceptedAs}
 use Rattle.submit.specs.Passed.{Passes}

@@ -4,8 +4,8 @@ use mathlib.Core.Bool.{Bool, true, false}
 use mathlib.Core.List.{List, [], _∷_}
 use Rattle.image.specs.State.{decode}
 use Rattle.image.specs.Events.{newImage}
-use Rattle.calls.specs.declared.Phase
-use Rattle.calls.specs.declared.Phase.{Phase}
+use Rattle.protocol.specs.declared.Phase
+use Rattle.protocol.specs.declared.Phase.{Phase}
 use Rattle.two_ends.specs.World.{End, World, none}
 use Rattle.two_ends.specs.Start.{start}
 use Rattle.two_ends.specs.Demand.{store}

@@ -9,13 +9,14 @@ use Rattle.submit.proofs.Answered.{not-kept, too-short, too-long, fitti
 use Rattle.submit.proofs.Settling.{admit-is, submit-refused, submit-judged}
 use Rattle.submit.proofs.submit.Statement.{statement}
 use Rattle.submit.proofs.submit.Tie as tie
+use Rattle.submit.specs.Seen.{stateOf}
 
 -- past the first test the image is sound and allows the phase
 admitted : (c : tie.Else1) → Admitted (now (c .before .before .before .before .before .before .args .image)) (c .before .before .before .before .before .before .args .phase)
 admitted c = admit-passed _ _ (c .before .before .admit .ensures) (sym (c .before .is-done .ensures) ∙ not-false (c .before .is-done .result) (c .if1 .left))
 
 -- past the fourth kept is 1 and the length lies within its limits
-fitting : (c : tie.Else4) → Fitting (decode (now (c .before .before .before .before .before .before .before .before .before .before .before .before .args .image))) (now (c .before .before .before .before .before .before .before .before .before .before .before .before .args .msg))
+fitting : (c : tie.Else4) → Fitting (stateOf (now (c .before .before .before .before .before .before .before .before .before .before .before .before .args .image))) (now (c .before .before .before .before .before .before .before .before .before .before .before .before .args .msg))
 fitting c = fitting-is _ _ (c .before .before .before .before .header-of .ensures) (c .before .before .if2 .left) (c .before .if3 .left) (c .if4 .left)
 
 pub submit-spec : {M : Type 1} → statement M

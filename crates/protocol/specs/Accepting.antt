@@ -1,23 +1,16 @@
--- What a message's kind and label are asked: is the same still held, does the label's code allow it, and what become the label words.
+-- What Submit asks of a label, and what it makes of the label words.
 use Prim.Native.Nat.{ℕ}
-use mathlib.Core.Bool.{Bool, true, false}
-use mathlib.Core.List.{List, [], _∷_}
-use Rattle.octets.specs.Pick.{pick}
+use mathlib.Core.Bool.{Bool, false}
+use mathlib.Core.List.{List}
 use Rattle.message.specs.Kinds.{kindNumber}
-use Rattle.message.specs.Submission.{submissionOf}
-use Rattle.message.specs.declared.Kind
 use Rattle.message.specs.declared.Kind.{Kind}
-use Rattle.label_list.specs.declared.LabelMessage
 use Rattle.label_list.specs.declared.LabelMessage.{LabelMessage}
 use Rattle.label_events.specs.Accept.{acceptedOf}
-use Rattle.label_events.specs.declared.Acceptance
 use Rattle.label_events.specs.declared.Acceptance.{Acceptance}
-use Rattle.slot.specs.Fields.{bears}
-
--- a message of that kind and label is among these
-unfoldable pub isHeld : ℕ → ℕ → List (List ℕ) → Bool
-isHeld kind label [] = false
-isHeld kind label (m ∷ ms) = pick (bears (submissionOf m) kind label) true (isHeld kind label ms)
+use Rattle.message.specs.declared.Kind
+use Rattle.label_list.specs.declared.LabelMessage
+use Rattle.label_events.specs.declared.Acceptance
+use Rattle.protocol.specs.Held.{isHeld}
 
 -- "6: .. or same label's Withdraw/Release of that kind still held"; nothing held bars a Mapping, nor what names no label
 unfoldable pub isBarred : List (List ℕ) → Kind → ℕ → Bool

@@ -5,12 +5,11 @@ use Prim.Native.Nat.{ℕ, _<_, _≤_}
 use native.Mathlib.Omega.{arith}
 use borrow.Author.Tests.{eq-eqb, ne-eqb, lt-ltb, le-ltb}
 use Rattle.octets.proofs.Choice.{no}
-use Rattle.calls.specs.Answers.{answerNumber, effectOf}
-use Rattle.calls.specs.Outcomes.{isDone}
-use Rattle.calls.specs.declared.Answer
-use Rattle.calls.specs.declared.Answer.{Answer}
-use Rattle.calls.specs.declared.Effect
-use Rattle.calls.specs.declared.Effect.{Effect}
+use Rattle.protocol.specs.Answers.{answerNumber, effectOf, isDone}
+use Rattle.protocol.specs.declared.Answer
+use Rattle.protocol.specs.declared.Answer.{Answer}
+use Rattle.protocol.specs.declared.Effect
+use Rattle.protocol.specs.declared.Effect.{Effect}
 
 module _ (a : Answer) (n : ℕ) (e : n ≡ answerNumber a) where
   pub effect-act : n ≡ 0 → Effect.Act ≡ effectOf a

@@ -1,0 +1,24 @@
+-- what a session keeps, its phases, its answers, and what a call makes of them
+pub mod State
+pub mod Phases
+pub mod Answers
+pub mod Step
+pub mod Held
+pub mod Acked
+-- the calls, in 01's order of events
+pub mod Begin
+pub mod Writer
+pub mod Open
+pub mod Received
+pub mod Init
+pub mod ConnectionFailed
+pub mod TimePassed
+pub mod Accepting
+pub mod Submit
+pub mod Send
+pub mod KeepAlive
+pub mod Labels
+pub mod Receive
+-- all ten as one function, and Receive's answers as a list of cases
+pub mod Calls
+pub mod Cases
