@@ -18,25 +18,26 @@ use Rattle.protocol.specs.TimePassed.{timePassed}
 use Rattle.protocol.specs.KeepAlive.{keepalive}
 use Rattle.protocol.specs.Open.{openSession}
 
--- a call and what its owner gives it; the last number of a writer is the room for its output
+-- a call and what its owner gives it beside the room for its output
 pub data Call : Type 0 where
   formats restores fails : Call
-  opens : MessageId → OwnParameters → Proposal → ℕ → Call
+  opens : MessageId → OwnParameters → Proposal → Call
   greets : List ℕ → Call
   passes : ℕ → Call
   submits : List ℕ → Call
-  sends : Bool → ℕ → Call
-  keeps-alive : MessageId → ℕ → Call
+  sends : Bool → Call
+  keeps-alive : MessageId → Call
   receives : List ℕ → Call
 
-unfoldable pub step : Call → State → Phase → Step
-step formats s ph = format
-step restores s ph = restore s
-step fails s ph = connectionFailed s ph
-step (opens id own proposal room) s ph = openSession s ph id own proposal room
-step (greets m) s ph = initReceived s ph m
-step (passes elapsed) s ph = timePassed s ph elapsed
-step (submits m) s ph = submit s ph m
-step (sends ask room) s ph = sendNext s ph ask room
-step (keeps-alive id room) s ph = keepalive s ph id room
-step (receives m) s ph = receive s ph m
+-- the last number is that room: so many bytes are lent for the output
+unfoldable pub step : Call → State → Phase → ℕ → Step
+step formats s ph room = format
+step restores s ph room = restore s
+step (opens id own proposal) s ph room = openSession s ph id own proposal room
+step (greets m) s ph room = initReceived s ph m
+step fails s ph room = connectionFailed s ph
+step (passes elapsed) s ph room = timePassed s ph elapsed
+step (submits m) s ph room = submit s ph m
+step (sends ask) s ph room = sendNext s ph ask room
+step (keeps-alive id) s ph room = keepalive s ph id room
+step (receives m) s ph room = receive s ph m
