@@ -28,7 +28,7 @@ use Rattle.block0.specs.Layout.{slotCount}
 use Rattle.block0.specs.Fields.{atMost}
 use Rattle.image.specs.Sizes.{slotAt}
 use Rattle.image.specs.State.{State}
-use Rattle.slot.specs.Held.{kindIn, labelIn}
+use Rattle.message.specs.Storable.{kindIn, labelIn}
 use Rattle.image.proofs.Ranges.{valid-words}
 use Rattle.calls.specs.Acked.{releasedKind, releasedLabels, withReleased, acked}
 use Rattle.calls.specs.Phases.{issuedCount}

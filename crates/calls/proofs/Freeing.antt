@@ -13,7 +13,7 @@ use Rattle.message.specs.Kinds.{kindNumber}
 use Rattle.message.specs.Submission.{submissionOf}
 use Rattle.message.specs.declared.Kind
 use Rattle.message.specs.declared.Kind.{Kind}
-use Rattle.slot.specs.Held.{kindIn, labelIn}
+use Rattle.message.specs.Storable.{kindIn, labelIn}
 use Rattle.calls.specs.Acked.{releasedKind, releasedLabels, freesLabel, freesNone}
 
 -- by the kind; the premises are what the code was told of the two kinds' numbers

@@ -16,7 +16,7 @@ use Rattle.message.specs.declared.Kind.{Kind}
 use Rattle.label_list.specs.declared.LabelMessage
 use Rattle.label_list.specs.declared.LabelMessage.{LabelMessage}
 use Rattle.label_events.specs.Ack.{ackedOf}
-use Rattle.slot.specs.Held.{kindIn, labelIn}
+use Rattle.message.specs.Storable.{kindIn, labelIn}
 use Rattle.calls.specs.Acked.{releasedKind, releasedLabels}
 
 -- by the kind; the premises are what the code was told of the two kinds' numbers, and its tests

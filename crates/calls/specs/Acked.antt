@@ -12,7 +12,7 @@ use Rattle.message.specs.declared.Kind.{Kind}
 use Rattle.label_list.specs.declared.LabelMessage
 use Rattle.label_list.specs.declared.LabelMessage.{LabelMessage}
 use Rattle.label_events.specs.Ack.{ackedOf}
-use Rattle.slot.specs.Held.{kindIn, labelIn}
+use Rattle.message.specs.Storable.{kindIn, labelIn}
 use Rattle.block0.specs.declared.Header.{Header}
 use Rattle.tlv.specs.declared.FtField
 use Rattle.tlv.specs.declared.FtField.{FtField}

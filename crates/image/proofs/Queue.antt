@@ -10,7 +10,7 @@ use Rattle.block.specs.Check.{blockSize}
 use Rattle.block0.specs.Layout.{headerOf}
 use Rattle.slot.specs.Layout.{kindOf, labelOf, messageOf}
 use Rattle.slot.specs.Fields.{slotOk}
-use Rattle.slot.specs.Held.{Storable, kindIn, labelIn}
+use Rattle.message.specs.Storable.{Storable, kindIn, labelIn}
 use Rattle.slot.proofs.Holding.{holds-kind, holds-label, holds-storable}
 use Rattle.image.specs.Sizes.{block, blockOf, slotAt}
 use Rattle.image.specs.State.{decode, slotsOf, heldBlock}

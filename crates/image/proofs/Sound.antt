@@ -20,7 +20,7 @@ use Rattle.block0.proofs.Rules.{fields-valid, valid-fields}
 use Rattle.slot.specs.declared.SlotVerdict.{SlotVerdict}
 use Rattle.slot.specs.declared.SlotVerdict.the-variants.{Good, BadCheck, BadFields}
 use Rattle.slot.specs.Fields.{slotVerdict}
-use Rattle.slot.specs.Held.{Storable}
+use Rattle.message.specs.Storable.{Storable}
 use Rattle.slot.proofs.Holding.{slotFor-sound, slotFor-ok, good-parts, parts-good}
 use Rattle.image.specs.declared.Verdict.{Verdict}
 use Rattle.image.specs.declared.Verdict.the-variants.{Sound, WrongSize, BadBlock, BadField}

@@ -13,7 +13,8 @@ use Rattle.block0.specs.Layout.{slotCount, headerOf, labelsOf, block0}
 use Rattle.block0.specs.Fields.{Fits}
 use Rattle.block0.proofs.Written.{length-block0, header-block0, labels-block0}
 use Rattle.slot.specs.Layout.{messageOf}
-use Rattle.slot.specs.Held.{Storable, slotFor}
+use Rattle.message.specs.Storable.{Storable}
+use Rattle.slot.specs.Held.{slotFor}
 use Rattle.slot.proofs.Holding.{length-slotFor, slotFor-message}
 use Rattle.image.specs.Sizes.{block, blockOf, slotAt, imageSize}
 use Rattle.image.specs.Ring.{ring}

@@ -6,7 +6,7 @@ ghost use lib.ListN.{length, getD};
 ghost use Rattle.message.specs.Submission.{submissionOf};
 ghost use Rattle.block.specs.Check.{blockSize};
 ghost use Rattle.slot.specs.Layout.{messageAt};
-ghost use Rattle.slot.specs.Held.{kindIn, labelIn};
+ghost use Rattle.message.specs.Storable.{kindIn, labelIn};
 ghost use Rattle.image.specs.State.{decode, heldBlock, heldPlace};
 ghost use Rattle.image.specs.Verdict.{IsSound};
 

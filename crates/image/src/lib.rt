@@ -7,7 +7,7 @@ ghost use Rattle.message.specs.Submission.{submissionOf};
 ghost use Rattle.message.specs.declared.Submission.the-variants.{Accepted};
 ghost use Rattle.block.specs.Check.{blockSize};
 ghost use Rattle.block0.specs.Layout.{slotCount};
-ghost use Rattle.slot.specs.Layout.{longest};
+ghost use Rattle.message.specs.Storable.{longest};
 ghost use Rattle.image.specs.Sizes.{imageSize, block};
 ghost use Rattle.image.specs.State.{decode, storeSlot, store0};
 ghost use Rattle.image.specs.Verdict.{scan, verdict, verdictNumber, verdictBlock};

@@ -21,7 +21,7 @@ use Rattle.label_events.specs.declared.Reception
 use Rattle.label_events.specs.declared.Reception.{Reception}
 use Rattle.block0.specs.declared.Header.{Header}
 use Rattle.block0.specs.Layout.{slotCount}
-use Rattle.slot.specs.Layout.{shortest, longest}
+use Rattle.message.specs.Storable.{shortest, longest}
 use Rattle.image.specs.State.{State}
 use Rattle.protocol.specs.declared.Answer.{Answer}
 use Rattle.protocol.specs.declared.Phase

@@ -15,7 +15,7 @@ use Rattle.label_events.specs.declared.Acceptance
 use Rattle.label_events.specs.declared.Acceptance.{Acceptance}
 use Rattle.protocol.specs.Accepting.{isBarred, acceptedAs}
 use Rattle.protocol.specs.Answers.{effectOf}
-use Rattle.protocol.specs.Held.{shortest, longest, Storable}
+use Rattle.message.specs.Storable.{shortest, longest, Storable}
 use Rattle.protocol.specs.declared.Answer
 use Rattle.protocol.specs.declared.Answer.{Answer}
 use Rattle.protocol.specs.State.{State, held, capacity}

@@ -14,7 +14,7 @@ use Rattle.tlv.specs.declared.FtField
 use Rattle.message.specs.declared.Kind
 use Rattle.label_list.specs.declared.LabelMessage
 use Rattle.protocol.specs.State.{State, withQueue, withReleased, withTable}
-use Rattle.protocol.specs.Held.{kindIn, labelIn}
+use Rattle.message.specs.Storable.{kindIn, labelIn}
 
 -- the label words after a held message of that kind and label was released:
 -- "Released by ACK: Withdraw 2 becomes free; Release 5 becomes free; other codes stay."

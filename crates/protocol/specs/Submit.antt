@@ -15,7 +15,7 @@ use Rattle.protocol.specs.declared.Answer
 use Rattle.protocol.specs.declared.Answer.{Answer}
 use Rattle.protocol.specs.declared.Phase.{Phase}
 use Rattle.protocol.specs.State.{State, Table, capacity, held, withQueue, withTable}
-use Rattle.protocol.specs.Held.{longest, shortest}
+use Rattle.message.specs.Storable.{longest, shortest}
 use Rattle.protocol.specs.Step.{Step, admitted, settle, stepped}
 use Rattle.protocol.specs.Accepting.{acceptedAs, isBarred}
 

@@ -18,8 +18,7 @@ use Rattle.message_writer.specs.declared.Written
 use Rattle.message_writer.specs.declared.Written.{Written}
 use Rattle.message_writer.proofs.Room.{too-short, long-enough}
 use Rattle.block0.specs.declared.Header.{Header}
-use Rattle.slot.specs.Layout.{shortest, longest}
-use Rattle.slot.specs.Held.{Storable}
+use Rattle.message.specs.Storable.{shortest, longest, Storable}
 use Rattle.image.specs.Sizes.{block}
 use Rattle.image.specs.State.{decode, store0}
 use Rattle.image.specs.Verdict.{IsSound}

@@ -9,7 +9,7 @@ use Rattle.octets.proofs.Choice.{pick-all}
 use Rattle.message_writer.specs.Forms.{ftTlvs}
 use Rattle.message_writer.proofs.Puts.{length-raised}
 use Rattle.block0.specs.Layout.{slotCount}
-use Rattle.slot.specs.Held.{Storable}
+use Rattle.message.specs.Storable.{Storable}
 use Rattle.image.specs.State.{State, decode}
 use Rattle.image.proofs.Queue.{queue-storable}
 use Rattle.protocol.specs.declared.Answer

@@ -15,8 +15,9 @@ use Rattle.message.specs.declared.Submission.{Submission}
 use Rattle.message.specs.declared.Submission.the-variants.{Accepted}
 use Rattle.block.specs.Check.{checkAt, sound}
 use Rattle.block.specs.Zeros.{allZero}
-use Rattle.slot.specs.Layout.{shortest, longest, lengthOf, kindOf, labelOf, messageAt, messageOf, paddingOf}
-use Rattle.slot.specs.Fields.{bears, slotOk, Padded, slotVerdict}
+use Rattle.slot.specs.Layout.{lengthOf, kindOf, labelOf, messageAt, messageOf, paddingOf}
+use Rattle.message.specs.Storable.{shortest, longest, bears}
+use Rattle.slot.specs.Fields.{slotOk, Padded, slotVerdict}
 use Rattle.slot.specs.declared.SlotVerdict.the-variants.{Good, BadCheck, BadFields}
 
 module _ (j : Submission) (k : Kind) (l : ℕ) (ej : j ≡ Accepted k l) (n kind : ℕ) (en : n ≡ kindNumber k) where

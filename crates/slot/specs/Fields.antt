@@ -7,7 +7,7 @@ use lib.Dec.{leb, eqb}
 use Rattle.octets.specs.Be.{beAt}
 use Rattle.octets.specs.Pick.{pick, both}
 use Rattle.message.specs.Submission.{submissionOf}
-use Rattle.protocol.specs.Held.{bears, longest, shortest}
+use Rattle.message.specs.Storable.{bears, longest, shortest}
 use Rattle.block.specs.Check.{sound}
 use Rattle.block.specs.Zeros.{allZero}
 use Rattle.slot.specs.declared.SlotVerdict.{SlotVerdict}

@@ -7,8 +7,9 @@ ghost use lib.ListN.{length};
 ghost use Rattle.message.specs.Kinds.{kindNumber};
 ghost use Rattle.block.specs.Check.{blockSize};
 ghost use Rattle.block.specs.Run.{putRun};
-ghost use Rattle.slot.specs.Layout.{longest, headWidths, lengthOf, kindOf, labelOf, messageAt, messageOf, slotBlock};
-ghost use Rattle.slot.specs.Fields.{bears, slotOk, Padded, slotVerdict};
+ghost use Rattle.slot.specs.Layout.{headWidths, lengthOf, kindOf, labelOf, messageAt, messageOf, slotBlock};
+ghost use Rattle.message.specs.Storable.{longest, bears};
+ghost use Rattle.slot.specs.Fields.{slotOk, Padded, slotVerdict};
 use message::Kind;
 use message::Submission;
 

@@ -12,7 +12,7 @@ use Rattle.label_events.specs.declared.Acceptance
 use Rattle.label_events.specs.declared.Acceptance.{Acceptance}
 use Rattle.block0.specs.declared.Header.{Header}
 use Rattle.block0.specs.Layout.{slotCount}
-use Rattle.slot.specs.Layout.{shortest, longest}
+use Rattle.message.specs.Storable.{shortest, longest}
 use Rattle.image.specs.State.{decode}
 use Rattle.image.proofs.Queue.{queue-length}
 use Rattle.protocol.specs.State.{State}

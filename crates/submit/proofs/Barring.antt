@@ -13,8 +13,7 @@ use Rattle.message.specs.Kinds.{kindNumber}
 use Rattle.message.specs.Submission.{submissionOf}
 use Rattle.message.specs.declared.Submission
 use Rattle.message.specs.declared.Submission.{Submission}
-use Rattle.slot.specs.Fields.{bears}
-use Rattle.slot.specs.Held.{Storable, kindIn, labelIn}
+use Rattle.message.specs.Storable.{bears, Storable, kindIn, labelIn}
 use Rattle.slot.proofs.Judged.{bears-kind, bears-other}
 use Rattle.image.specs.State.{decode}
 use Rattle.image.proofs.Queue.{queue-length}

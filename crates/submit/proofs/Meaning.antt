@@ -15,7 +15,7 @@ use Rattle.ft_number.specs.declared.Steps.{Steps}
 use Rattle.ft_number.specs.declared.Steps.the-variants.{Count, Unreachable}
 use Rattle.block0.specs.Layout.{slotCount}
 use Rattle.block0.specs.Fields.{atMost}
-use Rattle.slot.specs.Held.{Storable}
+use Rattle.message.specs.Storable.{Storable}
 use Rattle.image.specs.Sizes.{block, withBlock, blockOf}
 use Rattle.image.specs.State.{State, decode, storeSlot, InRange}
 use Rattle.image.specs.Verdict.{verdict, IsSound}

@@ -16,8 +16,7 @@ use Rattle.message.specs.declared.Submission.{Submission}
 use Rattle.label_events.specs.declared.Acceptance
 use Rattle.label_events.specs.declared.Acceptance.{Acceptance}
 use Rattle.block0.specs.Layout.{slotCount}
-use Rattle.slot.specs.Layout.{shortest, longest}
-use Rattle.slot.specs.Held.{Storable}
+use Rattle.message.specs.Storable.{shortest, longest, Storable}
 use Rattle.image.specs.State.{decode}
 use Rattle.image.proofs.Queue.{queue-length}
 use Rattle.protocol.specs.State.{State, held, capacity}

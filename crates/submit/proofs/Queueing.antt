@@ -21,7 +21,7 @@ use Rattle.block.specs.Run.{Words}
 use Rattle.block0.specs.declared.Header.{Header}
 use Rattle.block0.specs.Layout.{slotCount, labelsOf}
 use Rattle.block0.specs.Fields.{atMost, Fits, Valid}
-use Rattle.slot.specs.Held.{Storable}
+use Rattle.message.specs.Storable.{Storable}
 use Rattle.image.specs.Sizes.{imageSize, block, blockOf, slotAt}
 use Rattle.image.specs.State.{State, decode, storeSlot, store0, InRange}
 use Rattle.image.specs.Verdict.{IsSound}

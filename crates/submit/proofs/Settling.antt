@@ -13,7 +13,7 @@ use Rattle.label_events.specs.Change.{changed}
 use Rattle.label_events.specs.declared.Change.{Change}
 use Rattle.block0.specs.declared.Header.{Header}
 use Rattle.block0.specs.Layout.{slotCount}
-use Rattle.slot.specs.Layout.{shortest, longest}
+use Rattle.message.specs.Storable.{shortest, longest}
 use Rattle.image.specs.Sizes.{blockOf}
 use Rattle.image.specs.State.{decode, storeSlot, store0}
 use Rattle.image.specs.Verdict.{IsSound}

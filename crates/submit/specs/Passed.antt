@@ -10,7 +10,7 @@ use Rattle.message.specs.declared.Submission
 use Rattle.message.specs.declared.Submission.{Submission}
 use Rattle.label_events.specs.declared.Acceptance
 use Rattle.label_events.specs.declared.Acceptance.{Acceptance}
-use Rattle.slot.specs.Layout.{shortest, longest}
+use Rattle.message.specs.Storable.{shortest, longest}
 use Rattle.protocol.specs.State.{State}
 use Rattle.submit.specs.Seen.{stateOf}
 use Rattle.protocol.specs.declared.Phase.{Phase}

@@ -6,7 +6,7 @@ ghost use lib.ListN.{getD};
 ghost use Rattle.message.specs.Submission.{submissionOf};
 ghost use Rattle.label_events.specs.Change.{ChangeIn, changed};
 ghost use Rattle.label_events.specs.declared.Change;
-ghost use Rattle.slot.specs.Fields.{bears};
+ghost use Rattle.message.specs.Storable.{bears};
 ghost use Rattle.image.specs.State.{decode};
 ghost use Rattle.image.specs.Verdict.{IsSound};
 ghost use Rattle.protocol.specs.Held.{isHeld};

@@ -5,7 +5,7 @@ ghost use Prim.Native.Nat.{_≤_};
 ghost use lib.ListN.{length};
 ghost use Rattle.message.specs.Submission.{submissionOf};
 ghost use Rattle.message.specs.declared.Submission.the-variants.{Accepted};
-ghost use Rattle.slot.specs.Layout.{shortest, longest};
+ghost use Rattle.message.specs.Storable.{shortest, longest};
 ghost use Rattle.image.specs.State.{decode};
 ghost use Rattle.image.specs.Verdict.{IsSound};
 ghost use Rattle.calls.specs.Outcomes.{after, settleOf};

@@ -6,7 +6,7 @@ ghost use Rattle.message.specs.Submission.{submissionOf};
 ghost use Rattle.message.specs.declared.Submission.the-variants.{Accepted};
 ghost use Rattle.label_events.specs.Change.{ChangeIn, changed};
 ghost use Rattle.block0.specs.Layout.{slotCount};
-ghost use Rattle.slot.specs.Layout.{shortest, longest};
+ghost use Rattle.message.specs.Storable.{shortest, longest};
 ghost use Rattle.image.specs.Sizes.{imageSize, blockOf, slotAt};
 ghost use Rattle.image.specs.State.{decode, storeSlot, store0};
 ghost use Rattle.submit.specs.Act.{withHeld, submitSlot};

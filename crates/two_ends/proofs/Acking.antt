@@ -17,7 +17,7 @@ use Rattle.label_list.specs.declared.Side.the-variants.{Given, Used}
 use Rattle.label_list.specs.declared.SweepRule.the-variants.{AfterBreak}
 use Rattle.label_events.specs.Change.{codeAt}
 use Rattle.label_meaning.specs.Event.{Acked, Broken, step, Moves, withdraw-acked, release-acked, bare-lost}
-use Rattle.slot.specs.Held.{kindIn, labelIn}
+use Rattle.message.specs.Storable.{kindIn, labelIn}
 use Rattle.calls.specs.Acked.{releasedKind, releasedLabels}
 use Rattle.call_meaning.proofs.Released.{released-valid}
 use Rattle.two_ends.specs.Agree.{codeAfter, IsGiven, IsUsed, Agree}

@@ -21,7 +21,7 @@ use Rattle.label_events.specs.Change.{codeAt}
 use Rattle.label_meaning.specs.Event.{Event, Accepted, step, Moves, given, withdrawn, released, returned}
 use Rattle.label_meaning.proofs.Meaning.{valid-means}
 use Rattle.label_meaning.proofs.Moved.{every-move}
-use Rattle.slot.specs.Fields.{bears}
+use Rattle.message.specs.Storable.{bears}
 use Rattle.submit.specs.Act.{acceptedLabels}
 use Rattle.submit.specs.Labels.{isHeld, acceptedAs}
 use Rattle.two_ends.specs.Agree.{codeAfter, Agree}

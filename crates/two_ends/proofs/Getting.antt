@@ -43,7 +43,7 @@ use Rattle.label_meaning.proofs.Proper.{received-proper}
 use Rattle.label_meaning.proofs.Effect.{change-effect}
 use Rattle.label_meaning.proofs.Step.{code-proper, received-outcome}
 use Rattle.label_meaning.proofs.Life.{move-happens}
-use Rattle.slot.specs.Fields.{bears}
+use Rattle.message.specs.Storable.{bears}
 use Rattle.submit.specs.Labels.{isHeld}
 use Rattle.receive.specs.declared.LabelEffect
 use Rattle.receive.specs.declared.LabelEffect.{LabelEffect}

@@ -23,7 +23,7 @@ use Rattle.label_events.specs.Change.{codeAt}
 use Rattle.label_meaning.specs.Event.{Event, Accepted, Received, Broken, step, Moves, given, withdrawn, released, returned, withdraw-acked, release-acked, taken, taken-again, taken-bare, asked-back, bare-withdrawn, given-back, withdrawn-back, bare-lost}
 use Rattle.label_meaning.proofs.Meaning.{valid-means}
 use Rattle.label_meaning.proofs.Moved.{every-move}
-use Rattle.slot.specs.Fields.{bears}
+use Rattle.message.specs.Storable.{bears}
 use Rattle.submit.specs.Act.{acceptedLabels}
 use Rattle.submit.specs.Labels.{isHeld, acceptedAs}
 use Rattle.receive.specs.declared.LabelEffect

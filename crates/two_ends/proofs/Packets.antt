@@ -9,7 +9,7 @@ use Rattle.tlv.specs.declared.FtField.{FtField}
 use Rattle.message_writer.specs.Forms.{initBytes, keepaliveBytes, protectedBytes}
 use Rattle.message_writer.specs.ReadBack.{AckFits, InitFits}
 use Rattle.message_writer.specs.declared.OwnParameters.{OwnParameters}
-use Rattle.slot.specs.Held.{Storable}
+use Rattle.message.specs.Storable.{Storable}
 use Rattle.octets.specs.Bytes.{Bytes}
 use Rattle.two_ends.proofs.Octets.{init-octets, alive-octets, protected-octets}
 

@@ -22,8 +22,7 @@ use Rattle.label_events.specs.Change.{codeAt}
 use Rattle.label_meaning.specs.Event.{Accepted, Acked, step, withdraw-acked, release-acked}
 use Rattle.label_meaning.proofs.Meaning.{valid-means}
 use Rattle.label_meaning.proofs.Life.{move-happens}
-use Rattle.slot.specs.Fields.{bears}
-use Rattle.slot.specs.Held.{kindIn, labelIn}
+use Rattle.message.specs.Storable.{bears, kindIn, labelIn}
 use Rattle.calls.specs.Acked.{releasedKind, releasedLabels}
 use Rattle.call_meaning.proofs.Released.{released-valid}
 use Rattle.submit.specs.Labels.{isHeld}

@@ -20,7 +20,7 @@ use Rattle.message_writer.specs.ReadBack.{AckFits, InitFits, initMessage, keepa
 use Rattle.message_writer.specs.declared.OwnParameters.{OwnParameters}
 use Rattle.message_writer.proofs.Own.{init-reads, keepalive-reads}
 use Rattle.message_writer.proofs.RoundTrip.{submitted, sent-reads, sent-kind}
-use Rattle.slot.specs.Held.{Storable}
+use Rattle.message.specs.Storable.{Storable}
 use Rattle.calls.specs.Received.{isInit}
 use Rattle.receive.specs.Rule.{isFatal}
 use Rattle.two_ends.specs.Steady.{Mild}

@@ -35,7 +35,7 @@ use Rattle.label_meaning.proofs.View.{is-code}
 use Rattle.label_meaning.proofs.Moved.{every-move}
 use Rattle.block0.specs.Layout.{noLabels}
 use Rattle.block0.proofs.Rules.{none-valid}
-use Rattle.slot.specs.Held.{kindIn, labelIn}
+use Rattle.message.specs.Storable.{kindIn, labelIn}
 use Rattle.calls.specs.Acked.{releasedKind, releasedLabels}
 use Rattle.call_meaning.proofs.Released.{released-valid}
 use Rattle.submit.specs.Act.{acceptedLabels}
