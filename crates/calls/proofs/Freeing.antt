@@ -14,7 +14,8 @@ use Rattle.message.specs.Submission.{submissionOf}
 use Rattle.message.specs.declared.Kind
 use Rattle.message.specs.declared.Kind.{Kind}
 use Rattle.message.specs.Storable.{kindIn, labelIn}
-use Rattle.calls.specs.Acked.{releasedKind, releasedLabels, freesLabel, freesNone}
+use Rattle.protocol.specs.Acked.{releasedKind, releasedLabels}
+use Rattle.calls.specs.Freeing.{freesLabel, freesNone}
 
 -- by the kind; the premises are what the code was told of the two kinds' numbers
 module _ (kind : ℕ) {w : ℕ} (ew : w ≡ kindNumber Kind.Withdraw) where

@@ -17,7 +17,7 @@ use Rattle.label_list.specs.declared.LabelMessage
 use Rattle.label_list.specs.declared.LabelMessage.{LabelMessage}
 use Rattle.label_events.specs.Ack.{ackedOf}
 use Rattle.message.specs.Storable.{kindIn, labelIn}
-use Rattle.calls.specs.Acked.{releasedKind, releasedLabels}
+use Rattle.protocol.specs.Acked.{releasedKind, releasedLabels}
 
 -- by the kind; the premises are what the code was told of the two kinds' numbers, and its tests
 module _ (kind label : ℕ) (ls : List ℕ) {w : ℕ} (ew : w ≡ kindNumber Kind.Withdraw) where

@@ -1,10 +1,13 @@
 // What an acknowledgement makes of block 0's numbers and label words.
 ghost use mathlib.Core.Path.{_≡_};
-ghost use Prim.Native.Nat.{_≤_};
+ghost use Prim.Native.Nat.{_-_, _≤_};
 ghost use lib.ListN.{take};
 ghost use Rattle.image.specs.State.{decode};
 ghost use Rattle.image.specs.Verdict.{IsSound};
-ghost use Rattle.calls.specs.Acked.{releasedKind, releasedLabels, freesLabel, freesNone, withReleased};
+ghost use Rattle.block0.specs.Updates.{headerReleased};
+ghost use Rattle.image.specs.Sizes.{slotAt};
+ghost use Rattle.protocol.specs.Acked.{releasedKind, releasedLabels};
+ghost use Rattle.calls.specs.Freeing.{freesLabel, freesNone};
 use block0::Header;
 use ft_number::FtNumber;
 use label_list::LabelMessage;
@@ -70,7 +73,7 @@ pub fn frees_none(image: &[u8], count: usize) -> bool
 // The header after an ACK: R is the number acknowledged, and the oldest `count` slots are free.
 pub fn released_header(h: Header, count: u32, ack: FtNumber) -> Header
     requires { ⌜ count ≤ h .held ⌝ }
-    ensures { λ r. ⌜ r ≡ withReleased h count (ack .0) ⌝ }
+    ensures { λ r. ⌜ r ≡ headerReleased h ack (slotAt (h .first) count) (h .held - count) ⌝ }
 {
     let mut next = h;
     next.released = ack;

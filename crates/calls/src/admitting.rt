@@ -1,7 +1,7 @@
 // The first two tests of every call, and a refusal.
 ghost use mathlib.Core.Path.{_≡_};
 ghost use Rattle.image.specs.Verdict.{verdict};
-ghost use Rattle.calls.specs.Outcomes.{checked, admitted, refusal};
+ghost use Rattle.calls.specs.Outcomes.{checked, admittedOn, refusal};
 ghost use Rattle.protocol.specs.declared.Answer;
 use crate::Answer;
 use crate::Outcome;
@@ -24,7 +24,7 @@ pub fn check(image: &[u8]) -> Answer
 
 // Restore's checks, and whether the image allows the phase: the first two tests of every call.
 pub fn admit(image: &[u8], phase: Phase) -> Answer
-    ensures { λ r. ⌜ r ≡ admitted (now (image .entry)) phase Answer.Done ⌝ }
+    ensures { λ r. ⌜ r ≡ admittedOn (now (image .entry)) phase Answer.Done ⌝ }
 {
     let a = check(image);
     if !is_done(a) {

@@ -1,7 +1,6 @@
 // The answers: the number of each, and what it leaves.
 ghost use mathlib.Core.Path.{_≡_};
-ghost use Rattle.calls.specs.Answers.{answerNumber, effectOf};
-ghost use Rattle.calls.specs.Outcomes.{isDone};
+ghost use Rattle.protocol.specs.Answers.{answerNumber, effectOf, isDone};
 use crate::Answer;
 use crate::Effect;
 

@@ -1,6 +1,8 @@
 -- An answer by its number: its effect, and whether it is Done. Assumes nothing.
 use mathlib.Core.Path.{_≡_, refl}
-use mathlib.Core.Bool.{true}
+use mathlib.Core.Bool.{Bool, true, false}
+use lib.Dec.{ltb}
+use Rattle.octets.specs.Pick.{pick}
 use Prim.Native.Nat.{ℕ, _<_, _≤_}
 use native.Mathlib.Omega.{arith}
 use borrow.Author.Tests.{eq-eqb, ne-eqb, lt-ltb, le-ltb}
@@ -55,3 +57,13 @@ done-is Answer.ProtectionMissing e = no (cc)
 done-is Answer.AckSequenceError e = no (cc)
 done-is Answer.ParametersChanged e = no (cc)
 done-is Answer.StatusFatal e = no (cc)
+
+-- and no other acts
+pub act-done : (a : Answer) → effectOf a ≡ Effect.Act → isDone a ≡ false → ⊥
+unfolding effectOf
+act-done a e n = by (ltb (answerNumber a) 20) (ltb (answerNumber a) 30) (rw n at e)
+  where
+    by : (b c : Bool) → pick b Effect.Nothing (pick c Effect.Fail Effect.Release) ≡ Effect.Act → ⊥
+    by true c e = no (cc)
+    by false true e = no (cc)
+    by false false e = no (cc)

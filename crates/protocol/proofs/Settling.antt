@@ -1,18 +1,19 @@
 -- What an answer leaves, by its number. Assumes nothing.
-use mathlib.Core.Path.{_≡_, refl, sym}
+use mathlib.Core.Path.{_≡_, refl, sym, _∙_}
 use mathlib.Core.Bool.{Bool, true, false, not, true≢false}
 use Prim.Native.Nat.{_≤_, _<_}
 use Rattle.octets.specs.Pick.{pick}
+use Rattle.octets.proofs.Choice.{by-test}
 use Rattle.protocol.specs.declared.Answer
 use Rattle.protocol.specs.declared.Answer.{Answer}
 use Rattle.protocol.specs.declared.Effect
 use Rattle.protocol.specs.declared.Effect.{Effect}
 use Rattle.protocol.specs.declared.Phase.{Phase}
 use Rattle.protocol.specs.Answers.{answerNumber, effectOf, isDone}
-use Rattle.protocol.proofs.Effects.{effect-fail, effect-release}
+use Rattle.protocol.proofs.Effects.{act-done, done-is, effect-fail, effect-release}
 use Rattle.protocol.specs.State.{State}
 use Rattle.protocol.specs.Phases.{phaseFits}
-use Rattle.protocol.specs.Step.{Step, unchanged, failedWith, releasedWith, settle, admitted}
+use Rattle.protocol.specs.Step.{Step, unchanged, failedWith, releasedWith, settledBy, settle, admitted}
 
 module _ (a : Answer) (s : State) (ph : Phase) (d : Step) where
   pub settle-refusal : effectOf a ≡ Effect.Nothing → settle a s ph d ≡ unchanged a s ph
@@ -30,6 +31,20 @@ module _ (a : Answer) (s : State) (ph : Phase) (d : Step) where
   pub answered-released : 30 ≤ answerNumber a → settle a s ph d ≡ releasedWith a
   unfolding settle
   answered-released l = rw (← effect-release a (answerNumber a) refl l)
+
+  -- where what is done says Done, the answer left is that of the tests
+  pub settle-answer : d .answer ≡ Answer.Done → settle a s ph d .answer ≡ a
+  unfolding settle
+  settle-answer e =
+      by-test (isDone a)
+      (λ t. rw (settle-does t) (e ∙ sym (done-is a t)))
+      (λ n. by (effectOf a) refl n)
+    where
+      by : (f : Effect) → effectOf a ≡ f → isDone a ≡ false → settledBy f a s ph d .answer ≡ a
+      by Effect.Nothing q n = refl
+      by Effect.Fail q n = refl
+      by Effect.Release q n = refl
+      by Effect.Act q n = absurd (act-done a q n)
 
 -- ---- the phase that the state allows
 pub admitted-is : (s : State) (ph : Phase) → phaseFits ph s ≡ true → (a : Answer) → admitted s ph a ≡ a

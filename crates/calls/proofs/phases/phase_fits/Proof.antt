@@ -1,6 +1,6 @@
 use borrow.Author.Needs.{needs}
 use borrow.Author.Tests.{eq-eqb, ne-eqb}
-use Rattle.calls.specs.Phases.{phaseFits}
+use Rattle.protocol.specs.Phases.{phaseFits}
 use Rattle.calls.proofs.phases.phase_fits.Statement.{statement}
 use Rattle.calls.proofs.phases.phase_fits.Tie as tie
 
