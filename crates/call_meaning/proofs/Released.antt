@@ -30,8 +30,9 @@ use Rattle.image.specs.Sizes.{slotAt}
 use Rattle.image.specs.State.{State}
 use Rattle.message.specs.Storable.{kindIn, labelIn}
 use Rattle.image.proofs.Ranges.{valid-words}
-use Rattle.calls.specs.Acked.{releasedKind, releasedLabels, withReleased, acked}
-use Rattle.calls.specs.Phases.{issuedCount}
+use Rattle.protocol.specs.Phases.{issuedCount}
+use Rattle.protocol.specs.State.{withReleased}
+use Rattle.protocol.specs.Acked.{releasedKind, releasedLabels, acked}
 
 -- ---- the numbers
 -- an ACK that releases names no more than are held

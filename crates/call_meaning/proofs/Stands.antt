@@ -18,16 +18,16 @@ use Rattle.protocol.specs.declared.Effect
 use Rattle.protocol.specs.declared.Effect.{Effect}
 use Rattle.protocol.specs.declared.Phase
 use Rattle.protocol.specs.declared.Phase.{Phase}
-use Rattle.calls.specs.Answers.{effectOf}
-use Rattle.calls.specs.Phases.{phaseFits, restingPhase}
-use Rattle.calls.specs.Outcomes.{After, isDone, unchanged, failedWith, releasedWith, settledBy, settleOf}
+use Rattle.protocol.specs.Phases.{phaseFits, restingPhase}
+use Rattle.protocol.specs.Answers.{effectOf, isDone}
+use Rattle.calls.specs.Outcomes.{After, untouched, failedOn, releasedOn, leftBy, settleOf}
 use Rattle.calls.proofs.Settled.{Admitted}
 use Rattle.calls.proofs.Ends.{settle-other}
 use Rattle.calls.proofs.Phasing.{resting-failed, resting-idle}
 use Rattle.call_meaning.specs.Standing.{Standing, Stands, Stored}
 use Rattle.call_meaning.proofs.Refusals.{settle-does}
 
--- a call that comes to what stands is admitted
+-- a call that comes to what stands is admittedOn
 pub standing-admitted : {im : List ℕ} {ph : Phase} → Standing im ph → Admitted im ph
 standing-admitted {im} st = record { passes = parts-sound im (st .sound); fits = st .fits }
 
@@ -46,8 +46,8 @@ stored-stands d = record { sound = d .sound; range = rw (d .decodes) (d .range);
 
 -- ---- the three ends of a call that is not done
 -- as connection failed, whatever the phase was
-pub failure-stands : (im : List ℕ) → IsSound im → InRange (decode im) → (a : Answer) (o : List ℕ) → Stands (failedWith a im o)
-unfolding failedWith
+pub failure-stands : (im : List ℕ) → IsSound im → InRange (decode im) → (a : Answer) (o : List ℕ) → Stands (failedOn a im o)
+unfolding failedOn
 failure-stands im s r a o = record {
   sound = break-sound im s r;
   range = rw (break-decodes im s r) (in-range-broken im s r);
@@ -55,18 +55,18 @@ failure-stands im s r a o = record {
 }
 
 module _ (im : List ℕ) (ph : Phase) (st : Standing im ph) (a : Answer) (o : List ℕ) where
-  pub failed-stands : Stands (failedWith a im o)
+  pub failed-stands : Stands (failedOn a im o)
   failed-stands = failure-stands im (st .sound) (st .range) a o
 
-  pub released-stands : Stands (releasedWith a im o)
-  unfolding releasedWith phaseFits
+  pub released-stands : Stands (releasedOn a im o)
+  unfolding releasedOn phaseFits
   released-stands = record {
     sound = release-sound im (st .sound .size);
     range = rw (release-decodes im (st .sound .size)) in-range-released;
     fits = rw (release-decodes im (st .sound .size));
   }
 
-  other-stands : (f : Effect) → Stands (settledBy f a ph im o (unchanged a ph im o))
+  other-stands : (f : Effect) → Stands (leftBy f a ph im o (untouched a ph im o))
   other-stands Effect.Nothing = st
   other-stands Effect.Fail = failed-stands
   other-stands Effect.Release = released-stands
@@ -78,15 +78,15 @@ module _ (im : List ℕ) (ph : Phase) (st : Standing im ph) (a : Answer) (o : Li
   settled-stands done d =
       by-test (isDone a)
       (λ t. rw (settle-does a ph im o done t) (d t))
-      (λ n. rw (settle-other a ph im o done (unchanged a ph im o) n) (other-stands (effectOf a)))
+      (λ n. rw (settle-other a ph im o done (untouched a ph im o) n) (other-stands (effectOf a)))
 
 -- the answer that is left is that of the call's tests, or of what is done
 pub settled-answer : (P : Answer → Type 0) (a : Answer) (ph : Phase) (im o : List ℕ) (done : After) → (P (done .outcome .answer) → P a)
     → P (settleOf a ph im o done .outcome .answer) → P a
-unfolding settleOf failedWith releasedWith
+unfolding settleOf failedOn releasedOn
 settled-answer P a ph im o done d = by (effectOf a)
   where
-    by : (f : Effect) → P (settledBy f a ph im o done .outcome .answer) → P a
+    by : (f : Effect) → P (leftBy f a ph im o done .outcome .answer) → P a
     by Effect.Nothing q = q
     by Effect.Fail q = q
     by Effect.Release q = q

@@ -6,14 +6,14 @@ use Rattle.image.specs.State.{decode}
 use Rattle.image.specs.Events.{released, releaseOf, broken, breakOf}
 use Rattle.protocol.specs.declared.Phase
 use Rattle.protocol.specs.declared.Phase.{Phase}
-use Rattle.calls.specs.Phases.{restingPhase}
+use Rattle.protocol.specs.Phases.{restingPhase}
 use Rattle.calls.specs.Outcomes.{After}
 
 -- 20 to 23, "as connection failed, ACK unapplied": the image before the call, its code 6 words freed; "Failed if kept, else Idle"
 pub record Unapplied (im : List ℕ) (x : After) : Type 0 where
   pub image : x .image ≡ breakOf im
   pub state : decode (x .image) ≡ broken (decode im)
-  pub phase : x .outcome .phase ≡ restingPhase (decode im .header)
+  pub phase : x .outcome .phase ≡ restingPhase (stateOf im)
 
 -- 30 to 36, "released, Idle": "Released means block 0 with kept 0"
 pub record ReleasedIdle (im : List ℕ) (x : After) : Type 0 where

@@ -6,13 +6,13 @@ use Prim.Native.Nat.{ℕ}
 use Rattle.image.specs.State.{State, decode, InRange}
 use Rattle.image.specs.Verdict.{IsSound}
 use Rattle.protocol.specs.declared.Phase.{Phase}
-use Rattle.calls.specs.Phases.{phaseFits}
+use Rattle.protocol.specs.Phases.{phaseFits}
 use Rattle.calls.specs.Outcomes.{After}
 
 pub record Standing (im : List ℕ) (ph : Phase) : Type 0 where
   pub sound : IsSound im
   pub range : InRange (decode im)
-  pub fits : phaseFits ph (decode im .header) ≡ true
+  pub fits : phaseFits ph (stateOf im) ≡ true
 
 -- what a call leaves stands
 abbrev pub Stands : After → Type 0
@@ -23,4 +23,4 @@ pub record Stored (im : List ℕ) (s : State) (ph : Phase) : Type 0 where
   pub decodes : decode im ≡ s
   pub sound : IsSound im
   pub range : InRange s
-  pub fits : phaseFits ph (s .header) ≡ true
+  pub fits : phaseFits ph (stateBy (s .header) (s .labels) (s .queue)) ≡ true

@@ -36,8 +36,8 @@ use Rattle.protocol.specs.declared.Phase
 use Rattle.protocol.specs.declared.Phase.{Phase}
 use Rattle.calls.specs.Answers.{answerNumber, effectOf}
 use Rattle.calls.specs.Phases.{phaseFits, restingPhase, waitingFor}
-use Rattle.calls.specs.Outcomes.{After, checked, admitted, roomFor, wrote, unchanged, failedWith, settleOf}
-use Rattle.calls.proofs.Effects.{effect-nothing}
+use Rattle.calls.specs.Outcomes.{After, checked, admittedOn, roomFor, wrote, untouched, failedOn, settleOf}
+use Rattle.protocol.proofs.Effects.{effect-nothing}
 use Rattle.calls.proofs.Settled.{admitted-all}
 use Rattle.calls.proofs.Ends.{settle-done, settle-refusal}
 use Rattle.call_meaning.specs.Standing.{Standing, Stands}
@@ -54,7 +54,7 @@ module _ (im : List ℕ) where
   format-formats size = rw (eq-eqb (length im) imageSize size) (settle-done Phase.Idle im [] formatted)
 
   -- of another size it is left
-  pub format-refuses : (length im ≡ imageSize → ⊥) → formatOf im ≡ unchanged Answer.WrongSize Phase.Idle im []
+  pub format-refuses : (length im ≡ imageSize → ⊥) → formatOf im ≡ untouched Answer.WrongSize Phase.Idle im []
   unfolding formatOf effectOf
   format-refuses other = rw (ne-eqb (length im) imageSize other) (settle-refusal Answer.WrongSize Phase.Idle im [] formatted refl)
 
@@ -69,27 +69,27 @@ formatted-stands = record { sound = new-sound; range = rw new-decodes in-range-r
 -- ---- Restore
 module _ (im : List ℕ) where
   -- what restore's checks refuse is left, and is no session
-  pub restore-refuses : (v : Verdict) → verdict im ≡ v → (v ≡ Verdict.Sound → ⊥) → restoreOf im ≡ unchanged (checked v Answer.Done) Phase.Idle im []
+  pub restore-refuses : (v : Verdict) → verdict im ≡ v → (v ≡ Verdict.Sound → ⊥) → restoreOf im ≡ untouched (checked v Answer.Done) Phase.Idle im []
   unfolding restoreOf effectOf
   restore-refuses Verdict.Sound e n = absurd (n refl)
-  restore-refuses Verdict.WrongSize e n = rw e (settle-refusal Answer.WrongSize Phase.Idle im [] (failedWith Answer.Done im []) refl)
-  restore-refuses (Verdict.BadBlock b) e n = rw e (settle-refusal (Answer.BadBlock b) Phase.Idle im [] (failedWith Answer.Done im []) refl)
-  restore-refuses (Verdict.BadField b) e n = rw e (settle-refusal (Answer.BadField b) Phase.Idle im [] (failedWith Answer.Done im []) refl)
+  restore-refuses Verdict.WrongSize e n = rw e (settle-refusal Answer.WrongSize Phase.Idle im [] (failedOn Answer.Done im []) refl)
+  restore-refuses (Verdict.BadBlock b) e n = rw e (settle-refusal (Answer.BadBlock b) Phase.Idle im [] (failedOn Answer.Done im []) refl)
+  restore-refuses (Verdict.BadField b) e n = rw e (settle-refusal (Answer.BadField b) Phase.Idle im [] (failedOn Answer.Done im []) refl)
 
   module _ (s : IsSound im) where
-    pub restore-passes : restoreOf im ≡ failedWith Answer.Done im []
+    pub restore-passes : restoreOf im ≡ failedOn Answer.Done im []
     unfolding restoreOf
-    restore-passes = rw (parts-sound im s) (settle-done Phase.Idle im [] (failedWith Answer.Done im []))
+    restore-passes = rw (parts-sound im s) (settle-done Phase.Idle im [] (failedOn Answer.Done im []))
 
     -- "answers Failed if kept, else Idle"
     pub restore-phase : restoreOf im .outcome .phase ≡ restingPhase (decode im .header)
-    unfolding failedWith
+    unfolding failedOn
     restore-phase = rw restore-passes
 
     module _ (r : InRange (decode im)) where
       -- "It frees code 6 words, as after a break"
       pub restore-decodes : decode (restoreOf im .image) ≡ broken (decode im)
-      unfolding failedWith
+      unfolding failedOn
       restore-decodes = rw restore-passes (break-decodes im s r)
 
       pub restore-stands : Stands (restoreOf im)
@@ -126,7 +126,7 @@ module _ (im : List ℕ) (ph : Phase) (may : Bool) (next : Phase) (out bytes : L
   writer-stands : Standing im ph → phaseFits next (decode im .header) ≡ true → Stands (writerOf im ph may next out bytes)
   unfolding writerOf
   writer-stands st fits =
-      settled-stands im ph st (admitted im ph (pick may (roomFor bytes (length out)) Answer.WrongPhase)) out (wrote next im im out bytes)
+      settled-stands im ph st (admittedOn im ph (pick may (roomFor bytes (length out)) Answer.WrongPhase)) out (wrote next im im out bytes)
       (λ d. record { sound = st .sound; range = st .range; fits = fits })
 
 module _ (im : List ℕ) (ph : Phase) (id : MessageId) (p : OwnParameters) (t : Proposal) (out : List ℕ) where

@@ -18,7 +18,7 @@ use Rattle.calls.specs.declared.Outcome.{Outcome}
 use Rattle.protocol.specs.declared.Phase
 use Rattle.protocol.specs.declared.Phase.{Phase}
 use Rattle.calls.specs.Answers.{effectOf}
-use Rattle.calls.specs.Outcomes.{After, after, isDone, refusal, checked, failedWith, settleOf}
+use Rattle.calls.specs.Outcomes.{After, after, isDone, refusal, checked, failedOn, settleOf}
 use Rattle.calls.proofs.Ends.{settle-done}
 use Rattle.calls.proofs.Settled.{checks-sound}
 use Rattle.connect.specs.Start.{formatted, formatOf, restoreOf}
@@ -47,8 +47,8 @@ module _ (im : List ℕ) {v : Verdict} {n : ℕ} {im′ : List ℕ} (ev : (v ≡
 module _ (im : List ℕ) {r : Answer} (e : r ≡ checked (verdict im) Answer.Done) where
   pub restore-refused : {x : Outcome} → isDone r ≡ false → x ≡ refusal r Phase.Idle → after x im [] ≡ restoreOf im
   unfolding restoreOf
-  restore-refused n p = checks-refused im e Phase.Idle [] (failedWith Answer.Done im []) n p
+  restore-refused n p = checks-refused im e Phase.Idle [] (failedOn Answer.Done im []) n p
 
-  pub restore-passed : {x : After} → isDone r ≡ true → x ≡ failedWith Answer.Done im [] → x ≡ restoreOf im
+  pub restore-passed : {x : After} → isDone r ≡ true → x ≡ failedOn Answer.Done im [] → x ≡ restoreOf im
   unfolding restoreOf
-  restore-passed t p = rw (checks-sound im e t) (p ∙ sym (settle-done Phase.Idle im [] (failedWith Answer.Done im [])))
+  restore-passed t p = rw (checks-sound im e t) (p ∙ sym (settle-done Phase.Idle im [] (failedOn Answer.Done im [])))

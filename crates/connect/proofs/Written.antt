@@ -28,7 +28,7 @@ use Rattle.calls.specs.declared.Outcome.{Outcome}
 use Rattle.protocol.specs.declared.Phase
 use Rattle.protocol.specs.declared.Phase.{Phase}
 use Rattle.calls.specs.Answers.{effectOf}
-use Rattle.calls.specs.Outcomes.{after, isDone, refusal, admitted, roomFor, wrote, settleOf}
+use Rattle.calls.specs.Outcomes.{after, isDone, refusal, admittedOn, roomFor, wrote, settleOf}
 use Rattle.calls.proofs.Ends.{settle-done}
 use Rattle.connect.specs.Writers.{writerOf, writtenAs, opens, keptAck, openBytes, openOf, isUp, aliveAck, aliveBytes, keepaliveOf}
 use Rattle.call_meaning.proofs.Calling.{call-refused, call-own, own-refused}
@@ -61,7 +61,7 @@ wrote-by im ph next out bytes {w} {out′} {x} e p = by (ltb (length out) (lengt
         rw (ap (λ (q : Written × List ℕ). q .1) z, p, ap (λ (q : Written × List ℕ). q .0) z, ← differ-self (block im 0))
         (sym (settle-done ph im out (wrote next im im out bytes)))
 
-module _ (im : List ℕ) (ph : Phase) (may : Bool) (next : Phase) (out bytes : List ℕ) {r : Answer} (e : r ≡ admitted im ph Answer.Done) where
+module _ (im : List ℕ) (ph : Phase) (may : Bool) (next : Phase) (out bytes : List ℕ) {r : Answer} (e : r ≡ admittedOn im ph Answer.Done) where
   writer-refused : {x : Outcome} → isDone r ≡ false → x ≡ refusal r ph → after x im out ≡ writerOf im ph may next out bytes
   unfolding writerOf
   writer-refused n p = call-refused im ph e out (pick may (roomFor bytes (length out)) Answer.WrongPhase) (wrote next im im out bytes) n p
@@ -80,7 +80,7 @@ module _ (im : List ℕ) (ph : Phase) (may : Bool) (next : Phase) (out bytes : L
       (rw f (wrote-by im ph next out bytes q p))
 
 -- ---- Open: the premises are what the callees ensure, and the tests
-module _ (im : List ℕ) (ph : Phase) (id : MessageId) (o : OwnParameters) (t : Proposal) (out : List ℕ) {r : Answer} (e : r ≡ admitted im ph Answer.Done) where
+module _ (im : List ℕ) (ph : Phase) (id : MessageId) (o : OwnParameters) (t : Proposal) (out : List ℕ) {r : Answer} (e : r ≡ admittedOn im ph Answer.Done) where
   pub open-refused : {x : Outcome} → isDone r ≡ false → x ≡ refusal r ph → after x im out ≡ openOf im ph id o t out
   unfolding openOf
   open-refused n p = writer-refused im ph (opens ph) (waitingFor (proposedOf t)) out (openBytes (decode im .header) id o t) e n p
@@ -98,7 +98,7 @@ module _ (im : List ℕ) (ph : Phase) (id : MessageId) (o : OwnParameters) (t : 
       (rw (ea, eh, es) at q) (rw es at p)
 
 -- ---- KeepAlive
-module _ (im : List ℕ) (ph : Phase) (id : MessageId) (out : List ℕ) {r : Answer} (e : r ≡ admitted im ph Answer.Done) where
+module _ (im : List ℕ) (ph : Phase) (id : MessageId) (out : List ℕ) {r : Answer} (e : r ≡ admittedOn im ph Answer.Done) where
   pub alive-refused : {x : Outcome} → isDone r ≡ false → x ≡ refusal r ph → after x im out ≡ keepaliveOf im ph id out
   unfolding keepaliveOf
   alive-refused n p = writer-refused im ph (isUp ph) ph out (aliveBytes (decode im .header) ph id) e n p

@@ -12,7 +12,7 @@ use Rattle.protocol.specs.declared.Answer
 use Rattle.protocol.specs.declared.Answer.{Answer}
 use Rattle.protocol.specs.declared.Phase
 use Rattle.protocol.specs.declared.Phase.{Phase}
-use Rattle.calls.specs.Outcomes.{After, after, settleOf, checked, failedWith}
+use Rattle.calls.specs.Outcomes.{After, after, settleOf, checked, failedOn}
 
 -- a new image, and no session; every block is to be stored
 abbrev pub formatted : After
@@ -25,4 +25,4 @@ formatOf im = settleOf (pick (eqb (length im) imageSize) Answer.Done Answer.Wron
 -- "Restore checks size, block 0, its fields, then live slots .. It frees code 6 words, as after a break, and answers Failed if kept, else Idle";
 -- a refused image has no session: Idle
 unfoldable pub restoreOf : List ℕ → After
-restoreOf im = settleOf (checked (verdict im) Answer.Done) Phase.Idle im [] (failedWith Answer.Done im [])
+restoreOf im = settleOf (checked (verdict im) Answer.Done) Phase.Idle im [] (failedOn Answer.Done im [])

@@ -23,13 +23,13 @@ use Rattle.protocol.specs.declared.Answer.{Answer}
 use Rattle.calls.specs.declared.Outcome.{Outcome}
 use Rattle.protocol.specs.declared.Phase
 use Rattle.protocol.specs.declared.Phase.{Phase}
-use Rattle.calls.specs.Outcomes.{After, settleOf, admitted, refusal, roomFor, wrote}
+use Rattle.calls.specs.Outcomes.{After, settleOf, admittedOn, refusal, roomFor, wrote}
 use Rattle.calls.specs.Phases.{waitingFor}
 
 -- "other writers 12, 1, 9": in a phase that allows it the bytes are written, if there is room, and the phase is then `next`; the image is left as it is
 unfoldable pub writerOf : List ℕ → Phase → Bool → Phase → List ℕ → List ℕ → After
 writerOf im ph may next out bytes =
-    settleOf (admitted im ph (pick may (roomFor bytes (length out)) Answer.WrongPhase)) ph im out (wrote next im im out bytes)
+    settleOf (admittedOn im ph (pick may (roomFor bytes (length out)) Answer.WrongPhase)) ph im out (wrote next im im out bytes)
 
 -- what is answered to what was written
 abbrev pub writtenAs : Written → Phase → Phase → Outcome

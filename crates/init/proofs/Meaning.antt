@@ -17,7 +17,7 @@ use Rattle.protocol.specs.declared.Answer.{Answer}
 use Rattle.protocol.specs.declared.Phase.{Phase}
 use Rattle.calls.specs.Acked.{acked}
 use Rattle.calls.specs.Answers.{answerNumber}
-use Rattle.calls.specs.Outcomes.{isDone, admitted}
+use Rattle.calls.specs.Outcomes.{isDone, admittedOn}
 use Rattle.calls.proofs.Settled.{admitted-all, admitted-is}
 use Rattle.call_meaning.specs.Standing.{Standing, Stands, Stored}
 use Rattle.call_meaning.proofs.Calling.{own-done}
@@ -46,7 +46,7 @@ resumed-queue s t k a = refl
 abbrev Late : Answer → Answer → Type 0
 Late own a = 30 ≤ answerNumber a → 30 ≤ answerNumber own
 
-late-own : (im : List ℕ) (ph : Phase) (may : Bool) (own : Answer) → Late own (admitted im ph (pick may own Answer.WrongPhase))
+late-own : (im : List ℕ) (ph : Phase) (may : Bool) (own : Answer) → Late own (admittedOn im ph (pick may own Answer.WrongPhase))
 late-own im ph may own =
     admitted-all (Late own) (λ x low high late. absurd (omega arith)) im ph (λ d. pick-all (Late own) may (λ late. late) (λ late. absurd (omega arith)))
 
@@ -56,7 +56,7 @@ unfolding initReceivedOf begunAs
 init-releases im ph m l =
     both-needed (decode im .header) (proposalOf ph) (readingOf m)
     (late-own im ph (awaits ph) (startAnswer (initStart im ph m))
-    (settled-answer (λ (a : Answer). 30 ≤ answerNumber a) (admitted im ph (pick (awaits ph) (startAnswer (initStart im ph m)) Answer.WrongPhase)) ph im []
+    (settled-answer (λ (a : Answer). 30 ≤ answerNumber a) (admittedOn im ph (pick (awaits ph) (startAnswer (initStart im ph m)) Answer.WrongPhase)) ph im []
     (begunAs im ph (initStart im ph m)) (λ late. absurd (omega arith)) l))
 
 -- ---- the call
@@ -74,7 +74,7 @@ module _ (im : List ℕ) (ph : Phase) (m : List ℕ) (st : Standing im ph) (byte
   pub init-stands : Stands (initReceivedOf im ph m)
   unfolding initReceivedOf
   init-stands =
-      settled-stands im ph st (admitted im ph (pick (awaits ph) (startAnswer (initStart im ph m)) Answer.WrongPhase)) [] (begunAs im ph (initStart im ph m)) (λ d. begun-stands)
+      settled-stands im ph st (admittedOn im ph (pick (awaits ph) (startAnswer (initStart im ph m)) Answer.WrongPhase)) [] (begunAs im ph (initStart im ph m)) (λ d. begun-stands)
 
   init-is : awaits ph ≡ true → isDone (startAnswer (initStart im ph m)) ≡ true → initReceivedOf im ph m ≡ begunAs im ph (initStart im ph m)
   unfolding initReceivedOf

@@ -20,7 +20,7 @@ use Rattle.calls.specs.declared.Outcome.{Outcome}
 use Rattle.protocol.specs.declared.Phase.{Phase}
 use Rattle.calls.specs.Answers.{effectOf}
 use Rattle.calls.specs.Acked.{releasedLabels, withReleased, acked}
-use Rattle.calls.specs.Outcomes.{After, after, isDone, refusal, unchanged, releasedWith, admitted, settleOf}
+use Rattle.calls.specs.Outcomes.{After, after, isDone, refusal, untouched, releasedOn, admittedOn, settleOf}
 use Rattle.calls.proofs.Ends.{settle-other}
 use Rattle.call_meaning.proofs.Calling.{call-refused, call-own, own-done, own-refused}
 use Rattle.init.specs.declared.Start.{Start}
@@ -42,9 +42,9 @@ pub resumed-none : (im : List ℕ) (t : Terms) (k a : ℕ) {h h₂ : Header} {im
 unfolding resumed acked releasedLabels
 resumed-none im t k a ek eh en e = rw (e, en, eh, ek)
 
-pub released-is : (im : List ℕ) {o : Outcome} {im′ : List ℕ} → after o im′ [] ≡ releasedWith Answer.Done im []
+pub released-is : (im : List ℕ) {o : Outcome} {im′ : List ℕ} → after o im′ [] ≡ releasedOn Answer.Done im []
     → (im′ ≡ releaseOf im) × (o .block0 ≡ differ (block im 0) (block im′ 0))
-unfolding releasedWith
+unfolding releasedOn
 released-is im e = (ap (λ x. x .image) e, ap (λ x. x .outcome .block0) e ∙ ap (λ x. differ (block im 0) (block x 0)) (sym (ap (λ x. x .image) e)))
 
 pub begun-is : (im : List ℕ) (ph : Phase) (st : Start) {im′ : List ℕ} {next : Phase} {b : Bool} → im′ ≡ startImage im st
@@ -54,7 +54,7 @@ unfolding begunAs
 begun-is im ph st ei en eb = rw (eb, ei, en)
 
 -- ---- the call
-module _ (im : List ℕ) (ph : Phase) (m : List ℕ) {r : Answer} (e : r ≡ admitted im ph Answer.Done) where
+module _ (im : List ℕ) (ph : Phase) (m : List ℕ) {r : Answer} (e : r ≡ admittedOn im ph Answer.Done) where
   pub init-refused : {x : Outcome} → isDone r ≡ false → x ≡ refusal r ph → after x im [] ≡ initReceivedOf im ph m
   unfolding initReceivedOf
   init-refused n p = call-refused im ph e [] (pick (awaits ph) (startAnswer (initStart im ph m)) Answer.WrongPhase) (begunAs im ph (initStart im ph m)) n p
@@ -80,8 +80,8 @@ module _ (im : List ℕ) (ph : Phase) (m : List ℕ) {r : Answer} (e : r ≡ adm
         settled : {x : After} → x ≡ settleOf a ph im [] (begunAs im ph st) → x ≡ initReceivedOf im ph m
         settled q = own (rw (w, ← start-is, ← ea) q)
 
-        pub init-settled : {x : After} → isDone a ≡ false → x ≡ settleOf a ph im [] (unchanged a ph im []) → x ≡ initReceivedOf im ph m
-        init-settled n q = settled (q ∙ settle-other a ph im [] (unchanged a ph im []) (begunAs im ph st) n)
+        pub init-settled : {x : After} → isDone a ≡ false → x ≡ settleOf a ph im [] (untouched a ph im []) → x ≡ initReceivedOf im ph m
+        init-settled n q = settled (q ∙ settle-other a ph im [] (untouched a ph im []) (begunAs im ph st) n)
 
         pub init-begun : {x : After} → isDone a ≡ true → x ≡ begunAs im ph st → x ≡ initReceivedOf im ph m
         init-begun d q = settled (own-done a ph im [] (begunAs im ph st) d q)

@@ -13,7 +13,7 @@ use Rattle.protocol.specs.declared.Answer.{Answer}
 use Rattle.protocol.specs.declared.Phase
 use Rattle.protocol.specs.declared.Phase.{Phase}
 use Rattle.calls.specs.Acked.{acked}
-use Rattle.calls.specs.Outcomes.{After, after, restored, admitted, settleOf}
+use Rattle.calls.specs.Outcomes.{After, after, restored, admittedOn, settleOf}
 use Rattle.init.specs.declared.Start
 use Rattle.init.specs.declared.Start.{Start}
 use Rattle.init.specs.declared.Terms.{Terms}
@@ -111,4 +111,4 @@ begunAs im ph st = after (restored Answer.Done (startPhase ph st) im (startImage
 
 unfoldable pub initReceivedOf : List ℕ → Phase → List ℕ → After
 initReceivedOf im ph m =
-    settleOf (admitted im ph (pick (awaits ph) (startAnswer (initStart im ph m)) Answer.WrongPhase)) ph im [] (begunAs im ph (initStart im ph m))
+    settleOf (admittedOn im ph (pick (awaits ph) (startAnswer (initStart im ph m)) Answer.WrongPhase)) ph im [] (begunAs im ph (initStart im ph m))

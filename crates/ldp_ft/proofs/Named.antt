@@ -22,7 +22,7 @@ use Rattle.protocol.specs.declared.Answer.{Answer}
 use Rattle.protocol.specs.declared.Phase.{Phase}
 use Rattle.calls.specs.Answers.{answerBlock}
 use Rattle.calls.specs.Phases.{phaseFits}
-use Rattle.calls.specs.Outcomes.{checked, admitted}
+use Rattle.calls.specs.Outcomes.{checked, admittedOn}
 
 -- an image has the blocks 0 to 64
 abbrev pub Named : Answer → Type 0
@@ -61,6 +61,6 @@ checked-by (Verdict.BadField b) a l n = l
 pub checked-named : (im : List ℕ) (a : Answer) → Named a → Named (checked (verdict im) a)
 checked-named im a n = checked-by (verdict im) a (verdict-named im) n
 
-pub admitted-named : (im : List ℕ) (ph : Phase) (a : Answer) → Named a → Named (admitted im ph a)
-unfolding admitted
+pub admitted-named : (im : List ℕ) (ph : Phase) (a : Answer) → Named a → Named (admittedOn im ph a)
+unfolding admittedOn
 admitted-named im ph a n = checked-named im (pick (phaseFits ph (decode im .header)) a Answer.WrongPhase) (pick-all Named (phaseFits ph (decode im .header)) n none)

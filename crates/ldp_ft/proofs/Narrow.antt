@@ -25,7 +25,7 @@ use Rattle.protocol.specs.declared.Effect.{Effect}
 use Rattle.protocol.specs.declared.Phase
 use Rattle.protocol.specs.declared.Phase.{Phase}
 use Rattle.calls.specs.Answers.{effectOf}
-use Rattle.calls.specs.Outcomes.{After, isDone, unchanged, failedWith, releasedWith, settledBy, settleOf, checked, wrote}
+use Rattle.calls.specs.Outcomes.{After, isDone, untouched, failedOn, releasedOn, leftBy, settleOf, checked, wrote}
 use Rattle.calls.proofs.Ends.{settle-other}
 use Rattle.call_meaning.proofs.Refusals.{settle-does}
 use Rattle.connect.specs.Start.{formatted, formatOf, restoreOf}
@@ -48,18 +48,18 @@ quiet : (a : Answer) (ph : Phase) (b : Bool) → Named a → Narrow (record { an
 quiet a ph b n = record { block = n; written = omega arith; slot = omega arith }
 
 module _ (a : Answer) (ph : Phase) (im o : List ℕ) (n : Named a) where
-  pub unchanged-narrow : Narrow (unchanged a ph im o .outcome)
+  pub unchanged-narrow : Narrow (untouched a ph im o .outcome)
   unchanged-narrow = quiet a ph _ n
 
-  failed-narrow : Narrow (failedWith a im o .outcome)
-  unfolding failedWith
+  failed-narrow : Narrow (failedOn a im o .outcome)
+  unfolding failedOn
   failed-narrow = quiet a _ _ n
 
-  released-narrow : Narrow (releasedWith a im o .outcome)
-  unfolding releasedWith
+  released-narrow : Narrow (releasedOn a im o .outcome)
+  unfolding releasedOn
   released-narrow = quiet a _ _ n
 
-  other-narrow : (f : Effect) → Narrow (settledBy f a ph im o (unchanged a ph im o) .outcome)
+  other-narrow : (f : Effect) → Narrow (leftBy f a ph im o (untouched a ph im o) .outcome)
   other-narrow Effect.Nothing = unchanged-narrow
   other-narrow Effect.Fail = failed-narrow
   other-narrow Effect.Release = released-narrow
@@ -70,7 +70,7 @@ module _ (a : Answer) (ph : Phase) (im o : List ℕ) (n : Named a) where
   settled-narrow d w =
       by-test (isDone a)
       (λ t. rw (settle-does a ph im o d t) (w t))
-      (λ f. rw (settle-other a ph im o d (unchanged a ph im o) f) (other-narrow (effectOf a)))
+      (λ f. rw (settle-other a ph im o d (untouched a ph im o) f) (other-narrow (effectOf a)))
 
 -- ---- each call
 pub format-narrow : (im : List ℕ) → Narrow (formatOf im .outcome)
@@ -82,7 +82,7 @@ format-narrow im =
 pub restore-narrow : (im : List ℕ) → Narrow (restoreOf im .outcome)
 unfolding restoreOf
 restore-narrow im =
-    settled-narrow (checked (verdict im) Answer.Done) Phase.Idle im [] (checked-named im Answer.Done none) (failedWith Answer.Done im [])
+    settled-narrow (checked (verdict im) Answer.Done) Phase.Idle im [] (checked-named im Answer.Done none) (failedOn Answer.Done im [])
     (λ t. failed-narrow Answer.Done Phase.Idle im [] none)
 
 writer-narrow : (im : List ℕ) (ph : Phase) (may : Bool) (next : Phase) (out bytes : List ℕ) → length bytes ≤ 504 → Narrow (writerOf im ph may next out bytes .outcome)
@@ -118,7 +118,7 @@ event-named im ph may = admitted-named im ph (pick may Answer.Done Answer.WrongP
 pub connection-failed-narrow : (im : List ℕ) (ph : Phase) → Narrow (connectionFailedOf im ph .outcome)
 unfolding connectionFailedOf
 connection-failed-narrow im ph =
-    settled-narrow (eventAnswer im ph (connected ph)) ph im [] (event-named im ph (connected ph)) (failedWith Answer.Done im [])
+    settled-narrow (eventAnswer im ph (connected ph)) ph im [] (event-named im ph (connected ph)) (failedOn Answer.Done im [])
     (λ t. failed-narrow Answer.Done ph im [] none)
 
 pub time-passed-narrow : (im : List ℕ) (ph : Phase) (elapsed : ℕ) → Narrow (timePassedOf im ph elapsed .outcome)

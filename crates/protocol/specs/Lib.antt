@@ -22,3 +22,5 @@ pub mod Receive
 -- all ten as one function, and Receive's answers as a list of cases
 pub mod Calls
 pub mod Cases
+-- what holds of every state that an image can hold
+pub mod Lawful

@@ -14,7 +14,7 @@ use Rattle.protocol.specs.declared.Answer.{Answer}
 use Rattle.protocol.specs.declared.Phase
 use Rattle.protocol.specs.declared.Phase.{Phase}
 use Rattle.calls.specs.Answers.{answerNumber}
-use Rattle.calls.specs.Outcomes.{unchanged, failedWith, releasedWith, settleOf}
+use Rattle.calls.specs.Outcomes.{untouched, failedOn, releasedOn, settleOf}
 use Rattle.calls.proofs.Ends.{settle-done}
 use Rattle.call_meaning.specs.Standing.{Standing}
 use Rattle.call_meaning.specs.Ended.{Unapplied, ReleasedIdle}
@@ -34,20 +34,20 @@ module _ (im : List ℕ) (ph : Phase) (m : List ℕ) where
   settled-said = ap (λ (a : Answer). settleOf a ph im [] (takenAs im ph (readingOf m))) (sym (receive-answered im ph m))
 
   -- 1 to 13: nothing changed
-  pub receive-unchanged : 0 < answerNumber said → answerNumber said < 20 → receiveOf im ph m ≡ unchanged said ph im []
+  pub receive-unchanged : 0 < answerNumber said → answerNumber said < 20 → receiveOf im ph m ≡ untouched said ph im []
   receive-unchanged l h = settled-said ∙ answered-nothing said ph im [] (takenAs im ph (readingOf m)) l h
 
   module _ (st : Standing im ph) where
     -- 20 to 23: "as connection failed, ACK unapplied"
     pub receive-unapplied : 20 ≤ answerNumber said → answerNumber said < 30 → Unapplied im (receiveOf im ph m)
     receive-unapplied l h =
-        let e : receiveOf im ph m ≡ failedWith said im [] = settled-said ∙ answered-failed said ph im [] (takenAs im ph (readingOf m)) l h in
+        let e : receiveOf im ph m ≡ failedOn said im [] = settled-said ∙ answered-failed said ph im [] (takenAs im ph (readingOf m)) l h in
         rw e (failed-unapplied im ph st said [])
 
     -- 30 to 36: "released, Idle"
     pub receive-released : 30 ≤ answerNumber said → ReleasedIdle im (receiveOf im ph m)
     receive-released l =
-        let e : receiveOf im ph m ≡ releasedWith said im [] = settled-said ∙ answered-released said ph im [] (takenAs im ph (readingOf m)) l in
+        let e : receiveOf im ph m ≡ releasedOn said im [] = settled-said ∙ answered-released said ph im [] (takenAs im ph (readingOf m)) l in
         rw e (released-idle im ph st said [])
 
     -- so of what is not taken nor released no number moves, and everything held stays held
@@ -60,7 +60,7 @@ module _ (im : List ℕ) (ph : Phase) (m : List ℕ) where
 
 -- ---- "In UpPlain messages are passed on."
 module _ (im : List ℕ) (m : List ℕ) where
-  pub plain-passed : receiveOf im Phase.UpPlain m .outcome .answer ≡ Answer.Done → receiveOf im Phase.UpPlain m ≡ unchanged Answer.Done Phase.UpPlain im []
+  pub plain-passed : receiveOf im Phase.UpPlain m .outcome .answer ≡ Answer.Done → receiveOf im Phase.UpPlain m ≡ untouched Answer.Done Phase.UpPlain im []
   unfolding receiveOf
   plain-passed done = rw (sym (receive-answered im Phase.UpPlain m) ∙ done, settle-done)
 

@@ -17,7 +17,7 @@ use Rattle.protocol.specs.declared.Phase.{Phase}
 use Rattle.calls.proofs.Settled.{admitted-is}
 use Rattle.calls.proofs.Ends.{settle-done}
 use Rattle.call_meaning.specs.Standing.{Standing, Stands, Stored}
-use Rattle.calls.proofs.Effects.{done-is}
+use Rattle.protocol.proofs.Effects.{done-is}
 use Rattle.call_meaning.proofs.Answered.{settled-says}
 use Rattle.call_meaning.proofs.Stands.{stored-stands, settled-stands}
 use Rattle.message.proofs.Widths.{read-widths}

@@ -24,10 +24,10 @@ use Rattle.protocol.specs.declared.Phase
 use Rattle.protocol.specs.declared.Phase.{Phase}
 use Rattle.calls.specs.Answers.{effectOf}
 use Rattle.calls.specs.Acked.{ackBorne, freesNone, withReleased, acked}
-use Rattle.calls.specs.Outcomes.{After, after, isDone, refusal, unchanged, admitted, settleOf}
+use Rattle.calls.specs.Outcomes.{After, after, isDone, refusal, untouched, admittedOn, settleOf}
 use Rattle.calls.proofs.Ends.{settle-other}
 use Rattle.calls.proofs.Freeing.{none-freed}
-use Rattle.calls.proofs.Effects.{done-is}
+use Rattle.protocol.proofs.Effects.{done-is}
 use Rattle.call_meaning.proofs.Calling.{call-refused, call-own, own-done, own-refused}
 use Rattle.receive.specs.declared.LabelEffect
 use Rattle.receive.specs.declared.LabelEffect.{LabelEffect}
@@ -80,21 +80,21 @@ count-within im g s = by (ackOn (decode im .header) g) refl
 
 -- ---- how the answer settles
 module _ (im : List ℕ) (sent : ℕ) (g : Message) {a : Answer} (e : a ≡ ftRule (decode im) g) {x : After} where
-  pub ft-settled : isDone a ≡ false → x ≡ settleOf a (upWith sent) im [] (unchanged a (upWith sent) im [])
+  pub ft-settled : isDone a ≡ false → x ≡ settleOf a (upWith sent) im [] (untouched a (upWith sent) im [])
       → x ≡ settleOf (ftRule (decode im) g) (upWith sent) im [] (takenFt im sent g)
-  ft-settled n p = rw (← e) (p ∙ settle-other a (upWith sent) im [] (unchanged a (upWith sent) im []) (takenFt im sent g) n)
+  ft-settled n p = rw (← e) (p ∙ settle-other a (upWith sent) im [] (untouched a (upWith sent) im []) (takenFt im sent g) n)
 
   pub ft-taken : isDone a ≡ true → x ≡ takenFt im sent g → x ≡ settleOf (ftRule (decode im) g) (upWith sent) im [] (takenFt im sent g)
   ft-taken t p = rw (← e) (own-done a (upWith sent) im [] (takenFt im sent g) t p)
 
 -- Done in UpPlain changes nothing
-pub plain-settled : (im : List ℕ) (g : Message) {a : Answer} {x : After} → a ≡ plainRule g → x ≡ settleOf a Phase.UpPlain im [] (unchanged a Phase.UpPlain im [])
-    → x ≡ settleOf (plainRule g) Phase.UpPlain im [] (unchanged Answer.Done Phase.UpPlain im [])
+pub plain-settled : (im : List ℕ) (g : Message) {a : Answer} {x : After} → a ≡ plainRule g → x ≡ settleOf a Phase.UpPlain im [] (untouched a Phase.UpPlain im [])
+    → x ≡ settleOf (plainRule g) Phase.UpPlain im [] (untouched Answer.Done Phase.UpPlain im [])
 plain-settled im g {a} e p =
     rw (← e)
     (by-test (isDone a)
-    (λ t. p ∙ ap (λ (z : Answer). settleOf a Phase.UpPlain im [] (unchanged z Phase.UpPlain im [])) (done-is a t))
-    (λ n. p ∙ settle-other a Phase.UpPlain im [] (unchanged a Phase.UpPlain im []) (unchanged Answer.Done Phase.UpPlain im []) n))
+    (λ t. p ∙ ap (λ (z : Answer). settleOf a Phase.UpPlain im [] (untouched z Phase.UpPlain im [])) (done-is a t))
+    (λ n. p ∙ settle-other a Phase.UpPlain im [] (untouched a Phase.UpPlain im []) (untouched Answer.Done Phase.UpPlain im []) n))
 
 -- what was read decides the rule
 module _ (im : List ℕ) (ph : Phase) (rule : Message → Answer) (m : List ℕ) {r : Reading} (e : r ≡ readingOf m) {x : After} where
@@ -107,7 +107,7 @@ module _ (im : List ℕ) (ph : Phase) (rule : Message → Answer) (m : List ℕ)
   read-whole t p = rw (← e, t) p
 
 -- ---- the call
-module _ (im : List ℕ) (ph : Phase) (m : List ℕ) {a : Answer} (e : a ≡ admitted im ph Answer.Done) where
+module _ (im : List ℕ) (ph : Phase) (m : List ℕ) {a : Answer} (e : a ≡ admittedOn im ph Answer.Done) where
   pub receive-refused : {r : Outcome} → isDone a ≡ false → r ≡ refusal a ph → after r im [] ≡ receiveOf im ph m
   unfolding receiveOf receiveAnswer
   receive-refused n p = call-refused im ph e [] (receiveRule (decode im) ph (readingOf m)) (takenAs im ph (readingOf m)) n p

@@ -36,7 +36,7 @@ use Rattle.protocol.specs.declared.Phase
 use Rattle.protocol.specs.declared.Phase.{Phase}
 use Rattle.calls.specs.Received.{isInit}
 use Rattle.calls.specs.Acked.{ackBorne, freesNone, acked}
-use Rattle.calls.specs.Outcomes.{After, after, unchanged, restored, settleOf, admitted}
+use Rattle.calls.specs.Outcomes.{After, after, untouched, restored, settleOf, admittedOn}
 use Rattle.receive.specs.Labels.{labelEffect, isProtected, protectionRule, effectReception, effectLabels, touchesNone}
 use Rattle.calls.specs.Phases.{upWith}
 
@@ -101,7 +101,7 @@ receiveRule s Phase.UpPlain r = readRule r plainRule
 receiveRule s Phase.Failed r = Answer.WrongPhase
 
 unfoldable pub receiveAnswer : List ℕ → Phase → List ℕ → Answer
-receiveAnswer im ph m = admitted im ph (receiveRule (decode im) ph (readingOf m))
+receiveAnswer im ph m = admittedOn im ph (receiveRule (decode im) ph (readingOf m))
 
 -- S moves to the number of a protected message
 abbrev pub securedBy : FtNumber → FtField → FtNumber
@@ -162,12 +162,12 @@ takenFt im sent g =
 
 -- what a message leaves that is taken; a malformed one is not
 abbrev pub takenAs : List ℕ → Phase → Reading → After
-takenAs im Phase.Idle r = unchanged Answer.Done Phase.Idle im []
-takenAs im (Phase.InitWait v) r = unchanged Answer.Done (Phase.InitWait v) im []
-takenAs im (Phase.UpFT u) Reading.Malformed = unchanged Answer.Done (Phase.UpFT u) im []
+takenAs im Phase.Idle r = untouched Answer.Done Phase.Idle im []
+takenAs im (Phase.InitWait v) r = untouched Answer.Done (Phase.InitWait v) im []
+takenAs im (Phase.UpFT u) Reading.Malformed = untouched Answer.Done (Phase.UpFT u) im []
 takenAs im (Phase.UpFT u) (Reading.Whole g) = takenFt im (u .sent) g
-takenAs im Phase.UpPlain r = unchanged Answer.Done Phase.UpPlain im []
-takenAs im Phase.Failed r = unchanged Answer.Done Phase.Failed im []
+takenAs im Phase.UpPlain r = untouched Answer.Done Phase.UpPlain im []
+takenAs im Phase.Failed r = untouched Answer.Done Phase.Failed im []
 
 unfoldable pub receiveOf : List ℕ → Phase → List ℕ → After
 receiveOf im ph m = settleOf (receiveAnswer im ph m) ph im [] (takenAs im ph (readingOf m))

@@ -18,7 +18,7 @@ use Rattle.protocol.specs.declared.Answer.{Answer}
 use Rattle.protocol.specs.declared.Phase
 use Rattle.protocol.specs.declared.Phase.{Phase}
 use Rattle.calls.specs.Phases.{issuedCount, upWith}
-use Rattle.calls.specs.Outcomes.{After, settleOf, admitted, roomFor, wrote}
+use Rattle.calls.specs.Outcomes.{After, settleOf, admittedOn, roomFor, wrote}
 
 -- "Send next (UpFT)"
 abbrev pub isUpFT : Phase → Bool
@@ -58,7 +58,7 @@ sendRule s ph room = pick (isUpFT ph) (pick (ltb (sentOf ph) (s .header .held)) 
 
 -- "12, 1, 8, 9"
 unfoldable pub sendAnswer : List ℕ → Phase → Bool → ℕ → Answer
-sendAnswer im ph ask room = admitted im ph (sendRule (decode im) ph (roomFor (sendBytes (decode im) (sentOf ph) ask) room))
+sendAnswer im ph ask room = admittedOn im ph (sendRule (decode im) ph (roomFor (sendBytes (decode im) (sentOf ph) ask) room))
 
 abbrev pub withIssued : Header → FtNumber → Header
 withIssued h n = record {

@@ -7,7 +7,7 @@ ghost use Rattle.image.specs.Sizes.{block};
 ghost use Rattle.image.specs.State.{decode};
 ghost use Rattle.image.specs.Verdict.{IsSound};
 ghost use Rattle.protocol.specs.declared.Answer;
-ghost use Rattle.calls.specs.Outcomes.{after, admitted};
+ghost use Rattle.calls.specs.Outcomes.{after, admittedOn};
 ghost use Rattle.send.specs.Rule.{isUpFT, sentOf, numberAt, ackAsked, sendBytes, sendRule, sendImage, sendOf};
 use block0::Header;
 use calls::Answer;
@@ -46,7 +46,7 @@ fn sent_of(phase: Phase) -> u32
 
 // 12, 1, 8: all tests but that of the room.
 fn judge_send(image: &[u8], phase: Phase) -> Answer
-    ensures { λ r. ⌜ r ≡ admitted (now (image .entry)) phase (sendRule (decode (now (image .entry))) phase Answer.Done) ⌝ }
+    ensures { λ r. ⌜ r ≡ admittedOn (now (image .entry)) phase (sendRule (decode (now (image .entry))) phase Answer.Done) ⌝ }
 {
     let a = calls::admit(image, phase);
     if !calls::is_done(a) {

@@ -11,7 +11,7 @@ use Rattle.protocol.specs.declared.Answer
 use Rattle.protocol.specs.declared.Answer.{Answer}
 use Rattle.protocol.specs.declared.Phase.{Phase}
 use Rattle.calls.specs.Answers.{answerNumber}
-use Rattle.calls.specs.Outcomes.{After, unchanged, failedWith, releasedWith}
+use Rattle.calls.specs.Outcomes.{After, untouched, failedOn, releasedOn}
 use Rattle.call_meaning.specs.Standing.{Standing}
 use Rattle.call_meaning.specs.Ended.{Unapplied, ReleasedIdle}
 use Rattle.call_meaning.proofs.Answered.{settled-says, answered-nothing, answered-failed, answered-released, failed-unapplied, released-idle}
@@ -24,7 +24,7 @@ use Rattle.session.proofs.Settles.{settles, ends}
 
 -- what is done is answered Done
 done-says : (c : Call) (im : List ℕ) (ph : Phase) → done c im ph .outcome .answer ≡ Answer.Done
-unfolding done failedWith releasedWith begunAs queued
+unfolding done failedOn releasedOn begunAs queued
 done-says format im ph = refl
 done-says restore im ph = refl
 done-says connection-failed im ph = refl
@@ -46,26 +46,26 @@ module _ (c : Call) (im : List ℕ) (ph : Phase) where
 
   -- "1 .. 13: nothing changed": neither the image, nor the phase, nor the output
   pub refusal-changes-nothing : 1 ≤ answerNumber (leaves c im ph .outcome .answer) → answerNumber (leaves c im ph .outcome .answer) ≤ 13
-      → leaves c im ph ≡ unchanged (leaves c im ph .outcome .answer) (given c ph) im (lent c)
+      → leaves c im ph ≡ untouched (leaves c im ph .outcome .answer) (given c ph) im (lent c)
   refusal-changes-nothing l u =
       settles c im ph
       ∙ answered-nothing (judged c im ph) (given c ph) im (lent c) (done c im ph) (omega (arith, number-is)) (omega (arith, number-is))
-      ∙ ap (λ (a : Answer). unchanged a (given c ph) im (lent c)) (sym answer-is)
+      ∙ ap (λ (a : Answer). untouched a (given c ph) im (lent c)) (sym answer-is)
 
   -- "20 .. 23: as connection failed, ACK unapplied": of the image as it was given
   pub failure-is : 20 ≤ answerNumber (leaves c im ph .outcome .answer) → answerNumber (leaves c im ph .outcome .answer) ≤ 23
-      → leaves c im ph ≡ failedWith (leaves c im ph .outcome .answer) im (lent c)
+      → leaves c im ph ≡ failedOn (leaves c im ph .outcome .answer) im (lent c)
   failure-is l u =
       settles c im ph
       ∙ answered-failed (judged c im ph) (given c ph) im (lent c) (done c im ph) (omega (arith, number-is)) (omega (arith, number-is))
-      ∙ ap (λ (a : Answer). failedWith a im (lent c)) (sym answer-is)
+      ∙ ap (λ (a : Answer). failedOn a im (lent c)) (sym answer-is)
 
   -- "30 .. 36: released, Idle"
-  pub release-is : 30 ≤ answerNumber (leaves c im ph .outcome .answer) → leaves c im ph ≡ releasedWith (leaves c im ph .outcome .answer) im (lent c)
+  pub release-is : 30 ≤ answerNumber (leaves c im ph .outcome .answer) → leaves c im ph ≡ releasedOn (leaves c im ph .outcome .answer) im (lent c)
   release-is l =
       settles c im ph
       ∙ answered-released (judged c im ph) (given c ph) im (lent c) (done c im ph) (omega (arith, number-is))
-      ∙ ap (λ (a : Answer). releasedWith a im (lent c)) (sym answer-is)
+      ∙ ap (λ (a : Answer). releasedOn a im (lent c)) (sym answer-is)
 
   -- the same, of the state
   module _ (st : Standing im ph) where
@@ -77,7 +77,7 @@ module _ (c : Call) (im : List ℕ) (ph : Phase) where
 
   -- "Every answer except 0 writes no output byte"
   pub only-done-writes : answerNumber (leaves c im ph .outcome .answer) ≢ 0 → (leaves c im ph .out ≡ lent c) × (leaves c im ph .outcome .written ≡ 0)
-  unfolding failedWith releasedWith
+  unfolding failedOn releasedOn
   only-done-writes other =
       ends c im ph (λ (x : After). (x .out ≡ lent c) × (x .outcome .written ≡ 0))
       (λ e. (refl, refl))

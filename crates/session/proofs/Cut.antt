@@ -20,7 +20,7 @@ use Rattle.protocol.specs.declared.Answer.{Answer}
 use Rattle.protocol.specs.declared.Phase
 use Rattle.protocol.specs.declared.Phase.{Phase}
 use Rattle.calls.specs.Phases.{restingPhase}
-use Rattle.calls.specs.Outcomes.{After, failedWith, releasedWith}
+use Rattle.calls.specs.Outcomes.{After, failedOn, releasedOn}
 use Rattle.timers.specs.Events.{expired}
 use Rattle.connect.specs.Start.{restoreOf}
 use Rattle.connect.proofs.Meaning.{restore-phase, restore-decodes}
@@ -46,7 +46,7 @@ taken-none im Phase.Failed r = refl
 -- what holds of a call that writes no slot, and of a message that is queued, holds of every call
 every : (P : After → Type 0) (c : Call) (im : List ℕ) (ph : Phase) → makesImage c ≡ false → ((x : After) → x .outcome .slot ≡ 0 → P x)
     → ((m : List ℕ) → submitAnswer im ph m ≡ Answer.Done → P (queued im ph m)) → P (leaves c im ph)
-unfolding done judged failedWith releasedWith begunAs submitAnswer
+unfolding done judged failedOn releasedOn begunAs submitAnswer
 every P c im ph other none some =
     ends c im ph P (λ e. none _ refl) (λ e. none _ refl) (λ e. none _ refl) (λ d. by c other d)
   where

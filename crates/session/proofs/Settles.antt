@@ -13,8 +13,8 @@ use Rattle.protocol.specs.declared.Effect
 use Rattle.protocol.specs.declared.Effect.{Effect}
 use Rattle.protocol.specs.declared.Phase.{Phase}
 use Rattle.calls.specs.Answers.{answerNumber, effectOf}
-use Rattle.calls.specs.Outcomes.{After, unchanged, failedWith, releasedWith, settledBy, settleOf}
-use Rattle.calls.proofs.Effects.{done-is}
+use Rattle.calls.specs.Outcomes.{After, untouched, failedOn, releasedOn, leftBy, settleOf}
+use Rattle.protocol.proofs.Effects.{done-is}
 use Rattle.connect.specs.Start.{formatOf, restoreOf}
 use Rattle.connect.specs.Writers.{writerOf, openOf, keepaliveOf}
 use Rattle.init.specs.Begun.{initReceivedOf}
@@ -52,15 +52,15 @@ act-done a e =
     no false false q = let z : _≡_ {A = ℕ} 0 1 = cc in absurd (omega arith)
 
 module _ (c : Call) (im : List ℕ) (ph : Phase) where
-  by-effect : (f : Effect) → effectOf (judged c im ph) ≡ f → leaves c im ph ≡ settledBy f (judged c im ph) (given c ph) im (lent c) (done c im ph)
+  by-effect : (f : Effect) → effectOf (judged c im ph) ≡ f → leaves c im ph ≡ leftBy f (judged c im ph) (given c ph) im (lent c) (done c im ph)
   unfolding settleOf
   by-effect f e = settles c im ph ∙ rw e
 
   -- the four ways to end, by what the answer does
   pub ends : (P : After → Type 0)
-      → (effectOf (judged c im ph) ≡ Effect.Nothing → P (unchanged (judged c im ph) (given c ph) im (lent c)))
-      → (effectOf (judged c im ph) ≡ Effect.Fail → P (failedWith (judged c im ph) im (lent c)))
-      → (effectOf (judged c im ph) ≡ Effect.Release → P (releasedWith (judged c im ph) im (lent c)))
+      → (effectOf (judged c im ph) ≡ Effect.Nothing → P (untouched (judged c im ph) (given c ph) im (lent c)))
+      → (effectOf (judged c im ph) ≡ Effect.Fail → P (failedOn (judged c im ph) im (lent c)))
+      → (effectOf (judged c im ph) ≡ Effect.Release → P (releasedOn (judged c im ph) im (lent c)))
       → (judged c im ph ≡ Answer.Done → P (done c im ph))
       → P (leaves c im ph)
   ends P nothing fails releases acts = by (effectOf (judged c im ph)) refl

@@ -26,8 +26,8 @@ use Rattle.protocol.specs.declared.Phase
 use Rattle.protocol.specs.declared.Phase.{Phase}
 use Rattle.calls.specs.Answers.{answerNumber, effectOf}
 use Rattle.calls.specs.Phases.{issuedCount}
-use Rattle.calls.specs.Outcomes.{After, unchanged, failedWith, releasedWith, admitted}
-use Rattle.calls.proofs.Effects.{effect-nothing}
+use Rattle.calls.specs.Outcomes.{After, untouched, failedOn, releasedOn, admittedOn}
+use Rattle.protocol.proofs.Effects.{effect-nothing}
 use Rattle.calls.proofs.Settled.{checked-all, admitted-all}
 use Rattle.timers.specs.Events.{expired}
 use Rattle.init.specs.declared.Start
@@ -46,12 +46,12 @@ abbrev pub Kept : List ℕ → After → Type 0
 Kept im x = (k : ℕ) → k ≢ 0 → k ≢ x .outcome .slot → block (x .image) k ≡ block im k
 
 module _ (im : List ℕ) (size : length im ≡ imageSize) where
-  failed-kept : (a : Answer) (o : List ℕ) → Kept im (failedWith a im o)
-  unfolding failedWith breakOf
+  failed-kept : (a : Answer) (o : List ℕ) → Kept im (failedOn a im o)
+  unfolding failedOn breakOf
   failed-kept a o k zero slot = zeroth-other im size _ _ k zero
 
-  released-kept : (a : Answer) (o : List ℕ) → Kept im (releasedWith a im o)
-  unfolding releasedWith releaseOf
+  released-kept : (a : Answer) (o : List ℕ) → Kept im (releasedOn a im o)
+  unfolding releasedOn releaseOf
   released-kept a o k zero slot = zeroth-other im size _ _ k zero
 
   begun-kept : (ph : Phase) (st : Start) → Kept im (begunAs im ph st)
@@ -93,7 +93,7 @@ module _ (im : List ℕ) (size : length im ≡ imageSize) where
   done-kept (open-session id own proposal out) ph other e = λ k zero slot. refl
   done-kept (init-received m) ph other e = begun-kept ph (initStart im ph m)
   done-kept (time-passed elapsed) ph other e =
-      pick-all (Kept im) (expired (decode im .header) elapsed) {x = releasedWith Answer.Done im []} {y = unchanged Answer.Done ph im []}
+      pick-all (Kept im) (expired (decode im .header) elapsed) {x = releasedOn Answer.Done im []} {y = untouched Answer.Done ph im []}
       (released-kept Answer.Done []) (λ k zero slot. refl)
   done-kept (submit m) ph other e = queued-kept m ph e
   done-kept (send-next ask out) ph other e = λ k zero slot. sent-kept (sentOf ph) k zero
@@ -105,7 +105,7 @@ module _ (im : List ℕ) (size : length im ≡ imageSize) where
 refused : {P : Type 0} (x : Answer) → 0 < answerNumber x → answerNumber x < 20 → (effectOf x ≡ Effect.Nothing → ⊥) → P
 refused x low high more = absurd (more (sym (effect-nothing x (answerNumber x) refl low high)))
 
-admitted-sound : (im : List ℕ) (ph : Phase) (a : Answer) → (effectOf (admitted im ph a) ≡ Effect.Nothing → ⊥) → IsSound im
+admitted-sound : (im : List ℕ) (ph : Phase) (a : Answer) → (effectOf (admittedOn im ph a) ≡ Effect.Nothing → ⊥) → IsSound im
 admitted-sound im ph a = admitted-all (λ (x : Answer). (effectOf x ≡ Effect.Nothing → ⊥) → IsSound im) refused im ph (λ d more. sound-parts im (d .passes))
 
 pub more-sound : (c : Call) (im : List ℕ) (ph : Phase) → makesImage c ≡ false → (effectOf (judged c im ph) ≡ Effect.Nothing → ⊥) → IsSound im

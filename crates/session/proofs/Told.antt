@@ -15,7 +15,7 @@ use Rattle.protocol.specs.declared.Answer
 use Rattle.protocol.specs.declared.Answer.{Answer}
 use Rattle.protocol.specs.declared.Phase
 use Rattle.protocol.specs.declared.Phase.{Phase}
-use Rattle.calls.specs.Outcomes.{After, unchanged, failedWith, releasedWith}
+use Rattle.calls.specs.Outcomes.{After, untouched, failedOn, releasedOn}
 use Rattle.timers.specs.Events.{expired}
 use Rattle.init.specs.Begun.{begunAs}
 use Rattle.submit.specs.Act.{queued}
@@ -35,14 +35,14 @@ taken-told im Phase.UpPlain r = sym (differ-self (block im 0))
 taken-told im Phase.Failed r = sym (differ-self (block im 0))
 
 done-told : (c : Call) (im : List ℕ) (ph : Phase) → makesImage c ≡ false → Told im (done c im ph)
-unfolding done failedWith releasedWith begunAs queued
+unfolding done failedOn releasedOn begunAs queued
 done-told format im ph other = absurd (true≢false other)
 done-told restore im ph other = refl
 done-told connection-failed im ph other = refl
 done-told (open-session id own proposal out) im ph other = refl
 done-told (init-received m) im ph other = refl
 done-told (time-passed elapsed) im ph other =
-    pick-all (Told im) (expired (decode im .header) elapsed) {x = releasedWith Answer.Done im []} {y = unchanged Answer.Done ph im []} refl (sym (differ-self (block im 0)))
+    pick-all (Told im) (expired (decode im .header) elapsed) {x = releasedOn Answer.Done im []} {y = untouched Answer.Done ph im []} refl (sym (differ-self (block im 0)))
 done-told (submit m) im ph other = refl
 done-told (send-next ask out) im ph other = refl
 done-told (keepalive id out) im ph other = refl
@@ -50,7 +50,7 @@ done-told (receive m) im ph other = taken-told im ph (readingOf m)
 
 -- `block0` is set exactly where block 0's bytes are others than before
 pub block0-told : (c : Call) (im : List ℕ) (ph : Phase) → makesImage c ≡ false → leaves c im ph .outcome .block0 ≡ differ (block im 0) (block (leaves c im ph .image) 0)
-unfolding failedWith releasedWith
+unfolding failedOn releasedOn
 block0-told c im ph other =
     ends c im ph (Told im)
     (λ e. sym (differ-self (block im 0)))

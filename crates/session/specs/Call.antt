@@ -17,7 +17,7 @@ use Rattle.protocol.specs.declared.Answer
 use Rattle.protocol.specs.declared.Answer.{Answer}
 use Rattle.protocol.specs.declared.Phase
 use Rattle.protocol.specs.declared.Phase.{Phase}
-use Rattle.calls.specs.Outcomes.{After, unchanged, failedWith, releasedWith, checked, admitted, roomFor, wrote}
+use Rattle.calls.specs.Outcomes.{After, untouched, failedOn, releasedOn, checked, admittedOn, roomFor, wrote}
 use Rattle.connect.specs.Start.{formatted, formatOf, restoreOf}
 use Rattle.connect.specs.Writers.{opens, openBytes, openOf, isUp as isConnected, aliveBytes, keepaliveOf}
 use Rattle.init.specs.Judged.{startAnswer}
@@ -83,23 +83,23 @@ lent (receive m) = []
 unfoldable pub judged : Call → List ℕ → Phase → Answer
 judged format im ph = pick (eqb (length im) imageSize) Answer.Done Answer.WrongSize
 judged restore im ph = checked (verdict im) Answer.Done
-judged connection-failed im ph = admitted im ph (pick (connected ph) Answer.Done Answer.WrongPhase)
-judged (open-session id own proposal out) im ph = admitted im ph (pick (opens ph) (roomFor (openBytes (decode im .header) id own proposal) (length out)) Answer.WrongPhase)
-judged (init-received m) im ph = admitted im ph (pick (awaits ph) (startAnswer (initStart im ph m)) Answer.WrongPhase)
-judged (time-passed elapsed) im ph = admitted im ph (pick (waiting ph) Answer.Done Answer.WrongPhase)
-judged (submit m) im ph = admitted im ph (submitRule (decode im) m)
-judged (send-next ask out) im ph = admitted im ph (sendRule (decode im) ph (roomFor (sendBytes (decode im) (sentOf ph) ask) (length out)))
-judged (keepalive id out) im ph = admitted im ph (pick (isConnected ph) (roomFor (aliveBytes (decode im .header) ph id) (length out)) Answer.WrongPhase)
-judged (receive m) im ph = admitted im ph (receiveRule (decode im) ph (readingOf m))
+judged connection-failed im ph = admittedOn im ph (pick (connected ph) Answer.Done Answer.WrongPhase)
+judged (open-session id own proposal out) im ph = admittedOn im ph (pick (opens ph) (roomFor (openBytes (decode im .header) id own proposal) (length out)) Answer.WrongPhase)
+judged (init-received m) im ph = admittedOn im ph (pick (awaits ph) (startAnswer (initStart im ph m)) Answer.WrongPhase)
+judged (time-passed elapsed) im ph = admittedOn im ph (pick (waiting ph) Answer.Done Answer.WrongPhase)
+judged (submit m) im ph = admittedOn im ph (submitRule (decode im) m)
+judged (send-next ask out) im ph = admittedOn im ph (sendRule (decode im) ph (roomFor (sendBytes (decode im) (sentOf ph) ask) (length out)))
+judged (keepalive id out) im ph = admittedOn im ph (pick (isConnected ph) (roomFor (aliveBytes (decode im .header) ph id) (length out)) Answer.WrongPhase)
+judged (receive m) im ph = admittedOn im ph (receiveRule (decode im) ph (readingOf m))
 
 -- what it does where they answer Done
 unfoldable pub done : Call → List ℕ → Phase → After
 done format im ph = formatted
-done restore im ph = failedWith Answer.Done im []
-done connection-failed im ph = failedWith Answer.Done im []
+done restore im ph = failedOn Answer.Done im []
+done connection-failed im ph = failedOn Answer.Done im []
 done (open-session id own proposal out) im ph = wrote (Phase.InitWait (proposedOf proposal)) im im out (openBytes (decode im .header) id own proposal)
 done (init-received m) im ph = begunAs im ph (initStart im ph m)
-done (time-passed elapsed) im ph = pick (expired (decode im .header) elapsed) (releasedWith Answer.Done im []) (unchanged Answer.Done ph im [])
+done (time-passed elapsed) im ph = pick (expired (decode im .header) elapsed) (releasedOn Answer.Done im []) (untouched Answer.Done ph im [])
 done (submit m) im ph = queued im ph m
 done (send-next ask out) im ph = wrote (Phase.UpFT (sentOf ph + 1)) im (sendImage im (sentOf ph)) out (sendBytes (decode im) (sentOf ph) ask)
 done (keepalive id out) im ph = wrote ph im im out (aliveBytes (decode im .header) ph id)

@@ -30,8 +30,8 @@ use Rattle.protocol.specs.declared.Phase
 use Rattle.protocol.specs.declared.Phase.{Phase}
 use Rattle.calls.specs.Answers.{effectOf}
 use Rattle.calls.specs.Phases.{countOf, issuedCount, phaseFits}
-use Rattle.calls.specs.Outcomes.{After, isDone, unchanged}
-use Rattle.calls.proofs.Effects.{done-is}
+use Rattle.calls.specs.Outcomes.{After, isDone, untouched}
+use Rattle.protocol.proofs.Effects.{done-is}
 use Rattle.calls.proofs.Settled.{admitted-sound}
 use Rattle.calls.proofs.Ends.{settle-done, settle-refusal}
 use Rattle.submit.specs.Rule.{submitAnswer}
@@ -61,12 +61,12 @@ module _ (im : List ℕ) (ph : Phase) (m : List ℕ) where
   submit-done e = rw (e, settle-done)
 
   -- any other answer changes nothing
-  pub submit-refusal : effectOf (submitAnswer im ph m) ≡ Effect.Nothing → submitOf im ph m ≡ unchanged (submitAnswer im ph m) ph im []
+  pub submit-refusal : effectOf (submitAnswer im ph m) ≡ Effect.Nothing → submitOf im ph m ≡ untouched (submitAnswer im ph m) ph im []
   unfolding submitOf
   submit-refusal e = settle-refusal (submitAnswer im ph m) ph im [] (queued im ph m) e
 
   -- so what holds of a call that is done, and of one that changes nothing, holds of every call
-  every : (P : After → Type 0) → (submitAnswer im ph m ≡ Answer.Done → P (queued im ph m)) → P (unchanged (submitAnswer im ph m) ph im []) → P (submitOf im ph m)
+  every : (P : After → Type 0) → (submitAnswer im ph m ≡ Answer.Done → P (queued im ph m)) → P (untouched (submitAnswer im ph m) ph im []) → P (submitOf im ph m)
   every P act still =
       by-test (isDone (submitAnswer im ph m))
       (λ t. let e : submitAnswer im ph m ≡ Answer.Done = done-is (submitAnswer im ph m) t in rw (submit-done e) (act e))

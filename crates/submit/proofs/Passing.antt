@@ -29,7 +29,7 @@ use Rattle.protocol.specs.declared.Answer.{Answer}
 use Rattle.protocol.specs.declared.Phase.{Phase}
 use Rattle.calls.specs.Answers.{effectOf}
 use Rattle.calls.specs.Phases.{phaseFits}
-use Rattle.calls.specs.Outcomes.{checked, admitted}
+use Rattle.calls.specs.Outcomes.{checked, admittedOn}
 use Rattle.calls.proofs.Settled.{Admitted, admitted-is, admitted-sound}
 use Rattle.call_meaning.proofs.Refusals.{Harmless, admitted-harmless, done-harmless}
 use Rattle.protocol.specs.Accepting.{isBarred, acceptedAs}
@@ -92,7 +92,7 @@ module _ {x : Answer} (last : Last x) where
         (record { admitted = w; fitting = fits; kind = kind; label = label; accepted = ej; judged = p .0 }, p .1)
 
     last-passes : submitAnswer im ph m ≡ x → Passes im ph m × (roomRule (stateOf im) ≡ x)
-    unfolding submitAnswer admitted submitRule
+    unfolding submitAnswer admittedOn submitRule
     last-passes e =
         let s : State = stateOf im in
         let p = admitted-last (verdict im) (submitRule s m) refl e in

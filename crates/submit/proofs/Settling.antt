@@ -25,7 +25,7 @@ use Rattle.protocol.specs.declared.Effect.{Effect}
 use Rattle.calls.specs.declared.Outcome.{Outcome}
 use Rattle.protocol.specs.declared.Phase.{Phase}
 use Rattle.calls.specs.Answers.{answerNumber, effectBy}
-use Rattle.calls.specs.Outcomes.{After, after, refusal, isDone, admitted, settleOf}
+use Rattle.calls.specs.Outcomes.{After, after, refusal, isDone, admittedOn, settleOf}
 use Rattle.calls.proofs.Settled.{Admitted, admitted-is}
 use Rattle.calls.proofs.Ends.{settle-done}
 use Rattle.call_meaning.proofs.Calling.{call-refused, found-refused}
@@ -58,7 +58,7 @@ module _ (im : List ℕ) (ph : Phase) (m : List ℕ) (kind : Kind) (label : ℕ)
 
 -- ---- the public call
 module _ (im : List ℕ) (ph : Phase) (m : List ℕ) where
-  pub admit-is : {a : Answer} {r : Outcome} → a ≡ admitted im ph Answer.Done → isDone a ≡ false → r ≡ refusal a ph → after r im [] ≡ submitOf im ph m
+  pub admit-is : {a : Answer} {r : Outcome} → a ≡ admittedOn im ph Answer.Done → isDone a ≡ false → r ≡ refusal a ph → after r im [] ≡ submitOf im ph m
   unfolding submitOf submitAnswer
   admit-is e n p = call-refused im ph e [] (submitRule (stateOf im) m) (queued im ph m) n p
 

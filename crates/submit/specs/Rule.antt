@@ -4,8 +4,8 @@ use mathlib.Core.List.{List}
 use Rattle.protocol.specs.declared.Answer.{Answer}
 use Rattle.protocol.specs.declared.Phase.{Phase}
 use Rattle.protocol.specs.Submit.{submitRule}
-use Rattle.calls.specs.Outcomes.{admitted}
+use Rattle.calls.specs.Outcomes.{admittedOn}
 use Rattle.submit.specs.Seen.{stateOf}
 
 unfoldable pub submitAnswer : List ℕ → Phase → List ℕ → Answer
-submitAnswer im ph m = admitted im ph (submitRule (stateOf im) m)
+submitAnswer im ph m = admittedOn im ph (submitRule (stateOf im) m)

@@ -15,14 +15,14 @@ use Rattle.protocol.specs.declared.Answer.{Answer}
 use Rattle.calls.specs.declared.Outcome.{Outcome}
 use Rattle.protocol.specs.declared.Phase.{Phase}
 use Rattle.calls.specs.Answers.{effectOf}
-use Rattle.calls.specs.Outcomes.{After, after, isDone, refusal, unchanged, releasedWith, admitted, settleOf}
+use Rattle.calls.specs.Outcomes.{After, after, isDone, refusal, untouched, releasedOn, admittedOn, settleOf}
 use Rattle.calls.proofs.Settled.{admitted-done, admit-refused, admit-passed, admitted-is, admitted-sound}
 use Rattle.calls.proofs.Ends.{settle-refusal, unchanged-is}
 use Rattle.timers.specs.Events.{eventAnswer, expired}
 use Rattle.call_meaning.proofs.Refusals.{Harmless, admitted-harmless, done-harmless, settle-does}
 
 -- ---- the first tests
-module _ (im : List ℕ) (ph : Phase) (may : Bool) {r : Answer} (e : r ≡ admitted im ph Answer.Done) where
+module _ (im : List ℕ) (ph : Phase) (may : Bool) {r : Answer} (e : r ≡ admittedOn im ph Answer.Done) where
   pub event-first : isDone r ≡ false → r ≡ eventAnswer im ph may
   unfolding eventAnswer
   event-first n = admit-refused im ph e (pick may Answer.Done Answer.WrongPhase) n
@@ -52,7 +52,7 @@ module _ (im : List ℕ) (ph : Phase) (may : Bool) {m : Bool} {r : Answer} (em :
   pub event-refused : (done : After) {x : Outcome} → isDone r ≡ false → x ≡ refusal r ph → after x im [] ≡ settleOf (eventAnswer im ph may) ph im [] done
   unfolding eventAnswer
   event-refused done n e =
-      let a : Answer = admitted im ph (pick may Answer.Done Answer.WrongPhase) in
+      let a : Answer = admittedOn im ph (pick may Answer.Done Answer.WrongPhase) in
       unchanged-is a ph im [] (e ∙ ap (λ (b : Answer). refusal b ph) is-answer)
       ∙ sym (settle-refusal a ph im [] done (admitted-harmless im ph _ (event-harmless may) (ap isDone (sym is-answer) ∙ n)))
 
@@ -69,9 +69,9 @@ module _ (im : List ℕ) (ph : Phase) (elapsed : ℕ) {h : Header} {t : Bool} (e
   chosen e = ap (λ (x : Header). expired x elapsed) (sym eh) ∙ sym et ∙ e
 
   pub too-early : {x : Outcome} → t ≡ false → x ≡ refusal Answer.Done ph
-      → after x im [] ≡ pick (expired (decode im .header) elapsed) (releasedWith Answer.Done im []) (unchanged Answer.Done ph im [])
+      → after x im [] ≡ pick (expired (decode im .header) elapsed) (releasedOn Answer.Done im []) (untouched Answer.Done ph im [])
   too-early e p = rw (chosen e) (unchanged-is Answer.Done ph im [] p)
 
-  pub late : {x : After} → t ≡ true → x ≡ releasedWith Answer.Done im []
-      → x ≡ pick (expired (decode im .header) elapsed) (releasedWith Answer.Done im []) (unchanged Answer.Done ph im [])
+  pub late : {x : After} → t ≡ true → x ≡ releasedOn Answer.Done im []
+      → x ≡ pick (expired (decode im .header) elapsed) (releasedOn Answer.Done im []) (untouched Answer.Done ph im [])
   late e p = rw (chosen e) p

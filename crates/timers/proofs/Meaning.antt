@@ -26,7 +26,7 @@ use Rattle.protocol.specs.declared.Answer
 use Rattle.protocol.specs.declared.Answer.{Answer}
 use Rattle.protocol.specs.declared.Phase
 use Rattle.protocol.specs.declared.Phase.{Phase}
-use Rattle.calls.specs.Outcomes.{unchanged, failedWith, releasedWith}
+use Rattle.calls.specs.Outcomes.{untouched, failedOn, releasedOn}
 use Rattle.calls.proofs.Settled.{admitted-is}
 use Rattle.calls.proofs.Phasing.{resting-failed, resting-idle}
 use Rattle.timers.specs.Events.{connected, waiting, eventAnswer, connectionFailedOf, expired, timePassedOf}
@@ -58,13 +58,13 @@ module _ (im : List ℕ) (ph : Phase) (st : Standing im ph) where
   unfolding eventAnswer
   event-comes e = rw e (admitted-is (standing-admitted st) Answer.Done)
 
-  pub failed-is : connected ph ≡ true → connectionFailedOf im ph ≡ failedWith Answer.Done im []
+  pub failed-is : connected ph ≡ true → connectionFailedOf im ph ≡ failedOn Answer.Done im []
   unfolding connectionFailedOf
-  failed-is e = settle-does (eventAnswer im ph (connected ph)) ph im [] (failedWith Answer.Done im []) (rw (event-comes e))
+  failed-is e = settle-does (eventAnswer im ph (connected ph)) ph im [] (failedOn Answer.Done im []) (rw (event-comes e))
 
   -- "code 6 words are freed; Failed if kept, else Idle"
   pub failed-leaves : connected ph ≡ true → FailedFrom (decode im) (connectionFailedOf im ph)
-  unfolding failedWith failedState
+  unfolding failedOn failedState
   failed-leaves e =
       rw (failed-is e)
       (record {
@@ -79,7 +79,7 @@ module _ (im : List ℕ) (ph : Phase) (st : Standing im ph) where
   -- whatever the answer is, what is left stands
   pub failed-keeps : Stands (connectionFailedOf im ph)
   unfolding connectionFailedOf
-  failed-keeps = settled-stands im ph st (eventAnswer im ph (connected ph)) [] (failedWith Answer.Done im []) (λ t. failed-stands im ph st Answer.Done [])
+  failed-keeps = settled-stands im ph st (eventAnswer im ph (connected ph)) [] (failedOn Answer.Done im []) (λ t. failed-stands im ph st Answer.Done [])
 
   pub passed-keeps : (elapsed : ℕ) → Stands (timePassedOf im ph elapsed)
   unfolding timePassedOf
@@ -90,12 +90,12 @@ module _ (im : List ℕ) (ph : Phase) (st : Standing im ph) where
 -- ---- passed time
 module _ (im : List ℕ) (st : Standing im Phase.Failed) (elapsed : ℕ) where
   pub passed-is : {b : Bool} → b ≡ expired (decode im .header) elapsed
-      → timePassedOf im Phase.Failed elapsed ≡ pick b (releasedWith Answer.Done im []) (unchanged Answer.Done Phase.Failed im [])
+      → timePassedOf im Phase.Failed elapsed ≡ pick b (releasedOn Answer.Done im []) (untouched Answer.Done Phase.Failed im [])
   unfolding timePassedOf
   passed-is e = rw e (settle-does (eventAnswer im Phase.Failed true) Phase.Failed im [] _ (rw (event-comes im Phase.Failed st refl)))
 
   pub passed-leaves : TimePassed im elapsed
-  unfolding releasedWith
+  unfolding releasedOn
   passed-leaves =
       let t : ℕ = decode im .header .timeout in
       record {
@@ -108,5 +108,5 @@ module _ (im : List ℕ) (st : Standing im Phase.Failed) (elapsed : ℕ) where
 
 -- "timeout 5, elapsed 4 keeps, 5 releases"
 pub five-seconds : (im : List ℕ) → Standing im Phase.Failed → decode im .header .timeout ≡ 5
-    → (timePassedOf im Phase.Failed 4 ≡ unchanged Answer.Done Phase.Failed im []) × ReleasedFrom im (timePassedOf im Phase.Failed 5)
+    → (timePassedOf im Phase.Failed 4 ≡ untouched Answer.Done Phase.Failed im []) × ReleasedFrom im (timePassedOf im Phase.Failed 5)
 five-seconds im st e = (passed-leaves im st 4 .early (omega arith), passed-leaves im st 5 .late (omega arith) (omega arith))

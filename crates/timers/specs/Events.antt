@@ -12,7 +12,7 @@ use Rattle.protocol.specs.declared.Answer
 use Rattle.protocol.specs.declared.Answer.{Answer}
 use Rattle.protocol.specs.declared.Phase
 use Rattle.protocol.specs.declared.Phase.{Phase}
-use Rattle.calls.specs.Outcomes.{After, unchanged, failedWith, releasedWith, settleOf, admitted}
+use Rattle.calls.specs.Outcomes.{After, untouched, failedOn, releasedOn, settleOf, admittedOn}
 
 -- the phases with a connection
 abbrev pub connected : Phase → Bool
@@ -32,10 +32,10 @@ waiting Phase.Failed = true
 
 -- "12, 1": restore's checks, the phase that the image rules out, and the phases in which the event may come
 unfoldable pub eventAnswer : List ℕ → Phase → Bool → Answer
-eventAnswer im ph may = admitted im ph (pick may Answer.Done Answer.WrongPhase)
+eventAnswer im ph may = admittedOn im ph (pick may Answer.Done Answer.WrongPhase)
 
 unfoldable pub connectionFailedOf : List ℕ → Phase → After
-connectionFailedOf im ph = settleOf (eventAnswer im ph (connected ph)) ph im [] (failedWith Answer.Done im [])
+connectionFailedOf im ph = settleOf (eventAnswer im ph (connected ph)) ph im [] (failedOn Answer.Done im [])
 
 -- the agreed timeout has passed; a timeout of zero never does
 unfoldable pub expired : Header → ℕ → Bool
@@ -44,4 +44,4 @@ expired h elapsed = pick (eqb (h .timeout) 0) false (leb (h .timeout) elapsed)
 unfoldable pub timePassedOf : List ℕ → Phase → ℕ → After
 timePassedOf im ph elapsed =
     settleOf (eventAnswer im ph (waiting ph)) ph im []
-    (pick (expired (decode im .header) elapsed) (releasedWith Answer.Done im []) (unchanged Answer.Done ph im []))
+    (pick (expired (decode im .header) elapsed) (releasedOn Answer.Done im []) (untouched Answer.Done ph im []))

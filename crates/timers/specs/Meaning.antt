@@ -11,7 +11,7 @@ use Rattle.protocol.specs.declared.Answer
 use Rattle.protocol.specs.declared.Answer.{Answer}
 use Rattle.protocol.specs.declared.Phase
 use Rattle.protocol.specs.declared.Phase.{Phase}
-use Rattle.calls.specs.Outcomes.{After, unchanged}
+use Rattle.calls.specs.Outcomes.{After, untouched}
 use Rattle.timers.specs.Events.{timePassedOf}
 
 -- "code 6 words are freed"; every other word stays as it is
@@ -37,6 +37,6 @@ pub record ReleasedFrom (im : List ℕ) (x : After) : Type 0 where
 
 -- "if the timeout isn't zero and elapsed seconds are at least it; else nothing changes"
 pub record TimePassed (im : List ℕ) (elapsed : ℕ) : Type 0 where
-  pub forever : decode im .header .timeout ≡ 0 → timePassedOf im Phase.Failed elapsed ≡ unchanged Answer.Done Phase.Failed im []
-  pub early : elapsed < decode im .header .timeout → timePassedOf im Phase.Failed elapsed ≡ unchanged Answer.Done Phase.Failed im []
+  pub forever : decode im .header .timeout ≡ 0 → timePassedOf im Phase.Failed elapsed ≡ untouched Answer.Done Phase.Failed im []
+  pub early : elapsed < decode im .header .timeout → timePassedOf im Phase.Failed elapsed ≡ untouched Answer.Done Phase.Failed im []
   pub late : 0 < decode im .header .timeout → decode im .header .timeout ≤ elapsed → ReleasedFrom im (timePassedOf im Phase.Failed elapsed)

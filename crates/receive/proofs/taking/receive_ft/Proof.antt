@@ -1,6 +1,6 @@
 use borrow.Author.Needs.{needs}
 use mathlib.Core.Path.{refl}
-use Rattle.calls.proofs.Effects.{done-is}
+use Rattle.protocol.proofs.Effects.{done-is}
 use Rattle.octets.proofs.Choice.{denied, granted}
 use Rattle.receive.proofs.Taken.{ft-settled, ft-taken, count-within}
 use Rattle.receive.proofs.taking.receive_ft.Statement.{statement}
