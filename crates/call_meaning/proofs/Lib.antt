@@ -2,4 +2,6 @@ pub mod Refusals
 pub mod Calling
 pub mod Stands
 pub mod Released
+pub mod Putting
 pub mod Answered
+pub mod Refining
