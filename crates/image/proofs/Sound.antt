@@ -16,7 +16,7 @@ use Rattle.block.specs.Check.{blockSize, sound}
 use Rattle.block.specs.Run.{Words}
 use Rattle.block0.specs.declared.Header.{Header}
 use Rattle.block0.specs.Layout.{slotCount, headerOf, block0}
-use Rattle.block0.specs.Fields.{fieldsOk, Fits, Valid}
+use Rattle.block0.specs.Fields.{Fits, Valid}
 use Rattle.block0.proofs.Written.{header-block0, block0-sound}
 use Rattle.block0.proofs.Rules.{fields-valid, valid-fields}
 use Rattle.slot.specs.Held.{Storable}
