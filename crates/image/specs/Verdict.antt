@@ -20,7 +20,7 @@ use Rattle.image.specs.Sizes.{imageSize, slotAt, block, blockOf}
 use Rattle.image.specs.Ring.{ring}
 
 -- ---- one block
--- the blocks that are looked at, in this order: block 0, then the live slots. "Slots that aren't live are not looked at."
+-- the blocks that are looked at, in this order: block 0, then the live slots that it names. "Slots that aren't live are not looked at."
 abbrev pub looked : Header → List ℕ
 looked h = 0 ∷ ring blockOf (h .first) (h .held)
 
@@ -32,7 +32,7 @@ fieldsRight image b = pick (eqb b 0) (fieldsOk (block image b)) (slotOk (block i
 unfoldable pub bytesJudged : List ℕ → ℕ → Judgement
 bytesJudged image b = pick (not (sound (block image b))) BadCheck (pick (not (fieldsRight image b)) BadFields Good)
 
--- the judgement of block b: idle where block 0 does not call for a look at it, else by its bytes
+-- the judgement of block b: idle where block 0 does not lead to it, else by its bytes
 unfoldable pub blockJudged : List ℕ → ℕ → Judgement
 blockJudged image b = pick (not (any (eqb b) (looked (headerOf (block image 0))))) Idle (bytesJudged image b)
 

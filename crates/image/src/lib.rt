@@ -35,7 +35,7 @@ pub enum Verdict {
     BadField(usize),
 }
 
-// What is said of one block; a slot that is not live is idle.
+// What restore's checks say of one block, of which the verdict is the first fault; a slot that is not live is idle.
 pub enum Judgement {
     Good,
     BadCheck,
