@@ -47,7 +47,7 @@ module _ (h : Header) where
   looked-below (suc i) l = rw (looked-slot i (omega (arith, looked-length))) (omega arith)
 
 module _ (image : List ℕ) where
-  -- none of them is idle
+  -- none of these is idle
   live-judged : (b : ℕ) → any (eqb b) (looked (headerOf (block image 0))) ≡ true → blockJudged image b ≡ bytesJudged image b
   unfolding blockJudged
   live-judged b l = rw l
@@ -55,7 +55,7 @@ module _ (image : List ℕ) where
   pub looked-judged : firstFault (blockJudged image) (looked (headerOf (block image 0))) ≡ firstFault (bytesJudged image) (looked (headerOf (block image 0)))
   looked-judged = fault-same (blockJudged image) (bytesJudged image) (looked (headerOf (block image 0))) live-judged
 
-  -- a slot that is not live is
+  -- a slot that is not live is idle
   pub idle-judged : (k : ℕ) → Idle image k → blockJudged image (blockOf k) ≡ Judgement.Idle
   unfolding blockJudged any decode ring
   idle-judged k idle = rw (not-zeroth k, none (headerOf (block image 0) .first) (headerOf (block image 0) .held) idle)

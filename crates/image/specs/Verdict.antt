@@ -19,7 +19,7 @@ use Rattle.image.specs.declared.Verdict.the-variants.{Sound, WrongSize, 
 use Rattle.image.specs.Sizes.{imageSize, slotAt, block, blockOf}
 use Rattle.image.specs.Ring.{ring}
 
--- ---- one block
+-- ---- the judgement of a block
 -- the blocks that are looked at, in this order: block 0, then the live slots that it names. "Slots that aren't live are not looked at."
 abbrev pub looked : Header → List ℕ
 looked h = 0 ∷ ring blockOf (h .first) (h .held)
@@ -36,7 +36,7 @@ bytesJudged image b = pick (not (sound (block image b))) BadCheck (pick (not (fi
 unfoldable pub blockJudged : List ℕ → ℕ → Judgement
 blockJudged image b = pick (not (any (eqb b) (looked (headerOf (block image 0))))) Idle (bytesJudged image b)
 
--- ---- all of them
+-- ---- the first fault
 -- block b, and then the rest: a good block is no fault, nor is an idle one
 abbrev pub faultThen : Judgement → ℕ → Verdict → Verdict
 faultThen BadCheck b rest = BadBlock b
@@ -44,7 +44,7 @@ faultThen BadFields b rest = BadField b
 faultThen Good b rest = rest
 faultThen Idle b rest = rest
 
--- the first fault of the blocks in an order
+-- of the blocks in an order
 unfoldable pub firstFault : (ℕ → Judgement) → List ℕ → Verdict
 firstFault judgement [] = Sound
 firstFault judgement (b ∷ rest) = faultThen (judgement b) b (firstFault judgement rest)

@@ -43,7 +43,7 @@ pub enum Judgement {
     Idle,
 }
 
-// The slots of the ring, the blocks of the image, which are block 0 and they, and its size.
+// The slots of the ring; the blocks of the image, block 0 and the slots; its size.
 pub const SLOT_COUNT: usize = block0::SLOT_COUNT as usize;
 
 const BLOCK_COUNT: usize = 1 + SLOT_COUNT;
