@@ -30,13 +30,13 @@ use Rattle.block.specs.Run.{withWords, wordsAt}
 use Rattle.block.specs.Zeros.{allZero}
 use Rattle.block0.specs.Fields.{fieldsOk, headerOk}
 use Rattle.block0.specs.Layout.{block0, headerOf, labelsOf}
-use Rattle.slot.specs.Fields.{slotOk, slotVerdict}
+use Rattle.slot.specs.Fields.{slotOk}
 use Rattle.slot.specs.Held.{slotFor}
 use Rattle.slot.specs.Layout.{messageOf as messageOf-slot, paddingOf, slotBlock}
 use Rattle.image.specs.Events.{breakOf, newImage, releaseOf}
 use Rattle.image.specs.Ring.{ring}
 use Rattle.image.specs.State.{decode, slotsOf, store0, storeSlot}
-use Rattle.image.specs.Verdict.{scan, verdict}
+use Rattle.image.specs.Verdict.{blockJudged, bytesJudged, firstFault, verdict}
 use Rattle.calls.specs.Acked.{acked, releasedKind, releasedLabels}
 use Rattle.calls.specs.Answers.{effectOf}
 use Rattle.calls.specs.Outcomes.{admitted, failedWith, releasedWith, settleOf}
@@ -56,5 +56,5 @@ use Rattle.receive.specs.Rule.{ackOn, ftRule, labelsRule, messageRule, receiveA
 
 -- to unfold this is to unfold all of them
 unfoldable pub everything : ℕ
-unfolding differ filled fix steps ackOf after stepsOf lesserOf tlvOf fecAt fieldAt numberAt-tlv parametersAt partAt sessionAt notedOf tlvsOf turnOf walkOf kindOf messageOf-message placesOf readingOf typeOf bearsFt submissionOf raised keptOf payloadOf any findOf barsProtection codeProtection needsProtection codeAccepted codeAcked codeReceived codeSwept receivedSide sentSide wordSwept validOf validWord isFree onSide standsFor wordOf acceptedOf planOf ackedAt changeAt changed codeIn protectionOf receivedChange receivedOf checkOf sealed sound sums withWords wordsAt allZero fieldsOk headerOk block0 headerOf labelsOf slotOk slotVerdict slotFor messageOf-slot paddingOf slotBlock breakOf newImage releaseOf ring decode slotsOf store0 storeSlot scan verdict acked releasedKind releasedLabels effectOf admitted failedWith releasedWith settleOf issuedCount phaseFits restingPhase queued submitImage submitOf submitted acceptedAs isBarred isHeld kindRule submitAnswer submitRule ackAsked numberAt-send numbered sendAnswer sendBytes sendImage sendOf sendRule connectionFailedOf eventAnswer restoreOf keepaliveOf keptAck openOf writerOf begunAs fresh initReceivedOf resumed startImage bothSet startOf labelEffect protectionRule ackOn ftRule labelsRule messageRule receiveAnswer receiveOf receivedState taken slotAlone
+unfolding differ filled fix steps ackOf after stepsOf lesserOf tlvOf fecAt fieldAt numberAt-tlv parametersAt partAt sessionAt notedOf tlvsOf turnOf walkOf kindOf messageOf-message placesOf readingOf typeOf bearsFt submissionOf raised keptOf payloadOf any findOf barsProtection codeProtection needsProtection codeAccepted codeAcked codeReceived codeSwept receivedSide sentSide wordSwept validOf validWord isFree onSide standsFor wordOf acceptedOf planOf ackedAt changeAt changed codeIn protectionOf receivedChange receivedOf checkOf sealed sound sums withWords wordsAt allZero fieldsOk headerOk block0 headerOf labelsOf slotOk slotFor messageOf-slot paddingOf slotBlock breakOf newImage releaseOf ring decode slotsOf store0 storeSlot blockJudged bytesJudged firstFault verdict acked releasedKind releasedLabels effectOf admitted failedWith releasedWith settleOf issuedCount phaseFits restingPhase queued submitImage submitOf submitted acceptedAs isBarred isHeld kindRule submitAnswer submitRule ackAsked numberAt-send numbered sendAnswer sendBytes sendImage sendOf sendRule connectionFailedOf eventAnswer restoreOf keepaliveOf keptAck openOf writerOf begunAs fresh initReceivedOf resumed startImage bothSet startOf labelEffect protectionRule ackOn ftRule labelsRule messageRule receiveAnswer receiveOf receivedState taken slotAlone
 everything = 0
