@@ -1,4 +1,4 @@
-use borrow.Author.Tests.{le-leb, lt-leb}
+use borrow.Author.Tests.{eq-eqb, ne-eqb}
 use Rattle.label_list.specs.Protection.{needsProtection}
 use Rattle.label_list.proofs.rules.needs_protection.Statement.{statement}
 use Rattle.label_list.proofs.rules.needs_protection.Tie as tie
@@ -7,7 +7,7 @@ pub needs-protection-spec : {M : Type 1} → statement M
 unfolding needsProtection
 needs-protection-spec =
     let answers = tie.spec
+    (λ c. rw (eq-eqb _ 6 (c .if1 .taken)))
     (λ c κs. tt)
-    (λ c. rw (le-leb _ 5 (c .before .if1 .taken)) (c .on-side .ensures))
-    (λ c. rw (lt-leb _ 5 (c .if1 .left))) in
+    (λ c. rw (ne-eqb _ 6 (c .before .if1 .left)) (c .on-side .ensures)) in
     tie.close answers
