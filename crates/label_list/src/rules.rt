@@ -114,14 +114,14 @@ pub fn received_side(message: LabelMessage) -> Side
     }
 }
 
-// 01: "touching codes 1 to 5 on its own side (Mapping and Withdraw 3-5, Release 1-2)": any code of its side but 6
+// 01: "touching codes 1 to 5 on its own side (Mapping and Withdraw 3-5, Release 1-2)"
 pub fn needs_protection(side: Side, code: u32) -> bool
     ensures { λ r. ⌜ r ≡ needsProtection side code ⌝ }
 {
-    if code == 6 {
-        return false;
+    if code <= 5 {
+        return on_side(side, code);
     }
-    on_side(side, code)
+    false
 }
 
 // 01: "wrong (32) on a Mapping or Withdraw that names a label of code 6"
