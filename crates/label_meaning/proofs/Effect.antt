@@ -140,7 +140,7 @@ module _ (words : List ℕ) (v : IsValid words) (s : Side) (l c i w : ℕ) (insi
 pub keep-effect : (words : List ℕ) → IsValid words → (s : Side) (l c : ℕ) → ((j : ℕ) → standsFor s l (getD words j 0) ≡ false) → c ≡ 0 → Effect words words s l c
 keep-effect words v s l c none z = record { valid = v; there = rw z (absent none); elsewhere = λ t k d other code. code }
 
-free-word : (words : List ℕ) {g : Found} (j : ℕ) → g ≡ findOf isFree words → g ≡ At j → getD words j 0 ≡ 0
+pub free-word : (words : List ℕ) {g : Found} (j : ℕ) → g ≡ findOf isFree words → g ≡ At j → getD words j 0 ≡ 0
 unfolding isFree
 free-word words j e h = eqb-true (getD words j 0) 0 (found-passes isFree words j e h)
 
