@@ -81,9 +81,9 @@ listed-word : (s : Side) (l w : ℕ) → standsFor s l w ≡ true → w ≢ 0
 listed-word s l w e z = true≢false (sym e ∙ rw z (free-stands s l))
 
 -- A code of some side that is not one of a label given is one of a label used.
-used-else : (s : Side) (c : ℕ) → onSide s c ≡ true → onSide Given c ≡ false → onSide Used c ≡ true
-used-else Given c on off = absurd (true≢false (sym on ∙ off))
-used-else Used c on off = on
+unless-given : (s : Side) (c : ℕ) → onSide s c ≡ true → onSide Given c ≡ false → onSide Used c ≡ true
+unless-given Given c on off = absurd (true≢false (sym on ∙ off))
+unless-given Used c on off = on
 
 suc-same : {i j : ℕ} → suc i ≡ suc j → i ≡ j
 suc-same e = omega arith
@@ -124,7 +124,7 @@ module _ (w : ℕ) (ws : List ℕ) where
       (onSide Given (codeOf w))
       (λ on. later-absent v Given on ∙ word-given w ws listed (range .label) on)
       (λ off.
-      let on : onSide Used (codeOf w) ≡ true = used-else (range .side) (codeOf w) (range .on) off in
+      let on : onSide Used (codeOf w) ≡ true = unless-given (range .side) (codeOf w) (range .on) off in
       later-absent v Used on ∙ word-used w ws listed (range .label) off on))
 
 pub valid-means : (words : List ℕ) → validOf words ≡ true → IsValid words
