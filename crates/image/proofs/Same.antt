@@ -19,7 +19,7 @@ use Rattle.label_list.specs.Rules.{codeSwept}
 use Rattle.label_list.specs.Sweep.{wordSwept, sweptOf}
 use Rattle.label_list.specs.declared.SweepRule.the-variants.{AfterBreak}
 use Rattle.label_meaning.specs.Valid.{InRange, IsValid}
-use Rattle.label_meaning.proofs.Meaning.{any-none, valid-means}
+use Rattle.label_meaning.proofs.Meaning.{any-none, valid-means, range-listed}
 use Rattle.block.specs.Run.{Words}
 use Rattle.block0.specs.declared.Header.{Header}
 use Rattle.block0.specs.Layout.{headerOf, labelsOf}
@@ -76,7 +76,7 @@ word-kept w range other =
     (λ z. rw z (omega arith)))
   where
     free : codeOf w ≡ 0 → 0 ≡ w
-    free z = by-test (eqb w 0) (λ e. sym (eqb-true w 0 e)) (λ e. let r : InRange w = range (eqb-false w 0 e) in absurd (omega arith))
+    free z = by-test (eqb w 0) (λ e. sym (eqb-true w 0 e)) (λ e. absurd (range-listed (range (eqb-false w 0 e)) z))
 
 words-kept : (ls : List ℕ) → IsValid ls → unprotected ls ≡ false → sweptOf ls AfterBreak ≡ ls
 unfolding wordSwept wordOf codeSwept

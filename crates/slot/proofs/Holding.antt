@@ -20,11 +20,10 @@ use Rattle.message.proofs.Laws.{accepted, whole-label}
 use Rattle.tlv.specs.Tlv.{largestLabel}
 use Rattle.block.specs.Check.{blockSize, sound}
 use Rattle.block.specs.Zeros.{allZero}
-use Rattle.slot.specs.Layout.{lengthOf, kindOf, labelOf, messageOf, paddingOf, slotBlock, shortest, longest}
-use Rattle.slot.specs.Fields.{slotOk, slotVerdict, bears}
-use Rattle.slot.specs.declared.SlotVerdict.the-variants.{Good, BadCheck, BadFields}
+use Rattle.slot.specs.Layout.{lengthOf, kindOf, labelOf, messageOf, paddingOf, slotBlock}
+use Rattle.slot.specs.Fields.{slotOk}
 use Rattle.message.specs.Storable.{shortest, longest, bears, Storable, kindIn, labelIn}
-use Rattle.slot.specs.Held.{slotFor, Storable, kindIn, labelIn}
+use Rattle.slot.specs.Held.{slotFor}
 use Rattle.slot.proofs.Written.{length-slot, slot-sound, slot-length, slot-kind, slot-spare, slot-label, message-slot, padding-slot}
 
 -- the length lies within its range
