@@ -2,5 +2,21 @@
 pub mod Effects
 pub mod Settling
 pub mod Submits
--- Receive's answers are the list of its cases
+-- every call is its tests' answer, settled
+pub mod Settles
+pub mod Hearing
+-- Receive's and Init's answers are the lists of their cases
 pub mod Cases
+pub mod InitCases
+-- every call keeps the state lawful
+pub mod KeepingLabels
+pub mod KeepingNumbers
+pub mod KeepingQueue
+pub mod KeepingStates
+pub mod KeepingPhases
+pub mod KeepingInit
+pub mod KeepingSend
+pub mod KeepingReceive
+pub mod KeepingCalls
+-- what each call leaves of the queue and of the terms
+pub mod Queues

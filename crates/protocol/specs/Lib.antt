@@ -24,3 +24,8 @@ pub mod Calls
 pub mod Cases
 -- what holds of every state that an image can hold
 pub mod Lawful
+-- the words of the theorems: what a call is judged by and does, and what the code's types say of its input
+pub mod Judged
+pub mod Hearing
+pub mod InitCases
+pub mod Proper
