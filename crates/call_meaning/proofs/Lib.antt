@@ -5,3 +5,6 @@ pub mod Released
 pub mod Putting
 pub mod Answered
 pub mod Refining
+-- what the owner stores, block by block
+pub mod Slots
+pub mod Written
