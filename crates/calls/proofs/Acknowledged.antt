@@ -1,15 +1,15 @@
 -- Block 0's numbers for the state that an acknowledgement leaves. Assumes nothing.
-use mathlib.Core.Path.{_≡_}
-use mathlib.Core.List.{List}
 use Prim.Native.Nat.{ℕ, _-_}
+use mathlib.Core.List.{List}
+use mathlib.Core.Path.{_≡_}
 use lib.ListN.{length-drop}
-use Rattle.protocol.specs.Acked.{acked}
 use Rattle.block0.specs.Updates.{headerReleased}
 use Rattle.image.specs.Sizes.{slotAt}
 use Rattle.image.specs.State.{decode}
 use Rattle.image.specs.Verdict.{IsSound}
 use Rattle.image.proofs.Queue.{queue-length}
 use Rattle.image.proofs.Sound.{sound-valid}
+use Rattle.protocol.specs.Acked.{acked}
 use Rattle.calls.specs.State.{stateOf}
 use Rattle.calls.specs.Storing.{headerFor}
 use Rattle.calls.proofs.Putting.{kept-is}

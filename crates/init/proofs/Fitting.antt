@@ -1,25 +1,20 @@
 -- A start releases no more messages than are held. Assumes nothing.
-use Prim.Native.Nat.{ℕ, _≤_}
-use mathlib.Core.Path.{_≡_, refl}
+use Prim.Native.Nat.{ℕ}
 use mathlib.Core.Bool.{true, false, not}
+use mathlib.Core.Path.{_≡_, refl}
 use Rattle.octets.proofs.Choice.{pick-all}
-use Rattle.ft_number.specs.Circle.{stepsOf}
-use Rattle.ft_number.specs.Ack.{ackOf}
-use Rattle.ft_number.specs.declared.Ack
 use Rattle.ft_number.specs.declared.Ack.{Ack}
-use Rattle.tlv.specs.declared.FtField
-use Rattle.tlv.specs.declared.FtField.{FtField}
-use Rattle.tlv.specs.declared.Parameters
-use Rattle.tlv.specs.declared.Parameters.{Parameters}
-use Rattle.tlv.specs.declared.Session
-use Rattle.tlv.specs.declared.Session.{Session}
-use Rattle.message.specs.declared.Reading
-use Rattle.message.specs.declared.Reading.{Reading}
-use Rattle.protocol.specs.declared.Terms.{Terms}
-use Rattle.protocol.specs.Received.{isInit}
-use Rattle.protocol.specs.Init.{termsOf, resumedBy, equalParameters, bothSet, peerSet, sessionStart, parametersStart, startOf}
+use Rattle.ft_number.specs.Ack.{ackOf}
+use Rattle.ft_number.specs.Circle.{stepsOf}
 use Rattle.block0.specs.declared.Header.{Header}
 use Rattle.block0.specs.Fields.{atMost}
+use Rattle.tlv.specs.declared.FtField.{FtField}
+use Rattle.tlv.specs.declared.Parameters.{Parameters}
+use Rattle.tlv.specs.declared.Session.{Session}
+use Rattle.message.specs.declared.Reading.{Reading}
+use Rattle.protocol.specs.declared.Terms.{Terms}
+use Rattle.protocol.specs.Init.{termsOf, resumedBy, equalParameters, bothSet, peerSet, sessionStart, parametersStart, startOf}
+use Rattle.protocol.specs.Received.{isInit}
 use Rattle.calls.specs.State.{numbersOf}
 use Rattle.call_meaning.proofs.Released.{ack-held}
 use Rattle.init.specs.Fitting.{StartFits}

@@ -1,33 +1,32 @@
 -- The returns of `init_received`. Assumes nothing.
 use Prim.Native.Nat.{ℕ}
-use mathlib.Core.Path.{_≡_, refl, _∙_, sym}
 use mathlib.Core.Bool.{true, false, not}
 use mathlib.Core.List.{List, []}
+use mathlib.Core.Path.{_≡_, refl, _∙_, sym}
 use Rattle.octets.specs.Pick.{pick}
-use Rattle.message.specs.Reading.{readingOf}
+use Rattle.block0.specs.declared.Header.{Header}
 use Rattle.message.specs.declared.Reading.{Reading}
-use Rattle.protocol.specs.declared.Answer
+use Rattle.message.specs.Reading.{readingOf}
+use Rattle.image.specs.State.{decode}
+use Rattle.image.specs.Verdict.{IsSound}
+use Rattle.image.proofs.Sound.{sound-valid}
 use Rattle.protocol.specs.declared.Answer.{Answer}
 use Rattle.protocol.specs.declared.Phase.{Phase}
 use Rattle.protocol.specs.declared.Start.{Start}
 use Rattle.protocol.specs.Answers.{effectOf, isDone}
+use Rattle.protocol.specs.Init.{startOf, startAnswer, startPhase, startState, initStart, initReceived}
 use Rattle.protocol.specs.Phases.{awaits, proposalOf}
 use Rattle.protocol.specs.Step.{stepped}
-use Rattle.protocol.specs.Init.{startOf, startAnswer, startPhase, startState, initStart, initReceived}
-use Rattle.block0.specs.declared.Header.{Header}
-use Rattle.image.specs.State.{decode}
-use Rattle.image.specs.Verdict.{IsSound}
-use Rattle.image.proofs.Sound.{sound-valid}
 use Rattle.calls.specs.declared.Outcome.{Outcome}
-use Rattle.calls.specs.State.{numbersOf, stateOf}
 use Rattle.calls.specs.Outcomes.{After, after, refusal, untouched, admittedOn, settleOf}
+use Rattle.calls.specs.State.{numbersOf, stateOf}
 use Rattle.calls.proofs.Called.{call-is}
 use Rattle.calls.proofs.Ends.{settle-other}
 use Rattle.call_meaning.proofs.Calling.{call-refused, call-own, own-done, own-refused}
 use Rattle.init.specs.Fitting.{StartFits}
 use Rattle.init.specs.Received.{startSlots, begunOn, initReceivedOf}
-use Rattle.init.proofs.Starts.{start-alone}
 use Rattle.init.proofs.Fitting.{start-fits}
+use Rattle.init.proofs.Starts.{start-alone}
 
 module _ (im : List ℕ) (ph : Phase) (m : List ℕ) where
   own : Answer

@@ -1,30 +1,24 @@
 -- How an Init is judged, test by test, and that block 0's numbers decide it alone. Assumes nothing.
 use Prim.Native.Nat.{ℕ}
-use mathlib.Core.Path.{_≡_, refl}
 use mathlib.Core.Bool.{Bool, true, false, not}
 use mathlib.Core.List.{List}
+use mathlib.Core.Path.{_≡_, refl}
 use borrow.Author.Tests.{eq-eqb, ne-eqb, not-true, not-false}
+use Rattle.ft_number.specs.declared.Ack.{Ack}
 use Rattle.ft_number.specs.Ack.{ackOf}
 use Rattle.ft_number.specs.Timeout.{lesserOf}
-use Rattle.ft_number.specs.declared.Ack.{Ack}
-use Rattle.tlv.specs.declared.FtField
+use Rattle.block0.specs.declared.Header.{Header}
 use Rattle.tlv.specs.declared.FtField.{FtField}
-use Rattle.tlv.specs.declared.Parameters
 use Rattle.tlv.specs.declared.Parameters.{Parameters}
-use Rattle.tlv.specs.declared.Session
 use Rattle.tlv.specs.declared.Session.{Session}
 use Rattle.message.specs.declared.Message.{Message}
-use Rattle.message.specs.declared.Reading
 use Rattle.message.specs.declared.Reading.{Reading}
-use Rattle.protocol.specs.declared.Answer
 use Rattle.protocol.specs.declared.Answer.{Answer}
-use Rattle.protocol.specs.declared.Start
 use Rattle.protocol.specs.declared.Start.{Start}
 use Rattle.protocol.specs.declared.Terms.{Terms}
-use Rattle.protocol.specs.State.{State}
-use Rattle.protocol.specs.Received.{isInit}
 use Rattle.protocol.specs.Init.{termsOf, resumedBy, bothSet, peerSet, sessionStart, parametersStart, startOf}
-use Rattle.block0.specs.declared.Header.{Header}
+use Rattle.protocol.specs.Received.{isInit}
+use Rattle.protocol.specs.State.{State}
 use Rattle.calls.specs.State.{stateBy, numbersOf}
 
 -- ---- both R set

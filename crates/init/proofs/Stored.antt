@@ -1,29 +1,26 @@
 -- What the functions store that begin a session is the start's state. Assumes nothing.
 use Prim.Native.Nat.{ℕ, _-_}
-use mathlib.Core.Path.{_≡_, refl, _∙_, sym, ap}
 use mathlib.Core.Bool.{Bool}
 use mathlib.Core.List.{List, []}
+use mathlib.Core.Path.{_≡_, refl, _∙_, sym, ap}
 use lib.ListN.{take}
 use Rattle.octets.specs.Differ.{differ}
-use Rattle.ft_number.specs.declared.FtNumber.{FtNumber}
-use Rattle.protocol.specs.declared.Answer
-use Rattle.protocol.specs.declared.Answer.{Answer}
-use Rattle.protocol.specs.declared.Phase.{Phase}
-use Rattle.protocol.specs.declared.Start
-use Rattle.protocol.specs.declared.Start.{Start}
-use Rattle.protocol.specs.declared.Terms.{Terms}
-use Rattle.protocol.specs.State.{releasedState}
-use Rattle.protocol.specs.Acked.{releasedLabels, acked}
-use Rattle.protocol.specs.Init.{resumed, startPhase, startState}
 use Rattle.block0.specs.declared.Header.{Header}
 use Rattle.block0.specs.Updates.{headerReleased, headerTimeout}
 use Rattle.image.specs.Sizes.{block, slotAt}
 use Rattle.image.specs.State.{decode, store0}
 use Rattle.image.specs.Verdict.{IsSound}
+use Rattle.protocol.specs.declared.Answer.{Answer}
+use Rattle.protocol.specs.declared.Phase.{Phase}
+use Rattle.protocol.specs.declared.Start.{Start}
+use Rattle.protocol.specs.declared.Terms.{Terms}
+use Rattle.protocol.specs.Acked.{releasedLabels, acked}
+use Rattle.protocol.specs.Init.{resumed, startPhase, startState}
+use Rattle.protocol.specs.State.{releasedState}
 use Rattle.calls.specs.declared.Outcome.{Outcome}
+use Rattle.calls.specs.Outcomes.{after, releasedOn}
 use Rattle.calls.specs.State.{stateOf}
 use Rattle.calls.specs.Storing.{empty, fewer, headerFor, slotNamed, stored}
-use Rattle.calls.specs.Outcomes.{after, releasedOn}
 use Rattle.calls.proofs.Acknowledged.{header-acked}
 use Rattle.init.specs.Received.{startSlots, begunOn}
 

@@ -1,16 +1,14 @@
 -- The peer's Init on an image: "Init received: 12, 1, 22, 23, 35, 34."
 use Prim.Native.Nat.{ℕ}
 use mathlib.Core.List.{List, []}
-use Rattle.protocol.specs.declared.Answer
 use Rattle.protocol.specs.declared.Answer.{Answer}
 use Rattle.protocol.specs.declared.Phase.{Phase}
-use Rattle.protocol.specs.declared.Start
 use Rattle.protocol.specs.declared.Start.{Start}
-use Rattle.protocol.specs.Step.{stepped}
 use Rattle.protocol.specs.Init.{initReceived, initStart, startPhase, startState}
+use Rattle.protocol.specs.Step.{stepped}
+use Rattle.calls.specs.Outcomes.{After, callOf, stepStored}
 use Rattle.calls.specs.State.{stateOf}
 use Rattle.calls.specs.Storing.{Slots, stay, empty, fewer}
-use Rattle.calls.specs.Outcomes.{After, callOf, stepStored}
 
 -- a released state and a fresh one hold nothing; a resumed one holds what the ACK did not release
 abbrev pub startSlots : Start → Slots

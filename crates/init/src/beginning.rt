@@ -1,17 +1,17 @@
 // The session that the peer's Init begins: released, fresh, or resumed.
-ghost use mathlib.Core.Path.{_≡_};
-ghost use mathlib.Core.List.{[]};
 ghost use Prim.Native.Nat.{_≤_};
+ghost use mathlib.Core.List.{[]};
+ghost use mathlib.Core.Path.{_≡_};
 ghost use Rattle.octets.specs.Differ.{differ};
-ghost use Rattle.protocol.specs.State.{releasedState};
-ghost use Rattle.protocol.specs.Phases.{awaits, proposalOf};
-ghost use Rattle.protocol.specs.Init.{fresh, resumed, startPhase, startState};
 ghost use Rattle.image.specs.Sizes.{block};
 ghost use Rattle.image.specs.State.{decode};
 ghost use Rattle.image.specs.Verdict.{IsSound};
+ghost use Rattle.protocol.specs.Init.{fresh, resumed, startPhase, startState};
+ghost use Rattle.protocol.specs.Phases.{awaits, proposalOf};
+ghost use Rattle.protocol.specs.State.{releasedState};
+ghost use Rattle.calls.specs.Outcomes.{after};
 ghost use Rattle.calls.specs.State.{stateOf};
 ghost use Rattle.calls.specs.Storing.{empty, fewer, stored};
-ghost use Rattle.calls.specs.Outcomes.{after};
 ghost use Rattle.init.specs.Fitting.{StartFits};
 ghost use Rattle.init.specs.Received.{startSlots, begunOn, initReceivedOf};
 use crate::judging::judge_start;
