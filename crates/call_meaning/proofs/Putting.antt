@@ -39,7 +39,7 @@ window-of n Unreachable e = absurd (false≢true e)
 
 module _ (im : List ℕ) (s : IsSound im) (r : InRange (decode im)) where
   -- kept is 0 or 1
-  not-kept : eqb (decode im .header .kept) 1 ≡ false → decode im .header .kept ≡ 0
+  pub not-kept : eqb (decode im .header .kept) 1 ≡ false → decode im .header .kept ≡ 0
   not-kept f =
       ⊎-elim
       (λ (e : decode im .header .kept ≡ 1). absurd (false≢true (sym f ∙ eq-eqb (decode im .header .kept) 1 e)))

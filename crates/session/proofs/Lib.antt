@@ -8,5 +8,6 @@ pub mod Told
 pub mod Medium
 -- the wrong keepers, and the numbers of lower crates
 pub mod Sample
+pub mod Fresh
 pub mod Keepers
 pub mod Numbers

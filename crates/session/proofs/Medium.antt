@@ -17,13 +17,13 @@ use Rattle.protocol.specs.declared.Phase.{Phase}
 use Rattle.protocol.specs.Phases.{restingPhase}
 use Rattle.protocol.specs.Proper.{Proper}
 use Rattle.protocol.specs.Step.{broken, Step}
-use Rattle.protocol.specs.Calls.{Call, restores}
+use Rattle.protocol.specs.Calls.{Call, restores, step}
 use Rattle.block0.specs.Layout.{slotCount}
 use Rattle.image.specs.Sizes.{block}
 use Rattle.image.specs.State.{decode}
 use Rattle.image.proofs.Sound.{parts-sound, sound-parts}
 use Rattle.calls.specs.State.{stateOf}
-use Rattle.calls.specs.Outcomes.{After}
+use Rattle.calls.specs.Outcomes.{After, stepStored}
 use Rattle.call_meaning.specs.Medium.{Same, allStored, committed, stores}
 use Rattle.call_meaning.specs.Seen.{seen}
 use Rattle.call_meaning.specs.Standing.{Standing}
@@ -63,15 +63,17 @@ module _ (c : Call) (im : List ℕ) (ph : Phase) (out : List ℕ) (other : makes
       every c im ph out other (λ (y : After). (n : ℕ) → n < length (stores (y .outcome)) → Same im (committed n im y))
       (λ a q o n less. absurd (omega arith))
       (λ slots y o s f n less.
-      fewer-told (λ (cut : List ℕ). Same im cut) im _ (eqb _ 0) _ _ n less
+      let z = stepStored im slots y o in
+      fewer-told (λ (cut : List ℕ). Same im cut) im (z .image) (eqb (z .outcome .slot) 0) (z .outcome .slot) (z .outcome .block0) n less
       (record { checks = refl; state = refl })
-      (λ some. rw (slot-alone im (s .size) (y .state) slots f (eqb-false _ 0 some)) (slot-same im s slots f)))
+      (λ some. rw (slot-alone im (s .size) (y .state) slots f (eqb-false (z .outcome .slot) 0 some)) (slot-same im s slots f)))
 
   -- ".. code 6 words freed", in the phase without a connection
   pub cut-restores : (n : ℕ) → n < length (stores (x .outcome))
       → (seen (leaves restores (committed n im x) ph out) .answer ≡ Answer.Done)
       × (stateOf (leaves restores (committed n im x) ph out .image) ≡ broken (stateOf im))
       × (leaves restores (committed n im x) ph out .outcome .phase ≡ restingPhase (stateOf im))
+  unfolding step
   cut-restores n less =
       let same = fewer-same n less in
       let there : Standing (committed n im x) ph = record {

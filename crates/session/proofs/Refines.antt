@@ -67,13 +67,14 @@ module _ (im : List ℕ) (ph : Phase) (st : Standing im ph) (out : List ℕ) whe
 
   -- ---- Restore is given none: of a sound image that makes no difference
   restored : leaves restores im ph out ≡ callOf im ph [] stay (settle Answer.Done (stateOf im) ph (restore (stateOf im)))
-  unfolding settle effectOf
+  unfolding callOf settleOf settle effectOf step
   restored =
       called restores im ph out refl
       ∙ ap (λ (v : Verdict). settleOf (checked v Answer.Done) Phase.Idle im [] (stepStored im stay (restore (stateOf im)) [])) (parts-sound im (st .sound))
       ∙ ap (λ (v : Verdict). settleOf (checked v Answer.Done) ph im [] (stepStored im stay (restore (stateOf im)) [])) (sym (parts-sound im (st .sound)))
 
   restore-keeps : isDone Answer.Done ≡ true → Kept im stay (restore (stateOf im))
+  unfolding judged done
   restore-keeps t = done-keeps im ph st restores 0 refl tt refl
 
   -- ---- Format makes a new image of one that has its size

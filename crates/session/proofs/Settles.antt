@@ -51,7 +51,7 @@ called (receives m) im ph out other = refl
 
 -- ---- what its tests answer, 12, 10 and 11 first, and what it leaves where they answer Done
 unfoldable pub answerOn : Call → List ℕ → Phase → List ℕ → Answer
-answerOn c im ph out = pick (makesImage c) (pick (eqb (length im) imageSize) Answer.Done Answer.WrongSize) (checked (verdict im) (judged c (stateOf im) ph (length out)))
+answerOn c im ph out = pick (makesImage c) (pick (not (eqb (length im) imageSize)) Answer.WrongSize Answer.Done) (checked (verdict im) (judged c (stateOf im) ph (length out)))
 
 unfoldable pub doneOn : Call → List ℕ → Phase → List ℕ → After
 doneOn c im ph out = pick (makesImage c) formatted (stepStored im (slotsOf c (stateOf im) ph) (done c (stateOf im) ph) (lent c out))
