@@ -5,9 +5,10 @@ pub mod Submits
 -- every call is its tests' answer, settled
 pub mod Settles
 pub mod Hearing
--- Receive's and Init's answers are the lists of their cases
+-- Receive's, Init's and Submit's answers are the lists of their cases
 pub mod Cases
 pub mod InitCases
+pub mod SubmitCases
 -- every call keeps the state lawful
 pub mod KeepingLabels
 pub mod KeepingNumbers
@@ -20,3 +21,15 @@ pub mod KeepingReceive
 pub mod KeepingCalls
 -- what each call leaves of the queue and of the terms
 pub mod Queues
+-- what each call means for the state
+pub mod Answered
+pub mod Passing
+pub mod MeaningHeld
+pub mod MeaningLabels
+pub mod MeaningWriters
+pub mod MeaningInit
+pub mod MeaningTimers
+pub mod MeaningSubmit
+pub mod MeaningSend
+pub mod MeaningReceive
+pub mod Numbered
