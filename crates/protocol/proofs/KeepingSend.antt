@@ -43,4 +43,3 @@ sent-stands s sent law kept l =
     by-test (ltb sent (issuedCount s))
     (λ t. rw t (law, fits-up s (sent + 1) kept (omega (arith, ltb-true sent (issuedCount s) t))))
     (λ n. rw n (lawful-numbered s law sent l, fits-up (numbered s sent) (sent + 1) kept (omega (arith, numbered-issued s (law .released) sent (omega (arith, law .few))))))
-

@@ -1,14 +1,14 @@
--- an answer's effect, what it leaves, and when Submit is done
+-- an answer's effect, and what it leaves
 pub mod Effects
 pub mod Settling
-pub mod Submits
--- every call is its tests' answer, settled
-pub mod Settles
-pub mod Hearing
 -- Receive's, Init's and Submit's answers are the lists of their cases
 pub mod Cases
 pub mod InitCases
 pub mod SubmitCases
+pub mod Submits
+-- every call is its tests' answer, settled
+pub mod Settles
+pub mod Hearing
 -- every call keeps the state lawful
 pub mod KeepingLabels
 pub mod KeepingNumbers

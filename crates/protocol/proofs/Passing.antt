@@ -6,20 +6,16 @@ use mathlib.Core.Bool.{true, not}
 use mathlib.Core.List.{List}
 use borrow.Author.Tests.{not-false}
 use Rattle.octets.proofs.Choice.{cleared, no}
-use Rattle.message.specs.declared.Kind.{Kind}
-use Rattle.label_events.specs.declared.Acceptance
-use Rattle.label_events.specs.declared.Acceptance.{Acceptance}
 use Rattle.protocol.specs.declared.Answer
 use Rattle.protocol.specs.declared.Answer.{Answer}
 use Rattle.protocol.specs.declared.Phase.{Phase}
 use Rattle.protocol.specs.State.{State, held, capacity}
 use Rattle.protocol.specs.Phases.{phaseFits}
 use Rattle.protocol.specs.Step.{admitted}
-use Rattle.protocol.specs.Accepting.{acceptedAs}
 use Rattle.protocol.specs.Submit.{submitRule, submit}
-use Rattle.protocol.specs.SubmitCases.{Unbarred, SubmitCase, not-kept, too-short, too-long, malformed-submission, not-sent, still-held, code-forbids, no-free-word, store-full, queues, Passes}
+use Rattle.protocol.specs.SubmitCases.{Unbarred, SubmitCase, store-full, queues, Passes}
 use Rattle.protocol.proofs.Settling.{admitted-is}
-use Rattle.protocol.proofs.SubmitCases.{submit-cases, case-submit}
+use Rattle.protocol.proofs.SubmitCases.{Last, case-submit, done-last, full-last}
 use Rattle.protocol.proofs.Answered.{submit-says}
 
 module _ (s : State) (ph : Phase) (m : List ℕ) where
@@ -41,30 +37,16 @@ module _ (s : State) (ph : Phase) (m : List ℕ) where
   passes-full p l = answer-by p (store-full (passes-unbarred p) (p .allowed) l)
 
   -- ---- the other way: Done and 7 come after every other test
-  -- what a case says where the answer is one of the two
-  abbrev Last : Answer → Type 0
-  Last a = (a ≡ Answer.Done → Passes s ph m × (held s < capacity)) × (a ≡ Answer.StoreFull → Passes s ph m × (capacity ≤ held s))
-
-  passed : phaseFits ph s ≡ true → {kind : Kind} {label : ℕ} → Unbarred s m kind label → acceptedAs (s .table .words) kind label .0 ≡ Acceptance.Taken → Passes s ph m
-  passed f {kind} {label} u e = record {
-    fits = f;
-    kept = u .fitting .kept;
-    storable = record { low = u .fitting .low; short = u .fitting .high; kind = kind; label = label; accepted = u .accepted };
-    free = u .free;
-    allowed = e;
-  }
-
-  last-case : phaseFits ph s ≡ true → {a : Answer} → SubmitCase s m a → Last a
-  last-case f (not-kept k) = (λ e. no (cc), λ e. no (cc))
-  last-case f (too-short k l) = (λ e. no (cc), λ e. no (cc))
-  last-case f (too-long k l) = (λ e. no (cc), λ e. no (cc))
-  last-case f (malformed-submission t e) = (λ e. no (cc), λ e. no (cc))
-  last-case f (not-sent t e) = (λ e. no (cc), λ e. no (cc))
-  last-case f (still-held t e b) = (λ e. no (cc), λ e. no (cc))
-  last-case f (code-forbids u e) = (λ e. no (cc), λ e. no (cc))
-  last-case f (no-free-word u e) = (λ e. no (cc), λ e. no (cc))
-  last-case f (store-full u e l) = (λ q. no (cc), λ q. (passed f u e, l))
-  last-case f (queues u e l) = (λ q. (passed f u e, l), λ q. no (cc))
+  last-passes : phaseFits ph s ≡ true → Last s m → Passes s ph m
+  last-passes f w =
+      let u : Unbarred s m (w .kind) (w .label) = w .unbarred in
+      record {
+        fits = f;
+        kept = u .fitting .kept;
+        storable = record { low = u .fitting .low; short = u .fitting .high; kind = w .kind; label = w .label; accepted = u .accepted };
+        free = u .free;
+        allowed = w .taken;
+      }
 
   admitted-last : {a : Answer} → (Answer.WrongPhase ≡ a → _≡_ {A = ℕ} 0 1) → submit s ph m .answer ≡ a → (phaseFits ph s ≡ true) × (submitRule s m ≡ a)
   unfolding admitted
@@ -73,10 +55,16 @@ module _ (s : State) (ph : Phase) (m : List ℕ) where
       (not-false (phaseFits ph s) (p .0), p .1)
 
   pub done-passes : submit s ph m .answer ≡ Answer.Done → Passes s ph m × (held s < capacity)
-  done-passes e = let p = admitted-last (λ f. cc) e in last-case (p .0) (submit-cases s m) .0 (p .1)
+  done-passes e =
+      let p = admitted-last (λ f. cc) e in
+      let w = done-last s m (p .1) in
+      (last-passes (p .0) (w .0), w .1)
 
   pub full-passes : submit s ph m .answer ≡ Answer.StoreFull → Passes s ph m × (capacity ≤ held s)
-  full-passes e = let p = admitted-last (λ f. cc) e in last-case (p .0) (submit-cases s m) .1 (p .1)
+  full-passes e =
+      let p = admitted-last (λ f. cc) e in
+      let w = full-last s m (p .1) in
+      (last-passes (p .0) (w .0), w .1)
 
   -- where no more than 64 are held, 7 comes only at 64
   pub full-only : held s ≤ capacity → submit s ph m .answer ≡ Answer.StoreFull → held s ≡ capacity

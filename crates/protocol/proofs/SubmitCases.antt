@@ -2,12 +2,12 @@
 use mathlib.Core.Path.{_≡_, refl, _∙_}
 use mathlib.Core.Bool.{Bool, true, false, not}
 use mathlib.Core.List.{List}
-use Prim.Native.Nat.{ℕ, _<_}
+use Prim.Native.Nat.{ℕ, _≤_, _<_}
 use borrow.Author.Tests.{leb-true, leb-false, ltb-true, ltb-false, le-leb, lt-leb, le-ltb, lt-ltb}
 use lib.Dec.{leb, ltb}
 use lib.ListN.{length}
 use Rattle.octets.specs.Pick.{pick}
-use Rattle.octets.proofs.Choice.{by-test}
+use Rattle.octets.proofs.Choice.{by-test, no}
 use Rattle.message.specs.Submission.{submissionOf}
 use Rattle.message.specs.Storable.{shortest, longest}
 use Rattle.message.specs.declared.Kind.{Kind}
@@ -21,6 +21,13 @@ use Rattle.protocol.specs.State.{State, capacity, held}
 use Rattle.protocol.specs.Accepting.{isBarred, acceptedAs}
 use Rattle.protocol.specs.Submit.{acceptanceRule, kindRule, submissionRule, submitRule}
 use Rattle.protocol.specs.SubmitCases.{Fitting, Unbarred, SubmitCase, not-kept, too-short, too-long, malformed-submission, not-sent, still-held, code-forbids, no-free-word, store-full, queues}
+
+-- every test but the last is passed
+pub record Last (s : State) (m : List ℕ) : Type 0 where
+  pub kind : Kind
+  pub label : ℕ
+  pub unbarred : Unbarred s m kind label
+  pub taken : acceptedAs (s .table .words) kind label .0 ≡ Acceptance.Taken
 
 module _ (s : State) (m : List ℕ) where
   abbrev Here : Answer → Type 0
@@ -84,3 +91,26 @@ module _ (s : State) (m : List ℕ) where
   case-submit (no-free-word u e) = unbarred-is u ∙ rw e
   case-submit (store-full u e l) = unbarred-is u ∙ rw (e, le-leb capacity (held s) l)
   case-submit (queues u e l) = unbarred-is u ∙ rw (e, lt-leb capacity (held s) l)
+
+  -- ---- Done and 7 come after every other test
+  -- what a case says where the answer is one of the two
+  abbrev Ends : Answer → Type 0
+  Ends a = (a ≡ Answer.Done → Last s m × (held s < capacity)) × (a ≡ Answer.StoreFull → Last s m × (capacity ≤ held s))
+
+  ending : {a : Answer} → SubmitCase s m a → Ends a
+  ending (not-kept k) = (λ q. no (cc), λ q. no (cc))
+  ending (too-short k l) = (λ q. no (cc), λ q. no (cc))
+  ending (too-long k l) = (λ q. no (cc), λ q. no (cc))
+  ending (malformed-submission f e) = (λ q. no (cc), λ q. no (cc))
+  ending (not-sent f e) = (λ q. no (cc), λ q. no (cc))
+  ending (still-held f e b) = (λ q. no (cc), λ q. no (cc))
+  ending (code-forbids u e) = (λ q. no (cc), λ q. no (cc))
+  ending (no-free-word u e) = (λ q. no (cc), λ q. no (cc))
+  ending (store-full {kind} {label} u e l) = (λ q. no (cc), λ q. (record { kind = kind; label = label; unbarred = u; taken = e }, l))
+  ending (queues {kind} {label} u e l) = (λ q. (record { kind = kind; label = label; unbarred = u; taken = e }, l), λ q. no (cc))
+
+  pub done-last : submitRule s m ≡ Answer.Done → Last s m × (held s < capacity)
+  done-last e = ending submit-cases .0 e
+
+  pub full-last : submitRule s m ≡ Answer.StoreFull → Last s m × (capacity ≤ held s)
+  full-last e = ending submit-cases .1 e
