@@ -15,21 +15,21 @@ use Rattle.protocol.specs.declared.Answer.{Answer}
 use Rattle.protocol.specs.declared.Effect.{Effect}
 use Rattle.protocol.specs.declared.Effect
 use Rattle.protocol.specs.declared.Phase.{Phase}
-use Rattle.protocol.specs.State.{State, capacity, held, withTable}
+use Rattle.protocol.specs.State.{State, held, withTable}
 use Rattle.protocol.specs.Answers.{answerNumber, effectOf}
 use Rattle.protocol.specs.Phases.{phaseFits, awaits}
-use Rattle.protocol.specs.Step.{Step, unchanged, failedWith, releasedWith, admitted}
-use Rattle.protocol.specs.Submit.{submitRule, submit}
-use Rattle.protocol.specs.Init.{initStart, startAnswer, initReceived}
-use Rattle.protocol.specs.Receive.{receiveRule, receive}
-use Rattle.protocol.specs.Calls.{Call, greets, submits, receives, step}
+use Rattle.protocol.specs.Step.{Step, stepped, unchanged, failedWith, releasedWith, admitted}
+use Rattle.protocol.specs.Submit.{submitRule, submitted, submit}
+use Rattle.protocol.specs.Init.{initStart, startAnswer, startPhase, startState, initReceived}
+use Rattle.protocol.specs.Receive.{receiveRule, takenAs, receive}
+use Rattle.protocol.specs.Calls.{Call, step}
 use Rattle.protocol.specs.Judged.{judged, done}
 use Rattle.protocol.specs.Hearing.{hears}
 use Rattle.protocol.specs.Proper.{Proper}
 use Rattle.protocol.specs.Lawful.{Lawful, Window}
 use Rattle.protocol.proofs.Effects.{effect-nothing, effect-fail, effect-release}
-use Rattle.protocol.proofs.Settling.{settle-refusal, answered-failed, answered-released}
-use Rattle.protocol.proofs.Settles.{settles, step-answer, ends}
+use Rattle.protocol.proofs.Settling.{settle-answer, settle-refusal, answered-failed, answered-released}
+use Rattle.protocol.proofs.Settles.{taken-done, settles, step-answer, ends}
 use Rattle.protocol.proofs.Hearing.{harmless}
 use Rattle.protocol.proofs.KeepingCalls.{lawful-step}
 
@@ -91,19 +91,21 @@ module _ (c : Call) (s : State) (ph : Phase) (room : ℕ) where
           (λ n. let e : Effect.Release ≡ Effect.Nothing = effect-release a (answerNumber a) refl (ltb-false (answerNumber a) 30 n) ∙ nothing in cc)
 
   -- "R to I is at most 64 steps", and no more than are held: after every call
-  pub step-window : Proper c ph → Lawful s → phaseFits ph s ≡ true → Window (step c s ph room .state) × (held (step c s ph room .state) ≤ capacity)
+  pub step-window : Proper c ph → Lawful s → phaseFits ph s ≡ true → Window (step c s ph room .state) × (held (step c s ph room .state) ≤ 64)
   step-window p law fits = let n = lawful-step c s ph room p law fits .0 in (n .window, n .few)
 
 -- ---- what Submit, Init and Receive answer
 module _ (s : State) (ph : Phase) (m : List ℕ) where
   pub submit-says : submit s ph m .answer ≡ admitted s ph (submitRule s m)
-  unfolding step judged
-  submit-says = step-answer (submits m) s ph 0
+  unfolding submit
+  submit-says = settle-answer (admitted s ph (submitRule s m)) s ph (stepped Answer.Done (submitted s m) ph []) refl
 
   pub init-says : initReceived s ph m .answer ≡ admitted s ph (pick (not (awaits ph)) Answer.WrongPhase (startAnswer (initStart s ph m)))
-  unfolding step judged
-  init-says = step-answer (greets m) s ph 0
+  unfolding initReceived
+  init-says =
+      settle-answer (admitted s ph (pick (not (awaits ph)) Answer.WrongPhase (startAnswer (initStart s ph m)))) s ph
+      (stepped Answer.Done (startState s (initStart s ph m)) (startPhase ph (initStart s ph m)) []) refl
 
   pub receive-says : receive s ph m .answer ≡ admitted s ph (receiveRule s ph (readingOf m))
-  unfolding step judged
-  receive-says = step-answer (receives m) s ph 0
+  unfolding receive
+  receive-says = settle-answer (admitted s ph (receiveRule s ph (readingOf m))) s ph (takenAs s ph (readingOf m)) (taken-done s ph (readingOf m))

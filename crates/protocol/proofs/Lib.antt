@@ -26,6 +26,7 @@ pub mod Answered
 pub mod Passing
 pub mod MeaningHeld
 pub mod MeaningLabels
+pub mod MeaningEvents
 pub mod MeaningWriters
 pub mod MeaningInit
 pub mod MeaningTimers

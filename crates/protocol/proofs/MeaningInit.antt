@@ -1,7 +1,7 @@
 -- What the peer's Init leaves: the terms that were agreed, the state and the phase of the start, and which answers release. Assumes nothing.
 use Prim.Native.Nat.{ℕ, _≤_}
 use native.Mathlib.Omega.{arith}
-use mathlib.Core.Path.{_≡_, refl, _∙_}
+use mathlib.Core.Path.{_≡_, refl}
 use mathlib.Core.Bool.{Bool, true, not}
 use mathlib.Core.List.{List, []}
 use Rattle.octets.specs.Pick.{pick}
@@ -22,16 +22,13 @@ use Rattle.protocol.specs.declared.Terms.{Terms}
 use Rattle.protocol.specs.State.{State, noNumber, noTable}
 use Rattle.protocol.specs.Answers.{answerNumber, isDone}
 use Rattle.protocol.specs.Phases.{phaseFits, awaits, proposalOf}
-use Rattle.protocol.specs.Step.{admitted}
+use Rattle.protocol.specs.Step.{admitted, stepped}
 use Rattle.protocol.specs.Acked.{acked}
-use Rattle.protocol.specs.Init.{termsOf, startOf, startAnswer, fresh, resumed, initStart, initReceived}
-use Rattle.protocol.specs.Calls.{greets, step}
-use Rattle.protocol.specs.Judged.{judged, done}
+use Rattle.protocol.specs.Init.{termsOf, startOf, startAnswer, startState, startPhase, fresh, resumed, initStart, initReceived}
 use Rattle.protocol.specs.InitCases.{InitWith, Reconnects, StartCase, unread, another-type, without-parameters, without-ack, without-session, peer-clear, ours-clear, parameters-changed, sequence-error, resumes}
 use Rattle.protocol.specs.MeaningInit.{BothR, BearsTerms, Agreed, BegunFrom, ResumedFrom}
 use Rattle.protocol.proofs.Effects.{done-is}
-use Rattle.protocol.proofs.Settling.{admitted-is}
-use Rattle.protocol.proofs.Settles.{step-does}
+use Rattle.protocol.proofs.Settling.{admitted-does}
 use Rattle.protocol.proofs.InitCases.{start-cases}
 use Rattle.protocol.proofs.Answered.{init-says}
 
@@ -125,8 +122,9 @@ module _ (s : State) (ph : Phase) (m : List ℕ) where
   -- a start that is not refused leaves its state, and its phase
   pub init-begins : phaseFits ph s ≡ true → awaits ph ≡ true → isDone (startAnswer (initStart s ph m)) ≡ true
       → BegunFrom s ph (initStart s ph m) (initReceived s ph m)
-  unfolding step judged done
+  unfolding initReceived
   init-begins fits w d =
-      let a : Answer = startAnswer (initStart s ph m) in
-      let e : judged (greets m) s ph 0 ≡ Answer.Done = admitted-is s ph fits (pick (not (awaits ph)) Answer.WrongPhase a) ∙ (rw w) ∙ done-is a d in
-      rw (step-does (greets m) s ph 0 e) (record { answer = refl; state = refl; phase = refl; output = refl })
+      let st : Start = initStart s ph m in
+      let own : Answer = pick (not (awaits ph)) Answer.WrongPhase (startAnswer st) in
+      let e : own ≡ Answer.Done = rw w (done-is (startAnswer st) d) in
+      rw (admitted-does s ph fits own e (stepped Answer.Done (startState s st) (startPhase ph st) [])) (record { answer = refl; state = refl; phase = refl; output = refl })

@@ -1,39 +1,47 @@
 -- What Send next leaves: the state, the bytes, the numbers. Assumes nothing.
-use Prim.Native.Nat.{ℕ, _≤_, _<_}
+use Prim.Native.Nat.{ℕ, _+_, _≤_, _<_}
 use native.Mathlib.Omega.{arith}
-use mathlib.Core.Path.{_≡_, refl, _∙_}
-use mathlib.Core.Bool.{Bool, true}
+use mathlib.Core.Path.{_≡_, refl, ap}
+use mathlib.Core.Bool.{Bool, true, false}
+use mathlib.Core.List.{List}
 use borrow.Author.Tests.{lt-ltb, le-ltb, lt-leb}
 use lib.Dec.{ltb}
 use lib.ListN.{length}
+use Rattle.octets.specs.Pick.{pick}
 use Rattle.octets.proofs.Choice.{pick-all}
+use Rattle.tlv.specs.declared.FtField
+use Rattle.tlv.specs.declared.FtField.{FtField}
+use Rattle.message_writer.specs.Forms.{protectedBytes}
 use Rattle.protocol.specs.declared.Answer
 use Rattle.protocol.specs.declared.Answer.{Answer}
 use Rattle.protocol.specs.declared.Phase
 use Rattle.protocol.specs.declared.Phase.{Phase}
 use Rattle.protocol.specs.declared.Progress.{Progress}
 use Rattle.protocol.specs.State.{State, held}
-use Rattle.protocol.specs.Phases.{phaseFits, issuedCount}
-use Rattle.protocol.specs.Step.{roomFor}
-use Rattle.protocol.specs.Send.{sendBytes, sendRule, numbered, sentState, sendNext}
-use Rattle.protocol.specs.Calls.{sends, step}
-use Rattle.protocol.specs.Judged.{judged, done}
+use Rattle.protocol.specs.Phases.{phaseFits, issuedCount, upWith}
+use Rattle.protocol.specs.Step.{stepped, roomFor}
+use Rattle.protocol.specs.Send.{nextMessage, numberAt, ackAsked, sendBytes, sendRule, numbered, sentState, sendNext}
 use Rattle.protocol.specs.Lawful.{Lawful}
 use Rattle.protocol.specs.MeaningSend.{SentFrom, NumberedFrom}
-use Rattle.protocol.proofs.Settling.{admitted-is}
-use Rattle.protocol.proofs.Settles.{step-does}
+use Rattle.protocol.proofs.Settling.{admitted-does}
 use Rattle.protocol.proofs.KeepingNumbers.{number-next, number-stays}
 use Rattle.protocol.proofs.KeepingPhases.{up-fits}
+
+asked : (ask : Bool) (s : State) → ackAsked ask s ≡ pick ask (FtField.Number (s .secured)) FtField.Absent
+unfolding ackAsked
+asked true s = refl
+asked false s = refl
 
 module _ (s : State) (u : Progress) (fits : phaseFits (Phase.UpFT u) s ≡ true) where
   -- a message unsent and enough room: it is sent
   pub send-leaves : (ask : Bool) (room : ℕ) → u .sent < held s → length (sendBytes s (u .sent) ask) ≤ room → SentFrom s (u .sent) ask (sendNext s (Phase.UpFT u) ask room)
-  unfolding step judged done sendRule sendBytes
+  unfolding sendNext sendRule sendBytes
   send-leaves ask room l enough =
-      let bytes = sendBytes s (u .sent) ask in
-      let d : judged (sends ask) s (Phase.UpFT u) room ≡ Answer.Done =
-      admitted-is s (Phase.UpFT u) fits (sendRule s (Phase.UpFT u) (roomFor bytes room)) ∙ rw (lt-leb (held s) (u .sent) l, le-ltb room (length bytes) enough) in
-      rw (step-does (sends ask) s (Phase.UpFT u) room d) (record { answer = refl; phase = refl; state = refl; output = refl })
+      let bytes : List ℕ = sendBytes s (u .sent) ask in
+      let own : Answer = sendRule s (Phase.UpFT u) (roomFor bytes room) in
+      let d : own ≡ Answer.Done = rw (lt-leb (held s) (u .sent) l, le-ltb room (length bytes) enough) in
+      rw (admitted-does s (Phase.UpFT u) fits own d (stepped Answer.Done (sentState s (u .sent)) (upWith (u .sent + 1)) bytes))
+      (record { answer = refl; phase = refl; state = refl; output = ap (protectedBytes (nextMessage s (u .sent)) (numberAt s (u .sent))) (asked ask s) })
 
   -- "it numbers it if it has no number"
   pub send-numbers : Lawful s → NumberedFrom s (u .sent)

@@ -27,12 +27,9 @@ use Rattle.protocol.specs.Step.{unchanged, failedWith, releasedWith}
 use Rattle.protocol.specs.Begin.{restore}
 use Rattle.protocol.specs.ConnectionFailed.{connectionFailed}
 use Rattle.protocol.specs.TimePassed.{expired, timePassed}
-use Rattle.protocol.specs.Calls.{fails, passes, step}
-use Rattle.protocol.specs.Judged.{judged, done}
 use Rattle.protocol.specs.Lawful.{Lawful}
 use Rattle.protocol.specs.MeaningTimers.{freed, FailedFrom, TimePassed}
-use Rattle.protocol.proofs.Settling.{admitted-is}
-use Rattle.protocol.proofs.Settles.{step-does}
+use Rattle.protocol.proofs.Settling.{admitted-does}
 
 -- ---- the words
 -- a word that is free or in range is freed exactly if its code is 6
@@ -67,18 +64,18 @@ module _ (s : State) (law : Lawful s) where
   restore-leaves = failed-from
 
   pub failed-leaves : (ph : Phase) → phaseFits ph s ≡ true → connected ph ≡ true → FailedFrom s (connectionFailed s ph)
-  unfolding step judged done
+  unfolding connectionFailed
   failed-leaves ph fits c =
-      let d : judged fails s ph 0 ≡ Answer.Done = admitted-is s ph fits (pick (not (connected ph)) Answer.WrongPhase Answer.Done) ∙ (rw c) in
-      rw (step-does fails s ph 0 d) failed-from
+      let own : Answer = pick (not (connected ph)) Answer.WrongPhase Answer.Done in
+      let d : own ≡ Answer.Done = rw c in
+      rw (admitted-does s ph fits own d (failedWith Answer.Done s)) failed-from
 
 -- ---- passed time
 module _ (s : State) (fits : phaseFits Phase.Failed s ≡ true) (elapsed : ℕ) where
   passed-is : (b : Bool) → expired s elapsed ≡ b → timePassed s Phase.Failed elapsed ≡ pick b (releasedWith Answer.Done) (unchanged Answer.Done s Phase.Failed)
-  unfolding step judged done
+  unfolding timePassed
   passed-is b e =
-      let d : judged (passes elapsed) s Phase.Failed 0 ≡ Answer.Done = admitted-is s Phase.Failed fits Answer.Done in
-      step-does (passes elapsed) s Phase.Failed 0 d ∙ rw e
+      rw e (admitted-does s Phase.Failed fits Answer.Done refl (pick b (releasedWith Answer.Done) (unchanged Answer.Done s Phase.Failed)))
 
   pub passed-leaves : TimePassed s elapsed
   unfolding expired

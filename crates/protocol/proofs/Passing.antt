@@ -9,7 +9,7 @@ use Rattle.octets.proofs.Choice.{cleared, no}
 use Rattle.protocol.specs.declared.Answer
 use Rattle.protocol.specs.declared.Answer.{Answer}
 use Rattle.protocol.specs.declared.Phase.{Phase}
-use Rattle.protocol.specs.State.{State, held, capacity}
+use Rattle.protocol.specs.State.{State, held}
 use Rattle.protocol.specs.Phases.{phaseFits}
 use Rattle.protocol.specs.Step.{admitted}
 use Rattle.protocol.specs.Submit.{submitRule, submit}
@@ -30,10 +30,10 @@ module _ (s : State) (ph : Phase) (m : List ℕ) where
   answer-by : Passes s ph m → {a : Answer} → SubmitCase s m a → submit s ph m .answer ≡ a
   answer-by p c = submit-says s ph m ∙ admitted-is s ph (p .fits) (submitRule s m) ∙ case-submit s m c
 
-  pub passes-done : Passes s ph m → held s < capacity → submit s ph m .answer ≡ Answer.Done
+  pub passes-done : Passes s ph m → held s < 64 → submit s ph m .answer ≡ Answer.Done
   passes-done p l = answer-by p (queues (passes-unbarred p) (p .allowed) l)
 
-  pub passes-full : Passes s ph m → capacity ≤ held s → submit s ph m .answer ≡ Answer.StoreFull
+  pub passes-full : Passes s ph m → 64 ≤ held s → submit s ph m .answer ≡ Answer.StoreFull
   passes-full p l = answer-by p (store-full (passes-unbarred p) (p .allowed) l)
 
   -- ---- the other way: Done and 7 come after every other test
@@ -54,18 +54,18 @@ module _ (s : State) (ph : Phase) (m : List ℕ) where
       let p = cleared (not (phaseFits ph s)) Answer.WrongPhase (submitRule s m) a other (sym (submit-says s ph m) ∙ e) in
       (not-false (phaseFits ph s) (p .0), p .1)
 
-  pub done-passes : submit s ph m .answer ≡ Answer.Done → Passes s ph m × (held s < capacity)
+  pub done-passes : submit s ph m .answer ≡ Answer.Done → Passes s ph m × (held s < 64)
   done-passes e =
       let p = admitted-last (λ f. cc) e in
       let w = done-last s m (p .1) in
       (last-passes (p .0) (w .0), w .1)
 
-  pub full-passes : submit s ph m .answer ≡ Answer.StoreFull → Passes s ph m × (capacity ≤ held s)
+  pub full-passes : submit s ph m .answer ≡ Answer.StoreFull → Passes s ph m × (64 ≤ held s)
   full-passes e =
       let p = admitted-last (λ f. cc) e in
       let w = full-last s m (p .1) in
       (last-passes (p .0) (w .0), w .1)
 
   -- where no more than 64 are held, 7 comes only at 64
-  pub full-only : held s ≤ capacity → submit s ph m .answer ≡ Answer.StoreFull → held s ≡ capacity
+  pub full-only : held s ≤ 64 → submit s ph m .answer ≡ Answer.StoreFull → held s ≡ 64
   full-only few e = omega (arith, full-passes e .1)

@@ -56,3 +56,10 @@ pub record WronglyProtected (ls : List ℕ) (g : Message) : Type 0 where
   pub label : ℕ
   pub named : g .label ≡ Field.Value label
   pub bare : codeAt ls Side.Used label ≡ 6
+
+-- ---- what we send
+-- the three kinds that name a label
+pub data SentKind : Kind → LabelMessage → Type 0 where
+  sent-mapping : SentKind Kind.Mapping LabelMessage.Mapping
+  sent-withdraw : SentKind Kind.Withdraw LabelMessage.Withdraw
+  sent-release : SentKind Kind.Release LabelMessage.Release

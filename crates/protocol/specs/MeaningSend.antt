@@ -2,21 +2,25 @@
 use Prim.Native.Nat.{ℕ, _+_, _≤_, _<_}
 use mathlib.Core.Path.{_≡_}
 use mathlib.Core.Bool.{Bool}
+use Rattle.octets.specs.Pick.{pick}
 use Rattle.ft_number.specs.Circle.{next}
+use Rattle.tlv.specs.declared.FtField
+use Rattle.tlv.specs.declared.FtField.{FtField}
 use Rattle.message_writer.specs.Forms.{protectedBytes}
 use Rattle.protocol.specs.declared.Answer
 use Rattle.protocol.specs.declared.Answer.{Answer}
 use Rattle.protocol.specs.State.{State}
 use Rattle.protocol.specs.Phases.{issuedCount, upWith}
 use Rattle.protocol.specs.Step.{Step}
-use Rattle.protocol.specs.Send.{nextMessage, numberAt, ackAsked, sentState}
+use Rattle.protocol.specs.Send.{nextMessage, numberAt, sentState}
 
 -- "gives the oldest not sent on this connection .. and adds at its end FT Protection, then FT ACK if asked, raising its length"
 pub record SentFrom (s : State) (sent : ℕ) (ask : Bool) (x : Step) : Type 0 where
   pub answer : x .answer ≡ Answer.Done
   pub phase : x .phase ≡ upWith (sent + 1)
   pub state : x .state ≡ sentState s sent
-  pub output : x .output ≡ protectedBytes (nextMessage s sent) (numberAt s sent) (ackAsked ask s)
+  -- the ACK says S
+  pub output : x .output ≡ protectedBytes (nextMessage s sent) (numberAt s sent) (pick ask (FtField.Number (s .secured)) FtField.Absent)
 
 -- "it numbers it if it has no number"
 pub record NumberedFrom (s : State) (sent : ℕ) : Type 0 where

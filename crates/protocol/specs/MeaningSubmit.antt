@@ -3,10 +3,15 @@ use Prim.Native.Nat.{ℕ, _+_, _≤_, _<_}
 use mathlib.Core.Path.{_≡_}
 use mathlib.Core.List.{List, []}
 use lib.ListN.{getD}
+use Rattle.message.specs.Submission.{submissionOf}
+use Rattle.message.specs.declared.Kind.{Kind}
+use Rattle.message.specs.declared.Submission
+use Rattle.message.specs.declared.Submission.{Submission}
 use Rattle.protocol.specs.declared.Phase.{Phase}
 use Rattle.protocol.specs.State.{State, held}
 use Rattle.protocol.specs.Phases.{issuedCount}
 use Rattle.protocol.specs.Step.{Step}
+use Rattle.protocol.specs.Accepting.{acceptedAs}
 
 pub record QueuedFrom (s : State) (ph : Phase) (m : List ℕ) (x : Step) : Type 0 where
   pub phase : x .phase ≡ ph
@@ -22,3 +27,5 @@ pub record QueuedFrom (s : State) (ph : Phase) (m : List ℕ) (x : Step) : Type 
   pub secured : x .state .secured ≡ s .secured
   pub kept : x .state .kept ≡ s .kept
   pub terms : x .state .terms ≡ s .terms
+  -- "Accepted for sending": the label words become what its kind makes of its label
+  pub labels : (kind : Kind) (label : ℕ) → submissionOf m ≡ Submission.Accepted kind label → x .state .table .words ≡ acceptedAs (s .table .words) kind label .1
