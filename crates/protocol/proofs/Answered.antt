@@ -16,9 +16,9 @@ use Rattle.protocol.specs.declared.Effect.{Effect}
 use Rattle.protocol.specs.declared.Effect
 use Rattle.protocol.specs.declared.Phase.{Phase}
 use Rattle.protocol.specs.State.{State, held, withTable}
-use Rattle.protocol.specs.Answers.{answerNumber, effectOf}
+use Rattle.protocol.specs.Answers.{answerNumber, effectOf, isDone}
 use Rattle.protocol.specs.Phases.{phaseFits, awaits}
-use Rattle.protocol.specs.Step.{Step, stepped, unchanged, failedWith, releasedWith, admitted}
+use Rattle.protocol.specs.Step.{Step, stepped, unchanged, failedWith, releasedWith, admitted, settle}
 use Rattle.protocol.specs.Submit.{submitRule, submitted, submit}
 use Rattle.protocol.specs.Init.{initStart, startAnswer, startPhase, startState, initReceived}
 use Rattle.protocol.specs.Receive.{receiveRule, takenAs, receive}
@@ -28,7 +28,7 @@ use Rattle.protocol.specs.Hearing.{hears}
 use Rattle.protocol.specs.Proper.{Proper}
 use Rattle.protocol.specs.Lawful.{Lawful, Window}
 use Rattle.protocol.proofs.Effects.{effect-nothing, effect-fail, effect-release}
-use Rattle.protocol.proofs.Settling.{settle-answer, settle-refusal, answered-failed, answered-released}
+use Rattle.protocol.proofs.Settling.{settle-answer, settle-does, settle-refusal, answered-failed, answered-released}
 use Rattle.protocol.proofs.Settles.{taken-done, settles, step-answer, ends}
 use Rattle.protocol.proofs.Hearing.{harmless}
 use Rattle.protocol.proofs.KeepingCalls.{lawful-step}
@@ -94,18 +94,42 @@ module _ (c : Call) (s : State) (ph : Phase) (room : ℕ) where
   pub step-window : Proper c ph → Lawful s → phaseFits ph s ≡ true → Window (step c s ph room .state) × (held (step c s ph room .state) ≤ 64)
   step-window p law fits = let n = lawful-step c s ph room p law fits .0 in (n .window, n .few)
 
--- ---- what Submit, Init and Receive answer
+-- ---- Submit, Init and Receive: the answer is that of the tests, and what is answered Done is done
+module _ (s : State) (ph : Phase) (a : Answer) (d : Step) (done : d .answer ≡ Answer.Done) where
+  settled-does : settle a s ph d .answer ≡ Answer.Done → settle a s ph d ≡ d
+  settled-does e = settle-does a s ph d (ap isDone (sym (settle-answer a s ph d done) ∙ e))
+
 module _ (s : State) (ph : Phase) (m : List ℕ) where
+  queued : Step
+  queued = stepped Answer.Done (submitted s m) ph []
+
   pub submit-says : submit s ph m .answer ≡ admitted s ph (submitRule s m)
-  unfolding submit
-  submit-says = settle-answer (admitted s ph (submitRule s m)) s ph (stepped Answer.Done (submitted s m) ph []) refl
+  unfolding submit queued
+  submit-says = settle-answer (admitted s ph (submitRule s m)) s ph queued refl
+
+  pub submit-does : submit s ph m .answer ≡ Answer.Done → submit s ph m ≡ stepped Answer.Done (submitted s m) ph []
+  unfolding submit queued
+  submit-does e = settled-does s ph (admitted s ph (submitRule s m)) queued refl e
+
+  begun : Step
+  begun = stepped Answer.Done (startState s (initStart s ph m)) (startPhase ph (initStart s ph m)) []
+
+  own : Answer
+  own = pick (not (awaits ph)) Answer.WrongPhase (startAnswer (initStart s ph m))
 
   pub init-says : initReceived s ph m .answer ≡ admitted s ph (pick (not (awaits ph)) Answer.WrongPhase (startAnswer (initStart s ph m)))
-  unfolding initReceived
-  init-says =
-      settle-answer (admitted s ph (pick (not (awaits ph)) Answer.WrongPhase (startAnswer (initStart s ph m)))) s ph
-      (stepped Answer.Done (startState s (initStart s ph m)) (startPhase ph (initStart s ph m)) []) refl
+  unfolding initReceived begun own
+  init-says = settle-answer (admitted s ph own) s ph begun refl
+
+  pub init-does : initReceived s ph m .answer ≡ Answer.Done
+      → initReceived s ph m ≡ stepped Answer.Done (startState s (initStart s ph m)) (startPhase ph (initStart s ph m)) []
+  unfolding initReceived begun own
+  init-does e = settled-does s ph (admitted s ph own) begun refl e
 
   pub receive-says : receive s ph m .answer ≡ admitted s ph (receiveRule s ph (readingOf m))
   unfolding receive
   receive-says = settle-answer (admitted s ph (receiveRule s ph (readingOf m))) s ph (takenAs s ph (readingOf m)) (taken-done s ph (readingOf m))
+
+  pub receive-does : receive s ph m .answer ≡ Answer.Done → receive s ph m ≡ takenAs s ph (readingOf m)
+  unfolding receive
+  receive-does e = settled-does s ph (admitted s ph (receiveRule s ph (readingOf m))) (takenAs s ph (readingOf m)) (taken-done s ph (readingOf m)) e

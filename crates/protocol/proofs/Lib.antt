@@ -19,10 +19,10 @@ pub mod KeepingInit
 pub mod KeepingSend
 pub mod KeepingReceive
 pub mod KeepingCalls
--- what each call leaves of the queue and of the terms
+-- what an answer leaves, whatever the call, and what each call leaves of the queue and of the terms
+pub mod Answered
 pub mod Queues
 -- what each call means for the state
-pub mod Answered
 pub mod Passing
 pub mod MeaningHeld
 pub mod MeaningLabels

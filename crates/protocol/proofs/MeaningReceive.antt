@@ -1,6 +1,6 @@
 -- What a received message leaves: its answer is that of its case, and where it is taken the ACK acts first, then the message. Assumes nothing.
 use Prim.Native.Nat.{ℕ}
-use mathlib.Core.Path.{_≡_, refl, sym, ap, _∙_}
+use mathlib.Core.Path.{_≡_, refl, ap, _∙_}
 use mathlib.Core.Bool.{true, true≢false}
 use mathlib.Core.List.{List}
 use borrow.Author.Tests.{eqb-true}
@@ -23,16 +23,16 @@ use Rattle.protocol.specs.declared.Phase.{Phase}
 use Rattle.protocol.specs.declared.Progress.{Progress}
 use Rattle.protocol.specs.State.{State}
 use Rattle.protocol.specs.Phases.{phaseFits}
-use Rattle.protocol.specs.Step.{unchanged, admitted}
+use Rattle.protocol.specs.Step.{unchanged}
 use Rattle.protocol.specs.Acked.{ackBorne, releasedLabels, acked}
-use Rattle.protocol.specs.Receive.{ackOn, ackCount, inTurn, securedBy, receiveRule, taken, receivedState, takenAs, receive}
+use Rattle.protocol.specs.Receive.{ackOn, ackCount, inTurn, securedBy, receiveRule, taken, receivedState, receive}
 use Rattle.protocol.specs.Cases.{Case, Takes, wrong-phase, malformed, an-init, fatal, ft-tlv, passed-on}
 use Rattle.protocol.specs.Lawful.{Lawful}
 use Rattle.protocol.specs.MeaningReceive.{ReceivedFrom, AckThenMessage, SecuresFrom, PlainAnswer, plain-malformed, plain-fatal, plain-ft-tlv, plain-done}
-use Rattle.protocol.proofs.Settling.{settle-does, admitted-is}
+use Rattle.protocol.proofs.Settling.{admitted-is}
 use Rattle.protocol.proofs.Cases.{cases, case-answer, done-takes}
 use Rattle.protocol.proofs.KeepingNumbers.{ack-again}
-use Rattle.protocol.proofs.Answered.{receive-says}
+use Rattle.protocol.proofs.Answered.{receive-says, receive-does}
 
 -- ---- the answer
 module _ (s : State) (ph : Phase) (m : List ℕ) (fits : phaseFits ph s ≡ true) where
@@ -47,14 +47,6 @@ module _ (s : State) (ph : Phase) (m : List ℕ) (fits : phaseFits ph s ≡ true
   -- and that of no other
   pub case-receives : {a : Answer} → Case s ph (readingOf m) a → receive s ph m .answer ≡ a
   case-receives c = own-answer ∙ case-answer c
-
--- what is answered Done is taken
-done-is-taken : (s : State) (ph : Phase) (m : List ℕ) → receive s ph m .answer ≡ Answer.Done → receive s ph m ≡ takenAs s ph (readingOf m)
-unfolding receive
-done-is-taken s ph m d =
-    let a : Answer = admitted s ph (receiveRule s ph (readingOf m)) in
-    let done : a ≡ Answer.Done = sym (receive-says s ph m) ∙ d in
-    settle-does a s ph (takenAs s ph (readingOf m)) (rw done)
 
 -- ---- the state that a message leaves
 module _ (s : State) (g : Message) where
@@ -123,7 +115,7 @@ module _ (s : State) (u : Progress) (m : List ℕ) (fits : phaseFits (Phase.UpFT
     receive-takes = done-takes (rw (read, d) at (receive-case s (Phase.UpFT u) m fits))
 
     pub receive-leaves : ReceivedFrom s (u .sent) g count (receive s (Phase.UpFT u) m)
-    receive-leaves = rw (done-is-taken s (Phase.UpFT u) m d, read) (record { answer = refl; state = refl; phase = refl; output = refl })
+    receive-leaves = rw (receive-does s (Phase.UpFT u) m d, read) (record { answer = refl; state = refl; phase = refl; output = refl })
 
     pub receive-acts : AckThenMessage s g count left
     receive-acts = rw (receive-leaves .state) (received-acts s g count (receive-takes .turn .protection .ack .acks))
@@ -134,7 +126,7 @@ module _ (s : State) (u : Progress) (m : List ℕ) (fits : phaseFits (Phase.UpFT
 -- ---- "In UpPlain messages are passed on."
 module _ (s : State) (m : List ℕ) where
   pub plain-passed : receive s Phase.UpPlain m .answer ≡ Answer.Done → receive s Phase.UpPlain m ≡ unchanged Answer.Done s Phase.UpPlain
-  plain-passed d = done-is-taken s Phase.UpPlain m d
+  plain-passed d = receive-does s Phase.UpPlain m d
 
   pub plain-answers : phaseFits Phase.UpPlain s ≡ true → PlainAnswer (receive s Phase.UpPlain m .answer)
   plain-answers fits = by (receive-case s Phase.UpPlain m fits)

@@ -1,6 +1,6 @@
 -- What Submit leaves: the message is the newest held and has no number; whatever the answer, no number moves. Assumes nothing.
 use Prim.Native.Nat.{ℕ}
-use mathlib.Core.Path.{_≡_, refl, sym, _∙_}
+use mathlib.Core.Path.{_≡_, refl}
 use mathlib.Core.List.{List, [], _∷_}
 use lib.ListN.{length-append, List·getD-append}
 use lib.Seq.{getD-append-seam}
@@ -9,16 +9,15 @@ use Rattle.protocol.specs.declared.Answer.{Answer}
 use Rattle.protocol.specs.declared.Phase.{Phase}
 use Rattle.protocol.specs.State.{State}
 use Rattle.protocol.specs.Phases.{issuedCount}
-use Rattle.protocol.specs.Step.{Step, stepped, admitted}
-use Rattle.protocol.specs.Submit.{submitRule, submitted, submit}
+use Rattle.protocol.specs.Step.{Step, stepped}
+use Rattle.protocol.specs.Submit.{submitted, submit}
 use Rattle.protocol.specs.Calls.{submits, step}
 use Rattle.protocol.specs.Judged.{done}
 use Rattle.protocol.specs.Lawful.{Window}
 use Rattle.protocol.specs.MeaningSubmit.{QueuedFrom}
-use Rattle.protocol.proofs.Settling.{settle-does}
 use Rattle.protocol.proofs.Hearing.{unheard}
 use Rattle.protocol.proofs.KeepingNumbers.{issued-held}
-use Rattle.protocol.proofs.Answered.{submit-says}
+use Rattle.protocol.proofs.Answered.{submit-does}
 
 module _ (s : State) (ph : Phase) (m : List ℕ) where
   submitted-from : Window s → QueuedFrom s ph m (stepped Answer.Done (submitted s m) ph [])
@@ -39,11 +38,7 @@ module _ (s : State) (ph : Phase) (m : List ℕ) where
   }
 
   pub submit-queues : Window s → submit s ph m .answer ≡ Answer.Done → QueuedFrom s ph m (submit s ph m)
-  unfolding submit
-  submit-queues w d =
-      let a : Answer = admitted s ph (submitRule s m) in
-      let done : a ≡ Answer.Done = sym (submit-says s ph m) ∙ d in
-      rw (settle-does a s ph (stepped Answer.Done (submitted s m) ph []) (rw done)) (submitted-from w)
+  submit-queues w d = rw (submit-does s ph m d) (submitted-from w)
 
   -- ---- whatever the answer
   pub submit-phase : submit s ph m .phase ≡ ph
