@@ -5,7 +5,7 @@ use Prim.Native.Nat.{ℕ}
 use borrow.Author.Tests.{eq-eqb, eqb-true, eqb-false}
 use lib.Dec.{eqb}
 use Rattle.octets.specs.Pick.{pick, both}
-use Rattle.octets.proofs.Choice.{by-test}
+use Rattle.octets.proofs.Choice.{by-test, no}
 use Rattle.ft_number.specs.Ack.{ackOf}
 use Rattle.ft_number.specs.declared.Ack
 use Rattle.ft_number.specs.declared.Ack.{Ack}
@@ -17,6 +17,8 @@ use Rattle.tlv.specs.declared.Parameters.{Parameters}
 use Rattle.tlv.specs.declared.Session
 use Rattle.tlv.specs.declared.Session.{Session}
 use Rattle.message.specs.declared.Message.{Message}
+use Rattle.message.specs.declared.MessageType
+use Rattle.message.specs.declared.MessageType.{MessageType}
 use Rattle.message.specs.declared.Reading
 use Rattle.message.specs.declared.Reading.{Reading}
 use Rattle.protocol.specs.declared.Answer
@@ -27,6 +29,23 @@ use Rattle.protocol.specs.State.{State}
 use Rattle.protocol.specs.Received.{isInit}
 use Rattle.protocol.specs.Init.{termsOf, resumedBy, bothSet, peerSet, sessionStart, parametersStart, startOf}
 use Rattle.protocol.specs.InitCases.{InitWith, Reconnects, SameParameters, StartCase, unread, another-type, without-parameters, without-ack, without-session, peer-clear, ours-clear, parameters-changed, sequence-error, resumes}
+
+-- ---- an Init is told from every other message
+pub init-type : (t : MessageType) → isInit t ≡ true → t ≡ MessageType.Initialization
+init-type MessageType.Notification e = no (cc)
+init-type MessageType.Initialization e = refl
+init-type MessageType.KeepAlive e = no (cc)
+init-type MessageType.Address e = no (cc)
+init-type MessageType.AddressWithdraw e = no (cc)
+init-type MessageType.Mapping e = no (cc)
+init-type MessageType.Request e = no (cc)
+init-type MessageType.Withdraw e = no (cc)
+init-type MessageType.Release e = no (cc)
+init-type MessageType.Abort e = no (cc)
+init-type MessageType.Other e = no (cc)
+
+pub type-init : (t : MessageType) → t ≡ MessageType.Initialization → isInit t ≡ true
+type-init t e = rw e
 
 -- ---- the judgement, case by case
 module _ (s : State) (p : ℕ) (g : Message) where

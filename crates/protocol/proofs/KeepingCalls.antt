@@ -23,14 +23,14 @@ use Rattle.protocol.specs.Lawful.{Lawful}
 use Rattle.protocol.proofs.Effects.{done-is}
 use Rattle.protocol.proofs.Settling.{admitted-done}
 use Rattle.protocol.proofs.Settles.{ends}
-use Rattle.protocol.proofs.KeepingPhases.{Standing, resting-fits}
+use Rattle.protocol.proofs.KeepingPhases.{LawfulIn, resting-fits}
 use Rattle.protocol.proofs.KeepingStates.{lawful-released, lawful-broken, lawful-submitted}
 use Rattle.protocol.proofs.KeepingInit.{greeted-lawful}
 use Rattle.protocol.proofs.KeepingSend.{Sendable, sendable, kept-up, sent-stands}
 use Rattle.protocol.proofs.KeepingReceive.{taken-stands}
 
 abbrev Stands : Step → Type 0
-Stands x = Standing (x .state) (x .phase)
+Stands x = LawfulIn (x .state) (x .phase)
 
 -- the call's own tests said Done
 own-done : (s : State) (ph : Phase) (a : Answer) → admitted s ph a ≡ Answer.Done → a ≡ Answer.Done
@@ -46,7 +46,7 @@ submitted-fits Phase.UpPlain s m = refl
 submitted-fits Phase.Failed s m = refl
 
 -- ---- what a call does where it is done
-done-stands : (c : Call) (s : State) (ph : Phase) (room : ℕ) → Proper c ph → Standing s ph → judged c s ph room ≡ Answer.Done → Stands (done c s ph)
+done-stands : (c : Call) (s : State) (ph : Phase) (room : ℕ) → Proper c ph → LawfulIn s ph → judged c s ph room ≡ Answer.Done → Stands (done c s ph)
 unfolding judged done phaseFits
 done-stands formats s ph room p st d = (lawful-released, refl)
 done-stands restores s ph room p st d = (lawful-broken s (st .0), resting-fits s)

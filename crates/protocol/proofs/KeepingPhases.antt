@@ -15,8 +15,8 @@ use Rattle.protocol.specs.Step.{broken}
 use Rattle.protocol.specs.Lawful.{Lawful}
 
 -- a lawful state, and a phase that it allows
-abbrev pub Standing : State → Phase → Type 0
-Standing s ph = Lawful s × (phaseFits ph s ≡ true)
+abbrev pub LawfulIn : State → Phase → Type 0
+LawfulIn s ph = Lawful s × (phaseFits ph s ≡ true)
 
 -- the phase at rest, of what a failed connection leaves
 pub resting-fits : (s : State) → phaseFits (restingPhase s) (broken s) ≡ true

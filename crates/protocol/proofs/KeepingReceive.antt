@@ -27,7 +27,7 @@ use Rattle.protocol.specs.Receive.{ackOn, ackCount, securedBy, taken, re
 use Rattle.protocol.specs.Lawful.{Lawful}
 use Rattle.protocol.proofs.Cases.{cases, done-takes}
 use Rattle.protocol.proofs.KeepingNumbers.{ack-issued}
-use Rattle.protocol.proofs.KeepingPhases.{Standing, fits-up, up-fits}
+use Rattle.protocol.proofs.KeepingPhases.{LawfulIn, fits-up, up-fits}
 use Rattle.protocol.proofs.KeepingStates.{lawful-acked, lawful-taken}
 
 number-width : (n : FtNumber) → n .0 < 4294967296 → (f : FtField) → ((a : FtNumber) → f ≡ FtField.Number a → a .0 < 4294967296) → securedBy n f .0 < 4294967296
@@ -50,7 +50,7 @@ module _ (s : State) (law : Lawful s) (u : Progress) (fits : phaseFits (Phase.Up
   borne = borne-width s (law .released) (g .ack) (w .ack)
 
   -- as many fewer have a number, as many fewer count as sent
-  received-stands : (k : ℕ) → ackOn s g ≡ Ack.Releases k → Standing (receivedState s g) (receivedPhase s (u .sent) g)
+  received-stands : (k : ℕ) → ackOn s g ≡ Ack.Releases k → LawfulIn (receivedState s g) (receivedPhase s (u .sent) g)
   unfolding receivedState ackOn acked taken
   received-stands k e =
       let a : ℕ = ackBorne s (g .ack) in
@@ -63,16 +63,15 @@ module _ (s : State) (law : Lawful s) (u : Progress) (fits : phaseFits (Phase.Up
       )
 
 -- whatever was read
-pub taken-stands : (s : State) (ph : Phase) (m : List ℕ) → Standing s ph → Bytes m → receiveRule s ph (readingOf m) ≡ Answer.Done → Standing (takenAs s ph (readingOf m) .state) (takenAs s ph (readingOf m) .phase)
+pub taken-stands : (s : State) (ph : Phase) (m : List ℕ) → LawfulIn s ph → Bytes m → receiveRule s ph (readingOf m) ≡ Answer.Done → LawfulIn (takenAs s ph (readingOf m) .state) (takenAs s ph (readingOf m) .phase)
 taken-stands s Phase.Idle m st byte d = st
 taken-stands s (Phase.InitWait v) m st byte d = st
 taken-stands s (Phase.UpFT u) m st byte d = by (readingOf m) (read-widths m byte) d
   where
-    by : (rd : Reading) → ((g : Message) → rd ≡ Reading.Whole g → Widths g) → receiveRule s (Phase.UpFT u) rd ≡ Answer.Done → Standing (takenAs s (Phase.UpFT u) rd .state) (takenAs s (Phase.UpFT u) rd .phase)
+    by : (rd : Reading) → ((g : Message) → rd ≡ Reading.Whole g → Widths g) → receiveRule s (Phase.UpFT u) rd ≡ Answer.Done → LawfulIn (takenAs s (Phase.UpFT u) rd .state) (takenAs s (Phase.UpFT u) rd .phase)
     by Reading.Malformed w e = st
     by (Reading.Whole g) w e =
         let t = done-takes (rw e at (cases s (Phase.UpFT u) (Reading.Whole g))) in
         received-stands s (st .0) u (st .1) g (w g refl) (ackCount (ackOn s g)) (t .turn .protection .ack .acks)
 taken-stands s Phase.UpPlain m st byte d = st
 taken-stands s Phase.Failed m st byte d = st
-

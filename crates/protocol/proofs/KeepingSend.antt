@@ -15,7 +15,7 @@ use Rattle.protocol.specs.Phases.{phaseFits, isUpFT, sentOf, issuedCount
 use Rattle.protocol.specs.Send.{numbered, sendRule, sentState}
 use Rattle.protocol.specs.Lawful.{Lawful}
 use Rattle.protocol.proofs.KeepingNumbers.{numbered-issued}
-use Rattle.protocol.proofs.KeepingPhases.{Standing, fits-up, up-fits}
+use Rattle.protocol.proofs.KeepingPhases.{LawfulIn, fits-up, up-fits}
 use Rattle.protocol.proofs.KeepingStates.{lawful-numbered}
 
 -- what the tests of Send next say of phase and queue
@@ -37,10 +37,9 @@ kept-up (Phase.UpFT v) s u f = up-fits s v f .0
 kept-up Phase.UpPlain s u f = no (cc)
 kept-up Phase.Failed s u f = no (cc)
 
-pub sent-stands : (s : State) (sent : ℕ) → Lawful s → s .kept ≡ true → sent < held s → Standing (sentState s sent) (upWith (sent + 1))
+pub sent-stands : (s : State) (sent : ℕ) → Lawful s → s .kept ≡ true → sent < held s → LawfulIn (sentState s sent) (upWith (sent + 1))
 unfolding sentState numbered
 sent-stands s sent law kept l =
     by-test (ltb sent (issuedCount s))
     (λ t. rw t (law, fits-up s (sent + 1) kept (omega (arith, ltb-true sent (issuedCount s) t))))
     (λ n. rw n (lawful-numbered s law sent l, fits-up (numbered s sent) (sent + 1) kept (omega (arith, numbered-issued s (law .released) sent (omega (arith, law .few))))))
-

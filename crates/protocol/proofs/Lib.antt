@@ -1,13 +1,14 @@
--- an answer's effect, what it leaves, and when Submit is done
+-- an answer's effect, and what it leaves
 pub mod Effects
 pub mod Settling
+-- Receive's, Init's and Submit's answers are the lists of their cases
+pub mod Cases
+pub mod InitCases
+pub mod SubmitCases
 pub mod Submits
 -- every call is its tests' answer, settled
 pub mod Settles
 pub mod Hearing
--- Receive's and Init's answers are the lists of their cases
-pub mod Cases
-pub mod InitCases
 -- every call keeps the state lawful
 pub mod KeepingLabels
 pub mod KeepingNumbers
@@ -18,5 +19,18 @@ pub mod KeepingInit
 pub mod KeepingSend
 pub mod KeepingReceive
 pub mod KeepingCalls
--- what each call leaves of the queue and of the terms
+-- what an answer leaves, whatever the call, and what each call leaves of the queue and of the terms
+pub mod Answered
 pub mod Queues
+-- what each call means for the state
+pub mod Passing
+pub mod MeaningHeld
+pub mod MeaningLabels
+pub mod MeaningEvents
+pub mod MeaningWriters
+pub mod MeaningInit
+pub mod MeaningTimers
+pub mod MeaningSubmit
+pub mod MeaningSend
+pub mod MeaningReceive
+pub mod Numbered

@@ -28,7 +28,7 @@ use Rattle.protocol.specs.declared.Start.{Start}
 use Rattle.protocol.specs.declared.Terms.{Terms}
 use Rattle.protocol.specs.State.{State, held, releasedState}
 use Rattle.protocol.specs.Phases.{issuedCount, sentOf}
-use Rattle.protocol.specs.Step.{Step}
+use Rattle.protocol.specs.Step.{Step, admitted}
 use Rattle.protocol.specs.Acked.{ackBorne, acked}
 use Rattle.protocol.specs.Submit.{submitRule, submitted, submit}
 use Rattle.protocol.specs.Send.{numbered, sentState, sendNext}
@@ -39,35 +39,27 @@ use Rattle.protocol.specs.TimePassed.{expired, timePassed}
 use Rattle.protocol.specs.Begin.{restore}
 use Rattle.protocol.specs.Init.{startOf, fresh, resumed, startState, initStart, initReceived}
 use Rattle.protocol.specs.Receive.{ackOn, ackCount, taken, receivedState, receive}
-use Rattle.protocol.specs.Calls.{Call, fails, opens, greets, passes, submits, sends, keeps-alive, receives, step}
-use Rattle.protocol.specs.Judged.{judged, done}
+use Rattle.protocol.specs.Calls.{fails, opens, passes, sends, keeps-alive, step}
+use Rattle.protocol.specs.Judged.{done}
 use Rattle.protocol.specs.Lawful.{Window}
 use Rattle.protocol.specs.InitCases.{StartCase, unread, another-type, without-parameters, without-ack, without-session, peer-clear, ours-clear, parameters-changed, sequence-error, resumes}
 use Rattle.protocol.proofs.InitCases.{start-cases}
 use Rattle.protocol.proofs.Effects.{done-is}
 use Rattle.protocol.proofs.Settling.{admitted-done}
-use Rattle.protocol.proofs.Settles.{step-answer, step-does}
+use Rattle.protocol.proofs.Answered.{submit-says, submit-does, init-does, receive-does}
 use Rattle.protocol.proofs.Submits.{Accepted, done-accepted}
 use Rattle.protocol.proofs.KeepingNumbers.{ack-held}
 use Rattle.protocol.proofs.Hearing.{unheard}
 
--- ---- a call that is done
-module _ (c : Call) (s : State) (ph : Phase) (room : ℕ) (d : step c s ph room .answer ≡ Answer.Done) where
-  pub done-judged : judged c s ph room ≡ Answer.Done
-  done-judged = sym (step-answer c s ph room) ∙ d
-
-  pub done-leaves : step c s ph room ≡ done c s ph
-  done-leaves = step-does c s ph room done-judged
-
 -- ---- Submit: the message is queued as the newest
 module _ (s : State) (ph : Phase) (m : List ℕ) (d : submit s ph m .answer ≡ Answer.Done) where
   pub submit-accepted : Accepted s m
-  unfolding step judged
-  submit-accepted = done-accepted s m (done-is (submitRule s m) (admitted-done s ph (submitRule s m) (rw (done-judged (submits m) s ph 0 d))))
+  submit-accepted =
+      let e : admitted s ph (submitRule s m) ≡ Answer.Done = sym (submit-says s ph m) ∙ d in
+      done-accepted s m (done-is (submitRule s m) (admitted-done s ph (submitRule s m) (rw e)))
 
   pub submit-state : submit s ph m .state ≡ submitted s m
-  unfolding step done
-  submit-state = rw (done-leaves (submits m) s ph 0 d)
+  submit-state = rw (submit-does s ph m d)
 
   pub submit-queue : submit s ph m .state .queue ≡ s .queue ++ (m ∷ [])
   unfolding submitted
@@ -129,8 +121,7 @@ received-queue s g = (refl, refl)
 -- Receive in UpFT
 module _ (s : State) (u : Progress) (m : List ℕ) (g : Message) (read : readingOf m ≡ Reading.Whole g) (d : receive s (Phase.UpFT u) m .answer ≡ Answer.Done) where
   pub receive-state : receive s (Phase.UpFT u) m .state ≡ receivedState s g
-  unfolding step done
-  receive-state = rw (done-leaves (receives m) s (Phase.UpFT u) 0 d, read)
+  receive-state = rw (receive-does s (Phase.UpFT u) m d, read)
 
   pub receive-queue : (receive s (Phase.UpFT u) m .state .queue ≡ drop (ackCount (ackOn s g)) (s .queue)) × (receive s (Phase.UpFT u) m .state .terms ≡ s .terms)
   receive-queue = rw receive-state (received-queue s g)
@@ -160,8 +151,7 @@ start-within s w p rd = case-within s w (start-cases s p rd)
 
 module _ (s : State) (ph : Phase) (m : List ℕ) (d : initReceived s ph m .answer ≡ Answer.Done) where
   pub init-state : initReceived s ph m .state ≡ startState s (initStart s ph m)
-  unfolding step done
-  init-state = rw (done-leaves (greets m) s ph 0 d)
+  init-state = rw (init-does s ph m d)
 
   pub plain-queue : initStart s ph m ≡ Start.Plain → initReceived s ph m .state ≡ releasedState
   plain-queue e = rw (init-state, e)

@@ -42,7 +42,7 @@ settles (keeps-alive id) s ph room = refl
 settles (receives m) s ph room = refl
 
 -- ---- what is done is answered Done
-taken-done : (s : State) (ph : Phase) (r : Reading) → takenAs s ph r .answer ≡ Answer.Done
+pub taken-done : (s : State) (ph : Phase) (r : Reading) → takenAs s ph r .answer ≡ Answer.Done
 taken-done s Phase.Idle r = refl
 taken-done s (Phase.InitWait v) r = refl
 taken-done s (Phase.UpFT u) Reading.Malformed = refl

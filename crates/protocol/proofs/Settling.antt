@@ -51,6 +51,11 @@ pub admitted-is : (s : State) (ph : Phase) → phaseFits ph s ≡ true → (a : 
 unfolding admitted
 admitted-is s ph f a = rw f
 
+-- a call that comes in a phase that the state allows and passes its tests does what it does
+pub admitted-does : (s : State) (ph : Phase) → phaseFits ph s ≡ true → (a : Answer) → a ≡ Answer.Done → (d : Step) → settle (admitted s ph a) s ph d ≡ d
+unfolding settle admitted effectOf
+admitted-does s ph f a e d = rw (f, e)
+
 -- an answer that, where it is not Done, leaves everything as it was
 abbrev pub Harmless : Answer → Type 0
 Harmless a = isDone a ≡ false → effectOf a ≡ Effect.Nothing

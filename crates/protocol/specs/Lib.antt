@@ -24,8 +24,20 @@ pub mod Calls
 pub mod Cases
 -- what holds of every state that an image can hold
 pub mod Lawful
--- the words of the theorems: what a call is judged by and does, and what the code's types say of its input
+-- ---- the words of the theorems
+-- what a call is judged by and does, what it hears, and what the code's types say of its input
 pub mod Judged
 pub mod Hearing
-pub mod InitCases
 pub mod Proper
+-- the answers to a submission and to the peer's Init as lists of cases
+pub mod SubmitCases
+pub mod InitCases
+-- what each call means for the state, clause by clause
+pub mod MeaningHeld
+pub mod MeaningLabels
+pub mod MeaningWriters
+pub mod MeaningInit
+pub mod MeaningTimers
+pub mod MeaningSubmit
+pub mod MeaningSend
+pub mod MeaningReceive
