@@ -1,6 +1,11 @@
--- an answer's effect, what it leaves, and when Submit is done
+-- an answer's effect, what it leaves, and what a call answers
 pub mod Effects
 pub mod Settling
+pub mod Answered
+-- Submit: when it is done, and that its last test is the room
 pub mod Submits
+pub mod Passing
 -- Receive's answers are the list of its cases
 pub mod Cases
+-- whatever the call
+pub mod Few

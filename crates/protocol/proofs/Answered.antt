@@ -1,0 +1,72 @@
+-- A call answers what its rule says, and what its answer may leave. Assumes nothing.
+use Prim.Native.Nat.{ℕ}
+use mathlib.Core.Path.{_≡_, refl, sym, _∙_}
+use mathlib.Core.List.{List, []}
+use mathlib.Core.Bool.{false, true}
+use lib.Dec.{eqb, ltb}
+use Rattle.octets.proofs.Choice.{by-test, pick-all, no}
+use Rattle.message.specs.Reading.{readingOf}
+use Rattle.message.specs.declared.Reading.{Reading}
+use Rattle.message.specs.declared.Reading
+use Rattle.protocol.specs.declared.Answer.{Answer}
+use Rattle.protocol.specs.declared.Effect.{Effect}
+use Rattle.protocol.specs.declared.Phase.{Phase}
+use Rattle.protocol.specs.Answers.{answerNumber, effectBy, effectOf, isDone}
+use Rattle.protocol.specs.State.{State, releasedState}
+use Rattle.protocol.specs.Step.{Step, stepped, settledBy, settle, admitted, broken}
+use Rattle.protocol.specs.Submit.{submitRule, submitted, submit}
+use Rattle.protocol.specs.Receive.{receiveRule, takenAs, receive}
+use Rattle.protocol.specs.declared.Answer
+use Rattle.protocol.specs.declared.Effect
+use Rattle.protocol.specs.declared.Phase
+use Rattle.protocol.proofs.Effects.{done-is}
+
+-- only Done acts
+other-acts : (n : ℕ) → eqb n 0 ≡ false → effectBy n ≡ Effect.Act → _≡_ {A = ℕ} 0 1
+other-acts n f e =
+    pick-all (λ (x : Effect). x ≡ Effect.Act → _≡_ {A = ℕ} 0 1) (ltb n 20) (λ q. cc)
+    (pick-all (λ (x : Effect). x ≡ Effect.Act → _≡_ {A = ℕ} 0 1) (ltb n 30) (λ q. cc) (λ q. cc))
+    (rw f at e)
+
+acts-done : (a : Answer) → effectOf a ≡ Effect.Act → isDone a ≡ true
+unfolding effectOf
+acts-done a e = by-test (isDone a) (λ t. t) (λ n. no (other-acts (answerNumber a) n e))
+
+pub settle-says : (a : Answer) (s : State) (ph : Phase) (d : Step) → d .answer ≡ Answer.Done → settle a s ph d .answer ≡ a
+unfolding settle
+settle-says a s ph d done = by (effectOf a) refl
+  where
+    by : (f : Effect) → effectOf a ≡ f → settledBy f a s ph d .answer ≡ a
+    by Effect.Nothing e = refl
+    by Effect.Fail e = refl
+    by Effect.Release e = refl
+    by Effect.Act e = done ∙ sym (done-is a (acts-done a e))
+
+-- what holds of the state as it was, as a break leaves it, of the released one and of what Done does, holds of the state that is left
+pub settle-leaves : (P : State → Type 0) (a : Answer) (s : State) (ph : Phase) (d : Step) → P s → P (broken s) → P releasedState → (isDone a ≡ true → P (d .state))
+    → P (settle a s ph d .state)
+unfolding settle
+settle-leaves P a s ph d still fails releases does = by (effectOf a) refl
+  where
+    by : (f : Effect) → effectOf a ≡ f → P (settledBy f a s ph d .state)
+    by Effect.Nothing e = still
+    by Effect.Fail e = fails
+    by Effect.Release e = releases
+    by Effect.Act e = does (acts-done a e)
+
+module _ (s : State) (ph : Phase) (m : List ℕ) where
+  pub submit-says : submit s ph m .answer ≡ admitted s ph (submitRule s m)
+  unfolding submit
+  submit-says = settle-says (admitted s ph (submitRule s m)) s ph (stepped Answer.Done (submitted s m) ph []) refl
+
+  taken-done : (p : Phase) (r : Reading) → takenAs s p r .answer ≡ Answer.Done
+  taken-done Phase.Idle r = refl
+  taken-done (Phase.InitWait v) r = refl
+  taken-done (Phase.UpFT u) Reading.Malformed = refl
+  taken-done (Phase.UpFT u) (Reading.Whole g) = refl
+  taken-done Phase.UpPlain r = refl
+  taken-done Phase.Failed r = refl
+
+  pub receive-says : receive s ph m .answer ≡ admitted s ph (receiveRule s ph (readingOf m))
+  unfolding receive
+  receive-says = settle-says (admitted s ph (receiveRule s ph (readingOf m))) s ph (takenAs s ph (readingOf m)) (taken-done ph (readingOf m))
