@@ -1,53 +1,41 @@
 -- What the peer's Init leaves of an image, where it is not refused, and where its parameters are others. Assumes nothing.
-use Prim.Native.Nat.{ℕ, _<_}
+use Prim.Native.Nat.{ℕ}
 use native.Mathlib.Omega.{arith}
-use mathlib.Core.Path.{_≡_, refl, _∙_}
-use mathlib.Core.Bool.{true}
+use mathlib.Core.Path.{_≡_, refl, _∙_, ap}
 use mathlib.Core.List.{List, []}
-use Rattle.image.specs.State.{State, decode}
-use Rattle.octets.specs.Bytes.{Bytes}
-use Rattle.protocol.specs.declared.Answer
 use Rattle.protocol.specs.declared.Answer.{Answer}
-use Rattle.protocol.specs.declared.Phase
 use Rattle.protocol.specs.declared.Phase.{Phase}
-use Rattle.calls.specs.Outcomes.{After, isDone, releasedWith}
-use Rattle.calls.proofs.Settled.{admitted-is}
-use Rattle.call_meaning.specs.Standing.{Standing}
-use Rattle.call_meaning.proofs.Answered.{answered-released}
-use Rattle.init.specs.declared.Start
-use Rattle.init.specs.declared.Start.{Start}
-use Rattle.init.specs.Judged.{startAnswer}
-use Rattle.init.specs.Begun.{startState, startPhase, begunAs, initStart, initReceivedOf}
-use Rattle.init.specs.Meaning.{BegunFrom}
-use Rattle.call_meaning.proofs.Stands.{standing-admitted}
-use Rattle.init.proofs.Meaning.{init-decodes, init-stands}
+use Rattle.protocol.specs.declared.Start.{Start}
+use Rattle.protocol.specs.State.{State}
+use Rattle.protocol.specs.Step.{Step, releasedWith, stepped, admitted, settle}
+use Rattle.protocol.specs.Init.{startState, initStart, initReceived, startAnswer, startPhase}
+use Rattle.protocol.specs.Phases.{phaseFits, upWith, waitingFor}
+use Rattle.protocol.specs.declared.Answer
+use Rattle.protocol.specs.declared.Start
+use Rattle.protocol.proofs.Settling.{answered-released, settle-does}
 
 -- ---- what the call leaves
-module _ (im : List ℕ) (t : ℕ) (m : List ℕ) where
+module _ (now : State) (t : ℕ) (m : List ℕ) where
   abbrev ph : Phase
-  ph = Phase.InitWait t
+  ph = waitingFor t
 
   abbrev st : Start
-  st = initStart im ph m
+  st = initStart now ph m
 
-  abbrev x : After
-  x = initReceivedOf im ph m
+  abbrev x : Step
+  x = initReceived now ph m
+
+  abbrev does : Step
+  does = stepped Answer.Done (startState now st) (startPhase ph st) []
+
+  is : x ≡ settle (startAnswer st) now ph does
+  unfolding initReceived admitted phaseFits
+  is = refl
 
   -- a start that is not refused
-  pub record Begins (s : State) : Type 0 where
-    pub answer : x .outcome .answer ≡ Answer.Done
-    pub state : decode (x .image) ≡ s
-    pub phase : x .outcome .phase ≡ Phase.UpFT 0
-    pub stands : Standing (x .image) (Phase.UpFT 0)
+  pub begins : (s : State) → startAnswer st ≡ Answer.Done → startState now st ≡ s → startPhase ph st ≡ upWith 0 → x ≡ stepped Answer.Done s (upWith 0) []
+  begins s d e f = is ∙ ap (λ (a : Answer). settle a now ph does) d ∙ settle-does Answer.Done now ph does refl ∙ rw (e, f)
 
-  module _ (stand : Standing im ph) (byte : Bytes m) (low : t < 65536) where
-    pub begins : (s : State) → isDone (startAnswer st) ≡ true → startState (decode im) st ≡ s → startPhase ph st ≡ Phase.UpFT 0 → Begins s
-    begins s d e f =
-        let b : BegunFrom (decode im) ph st x = init-decodes im ph m stand byte low refl d in
-        let up : x .outcome .phase ≡ Phase.UpFT 0 = b .phase ∙ f in
-        record { answer = b .answer; state = b .state ∙ e; phase = up; stands = rw up at (init-stands im ph m stand byte low) }
-
-    -- one that is refused with 35 releases
-    pub changed : st ≡ Start.Refused Answer.ParametersChanged → x ≡ releasedWith Answer.ParametersChanged im []
-    unfolding initReceivedOf
-    changed e = rw (admitted-is (standing-admitted stand) (startAnswer st), e) (answered-released Answer.ParametersChanged ph im [] (begunAs im ph (Start.Refused Answer.ParametersChanged)) (omega arith))
+  -- one that is refused with 35 releases
+  pub changed : st ≡ Start.Refused Answer.ParametersChanged → x ≡ releasedWith Answer.ParametersChanged
+  changed e = is ∙ ap (λ (a : Answer). settle a now ph does) (ap startAnswer e) ∙ answered-released Answer.ParametersChanged now ph does (omega arith)

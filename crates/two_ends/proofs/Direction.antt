@@ -7,8 +7,8 @@ use mathlib.Core.List.{List, [], _∷_, _++_}
 use lib.ListN.{length, drop, length-append}
 use Rattle.ft_number.specs.Circle.{circle, next, after}
 use Rattle.ft_number.specs.Ack.{ackOf}
-use Rattle.ft_number.specs.declared.Ack
 use Rattle.ft_number.specs.declared.Ack.{Ack}
+use Rattle.ft_number.specs.declared.Ack
 use Rattle.two_ends.proofs.Positions.{num, num-next, num-le}
 use Rattle.two_ends.proofs.Half.{Snd, Rcv, Half}
 use Rattle.two_ends.proofs.Lines.{line-snoc, line-secure, line-end, flow-grow, flow-snoc}

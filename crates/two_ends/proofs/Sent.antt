@@ -1,44 +1,52 @@
 -- What Send next answers, and what it sends. Assumes nothing.
-use Prim.Native.Nat.{ℕ, zero, suc, _+_, _<_}
+use Prim.Native.Nat.{ℕ, zero, suc, _<_}
 use native.Mathlib.Omega.{arith}
 use mathlib.Core.Path.{_≡_, refl}
-use mathlib.Core.Bool.{Bool, true, false}
+use mathlib.Core.Bool.{Bool, true, false, not}
 use mathlib.Core.List.{List, [], _∷_}
-use lib.Dec.{ltb}
+use borrow.Author.Tests.{leb-false}
+use lib.Dec.{ltb, leb}
 use lib.ListN.{length, drop}
 use Rattle.octets.specs.Pick.{pick}
 use Rattle.message_writer.specs.ReadBack.{AckFits}
-use Rattle.block0.specs.declared.Header.{Header}
-use Rattle.image.specs.State.{decode}
-use Rattle.protocol.specs.declared.Answer
 use Rattle.protocol.specs.declared.Answer.{Answer}
-use Rattle.protocol.specs.declared.Phase
 use Rattle.protocol.specs.declared.Phase.{Phase}
-use Rattle.calls.specs.Answers.{effectOf}
-use Rattle.calls.specs.Outcomes.{isDone, wrote}
-use Rattle.call_meaning.proofs.Refusals.{Harmless, admitted-harmless, settle-does}
-use Rattle.send.specs.Rule.{isUpFT, sentOf, ackAsked, sendBytes, sendRule, sendAnswer, sendImage, sendOf}
+use Rattle.protocol.specs.Phases.{isUpFT, sentOf}
+use Rattle.protocol.specs.Answers.{effectOf, isDone}
+use Rattle.protocol.specs.Send.{ackAsked, sendRule}
+use Rattle.protocol.specs.State.{State, held}
+use Rattle.protocol.specs.Step.{roomFor}
+use Rattle.protocol.specs.declared.Answer
+use Rattle.protocol.proofs.Settling.{Harmless, done-harmless}
 use Rattle.two_ends.proofs.Packets.{Okay, Okays}
-use Rattle.two_ends.proofs.Quiet.{Quiet, settled-quiet}
 
 -- ---- an answer that is not Done changes nothing
-rule-harmless : (u l c : Bool) → Harmless (pick u (pick l (pick c Answer.OutputTooShort Answer.Done) Answer.NothingUnsent) Answer.WrongPhase)
+rule-harmless : (u l c : Bool) → Harmless (pick (not u) Answer.WrongPhase (pick l Answer.NothingUnsent (pick c Answer.OutputTooShort Answer.Done)))
 unfolding effectOf
-rule-harmless true true true = λ n. refl
-rule-harmless true true false = λ n. cc
-rule-harmless true false c = λ n. refl
+rule-harmless true true c = λ n. refl
+rule-harmless true false true = λ n. refl
+rule-harmless true false false = done-harmless
 rule-harmless false l c = λ n. refl
 
-pub unsent : (im : List ℕ) (ph : Phase) (ask : Bool) (out : List ℕ) → isDone (sendAnswer im ph ask (length out)) ≡ false → Quiet im ph (sendOf im ph ask out)
-unfolding sendOf sendAnswer sendRule
-unsent im ph ask out n =
-    settled-quiet (sendAnswer im ph ask (length out)) ph im out _
-    (admitted-harmless im ph _ (rule-harmless (isUpFT ph) (ltb (sentOf ph) (decode im .header .held)) (ltb (length out) (length (sendBytes (decode im) (sentOf ph) ask)))) n) n
+pub send-harmless : (now : State) (ph : Phase) (bytes : List ℕ) (room : ℕ) → Harmless (sendRule now ph (roomFor bytes room))
+unfolding sendRule
+send-harmless now ph bytes room = rule-harmless (isUpFT ph) (leb (held now) (sentOf ph)) (ltb room (length bytes))
 
-pub sent-is : (im : List ℕ) (ph : Phase) (ask : Bool) (out : List ℕ) → isDone (sendAnswer im ph ask (length out)) ≡ true
-    → sendOf im ph ask out ≡ wrote (Phase.UpFT (sentOf ph + 1)) im (sendImage im (sentOf ph)) out (sendBytes (decode im) (sentOf ph) ask)
-unfolding sendOf
-sent-is im ph ask out t = settle-does (sendAnswer im ph ask (length out)) ph im out _ t
+-- ---- one that is tells that a message is unsent
+rule-done : (u l : Bool) (a : Answer) → isDone (pick (not u) Answer.WrongPhase (pick l Answer.NothingUnsent a)) ≡ true → (u ≡ true) × (l ≡ false)
+rule-done true false a t = (refl, refl)
+rule-done true true a t = let z : _≡_ {A = ℕ} 0 1 = cc in absurd (omega arith)
+rule-done false l a t = let z : _≡_ {A = ℕ} 0 1 = cc in absurd (omega arith)
+
+pub record Sendable (now : State) (ph : Phase) : Type 0 where
+  pub up : isUpFT ph ≡ true
+  pub some : sentOf ph < held now
+
+pub sendable : (now : State) (ph : Phase) (a : Answer) → isDone (sendRule now ph a) ≡ true → Sendable now ph
+unfolding sendRule
+sendable now ph a t =
+    let q = rule-done (isUpFT ph) (leb (held now) (sentOf ph)) a t in
+    record { up = q .0; some = leb-false (held now) (sentOf ph) (q .1) }
 
 -- ---- a message accepted stands at its place
 pub okay-at : (n : ℕ) (l : List (List ℕ)) (m : List ℕ) (ms : List (List ℕ)) → drop n l ≡ m ∷ ms → Okays l → Okay m
@@ -47,7 +55,7 @@ okay-at zero (x ∷ l) m ms e o = let q : x ≡ m = cc in rw q at (o .0)
 okay-at (suc n) [] m ms e o = absurd (let q : _≡_ {A = ℕ} 0 1 = cc in omega arith)
 okay-at (suc n) (x ∷ l) m ms e o = okay-at n l m ms e (o .1)
 
-pub ack-fits : (ask : Bool) (h : Header) → h .secured .0 < 4294967296 → AckFits (ackAsked ask h)
+pub ack-fits : (ask : Bool) (s : State) → s .secured .0 < 4294967296 → AckFits (ackAsked ask s)
 unfolding ackAsked
-ack-fits true h l = omega arith
-ack-fits false h l = tt
+ack-fits true s l = omega arith
+ack-fits false s l = tt
