@@ -13,7 +13,7 @@ use Rattle.protocol.specs.declared.Effect.{Effect}
 use Rattle.protocol.specs.declared.Phase.{Phase}
 use Rattle.protocol.specs.Answers.{answerNumber, effectBy, effectOf, isDone}
 use Rattle.protocol.specs.State.{State, releasedState}
-use Rattle.protocol.specs.Step.{Step, stepped, settledBy, settle, admitted, broken}
+use Rattle.protocol.specs.Step.{Step, stepped, settledBy, settle, admitted, broken, failedWith, releasedWith, unchanged}
 use Rattle.protocol.specs.Submit.{submitRule, submitted, submit}
 use Rattle.protocol.specs.Receive.{receiveRule, takenAs, receive}
 use Rattle.protocol.specs.declared.Answer
@@ -32,27 +32,34 @@ acts-done : (a : Answer) → effectOf a ≡ Effect.Act → isDone a ≡ true
 unfolding effectOf
 acts-done a e = by-test (isDone a) (λ t. t) (λ n. no (other-acts (answerNumber a) n e))
 
-pub settle-says : (a : Answer) (s : State) (ph : Phase) (d : Step) → d .answer ≡ Answer.Done → settle a s ph d .answer ≡ a
-unfolding settle
-settle-says a s ph d done = by (effectOf a) refl
-  where
-    by : (f : Effect) → effectOf a ≡ f → settledBy f a s ph d .answer ≡ a
-    by Effect.Nothing e = refl
-    by Effect.Fail e = refl
-    by Effect.Release e = refl
-    by Effect.Act e = done ∙ sym (done-is a (acts-done a e))
+done-acts : (a : Answer) → isDone a ≡ true → effectOf a ≡ Effect.Act
+unfolding effectOf
+done-acts a t = rw t
 
--- what holds of the state as it was, as a break leaves it, of the released one and of what Done does, holds of the state that is left
+-- ---- what is settled, case by case: an answer that is not Done leaves one of three, and Done what the call does
+pub settle-cases : (P : Step → Type 0) (a : Answer) (s : State) (ph : Phase) (d : Step) → (isDone a ≡ false → P (unchanged a s ph))
+    → (isDone a ≡ false → P (failedWith a s)) → (isDone a ≡ false → effectOf a ≡ Effect.Release → P (releasedWith a)) → (isDone a ≡ true → P d) → P (settle a s ph d)
+unfolding settle
+settle-cases P a s ph d still fails releases does = by (effectOf a) refl
+  where
+    undone : {f : Effect} → effectOf a ≡ f → (Effect.Act ≡ f → _≡_ {A = ℕ} 0 1) → isDone a ≡ false
+    undone e other = by-test (isDone a) (λ t. no (other (sym (done-acts a t) ∙ e))) (λ n. n)
+
+    by : (f : Effect) → effectOf a ≡ f → P (settledBy f a s ph d)
+    by Effect.Nothing e = still (undone e (λ q. cc))
+    by Effect.Fail e = fails (undone e (λ q. cc))
+    by Effect.Release e = releases (undone e (λ q. cc)) e
+    by Effect.Act e = does (acts-done a e)
+
+-- the answer that it gives
+pub settle-says : (a : Answer) (s : State) (ph : Phase) (d : Step) → d .answer ≡ Answer.Done → settle a s ph d .answer ≡ a
+settle-says a s ph d done = settle-cases (λ (x : Step). x .answer ≡ a) a s ph d (λ n. refl) (λ n. refl) (λ n e. refl) (λ t. done ∙ sym (done-is a t))
+
+-- the state that it leaves
 pub settle-leaves : (P : State → Type 0) (a : Answer) (s : State) (ph : Phase) (d : Step) → P s → P (broken s) → P releasedState → (isDone a ≡ true → P (d .state))
     → P (settle a s ph d .state)
-unfolding settle
-settle-leaves P a s ph d still fails releases does = by (effectOf a) refl
-  where
-    by : (f : Effect) → effectOf a ≡ f → P (settledBy f a s ph d .state)
-    by Effect.Nothing e = still
-    by Effect.Fail e = fails
-    by Effect.Release e = releases
-    by Effect.Act e = does (acts-done a e)
+settle-leaves P a s ph d still fails releases does =
+    settle-cases (λ (x : Step). P (x .state)) a s ph d (λ n. still) (λ n. fails) (λ n e. releases) does
 
 module _ (s : State) (ph : Phase) (m : List ℕ) where
   pub submit-says : submit s ph m .answer ≡ admitted s ph (submitRule s m)

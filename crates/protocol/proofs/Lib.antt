@@ -7,5 +7,6 @@ pub mod Submits
 pub mod Passing
 -- Receive's answers are the list of its cases
 pub mod Cases
--- whatever the call
+-- whatever the call, and whatever it makes of the label words
 pub mod Few
+pub mod Words
