@@ -46,7 +46,7 @@ module _ (now : State) (sent : ℕ) (h : History) (id : MessageId) (n : FtNumber
   abbrev pub g₁ : Message
   g₁ = keepaliveMessage id (FtField.Number n)
 
-  plain : (j : ℕ) → ackOn now g₁ ≡ Ack.Releases j → Plain now g₁ j
+  pub plain : (j : ℕ) → ackOn now g₁ ≡ Ack.Releases j → Plain now g₁ j
   unfolding labelEffect protectionRule kindOf
   plain j acks = record { another = refl; mild = refl; bare = refl; acks = acks; effect = refl; free = λ ls. refl }
 
@@ -107,7 +107,7 @@ module _ (now : State) (sent : ℕ) (h : History) (m : List ℕ) (n : FtNumber) 
         let free = arrives now h sent (sideOf b) pa qs m n ack (i .out .half) in
         order-fair (free .0) n (in-order (free .0) (free .1 .right)) (judged now sent m₂ g₂ carried-read)
 
-    secures : securing m₂ ≡ m ∷ []
+    pub secures : securing m₂ ≡ m ∷ []
     secures =
         let e = sent-payload m (f .0 .storable .kind) (f .0 .storable .label) (f .0 .storable .accepted) n ack short (f .0 .bytes 3) in
         rw carried-read (ap (λ (l : List ℕ). l ∷ []) e)

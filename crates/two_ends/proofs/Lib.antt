@@ -25,11 +25,11 @@ pub mod Sent
 pub mod Sending
 -- .. and the oldest message delivered: the peer's Init, a message in UpFT
 pub mod Delivering
+pub mod Oldest
 pub mod Starting
 pub mod Begins
 pub mod Greeted
 pub mod Resuming
-pub mod Greeting
 pub mod Judging
 pub mod Receiving
 pub mod Arriving
@@ -38,3 +38,15 @@ pub mod Delivered
 pub mod Begun
 pub mod Room
 pub mod Theorem
+-- the labels, a layer over it: no code 6, what is owed for them, and what is given and in use
+pub mod Sixless
+pub mod Owed
+pub mod Paid
+pub mod Tidy
+pub mod Codes
+pub mod Agreeing
+pub mod Acking
+pub mod Getting
+pub mod Sharing
+pub mod Labels
+pub mod Labelled

@@ -4,6 +4,7 @@ use native.Mathlib.Omega.{arith}
 use mathlib.Core.Path.{_≡_, refl, _∙_}
 use mathlib.Core.Bool.{Bool, false, true}
 use mathlib.Core.List.{List, _∷_, []}
+use Rattle.octets.proofs.Choice.{pick-all}
 use Rattle.message.proofs.Laws.{accepted}
 use Rattle.protocol.specs.Calls.{Call, fails, restores, keeps-alive, greets as says-init, receives as reads, submits as gives, sends as writes, opens as begins, passes as waits, step as rule}
 use Rattle.protocol.specs.declared.Phase.{Phase}
@@ -16,6 +17,7 @@ use Rattle.protocol.specs.KeepAlive.{keepalive}
 use Rattle.protocol.specs.Begin.{restore}
 use Rattle.protocol.specs.Send.{sendNext}
 use Rattle.protocol.specs.TimePassed.{timePassed}
+use Rattle.protocol.specs.Phases.{awaits}
 use Rattle.protocol.specs.declared.Answer
 use Rattle.protocol.proofs.Few.{few-held}
 use Rattle.protocol.proofs.Passing.{full-passes, passes-done, passes-full}
@@ -55,7 +57,8 @@ module _ (w : World) (f : Fews w) where
   act-few (keepalives id room) = by-write Fews broken-few w (keepalive now ph id room) (call-few (keeps-alive id) room)
   act-few (opens id p t room) = by-open Fews broken-few w (openSession now ph id p t room) (call-few (begins id p t) room) (call-few (begins id p t) room)
   act-few (passes elapsed) = by-plain Fews broken-few w (timePassed now ph elapsed) (call-few (waits elapsed) 0)
-  act-few delivers = by-delivery Fews broken-few w f (λ m rest jo line e. call-few (says-init m) 0) (λ m rest jo line e. call-few (reads m) 0)
+  act-few delivers =
+      by-delivery Fews broken-few w f (λ m rest on line. (pick-all Few (awaits ph) (call-few (says-init m) 0 .0) (call-few (reads m) 0 .0), f .1))
   act-few breaks = f
   act-few notices = by-plain Fews broken-few w (connectionFailed now ph) (call-few fails 0)
   act-few restarts = by-plain Fews broken-few w (restore now) (call-few restores 0)

@@ -1,0 +1,129 @@
+-- The codes that a label takes at its user. Assumes nothing.
+use Prim.Native.Nat.{ℕ, zero, suc, _≤_, _<_}
+use native.Mathlib.Omega.{arith}
+use native.Mathlib.Nat.{eq-or-lt-of-le}
+use mathlib.Core.Path.{_≡_, refl}
+use mathlib.Core.Bool.{true}
+use mathlib.Core.List.{List, [], _∷_, _++_}
+use mathlib.Core.Logic.{_⊎_, inl, inr, ⊎-elim}
+use lib.Dec.{eqb}
+use Rattle.octets.proofs.Choice.{by-test, pick-all}
+use Rattle.message.specs.Submission.{submissionOf}
+use Rattle.message.specs.declared.Kind.{Kind}
+use Rattle.message.specs.declared.Submission.{Submission}
+use Rattle.message.specs.declared.Kind
+use Rattle.message.specs.declared.Submission
+use Rattle.label_list.specs.Word.{onSide}
+use Rattle.label_list.specs.Rules.{codeReceived}
+use Rattle.label_list.specs.declared.LabelMessage.the-variants.{Mapping, Withdraw}
+use Rattle.label_list.specs.declared.Side.the-variants.{Used}
+use Rattle.label_list.proofs.Standing.{within-range}
+use Rattle.label_events.specs.Change.{codeAt}
+use Rattle.label_meaning.proofs.Step.{code-proper}
+use Rattle.two_ends.specs.Agree.{codeBy, codeAfter, IsUsed}
+use Rattle.two_ends.proofs.Sixless.{NoSix}
+
+-- ---- at its user a label is absent, in use, asked back or releasing
+pub data Fit : ℕ → Type 0 where
+  absent : Fit 0
+  in-use : Fit 3
+  asked : Fit 4
+  releasing : Fit 5
+
+fit-by : (c : ℕ) → 3 ≤ c → c ≤ 5 → Fit c
+fit-by zero l h = absurd (omega arith)
+fit-by (suc zero) l h = absurd (omega arith)
+fit-by (suc (suc zero)) l h = absurd (omega arith)
+fit-by (suc (suc (suc zero))) l h = in-use
+fit-by (suc (suc (suc (suc zero)))) l h = asked
+fit-by (suc (suc (suc (suc (suc zero))))) l h = releasing
+fit-by (suc (suc (suc (suc (suc (suc c)))))) l h = absurd (omega arith)
+
+below : (c : ℕ) → c ≤ 6 → (c ≡ 6 → ⊥) → c ≤ 5
+below c h n = ⊎-elim (λ (e : c ≡ 6). absurd (n e)) (λ (l : c < 6). omega arith) (eq-or-lt-of-le h)
+
+pub fit : (ls : List ℕ) → NoSix ls → (l : ℕ) → Fit (codeAt ls Used l)
+unfolding onSide
+fit ls n l = by (codeAt ls Used l) (code-proper ls Used l) (n l)
+  where
+    by : (c : ℕ) → (c ≡ 0) ⊎ (onSide Used c ≡ true) → (c ≡ 6 → ⊥) → Fit c
+    by c p six =
+        ⊎-elim
+        (λ (z : c ≡ 0). rw z absent)
+        (λ (on : onSide Used c ≡ true). let q : (3 ≤ c) × (c ≤ 6) = within-range 3 6 c on in fit-by c (q .0) (below c (q .1) six))
+        p
+
+-- ---- after a Mapping it is in use or asked back
+pub mapping-used : {c : ℕ} → Fit c → IsUsed (codeReceived Mapping true c)
+unfolding codeReceived
+mapping-used absent = inl refl
+mapping-used in-use = inl refl
+mapping-used asked = inr refl
+mapping-used releasing = inl refl
+
+fit-used : {c : ℕ} → IsUsed c → Fit c
+fit-used u = ⊎-elim (λ (e : _ ≡ 3). rw e in-use) (λ (e : _ ≡ 4). rw e asked) u
+
+withdraw-fit : {c : ℕ} → Fit c → Fit (codeReceived Withdraw true c)
+unfolding codeReceived
+withdraw-fit absent = absent
+withdraw-fit in-use = asked
+withdraw-fit asked = asked
+withdraw-fit releasing = releasing
+
+withdraw-used : {c : ℕ} → IsUsed c → IsUsed (codeReceived Withdraw true c)
+unfolding codeReceived
+withdraw-used u = ⊎-elim (λ (e : _ ≡ 3). rw e (inr refl)) (λ (e : _ ≡ 4). rw e (inr refl)) u
+
+-- ---- one message
+pub fit-codeBy : (l c : ℕ) (j : Submission) → Fit c → Fit (codeBy l c j)
+fit-codeBy l c Submission.Malformed f = f
+fit-codeBy l c Submission.Refused f = f
+fit-codeBy l c (Submission.Accepted Kind.Mapping k) f = pick-all Fit (eqb k l) (fit-used (mapping-used f)) f
+fit-codeBy l c (Submission.Accepted Kind.Withdraw k) f = pick-all Fit (eqb k l) (withdraw-fit f) f
+fit-codeBy l c (Submission.Accepted Kind.Release k) f = f
+fit-codeBy l c (Submission.Accepted Kind.Address k) f = f
+fit-codeBy l c (Submission.Accepted Kind.AddressWithdraw k) f = f
+fit-codeBy l c (Submission.Accepted Kind.ResourcesAvailable k) f = f
+fit-codeBy l c (Submission.Accepted Kind.NoKind k) f = f
+
+pub used-codeBy : (l c : ℕ) (j : Submission) → IsUsed c → IsUsed (codeBy l c j)
+used-codeBy l c Submission.Malformed u = u
+used-codeBy l c Submission.Refused u = u
+used-codeBy l c (Submission.Accepted Kind.Mapping k) u = pick-all IsUsed (eqb k l) (mapping-used (fit-used u)) u
+used-codeBy l c (Submission.Accepted Kind.Withdraw k) u = pick-all IsUsed (eqb k l) (withdraw-used u) u
+used-codeBy l c (Submission.Accepted Kind.Release k) u = u
+used-codeBy l c (Submission.Accepted Kind.Address k) u = u
+used-codeBy l c (Submission.Accepted Kind.AddressWithdraw k) u = u
+used-codeBy l c (Submission.Accepted Kind.ResourcesAvailable k) u = u
+used-codeBy l c (Submission.Accepted Kind.NoKind k) u = u
+
+-- ---- all of them
+pub fit-after : (l c : ℕ) (ms : List (List ℕ)) → Fit c → Fit (codeAfter l c ms)
+fit-after l c [] f = f
+fit-after l c (m ∷ ms) f = fit-after l (codeBy l c (submissionOf m)) ms (fit-codeBy l c (submissionOf m) f)
+
+pub after-snoc : (l c : ℕ) (ms : List (List ℕ)) (m : List ℕ) → codeAfter l c (ms ++ (m ∷ [])) ≡ codeBy l (codeAfter l c ms) (submissionOf m)
+after-snoc l c [] m = refl
+after-snoc l c (x ∷ ms) m = after-snoc l (codeBy l c (submissionOf x)) ms m
+
+-- ---- from releasing or from absent: a message leaves both as they are, or makes them the same
+five-zero-by : (l : ℕ) (j : Submission) → ((codeBy l 5 j ≡ 5) × (codeBy l 0 j ≡ 0)) ⊎ (codeBy l 5 j ≡ codeBy l 0 j)
+unfolding codeReceived
+five-zero-by l Submission.Malformed = inl (refl, refl)
+five-zero-by l Submission.Refused = inl (refl, refl)
+five-zero-by l (Submission.Accepted Kind.Mapping k) = by-test (eqb k l) (λ t. rw t (inr refl)) (λ n. rw n (inl (refl, refl)))
+five-zero-by l (Submission.Accepted Kind.Withdraw k) = by-test (eqb k l) (λ t. rw t (inl (refl, refl))) (λ n. rw n (inl (refl, refl)))
+five-zero-by l (Submission.Accepted Kind.Release k) = inl (refl, refl)
+five-zero-by l (Submission.Accepted Kind.Address k) = inl (refl, refl)
+five-zero-by l (Submission.Accepted Kind.AddressWithdraw k) = inl (refl, refl)
+five-zero-by l (Submission.Accepted Kind.ResourcesAvailable k) = inl (refl, refl)
+five-zero-by l (Submission.Accepted Kind.NoKind k) = inl (refl, refl)
+
+pub five-zero : (l : ℕ) (ms : List (List ℕ)) → IsUsed (codeAfter l 5 ms) → IsUsed (codeAfter l 0 ms)
+five-zero l [] u = ⊎-elim (λ (e : _≡_ {A = ℕ} 5 3). absurd (omega arith)) (λ (e : _≡_ {A = ℕ} 5 4). absurd (omega arith)) u
+five-zero l (m ∷ ms) u =
+    ⊎-elim
+    (λ (e : (codeBy l 5 (submissionOf m) ≡ 5) × (codeBy l 0 (submissionOf m) ≡ 0)). rw (e .1) (five-zero l ms (rw (e .0) at u)))
+    (λ (e : codeBy l 5 (submissionOf m) ≡ codeBy l 0 (submissionOf m)). rw e at u)
+    (five-zero-by l (submissionOf m))

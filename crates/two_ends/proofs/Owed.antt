@@ -1,0 +1,140 @@
+-- A label that is withdrawing or releasing has its message in the store. Assumes nothing.
+use Prim.Native.Nat.{ℕ}
+use native.Mathlib.Omega.{arith}
+use mathlib.Core.Path.{_≡_, refl, sym, _∙_}
+use mathlib.Core.Bool.{Bool, true, false, true≢false}
+use mathlib.Core.List.{List, [], _∷_, _++_}
+use mathlib.Core.Logic.{_⊎_, inl, inr, ⊎-elim}
+use borrow.Author.Tests.{eq-eqb}
+use Rattle.octets.specs.Pick.{pick}
+use Rattle.octets.proofs.Choice.{pick-all}
+use Rattle.message.specs.Kinds.{kindNumber}
+use Rattle.message.specs.Submission.{submissionOf}
+use Rattle.message.specs.declared.Kind.{Kind}
+use Rattle.message.specs.declared.Submission.{Submission}
+use Rattle.message.specs.declared.Kind
+use Rattle.message.specs.declared.Submission
+use Rattle.label_list.specs.Sweep.{sweptOf}
+use Rattle.label_list.specs.Valid.{validOf}
+use Rattle.label_list.specs.declared.LabelMessage.{LabelMessage}
+use Rattle.label_list.specs.declared.LabelMessage.the-variants.{Mapping, Withdraw, Release}
+use Rattle.label_list.specs.declared.SweepRule.the-variants.{AfterBreak}
+use Rattle.label_events.specs.Change.{codeAt}
+use Rattle.label_meaning.specs.Event.{Event, Accepted, Received, Broken, step, Moves, given, withdrawn, released, returned, withdraw-acked, release-acked, taken, taken-again, taken-bare, asked-back, bare-withdrawn, given-back, withdrawn-back, bare-lost}
+use Rattle.label_meaning.proofs.Meaning.{valid-means}
+use Rattle.label_meaning.proofs.Moved.{every-move}
+use Rattle.protocol.specs.Labels.{effectLabels}
+use Rattle.protocol.specs.Accepting.{acceptedAs}
+use Rattle.protocol.specs.Submit.{acceptedLabels}
+use Rattle.protocol.specs.Held.{bears, isHeld}
+use Rattle.protocol.specs.declared.LabelEffect.{LabelEffect}
+use Rattle.protocol.specs.State.{noTable}
+use Rattle.protocol.specs.declared.LabelEffect
+use Rattle.two_ends.specs.Labels.{Due, withdrawal, release, sideOf, codeOf, messageOf, kindOf, Owed}
+use Rattle.two_ends.proofs.Sixless.{none-code}
+
+-- ---- what is held
+held-by : (b : Bool) {c d : Bool} → (c ≡ true → d ≡ true) → pick b true c ≡ true → pick b true d ≡ true
+held-by true f e = refl
+held-by false f e = f e
+
+pub held-more : (kind l : ℕ) (q r : List (List ℕ)) → isHeld kind l q ≡ true → isHeld kind l (q ++ r) ≡ true
+unfolding isHeld
+held-more kind l [] r e = absurd (true≢false (sym e))
+held-more kind l (m ∷ q) r e = held-by (bears (submissionOf m) kind l) (λ f. held-more kind l q r f) e
+
+pub held-last : (kind l : ℕ) (q : List (List ℕ)) (m : List ℕ) → bears (submissionOf m) kind l ≡ true → isHeld kind l (q ++ (m ∷ [])) ≡ true
+unfolding isHeld
+held-last kind l [] m e = rw e
+held-last kind l (x ∷ q) m e = pick-all (λ (b : Bool). b ≡ true) (bears (submissionOf x) kind l) refl (held-last kind l q m e)
+
+-- ---- no labels
+pub none-owed : Owed (noTable .words) []
+none-owed withdrawal l z = let zero : codeAt (noTable .words) (sideOf withdrawal) l ≡ 0 = none-code (sideOf withdrawal) l in absurd (omega arith)
+none-owed release l z = let zero : codeAt (noTable .words) (sideOf release) l ≡ 0 = none-code (sideOf release) l in absurd (omega arith)
+
+-- ---- only an accepted Withdraw or Release leads to these codes
+due-move : (due : Due) {e : Event} {l c d : ℕ} → Moves e (sideOf due) l c d → d ≡ codeOf due → e ≡ Accepted (messageOf due) l
+due-move withdrawal given z = absurd (omega arith)
+due-move withdrawal withdrawn z = refl
+due-move withdrawal withdraw-acked z = absurd (omega arith)
+due-move withdrawal (given-back t) z = absurd (omega arith)
+due-move withdrawal (withdrawn-back t) z = absurd (omega arith)
+due-move release released z = refl
+due-move release returned z = absurd (omega arith)
+due-move release release-acked z = absurd (omega arith)
+due-move release taken z = absurd (omega arith)
+due-move release taken-again z = absurd (omega arith)
+due-move release taken-bare z = absurd (omega arith)
+due-move release (asked-back t) z = absurd (omega arith)
+due-move release (bare-withdrawn t) z = absurd (omega arith)
+due-move release bare-lost z = absurd (omega arith)
+
+pub due-step : (ls : List ℕ) → validOf ls ≡ true → (e : Event) (due : Due) (l : ℕ) → codeAt (step ls e) (sideOf due) l ≡ codeOf due
+    → (codeAt ls (sideOf due) l ≡ codeOf due) ⊎ (e ≡ Accepted (messageOf due) l)
+due-step ls v e due l z =
+    ⊎-elim
+    (λ (same : codeAt (step ls e) (sideOf due) l ≡ codeAt ls (sideOf due) l). inl (sym same ∙ z))
+    (λ (move : Moves e (sideOf due) l (codeAt ls (sideOf due) l) (codeAt (step ls e) (sideOf due) l)). inr (due-move due move z))
+    (every-move ls (valid-means ls v) e (sideOf due) l)
+
+-- ---- a connection ends, a message is received
+pub broken-owed : (ls : List ℕ) (q : List (List ℕ)) → validOf ls ≡ true → Owed ls q → Owed (sweptOf ls AfterBreak) q
+unfolding step
+broken-owed ls q v o due l z =
+    ⊎-elim
+    (λ (same : codeAt ls (sideOf due) l ≡ codeOf due). o due l same)
+    (λ (e : Broken ≡ Accepted (messageOf due) l). let no : _≡_ {A = ℕ} 0 1 = cc in absurd (omega arith))
+    (due-step ls v Broken due l z)
+
+pub received-owed : (ls : List ℕ) (q : List (List ℕ)) (p : Bool) (e : LabelEffect) → validOf ls ≡ true → Owed ls q → Owed (effectLabels ls p e) q
+unfolding step
+received-owed ls q p LabelEffect.Nothing v o = o
+received-owed ls q p (LabelEffect.Change m t) v o = λ due l z.
+    ⊎-elim
+    (λ (same : codeAt ls (sideOf due) l ≡ codeOf due). o due l same)
+    (λ (e : Received m p t ≡ Accepted (messageOf due) l). let no : _≡_ {A = ℕ} 0 1 = cc in absurd (omega arith))
+    (due-step ls v (Received m p t) due l z)
+
+-- ---- a message is accepted: it is the newest held
+accept-by : (ls : List ℕ) (q : List (List ℕ)) (m : List ℕ) → validOf ls ≡ true → Owed ls q → (message : LabelMessage) (label : ℕ)
+    → ((due : Due) → message ≡ messageOf due → bears (submissionOf m) (kindOf due) label ≡ true) → Owed (step ls (Accepted message label)) (q ++ (m ∷ []))
+accept-by ls q m v o message label is due l z =
+    ⊎-elim
+    (λ (same : codeAt ls (sideOf due) l ≡ codeOf due). held-more (kindOf due) l q (m ∷ []) (o due l same))
+    (λ (e : Accepted message label ≡ Accepted (messageOf due) l).
+    let same : message ≡ messageOf due = cc in
+    let at : label ≡ l = cc in
+    held-last (kindOf due) l q m (rw at at (is due same)))
+    (due-step ls v (Accepted message label) due l z)
+
+more-owed : (ls : List ℕ) (q : List (List ℕ)) (m : List ℕ) → Owed ls q → Owed ls (q ++ (m ∷ []))
+more-owed ls q m o due l z = held-more (kindOf due) l q (m ∷ []) (o due l z)
+
+-- a message that bears the kind of what is due
+bears-due : (kind : Kind) (label : ℕ) (due : Due) → kindNumber kind ≡ kindOf due → bears (Submission.Accepted kind label) (kindOf due) label ≡ true
+bears-due kind label due e = rw (eq-eqb (kindNumber kind) (kindOf due) e) (eq-eqb label label refl)
+
+wrong-due : {P : Type 0} (due : Due) → Mapping ≡ messageOf due → P
+wrong-due withdrawal e = let no : _≡_ {A = ℕ} 0 1 = cc in absurd (omega arith)
+wrong-due release e = let no : _≡_ {A = ℕ} 0 1 = cc in absurd (omega arith)
+
+withdraw-due : (due : Due) → Withdraw ≡ messageOf due → 2 ≡ kindOf due
+withdraw-due withdrawal e = refl
+withdraw-due release e = let no : _≡_ {A = ℕ} 0 1 = cc in absurd (omega arith)
+
+release-due : (due : Due) → Release ≡ messageOf due → 3 ≡ kindOf due
+release-due withdrawal e = let no : _≡_ {A = ℕ} 0 1 = cc in absurd (omega arith)
+release-due release e = refl
+
+pub accepted-owed : (ls : List ℕ) (q : List (List ℕ)) (m : List ℕ) → validOf ls ≡ true → Owed ls q → (j : Submission) → submissionOf m ≡ j → Owed (acceptedLabels ls j) (q ++ (m ∷ []))
+unfolding acceptedAs step
+accepted-owed ls q m v o Submission.Malformed e = more-owed ls q m o
+accepted-owed ls q m v o Submission.Refused e = more-owed ls q m o
+accepted-owed ls q m v o (Submission.Accepted Kind.Mapping label) e = accept-by ls q m v o Mapping label (λ due f. wrong-due due f)
+accepted-owed ls q m v o (Submission.Accepted Kind.Withdraw label) e = accept-by ls q m v o Withdraw label (λ due f. rw e (bears-due Kind.Withdraw label due (withdraw-due due f)))
+accepted-owed ls q m v o (Submission.Accepted Kind.Release label) e = accept-by ls q m v o Release label (λ due f. rw e (bears-due Kind.Release label due (release-due due f)))
+accepted-owed ls q m v o (Submission.Accepted Kind.Address label) e = more-owed ls q m o
+accepted-owed ls q m v o (Submission.Accepted Kind.AddressWithdraw label) e = more-owed ls q m o
+accepted-owed ls q m v o (Submission.Accepted Kind.ResourcesAvailable label) e = more-owed ls q m o
+accepted-owed ls q m v o (Submission.Accepted Kind.NoKind label) e = more-owed ls q m o

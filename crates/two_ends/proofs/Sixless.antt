@@ -1,0 +1,121 @@
+-- Between the two ends no label is used without protection: no word has code 6. Assumes nothing.
+use Prim.Native.Nat.{ℕ, zero, suc}
+use native.Mathlib.Omega.{arith}
+use mathlib.Core.Path.{_≡_, refl, sym, ap, _∙_}
+use mathlib.Core.Bool.{true, false}
+use mathlib.Core.List.{List}
+use mathlib.Core.Logic.{⊎-elim}
+use borrow.Author.Tests.{eqb-true}
+use lib.Dec.{eqb}
+use lib.ListN.{getD, replicate}
+use Rattle.octets.proofs.Choice.{by-test}
+use Rattle.message.specs.declared.Submission.{Submission}
+use Rattle.label_list.specs.Word.{wordCount, standsFor}
+use Rattle.label_list.specs.Valid.{validOf}
+use Rattle.label_list.specs.Sweep.{sweptOf}
+use Rattle.label_list.specs.Rules.{receivedSide}
+use Rattle.label_list.specs.Protection.{barsProtection, codeProtection}
+use Rattle.label_list.specs.declared.LabelMessage.{LabelMessage}
+use Rattle.label_list.specs.declared.LabelMessage.the-variants.{Mapping, Withdraw, Release}
+use Rattle.label_list.specs.declared.Protection.{Protection}
+use Rattle.label_list.specs.declared.Side.{Side}
+use Rattle.label_list.specs.declared.Side.the-variants.{Used}
+use Rattle.label_list.specs.declared.SweepRule.the-variants.{AfterBreak}
+use Rattle.label_list.specs.declared.Protection
+use Rattle.label_list.proofs.Standing.{free-stands}
+use Rattle.label_events.specs.Change.{codeAt}
+use Rattle.label_events.specs.Protect.{protectionOf}
+use Rattle.label_events.specs.declared.Touched.{Touched}
+use Rattle.label_events.specs.declared.Touched
+use Rattle.label_meaning.specs.Event.{Event, Accepted, Acked, Received, Broken, step, Moves, released, returned, release-acked, taken, taken-again, taken-bare, asked-back, bare-withdrawn, bare-lost}
+use Rattle.label_meaning.specs.View.{absent}
+use Rattle.label_meaning.proofs.Meaning.{valid-means}
+use Rattle.label_meaning.proofs.View.{is-code}
+use Rattle.label_meaning.proofs.Moved.{every-move}
+use Rattle.label_meaning.proofs.Step.{step-valid}
+use Rattle.protocol.specs.State.{noTable}
+use Rattle.protocol.specs.Labels.{effectProtection, effectLabels}
+use Rattle.protocol.specs.Submit.{acceptedLabels}
+use Rattle.protocol.specs.Acked.{releasedLabels}
+use Rattle.protocol.specs.declared.LabelEffect.{LabelEffect}
+use Rattle.protocol.specs.declared.LabelEffect
+use Rattle.protocol.proofs.Words.{none-valid, accepted-keeps, released-keeps}
+
+abbrev pub NoSix : List ℕ → Type 0
+NoSix ls = (l : ℕ) → codeAt ls Used l ≡ 6 → ⊥
+
+-- every event but a message received without protection
+abbrev Guarded : Event → Type 0
+Guarded (Accepted m l) = Unit {0}
+Guarded (Acked m l) = Unit {0}
+Guarded (Received m true t) = Unit {0}
+Guarded (Received m false t) = ⊥
+Guarded Broken = Unit {0}
+
+-- none of them leads to code 6
+moves-else : {e : Event} {k c d : ℕ} → Guarded e → Moves e Used k c d → d ≡ 6 → ⊥
+moves-else g released z = omega arith
+moves-else g returned z = omega arith
+moves-else g release-acked z = omega arith
+moves-else g taken z = omega arith
+moves-else g taken-again z = omega arith
+moves-else g taken-bare z = g
+moves-else g (asked-back t) z = omega arith
+moves-else g (bare-withdrawn t) z = omega arith
+moves-else g bare-lost z = omega arith
+
+step-sixless : (ls : List ℕ) → validOf ls ≡ true → NoSix ls → (e : Event) → Guarded e → NoSix (step ls e)
+step-sixless ls v n e g l six =
+    ⊎-elim
+    (λ (same : codeAt (step ls e) Used l ≡ codeAt ls Used l). n l (sym same ∙ six))
+    (λ (move : Moves e Used l (codeAt ls Used l) (codeAt (step ls e) Used l)). moves-else g move six)
+    (every-move ls (valid-means ls v) e Used l)
+
+-- ---- no labels
+zero-at : (n i : ℕ) → _≡_ {A = ℕ} (getD (replicate n 0) i 0) 0
+zero-at zero i = refl
+zero-at (suc n) zero = refl
+zero-at (suc n) (suc i) = zero-at n i
+
+pub none-code : (side : Side) (l : ℕ) → codeAt (noTable .words) side l ≡ 0
+none-code side l =
+    let free : (i : ℕ) → standsFor side l (getD (noTable .words) i 0) ≡ false = λ i. ap (standsFor side l) (zero-at wordCount i) ∙ free-stands side l in
+    is-code (noTable .words) side l (valid-means (noTable .words) none-valid) (absent free)
+
+pub none-sixless : NoSix (noTable .words)
+none-sixless l six = omega (arith, none-code Used l)
+
+-- ---- a connection ends
+pub broken-sixless : (ls : List ℕ) → validOf ls ≡ true → NoSix ls → NoSix (sweptOf ls AfterBreak)
+unfolding step
+broken-sixless ls v n = step-sixless ls v n Broken tt
+
+-- ---- a message is accepted
+pub accepted-sixless : (ls : List ℕ) → validOf ls ≡ true → NoSix ls → (j : Submission) → NoSix (acceptedLabels ls j)
+accepted-sixless ls v n j = accepted-keeps NoSix ls n (λ m l. step-sixless ls v n (Accepted m l) tt) j
+
+-- ---- messages are released
+pub released-sixless : (ms : List (List ℕ)) (ls : List ℕ) → validOf ls ≡ true → NoSix ls → NoSix (releasedLabels ms ls)
+released-sixless ms ls v n =
+    released-keeps (λ (ws : List ℕ). (validOf ws ≡ true) × NoSix ws)
+    (λ ws p m l. (step-valid ws (Acked m l) (p .0), step-sixless ws (p .0) (p .1) (Acked m l) tt)) ms ls (v, n) .1
+
+-- ---- a protected message is received
+pub received-sixless : (ls : List ℕ) (e : LabelEffect) → validOf ls ≡ true → NoSix ls → NoSix (effectLabels ls true e)
+unfolding step
+received-sixless ls LabelEffect.Nothing v n = n
+received-sixless ls (LabelEffect.Change m t) v n = step-sixless ls v n (Received m true t) tt
+
+-- then protection is not wrong
+bars-none : (m : LabelMessage) (ls : List ℕ) (l : ℕ) → NoSix ls → barsProtection m (codeAt ls (receivedSide m) l) ≡ false
+unfolding barsProtection receivedSide
+bars-none Mapping ls l n = by-test (eqb (codeAt ls Used l) 6) (λ t. absurd (n l (eqb-true (codeAt ls Used l) 6 t))) (λ f. f)
+bars-none Withdraw ls l n = by-test (eqb (codeAt ls Used l) 6) (λ t. absurd (n l (eqb-true (codeAt ls Used l) 6 t))) (λ f. f)
+bars-none Release ls l n = refl
+
+pub protected-right : (ls : List ℕ) (e : LabelEffect) → NoSix ls → effectProtection ls true e ≡ Protection.Right
+unfolding protectionOf codeProtection
+protected-right ls LabelEffect.Nothing n = refl
+protected-right ls (LabelEffect.Change m (Touched.Label l)) n = rw (bars-none m ls l n)
+protected-right ls (LabelEffect.Change m Touched.Every) n = refl
+protected-right ls (LabelEffect.Change m Touched.Nothing) n = refl
