@@ -3,7 +3,7 @@ use Prim.Native.Nat.{ℕ}
 use native.Mathlib.Omega.{arith}
 use mathlib.Core.Path.{_≡_, refl}
 use mathlib.Core.Bool.{Bool, true, false, true≢false}
-use mathlib.Core.List.{List, _∷_, map}
+use mathlib.Core.List.{List, _∷_, map, []}
 use mathlib.Core.Logic.{inl}
 use Rattle.ft_number.specs.declared.MessageId.{MessageId}
 use Rattle.tlv.specs.declared.FtField.{FtField}
@@ -12,8 +12,11 @@ use Rattle.protocol.specs.declared.Start.{Start}
 use Rattle.protocol.specs.declared.Terms.{Terms}
 use Rattle.protocol.specs.Init.{fresh, initStart, initReceived}
 use Rattle.protocol.specs.State.{State}
-use Rattle.protocol.specs.Phases.{upWith, waitingFor}
+use Rattle.protocol.specs.Phases.{upWith, waitingFor, waiting}
+use Rattle.protocol.specs.declared.Answer.{Answer}
+use Rattle.protocol.specs.Step.{stepped}
 use Rattle.protocol.specs.declared.Start
+use Rattle.protocol.specs.declared.Answer
 use Rattle.two_ends.specs.World.{History, End, none}
 use Rattle.two_ends.specs.Calls.{greeted}
 use Rattle.two_ends.proofs.Packets.{Packet, first, bytesOf, Fine}
@@ -36,8 +39,11 @@ module _ (now : State) (t : ℕ) (h : History) (id : MessageId) (p : OwnParamete
   abbrev ts : Terms
   ts = terms now t id p seconds
 
-  fresh-start : Fine (first id p seconds ack) → Leads (now .kept) ack → initStart now (waitingFor t) m₁ ≡ Start.Fresh ts
+  pub fresh-start : Fine (first id p seconds ack) → Leads (now .kept) ack → initStart now (waitingFor t) m₁ ≡ Start.Fresh ts
   fresh-start f l = starts-fresh now t id p seconds ack f l
+
+  pub first-begins : Fine (first id p seconds ack) → Leads (now .kept) ack → initReceived now (waitingFor t) m₁ ≡ stepped Answer.Done (fresh ts) (upWith 0) []
+  first-begins f l = let e = fresh-start f l in begins now t m₁ (fresh ts) (rw e) (rw e) (rw e)
 
   module _ {b : End} {ab ba : List (List ℕ)} {pa qs : List Packet} where
     pub greet-first : Inv (ended now (waitingFor t) true false h) b ab ba pa (first id p seconds ack ∷ qs) → Leads (now .kept) ack
@@ -45,7 +51,7 @@ module _ (now : State) (t : ℕ) (h : History) (id : MessageId) (p : OwnParamete
     unfolding fresh
     greet-first i l =
         let e = fresh-start (i .back .fines .0) l in
-        let d = begins now t m₁ (fresh ts) (rw e) (rw e) (rw e) in
+        let d = first-begins (i .back .fines .0) l in
         let nothing : h ≡ none = i .own .waiting refl .nothing in
         let own : Ready (ended (fresh ts) (upWith 0) true true h) = record {
           few = omega arith;

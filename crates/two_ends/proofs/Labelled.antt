@@ -1,158 +1,109 @@
 -- Every event leaves the labels of both ends in order. Assumes nothing.
-use Prim.Native.Nat.{ℕ, _≤_}
+use Prim.Native.Nat.{ℕ}
 use mathlib.Core.Path.{_≡_, refl, sym}
 use mathlib.Core.List.{_++_, List, [], _∷_}
-use mathlib.Core.Bool.{Bool, false, true, true≢false}
-use lib.Dec.{ltb}
-use lib.ListN.{length, take}
-use Rattle.octets.specs.Pick.{pick}
-use Rattle.octets.proofs.Choice.{pick-all}
-use Rattle.ft_number.specs.declared.MessageId.{MessageId}
-use Rattle.ft_number.specs.declared.Proposal.{Proposal}
-use Rattle.ft_number.specs.Timeout.{proposedOf}
-use Rattle.ft_number.specs.declared.Ack.{Ack}
-use Rattle.ft_number.specs.declared.Ack
-use Rattle.message.specs.declared.Message.{Message}
-use Rattle.message.specs.declared.Reading.{Reading}
-use Rattle.message.specs.Reading.{readingOf}
-use Rattle.message.specs.declared.Reading
-use Rattle.message_writer.specs.declared.OwnParameters.{OwnParameters}
-use Rattle.protocol.specs.declared.Answer.{Answer}
+use mathlib.Core.Bool.{Bool, false, true}
+use Rattle.octets.specs.Pick.{pick, both}
+use Rattle.octets.proofs.Choice.{both-true}
 use Rattle.protocol.specs.declared.Phase.{Phase}
-use Rattle.protocol.specs.State.{State, withIssued}
-use Rattle.protocol.specs.Step.{Step, settle, stepped, admitted}
-use Rattle.protocol.specs.KeepAlive.{aliveBytes, keepalive}
+use Rattle.protocol.specs.State.{State, releasedState}
+use Rattle.protocol.specs.Step.{Step}
+use Rattle.protocol.specs.KeepAlive.{keepalive}
 use Rattle.protocol.specs.ConnectionFailed.{connectionFailed}
-use Rattle.protocol.specs.TimePassed.{expired, timePassed}
-use Rattle.protocol.specs.Answers.{isDone}
-use Rattle.protocol.specs.Phases.{isUp, issuedCount, mayOpen, sentOf, waitingFor, upWith}
-use Rattle.protocol.specs.Send.{numbered, numberAt, sendNext, sentState}
-use Rattle.protocol.specs.Open.{openBytes, openSession}
+use Rattle.protocol.specs.TimePassed.{timePassed}
+use Rattle.protocol.specs.Send.{sendNext}
+use Rattle.protocol.specs.Open.{openSession}
 use Rattle.protocol.specs.Submit.{submit}
-use Rattle.protocol.specs.Writer.{writer}
-use Rattle.protocol.specs.Acked.{ackBorne, acked}
-use Rattle.protocol.specs.Receive.{taken, ackOn, ftRule, receive, receivedPhase, receivedState}
-use Rattle.protocol.specs.declared.Answer
-use Rattle.protocol.proofs.Answered.{settle-cases, settle-leaves}
-use Rattle.protocol.proofs.Settling.{admitted-done}
-use Rattle.protocol.proofs.Effects.{done-is}
-use Rattle.two_ends.specs.World.{End, History, Lasts, World, none}
-use Rattle.two_ends.specs.Calls.{accepts, letGo, securing, takes}
-use Rattle.two_ends.proofs.Invariant.{sideOf, Inv}
-use Rattle.two_ends.proofs.Labels.{Labels, labels-broken, labels-same, labels-submitted, labels-acked, labels-taken}
-use Rattle.two_ends.proofs.Packets.{NoInit, Packet, again, alive, bytesOf, carried, first}
-use Rattle.two_ends.proofs.Arriving.{alive-read, carried-read, g₁, g₂, plain, f, secures}
-use Rattle.two_ends.proofs.Takes.{arrives}
-use Rattle.two_ends.proofs.Getting.{carried-says}
-use Rattle.two_ends.proofs.Worlds.{ended}
-use Rattle.two_ends.proofs.Freeing.{half-ack}
-use Rattle.two_ends.proofs.Judging.{has-room}
-use Rattle.two_ends.proofs.Receiving.{judged}
-use Rattle.two_ends.proofs.Delivering.{let-go}
-
-never : {P : Type 0} → false ≡ true → P
-never e = absurd (true≢false (sym e))
-
--- the two ends of a world; an end that has not come to its fresh UpFT counts as released
-abbrev pub Labelled : End → End → Type 0
-Labelled a b = Labels (sideOf a .state) (a .history) (sideOf b .state) (b .history)
+use Rattle.protocol.specs.Begin.{restore}
+use Rattle.two_ends.specs.World.{History, Lasts, World, none, swap}
+use Rattle.two_ends.specs.Calls.{accepts, broken, called, counts, keeps}
+use Rattle.two_ends.specs.Start.{Afresh, Fit, Opener, start}
+use Rattle.two_ends.specs.Runs.{AllProper, Event, act, breaks, delivers, keepalives, notices, opens, passes, restarts, run, sends, step, submits}
+use Rattle.two_ends.proofs.Invariant.{sideOf, Good}
+use Rattle.two_ends.proofs.Labels.{Labels, labels-broken, labels-none, labels-swap}
+use Rattle.two_ends.proofs.Arriving.{f}
+use Rattle.two_ends.proofs.Worlds.{at-swap, next}
+use Rattle.two_ends.proofs.Oldest.{by-oldest}
+use Rattle.two_ends.proofs.Begun.{at-start}
+use Rattle.two_ends.proofs.Theorem.{at-step, safe}
+use Rattle.two_ends.proofs.Acts.{by-delivery, by-open, by-plain, by-submit, by-write, lasted}
+use Rattle.two_ends.proofs.Hearing.{Heard, Labelled, hears}
+use Rattle.two_ends.proofs.Leaving.{alive-leaves, notice-leaves, open-leaves, send-leaves, submit-leaves, time-leaves}
 
 abbrev pub Lists : World → Type 0
 Lists w = Lasts w → Labelled (w .a) (w .b)
 
--- ---- a call at an end that has begun: what it leaves, as long as the state is kept
-module _ (now : State) (ph : Phase) (h : History) {t : State} {k : History} (l : Labels now h t k) where
-  abbrev Leaves : State → Type 0
-  Leaves s = s .kept ≡ true → Labels s h t k
+-- ---- every event
+broken-lists : (v : World) → Lists v → Lists (broken v)
+broken-lists v l k = l (both-true (v .started) (both (v .a .begun) (v .b .begun)) (k .0) .0, k .1)
 
-  settled : (a : Answer) (d : Step) → (isDone a ≡ true → Leaves (d .state)) → Leaves (settle a now ph d .state)
-  settled a d does = settle-leaves Leaves a now ph d (λ e. l) (λ e. labels-broken l) never does
+module _ (w : World) (g : Good w) (l : Lists w) where
+  abbrev now : State
+  now = w .a .state
 
-  written : (may : Bool) (next : Phase) (bytes : List ℕ) (room : ℕ) → Leaves (writer now ph may next bytes room .state)
-  unfolding writer
-  written may next bytes room = settled _ _ (λ d e. l)
-
-  alive-leaves : (id : MessageId) (room : ℕ) → Leaves (keepalive now ph id room .state)
-  unfolding keepalive
-  alive-leaves id room = written (isUp ph) ph (aliveBytes now ph id) room
-
-  open-leaves : (id : MessageId) (p : OwnParameters) (q : Proposal) (room : ℕ) → Leaves (openSession now ph id p q room .state)
-  unfolding openSession
-  open-leaves id p q room = written (mayOpen ph) (waitingFor (proposedOf q)) (openBytes now id p q) room
-
-  send-leaves : (ask : Bool) (room : ℕ) → Leaves (sendNext now ph ask room .state)
-  unfolding sendNext sentState numbered
-  send-leaves ask room = settled _ _ (λ d. pick-all Leaves (ltb (sentOf ph) (issuedCount now)) (λ e. l) (λ e. labels-same l (withIssued now (numberAt now (sentOf ph))) refl refl))
-
-  notice-leaves : Leaves (connectionFailed now ph .state)
-  unfolding connectionFailed
-  notice-leaves = settled _ _ (λ d e. labels-broken l)
-
-  time-leaves : (elapsed : ℕ) → Leaves (timePassed now ph elapsed .state)
-  unfolding timePassed
-  time-leaves elapsed = settled _ _ (λ d. pick-all (λ (x : Step). Leaves (x .state)) (expired now elapsed) never (λ e. l))
-
-  -- ---- a call that counts in the history where it is done
-  abbrev Counts : (Step → History) → Step → Type 0
-  Counts f x = x .state .kept ≡ true → Labels (x .state) (pick (isDone (x .answer)) (f x) h) t k
-
-  counted : (f : Step → History) (a : Answer) (d : Step) → (isDone a ≡ true → Counts f d) → Counts f (settle a now ph d)
-  counted f a d does = settle-cases (Counts f) a now ph d (λ n e. rw n l) (λ n e. rw n (labels-broken l)) (λ n r e. never e) does
-
-  submit-leaves : (m : List ℕ) (o : List (List ℕ)) → h .accepted ≡ k .secured ++ o → Counts (λ x. accepts m h) (submit now ph m)
-  unfolding submit
-  submit-leaves m o e = counted (λ x. accepts m h) _ _ (λ d kept. labels-submitted l m o e)
-
--- ---- a message is delivered in UpFT
-module _ (now : State) (sent : ℕ) (h : History) {t : State} {k : History} (l : Labels now h t k) where
   abbrev ph : Phase
-  ph = upWith sent
+  ph = w .a .phase
 
-  -- the history after the message m
-  abbrev heard : List ℕ → Step → History
-  heard m x = takes (letGo now x) (securing m) h
+  abbrev h : History
+  h = w .a .history
 
-  abbrev Takes : List ℕ → Type 0
-  Takes m = Counts now ph h l (heard m) (receive now ph m)
+  -- with the peer as it is
+  abbrev By : State → History → Type 0
+  By s k = Labels s k (sideOf (w .b) .state) (w .b .history)
 
-  abbrev does : Message → Step
-  does g = stepped Answer.Done (receivedState now g) (receivedPhase now sent g) []
+  -- an end that has begun has what the call leaves; one that has not counts as released
+  call-lists : (x : Step) (k : History) → (w .a .begun ≡ false → k ≡ h) → (Lasts w → w .a .begun ≡ true → By now h → x .state .kept ≡ true → By (x .state) k)
+      → Lists (next w (called (w .a) x k) (w .ab) (w .ba))
+  call-lists x k none does lasts = by (w .a .begun) refl
+    where
+      kept : Lasts w × (keeps (called (w .a) x k) ≡ true)
+      kept = let p = both-true (w .unreleased) (keeps (called (w .a) x k)) (lasts .1) in ((lasts .0, p .0), p .1)
 
-  -- one that is taken: its ACK lets the oldest j go
-  module _ (m : List ℕ) (g : Message) (read : readingOf m ≡ Reading.Whole g) (j : ℕ) (acks : ackOn now g ≡ Ack.Releases j) (few : j ≤ length (now .queue))
-      (got : List (List ℕ)) (secures : securing m ≡ got) where
-    is : receive now ph m ≡ settle (admitted now ph (ftRule now g)) now ph (does g)
-    unfolding receive
-    is = rw read
+      by : (b : Bool) → w .a .begun ≡ b → By (pick b (x .state) releasedState) k
+      by true e = does (kept .0) e (rw e at (l (kept .0))) (rw e at (kept .1))
+      by false e = rw (none e) (rw e at (l (kept .0)))
 
-    gone : letGo now (does g) ≡ take j (now .queue)
-    unfolding receivedState taken acked
-    gone = let-go now (does g) j few (rw acks)
+  plain-lists : (x : Step) → (By now h → x .state .kept ≡ true → By (x .state) h) → Lists (next w (called (w .a) x h) (w .ab) (w .ba))
+  plain-lists x does = call-lists x h (λ e. refl) (λ lasts e m. does m)
 
-    taking : (ftRule now g ≡ Answer.Done → Labels (receivedState now g) (takes (take j (now .queue)) got h) t k) → Takes m
-    taking right =
-        rw is
-        (counted now ph h l (heard m) (admitted now ph (ftRule now g)) (does g) (λ t kept.
-        rw (gone, secures) (right (done-is (ftRule now g) (admitted-done now ph (ftRule now g) t)))))
+  -- what the peer has not secured of what was accepted
+  unsecured : Lasts w → (o : List (List ℕ)) × (h .accepted ≡ w .b .history .secured ++ o)
+  unsecured k =
+      let i = g k .2 in
+      let s = safe (i .own) (i .out) .in-order in
+      (s .rest, sym (s .whole))
 
-module _ (now : State) (sent : ℕ) (h : History) (b : End) {ab ba : List (List ℕ)} {pa qs : List Packet} (l : Labels now h (sideOf b .state) (b .history)) where
-  message-leaves : (q : Packet) → NoInit (q ∷ qs) → Inv (ended now (upWith sent) true true h) b ab ba pa (q ∷ qs) → Takes now sent h l (bytesOf q)
-  unfolding receivedState taken ackOn acked
-  message-leaves (first id p seconds ack) none i = absurd none
-  message-leaves (again id p seconds a) none i = absurd none
-  message-leaves (alive id n) none i =
-      let free = half-ack (i .out .half) in
-      let acks = free .1 .right in
-      let g = g₁ now sent h id n in
-      let read = alive-read now sent h id n i in
-      taking now sent h l (bytesOf (alive id n)) g read (free .0) acks (free .1 .few) [] (rw read)
-      (λ e. labels-same (labels-acked l (free .0) (n .0)) (receivedState now g) (rw (acks, plain now sent h id n (free .0) acks .effect)) (rw acks))
-  message-leaves (carried m n ack) none i =
-      let free = arrives now h sent (sideOf b) pa qs m n ack (i .out .half) in
-      let acks = free .1 .right in
-      let g = g₂ now sent h m n ack i in
-      let read = carried-read now sent h m n ack i in
-      let stored = f now sent h m n ack i .0 .storable in
-      taking now sent h l (bytesOf (carried m n ack)) g read (free .0) acks (free .1 .few) (m ∷ []) (secures now sent h m n ack i)
-      (λ e. rw acks (labels-taken l g refl m (stored .kind) (stored .label) (stored .accepted) (carried-says now sent h m n ack i) (free .0) (ackBorne now ack)
-      (has-room (free .0) acks (rw e at (judged now sent (bytesOf (carried m n ack)) g read)))))
+  pub act-lists : (v : Event) → Lists (act w v)
+  act-lists (submits m) =
+      let x = submit now ph m in
+      by-submit Lists broken-lists w m x
+      (call-lists x (counts (w .a) x (accepts m h)) (λ e. rw e)
+      (λ lasts e m′ kept. rw e (let o = unsecured lasts in submit-leaves now ph h m′ m (o .0) (o .1) kept)))
+  act-lists (sends ask room) = let x = sendNext now ph ask room in by-write Lists broken-lists w x (plain-lists x (λ m. send-leaves now ph h m ask room))
+  act-lists (keepalives id room) = let x = keepalive now ph id room in by-write Lists broken-lists w x (plain-lists x (λ m. alive-leaves now ph h m id room))
+  act-lists (opens id p t room) =
+      let leaves = plain-lists (openSession now ph id p t room) (λ m. open-leaves now ph h m id p t room) in
+      by-open Lists broken-lists w (openSession now ph id p t room) leaves leaves
+  act-lists (passes elapsed) = let x = timePassed now ph elapsed in by-plain Lists broken-lists w x (plain-lists x (λ m. time-leaves now ph h m elapsed))
+  act-lists delivers =
+      by-delivery Lists broken-lists w l (λ m rest on line lasts.
+      let k = lasted w m rest lasts in
+      by-oldest (Heard (w .b) (w .ab)) (w .b) (w .ab) (hears (w .b) (w .ab)) (w .a) m rest on (rw line at (g (k .0))) (l (k .0)) (k .1))
+  act-lists breaks = broken-lists w l
+  act-lists notices = let x = connectionFailed now ph in by-plain Lists broken-lists w x (plain-lists x (λ m. notice-leaves now ph h m))
+  act-lists restarts = let x = restore now in by-plain Lists broken-lists w x (plain-lists x (λ m kept. labels-broken m))
+
+-- ---- over a run
+swap-lists : (w : World) → Lists w → Lists (swap w)
+swap-lists w l k = labels-swap (l k)
+
+step-lists : (w : World) (at : Bool) (v : Event) → Good w → Lists w → Lists (step w at v)
+step-lists w true v g l = act-lists w g l v
+step-lists w false v g l = swap-lists (act (swap w) v) (act-lists (swap w) (at-swap w g) (swap-lists w l) v)
+
+run-lists : (w : World) (vs : List (Bool × Event)) → AllProper vs → Good w → Lists w → Lists (run w vs)
+run-lists w [] p g l = l
+run-lists w (v ∷ vs) p g l = run-lists (step w (v .0) (v .1)) vs (p .1) (at-step w (v .0) (v .1) (p .0) g) (step-lists w (v .0) (v .1) g l)
+
+pub lists : (x y : Opener) → Fit x → Fit y → Afresh x y → (vs : List (Bool × Event)) → AllProper vs → Lists (run (start x y) vs)
+lists x y fx fy f vs p = run-lists (start x y) vs p (at-start x y fx fy f) (λ k. labels-none)

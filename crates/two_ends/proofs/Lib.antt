@@ -49,4 +49,6 @@ pub mod Acking
 pub mod Getting
 pub mod Sharing
 pub mod Labels
+pub mod Leaving
+pub mod Hearing
 pub mod Labelled

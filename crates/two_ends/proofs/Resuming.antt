@@ -15,9 +15,9 @@ use Rattle.protocol.specs.declared.Start.{Start}
 use Rattle.protocol.specs.declared.Terms.{Terms}
 use Rattle.protocol.specs.State.{State}
 use Rattle.protocol.specs.Step.{Step, stepped}
-use Rattle.protocol.specs.Init.{resumed, initStart}
+use Rattle.protocol.specs.Init.{resumed, initStart, initReceived}
 use Rattle.protocol.specs.Acked.{acked}
-use Rattle.protocol.specs.Phases.{upWith, waitingFor}
+use Rattle.protocol.specs.Phases.{upWith, waitingFor, waiting}
 use Rattle.protocol.specs.declared.Answer
 use Rattle.protocol.specs.declared.Phase
 use Rattle.protocol.specs.declared.Start
@@ -50,12 +50,15 @@ module _ (now : State) (t : ℕ) (h : History) (id : MessageId) (p : OwnParamete
         let free = half-init (i .out .half) in
         (free .0, free .1, starts-again now t id p seconds a (free .0) (i .back .fines .0) (kept-one (i .own)) (free .1 .right))
 
+    pub again-begins : (j : ℕ) → initStart now (waitingFor t) m₂ ≡ Start.Resumed ts j a → initReceived now (waitingFor t) m₂ ≡ stepped Answer.Done (resumed now ts j (a .0)) (upWith 0) []
+    again-begins j e = begins now t m₂ (resumed now ts j (a .0)) (rw e) (rw e) (rw e)
+
     resumes : (j : ℕ) → Freed (sndOf now h) 0 (rcvOf (sideOf b .state) (b .history)) (datas pa) (acksOf qs) (a .0) j → initStart now (waitingFor t) m₂ ≡ Start.Resumed ts j a
         → Settled (greetedBy now t true h (again id p seconds a)) b ab (map bytesOf qs)
     unfolding resumed acked
     resumes j free e =
         let s : State = resumed now ts j (a .0) in
-        let d = begins now t m₂ s (rw e) (rw e) (rw e) in
+        let d = again-begins j e in
         let gone = let-go now (stepped Answer.Done s (upWith 0) []) j (free .few) refl in
         let own : Ready (ended s (upWith 0) true true (takes (take j (now .queue)) [] h)) = record {
           few = omega (arith, length-drop j (now .queue), i .own .few);
