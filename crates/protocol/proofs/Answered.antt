@@ -1,10 +1,11 @@
 -- A call answers what its rule says, and what its answer may leave. Assumes nothing.
-use Prim.Native.Nat.{ℕ}
+use Prim.Native.Nat.{ℕ, _≤_}
 use mathlib.Core.Path.{_≡_, refl, sym, _∙_}
 use mathlib.Core.List.{List, []}
 use mathlib.Core.Bool.{false, true}
 use lib.Dec.{eqb, ltb}
-use Rattle.octets.proofs.Choice.{by-test, pick-all, no}
+use borrow.Author.Tests.{ltb-false}
+use Rattle.octets.proofs.Choice.{by-test, pick-all, no, cleared}
 use Rattle.message.specs.Reading.{readingOf}
 use Rattle.message.specs.declared.Reading.{Reading}
 use Rattle.message.specs.declared.Reading
@@ -35,6 +36,15 @@ acts-done a e = by-test (isDone a) (λ t. t) (λ n. no (other-acts (answerNumber
 done-acts : (a : Answer) → isDone a ≡ true → effectOf a ≡ Effect.Act
 unfolding effectOf
 done-acts a t = rw t
+
+-- only 30 and above release
+pub release-from : (a : Answer) → effectOf a ≡ Effect.Release → 30 ≤ answerNumber a
+unfolding effectOf
+release-from a e =
+    let n = answerNumber a in
+    let one = cleared (eqb n 0) Effect.Act _ Effect.Release (λ q. cc) e in
+    let two = cleared (ltb n 20) Effect.Nothing _ Effect.Release (λ q. cc) (one .1) in
+    ltb-false n 30 (cleared (ltb n 30) Effect.Fail Effect.Release Effect.Release (λ q. cc) (two .1) .0)
 
 -- ---- what is settled, case by case: an answer that is not Done leaves one of three, and Done what the call does
 pub settle-cases : (P : Step → Type 0) (a : Answer) (s : State) (ph : Phase) (d : Step) → (isDone a ≡ false → P (unchanged a s ph))

@@ -2,6 +2,7 @@
 pub mod Effects
 pub mod Settling
 pub mod Answered
+pub mod Refusals
 -- Submit: when it is done, and that its last test is the room
 pub mod Submits
 pub mod Passing
@@ -9,4 +10,5 @@ pub mod Passing
 pub mod Cases
 -- whatever the call, and whatever it makes of the label words
 pub mod Few
+pub mod Moves
 pub mod Words
