@@ -4,18 +4,19 @@ use mathlib.Core.Path.{_≡_, refl, sym}
 use mathlib.Core.Bool.{Bool, true, false, true≢false, not}
 use mathlib.Core.List.{List}
 use Rattle.octets.specs.Pick.{pick}
-use Rattle.octets.proofs.Choice.{by-test, pick-all}
+use Rattle.octets.proofs.Choice.{by-test}
 use Rattle.protocol.specs.declared.Answer.{Answer}
 use Rattle.protocol.specs.declared.Phase.{Phase}
 use Rattle.protocol.specs.Phases.{connected, waiting}
-use Rattle.protocol.specs.Answers.{effectOf, isDone}
+use Rattle.protocol.specs.Answers.{isDone}
 use Rattle.protocol.specs.Step.{Step, failedWith, releasedWith, admitted, unchanged}
 use Rattle.protocol.specs.ConnectionFailed.{connectionFailed}
 use Rattle.protocol.specs.TimePassed.{expired, timePassed}
 use Rattle.protocol.specs.State.{releasedState, State}
 use Rattle.protocol.specs.declared.Answer
 use Rattle.protocol.specs.declared.Phase
-use Rattle.protocol.proofs.Settling.{Harmless, done-harmless, settle-does, admitted-done}
+use Rattle.protocol.proofs.Settling.{done-harmless, settle-does, admitted-done}
+use Rattle.protocol.proofs.Refusals.{may-harmless}
 use Rattle.two_ends.specs.World.{History, End, World}
 use Rattle.two_ends.specs.Calls.{keeps, called, plainly}
 use Rattle.two_ends.proofs.Invariant.{Waiting, Some, Good}
@@ -34,10 +35,6 @@ released-ends ph jo true h g k = absurd (true≢false (sym k))
 released-ends ph jo false h g k = absurd (true≢false (sym g))
 
 -- ---- the connection is noticed to have failed; in a phase without one nothing changes
-may-harmless : (b : Bool) → Harmless (pick (not b) Answer.WrongPhase Answer.Done)
-unfolding effectOf
-may-harmless b = pick-all Harmless (not b) (λ n. refl) done-harmless
-
 module _ (w : World) (g : Good w) where
   pub at-notices : Good (plainly w (connectionFailed (w .a .state) (w .a .phase)))
   unfolding connectionFailed
@@ -48,7 +45,7 @@ module _ (w : World) (g : Good w) where
       at-plain w (connectionFailed now ph) g (λ s k.
       by-test (isDone a)
       (λ t. rw (settle-does a now ph (failedWith Answer.Done now) t) (failing now ph (w .a .joined) (w .a .begun) (w .a .history) s))
-      (λ n. quietly (w .a) (connectionFailed now ph) (refused-quiet _ now ph (failedWith Answer.Done now) (may-harmless (connected ph)) n) s))
+      (λ n. quietly (w .a) (connectionFailed now ph) (refused-quiet _ now ph (failedWith Answer.Done now) (may-harmless (connected ph) Answer.Done done-harmless) n) s))
 
   -- ---- a restart
   pub at-restarts : Good (plainly w (failedWith Answer.Done (w .a .state)))
@@ -84,7 +81,7 @@ module _ (now : State) (jo bg : Bool) (h : History) (elapsed : ℕ) (b : End) (a
       (λ t.
       let e = settle-does (admitted now ph (rule ph)) now ph (does ph) t in
       rw e (acts ph (begun-there ph (admitted-done now ph (rule ph) t) s) (expired now elapsed) s (rw e at k)))
-      (λ n. quietly (ended now ph jo bg h) (timePassed now ph elapsed) (refused-quiet (rule ph) now ph (does ph) (may-harmless (waiting ph)) n) s)
+      (λ n. quietly (ended now ph jo bg h) (timePassed now ph elapsed) (refused-quiet (rule ph) now ph (does ph) (may-harmless (waiting ph) Answer.Done done-harmless) n) s)
 
 pub at-passes : (w : World) (elapsed : ℕ) → Good w → Good (plainly w (timePassed (w .a .state) (w .a .phase) elapsed))
 at-passes w elapsed g =

@@ -15,10 +15,11 @@ use Rattle.protocol.specs.Answers.{isDone}
 use Rattle.protocol.specs.State.{State, held}
 use Rattle.protocol.specs.Send.{nextMessage, numberAt, ackAsked, sendBytes, sendRule, sentState, sendNext}
 use Rattle.protocol.specs.Step.{stepped, Step, roomFor, admitted}
-use Rattle.protocol.specs.Phases.{upWith, sentOf}
+use Rattle.protocol.specs.Phases.{upWith, sentOf, waiting}
 use Rattle.protocol.specs.declared.Answer
 use Rattle.protocol.specs.declared.Phase
 use Rattle.protocol.proofs.Settling.{settle-does, admitted-done}
+use Rattle.protocol.proofs.Refusals.{send-harmless}
 use Rattle.two_ends.specs.World.{History, End, World}
 use Rattle.two_ends.specs.Calls.{called, put, wrote as writes}
 use Rattle.two_ends.proofs.Direction.{half-secured, half-place}
@@ -27,7 +28,7 @@ use Rattle.two_ends.proofs.Invariant.{Ready, Some, Good}
 use Rattle.two_ends.proofs.Sends.{sent-queue, sent-kept, dir-send, dir-send-lost, dir-send-peer, dir-send-lost-peer}
 use Rattle.two_ends.proofs.Worlds.{ended, ready-open, at-replaced, Settled}
 use Rattle.two_ends.proofs.Quiet.{quietly-puts, refused-quiet}
-use Rattle.two_ends.proofs.Sent.{send-harmless, Sendable, sendable, okay-at, ack-fits}
+use Rattle.two_ends.proofs.Sent.{Sendable, sendable, okay-at, ack-fits}
 use Rattle.two_ends.proofs.Writing.{line-more}
 
 -- ---- the answer is Done

@@ -5,34 +5,20 @@ use mathlib.Core.Path.{_≡_, refl}
 use mathlib.Core.Bool.{Bool, true, false, not}
 use mathlib.Core.List.{List, [], _∷_}
 use borrow.Author.Tests.{leb-false}
-use lib.Dec.{ltb, leb}
-use lib.ListN.{length, drop}
+use lib.Dec.{leb}
+use lib.ListN.{drop}
 use Rattle.octets.specs.Pick.{pick}
 use Rattle.message_writer.specs.ReadBack.{AckFits}
 use Rattle.protocol.specs.declared.Answer.{Answer}
 use Rattle.protocol.specs.declared.Phase.{Phase}
 use Rattle.protocol.specs.Phases.{isUpFT, sentOf}
-use Rattle.protocol.specs.Answers.{effectOf, isDone}
+use Rattle.protocol.specs.Answers.{isDone}
 use Rattle.protocol.specs.Send.{ackAsked, sendRule}
 use Rattle.protocol.specs.State.{State, held}
-use Rattle.protocol.specs.Step.{roomFor}
 use Rattle.protocol.specs.declared.Answer
-use Rattle.protocol.proofs.Settling.{Harmless, done-harmless}
 use Rattle.two_ends.proofs.Packets.{Okay, Okays}
 
--- ---- an answer that is not Done changes nothing
-rule-harmless : (u l c : Bool) → Harmless (pick (not u) Answer.WrongPhase (pick l Answer.NothingUnsent (pick c Answer.OutputTooShort Answer.Done)))
-unfolding effectOf
-rule-harmless true true c = λ n. refl
-rule-harmless true false true = λ n. refl
-rule-harmless true false false = done-harmless
-rule-harmless false l c = λ n. refl
-
-pub send-harmless : (now : State) (ph : Phase) (bytes : List ℕ) (room : ℕ) → Harmless (sendRule now ph (roomFor bytes room))
-unfolding sendRule
-send-harmless now ph bytes room = rule-harmless (isUpFT ph) (leb (held now) (sentOf ph)) (ltb room (length bytes))
-
--- ---- one that is tells that a message is unsent
+-- ---- an answer that is Done tells that a message is unsent
 rule-done : (u l : Bool) (a : Answer) → isDone (pick (not u) Answer.WrongPhase (pick l Answer.NothingUnsent a)) ≡ true → (u ≡ true) × (l ≡ false)
 rule-done true false a t = (refl, refl)
 rule-done true true a t = let z : _≡_ {A = ℕ} 0 1 = cc in absurd (omega arith)

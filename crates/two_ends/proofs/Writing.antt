@@ -5,22 +5,21 @@ use mathlib.Core.Path.{_≡_, refl, sym, ap, _∙_}
 use mathlib.Core.Bool.{Bool, true, false, true≢false, not}
 use mathlib.Core.List.{List, [], _∷_, _++_, map}
 use mathlib.Core.Logic.{_⊎_, inl, inr, ⊎-elim}
-use lib.Dec.{ltb}
-use lib.ListN.{length}
 use Rattle.octets.specs.Pick.{pick}
 use Rattle.octets.proofs.Choice.{by-test}
 use Rattle.ft_number.specs.declared.MessageId.{MessageId}
 use Rattle.protocol.specs.declared.Answer.{Answer}
 use Rattle.protocol.specs.declared.Phase.{Phase}
 use Rattle.protocol.specs.Phases.{isUp}
-use Rattle.protocol.specs.Answers.{effectOf, isDone}
+use Rattle.protocol.specs.Answers.{isDone}
 use Rattle.protocol.specs.Step.{Step, stepped, roomFor, admitted}
 use Rattle.protocol.specs.Writer.{writer}
 use Rattle.protocol.specs.KeepAlive.{aliveBytes, keepalive}
 use Rattle.protocol.specs.State.{State}
 use Rattle.protocol.specs.declared.Answer
 use Rattle.protocol.specs.declared.Phase
-use Rattle.protocol.proofs.Settling.{Harmless, done-harmless, admitted-done, settle-does}
+use Rattle.protocol.proofs.Settling.{admitted-done, settle-does}
+use Rattle.protocol.proofs.Refusals.{may-harmless, room-harmless}
 use Rattle.two_ends.specs.World.{History, End, World}
 use Rattle.two_ends.specs.Calls.{called, put, wrote as writes}
 use Rattle.two_ends.proofs.Packets.{Packet, alive, Fine, bytesOf}
@@ -31,12 +30,6 @@ use Rattle.two_ends.proofs.Worlds.{ended, ready-open, at-replaced, Sett
 use Rattle.two_ends.proofs.Quiet.{Quiet, quietly-puts, refused-quiet}
 
 -- ---- what a writer answers: it writes where it may and has room, or changes nothing
-may-harmless : (b c : Bool) → Harmless (pick (not b) Answer.WrongPhase (pick c Answer.OutputTooShort Answer.Done))
-unfolding effectOf
-may-harmless true true = λ n. refl
-may-harmless true false = done-harmless
-may-harmless false c = λ n. refl
-
 may-done : (b : Bool) (a : Answer) → isDone (pick (not b) Answer.WrongPhase a) ≡ true → b ≡ true
 may-done true a t = refl
 may-done false a t = absurd (true≢false (sym t))
@@ -55,7 +48,7 @@ writer-says now ph may next bytes room =
       may-write = may-done may (roomFor bytes room) (admitted-done now ph rule t);
       is = settle-does (admitted now ph rule) now ph (stepped Answer.Done now next bytes) t;
     }))
-    (λ n. inr (refused-quiet rule now ph (stepped Answer.Done now next bytes) (may-harmless may (ltb room (length bytes))) n))
+    (λ n. inr (refused-quiet rule now ph (stepped Answer.Done now next bytes) (may-harmless may (roomFor bytes room) (room-harmless bytes room)) n))
 
 -- ---- what it puts on the line
 map-snoc : (ps : List Packet) (p : Packet) → map bytesOf (ps ++ (p ∷ [])) ≡ map bytesOf ps ++ (bytesOf p ∷ [])
