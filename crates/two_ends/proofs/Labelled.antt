@@ -94,7 +94,7 @@ module _ (w : World) (g : Good w) (l : Lists w) where
   act-lists restarts = let x = restore now in by-plain Lists broken-lists w x (plain-lists x (λ m kept. labels-broken m))
 
 -- ---- over a run
-swap-lists : (w : World) → Lists w → Lists (swap w)
+pub swap-lists : (w : World) → Lists w → Lists (swap w)
 swap-lists w l k = labels-swap (l k)
 
 step-lists : (w : World) (at : Bool) (v : Event) → Good w → Lists w → Lists (step w at v)

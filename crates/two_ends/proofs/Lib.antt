@@ -52,3 +52,7 @@ pub mod Labels
 pub mod Leaving
 pub mod Hearing
 pub mod Labelled
+-- with both: the answers that come, and what holds of labels over a run
+pub mod Answering
+pub mod Listing
+pub mod Giving

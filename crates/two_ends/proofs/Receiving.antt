@@ -7,14 +7,16 @@ use mathlib.Core.List.{List, [], _∷_, map}
 use mathlib.Core.Logic.{inl}
 use borrow.Author.Tests.{le-leb}
 use lib.ListN.{take, drop, length, length-drop}
+use Rattle.ft_number.specs.declared.Ack
 use Rattle.ft_number.specs.declared.Ack.{Ack}
 use Rattle.ft_number.specs.Circle.{stepsOf}
-use Rattle.ft_number.specs.declared.Ack
 use Rattle.message.specs.Reading.{readingOf}
 use Rattle.message.specs.declared.Message.{Message}
-use Rattle.message.specs.declared.Reading.{Reading}
 use Rattle.message.specs.declared.Reading
+use Rattle.message.specs.declared.Reading.{Reading}
+use Rattle.protocol.specs.declared.Answer
 use Rattle.protocol.specs.declared.Answer.{Answer}
+use Rattle.protocol.specs.declared.Phase
 use Rattle.protocol.specs.declared.Phase.{Phase}
 use Rattle.protocol.specs.Answers.{answerNumber}
 use Rattle.protocol.specs.State.{State}
@@ -22,11 +24,10 @@ use Rattle.protocol.specs.Acked.{ackBorne, acked}
 use Rattle.protocol.specs.Step.{Step, releasedWith, stepped, settle}
 use Rattle.protocol.specs.Receive.{ackOn, taken, receivedState, receive, ftRule, receivedPhase}
 use Rattle.protocol.specs.Cases.{Case}
-use Rattle.protocol.specs.Phases.{phaseFits, issuedCount, countOf, upWith}
-use Rattle.protocol.specs.declared.Answer
-use Rattle.protocol.specs.declared.Phase
+use Rattle.protocol.specs.Phases.{phaseFits, issuedCount, countOf, upWith, waiting}
 use Rattle.protocol.proofs.Settling.{answered-failed, answered-released, admitted-is, settle-does}
 use Rattle.protocol.proofs.Cases.{cases}
+use Rattle.protocol.proofs.Answered.{settle-says}
 use Rattle.two_ends.specs.World.{History, End}
 use Rattle.two_ends.specs.Calls.{keeps, took, takes, securing}
 use Rattle.two_ends.proofs.Half.{Rcv, Half}
@@ -71,6 +72,10 @@ module _ (now : State) (sent : ℕ) (m : List ℕ) (g : Message) (read : reading
     is : x ≡ settle rule now ph does
     unfolding receive
     is = rw (admitted-is now ph (fits-up now h sent (kept-one (i .own)) (i .out .half)), read)
+
+    -- it answers what the rule says
+    pub rule-answers : x .answer ≡ rule
+    rule-answers = ap (λ (z : Step). z .answer) is ∙ settle-says rule now ph does refl
 
     -- as connection failed
     pub takes-none : rule ≡ Answer.NoWordForMapping → Settled (took (ended now ph true true h) m x) b ab (map bytesOf qs)

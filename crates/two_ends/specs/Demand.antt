@@ -5,10 +5,10 @@ use mathlib.Core.Bool.{true}
 use mathlib.Core.List.{List, [], _∷_, _++_}
 use lib.ListN.{length}
 use Rattle.ft_number.specs.Circle.{after}
+use Rattle.protocol.specs.declared.Answer
 use Rattle.protocol.specs.declared.Answer.{Answer}
 use Rattle.protocol.specs.State.{held, capacity}
 use Rattle.protocol.specs.Submit.{submit}
-use Rattle.protocol.specs.declared.Answer
 use Rattle.protocol.proofs.Passing.{Passes}
 use Rattle.two_ends.specs.World.{End, World, swap}
 use Rattle.two_ends.specs.Runs.{submits, act}

@@ -4,12 +4,12 @@ use mathlib.Core.Path.{_≡_}
 use mathlib.Core.Bool.{true}
 use mathlib.Core.List.{List, []}
 use Rattle.message.specs.Kinds.{kindNumber}
-use Rattle.message.specs.declared.Kind.{Kind}
 use Rattle.message.specs.declared.Kind
-use Rattle.label_list.specs.declared.LabelMessage.{LabelMessage}
-use Rattle.label_list.specs.declared.Side.{Side}
+use Rattle.message.specs.declared.Kind.{Kind}
 use Rattle.label_list.specs.declared.LabelMessage
+use Rattle.label_list.specs.declared.LabelMessage.{LabelMessage}
 use Rattle.label_list.specs.declared.Side
+use Rattle.label_list.specs.declared.Side.{Side}
 use Rattle.label_events.specs.Change.{codeAt}
 use Rattle.protocol.specs.Held.{isHeld}
 use Rattle.two_ends.specs.World.{End}

@@ -3,5 +3,8 @@ pub mod Calls
 pub mod Runs
 pub mod Start
 pub mod Demand
+pub mod Answers
+pub mod Staying
 pub mod Labels
+pub mod Steady
 pub mod Agree
