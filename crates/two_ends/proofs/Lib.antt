@@ -38,6 +38,9 @@ pub mod Delivered
 pub mod Begun
 pub mod Room
 pub mod Theorem
+-- when a state is released, and that a world that has not lasted does not last again
+pub mod Staying
+pub mod Monotone
 -- the labels, a layer over it: no code 6, what is owed for them, and what is given and in use
 pub mod Sixless
 pub mod Owed
