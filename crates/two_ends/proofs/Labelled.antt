@@ -97,7 +97,7 @@ module _ (w : World) (g : Good w) (l : Lists w) where
 pub swap-lists : (w : World) → Lists w → Lists (swap w)
 swap-lists w l k = labels-swap (l k)
 
-step-lists : (w : World) (at : Bool) (v : Event) → Good w → Lists w → Lists (step w at v)
+pub step-lists : (w : World) (at : Bool) (v : Event) → Good w → Lists w → Lists (step w at v)
 step-lists w true v g l = act-lists w g l v
 step-lists w false v g l = swap-lists (act (swap w) v) (act-lists (swap w) (at-swap w g) (swap-lists w l) v)
 

@@ -59,3 +59,8 @@ pub mod Labelled
 pub mod Answering
 pub mod Listing
 pub mod Giving
+-- steady owners
+pub mod Saying
+pub mod Steady
+pub mod Calm
+pub mod Enduring

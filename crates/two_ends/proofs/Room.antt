@@ -72,7 +72,7 @@ run-few w [] f = f
 run-few w (v ∷ vs) f = run-few (step w (v .0) (v .1)) vs (step-few w (v .0) (v .1) f)
 
 -- ---- so the refusal is at 64
-refused : (w : World) → Few (w .a) → (m : List ℕ) → RefusedAt64 w m
+pub refused : (w : World) → Few (w .a) → (m : List ℕ) → RefusedAt64 w m
 refused w few m =
     let now = w .a .state in
     let ph = w .a .phase in

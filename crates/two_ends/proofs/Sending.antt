@@ -9,22 +9,22 @@ use lib.ListN.{drop}
 use lib.Seq.{drop-cons}
 use Rattle.octets.proofs.Choice.{by-test}
 use Rattle.ft_number.proofs.Circle.{after-small}
+use Rattle.protocol.specs.declared.Answer
 use Rattle.protocol.specs.declared.Answer.{Answer}
+use Rattle.protocol.specs.declared.Phase
 use Rattle.protocol.specs.declared.Phase.{Phase}
 use Rattle.protocol.specs.Answers.{isDone}
 use Rattle.protocol.specs.State.{State, held}
 use Rattle.protocol.specs.Send.{nextMessage, numberAt, ackAsked, sendBytes, sendRule, sentState, sendNext}
 use Rattle.protocol.specs.Step.{stepped, Step, roomFor, admitted}
 use Rattle.protocol.specs.Phases.{upWith, sentOf, waiting}
-use Rattle.protocol.specs.declared.Answer
-use Rattle.protocol.specs.declared.Phase
 use Rattle.protocol.proofs.Settling.{settle-does, admitted-done}
 use Rattle.protocol.proofs.Refusals.{send-harmless}
 use Rattle.two_ends.specs.World.{History, End, World}
 use Rattle.two_ends.specs.Calls.{called, put, wrote as writes}
 use Rattle.two_ends.proofs.Direction.{half-secured, half-place}
 use Rattle.two_ends.proofs.Packets.{Packet, carried, Fine}
-use Rattle.two_ends.proofs.Invariant.{Ready, Some, Good}
+use Rattle.two_ends.proofs.Invariant.{Ready, Some, Good, Inv}
 use Rattle.two_ends.proofs.Sends.{sent-queue, sent-kept, dir-send, dir-send-lost, dir-send-peer, dir-send-lost-peer}
 use Rattle.two_ends.proofs.Worlds.{ended, ready-open, at-replaced, Settled}
 use Rattle.two_ends.proofs.Quiet.{quietly-puts, refused-quiet}
@@ -56,6 +56,14 @@ module _ (now : State) (sent : ℕ) (h : History) (ask : Bool) (some : sent < he
   unfolding numberAt
   number-small = omega (arith, after-small sent (now .released .0))
 
+  -- what is sent has its width, and is a message that was accepted
+  pub sends-fine : {jo : Bool} {b : End} {ab ba : List (List ℕ)} {pa pb : List Packet} → Inv (ended now (upWith sent) jo true h) b ab ba pa pb → Fine packet
+  sends-fine i = (
+    okay-at (i .out .half .r + sent) (h .accepted) m _ (half-place (i .out .half) m (drop (suc sent) (now .queue)) at-place) (i .own .okays),
+    number-small,
+    ack-fits ask now (omega (arith, half-secured (i .back .half))),
+  )
+
   module _ {b : End} {ab ba : List (List ℕ)} where
     sending : (jo bg : Bool) → Some (ended now (upWith sent) jo bg h) b ab ba
         → Settled (ended (sentState now sent) (upWith (sent + 1)) jo bg h) b (put jo ab (stepped Answer.Done (sentState now sent) (upWith (sent + 1)) (sendBytes now sent ask))) ba
@@ -64,11 +72,7 @@ module _ (now : State) (sent : ℕ) (h : History) (ask : Bool) (some : sent < he
     sending true true o =
         let i = o .2 in
         let own = ready true (i .own) in
-        let fine : Fine packet = (
-          okay-at (i .out .half .r + sent) (h .accepted) m _ (half-place (i .out .half) m (drop (suc sent) (now .queue)) at-place) (i .own .okays),
-          number-small,
-          ack-fits ask now (omega (arith, half-secured (i .back .half))),
-        ) in
+        let fine = sends-fine i in
         inl (
           ready-open own,
           (
@@ -104,7 +108,7 @@ module _ (now : State) (sent : ℕ) (h : History) (ask : Bool) (some : sent < he
         )
 
 -- ---- the call
-abbrev does : State → Phase → Bool → Step
+abbrev pub does : State → Phase → Bool → Step
 does now ph ask = stepped Answer.Done (sentState now (sentOf ph)) (upWith (sentOf ph + 1)) (sendBytes now (sentOf ph) ask)
 
 sends-up : (now : State) (ph : Phase) (jo bg : Bool) (h : History) (ask : Bool) {b : End} {ab ba : List (List ℕ)} → Sendable now ph
