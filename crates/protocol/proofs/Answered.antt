@@ -3,23 +3,18 @@ use Prim.Native.Nat.{ℕ, _≤_}
 use mathlib.Core.Path.{_≡_, refl, sym, _∙_}
 use mathlib.Core.List.{List, []}
 use mathlib.Core.Bool.{false, true}
-use lib.Dec.{eqb, ltb}
 use borrow.Author.Tests.{ltb-false}
+use lib.Dec.{eqb, ltb}
 use Rattle.octets.proofs.Choice.{by-test, pick-all, no, cleared}
-use Rattle.message.specs.Reading.{readingOf}
-use Rattle.message.specs.declared.Reading.{Reading}
-use Rattle.message.specs.declared.Reading
+use Rattle.protocol.specs.declared.Answer
 use Rattle.protocol.specs.declared.Answer.{Answer}
+use Rattle.protocol.specs.declared.Effect
 use Rattle.protocol.specs.declared.Effect.{Effect}
 use Rattle.protocol.specs.declared.Phase.{Phase}
 use Rattle.protocol.specs.Answers.{answerNumber, effectBy, effectOf, isDone}
 use Rattle.protocol.specs.State.{State, releasedState}
 use Rattle.protocol.specs.Step.{Step, stepped, settledBy, settle, admitted, broken, failedWith, releasedWith, unchanged}
 use Rattle.protocol.specs.Submit.{submitRule, submitted, submit}
-use Rattle.protocol.specs.Receive.{receiveRule, takenAs, receive}
-use Rattle.protocol.specs.declared.Answer
-use Rattle.protocol.specs.declared.Effect
-use Rattle.protocol.specs.declared.Phase
 use Rattle.protocol.proofs.Effects.{done-is}
 
 -- only Done acts
@@ -71,19 +66,6 @@ pub settle-leaves : (P : State → Type 0) (a : Answer) (s : State) (ph : Phase)
 settle-leaves P a s ph d still fails releases does =
     settle-cases (λ (x : Step). P (x .state)) a s ph d (λ n. still) (λ n. fails) (λ n e. releases) does
 
-module _ (s : State) (ph : Phase) (m : List ℕ) where
-  pub submit-says : submit s ph m .answer ≡ admitted s ph (submitRule s m)
-  unfolding submit
-  submit-says = settle-says (admitted s ph (submitRule s m)) s ph (stepped Answer.Done (submitted s m) ph []) refl
-
-  taken-done : (p : Phase) (r : Reading) → takenAs s p r .answer ≡ Answer.Done
-  taken-done Phase.Idle r = refl
-  taken-done (Phase.InitWait v) r = refl
-  taken-done (Phase.UpFT u) Reading.Malformed = refl
-  taken-done (Phase.UpFT u) (Reading.Whole g) = refl
-  taken-done Phase.UpPlain r = refl
-  taken-done Phase.Failed r = refl
-
-  pub receive-says : receive s ph m .answer ≡ admitted s ph (receiveRule s ph (readingOf m))
-  unfolding receive
-  receive-says = settle-says (admitted s ph (receiveRule s ph (readingOf m))) s ph (takenAs s ph (readingOf m)) (taken-done ph (readingOf m))
+pub submit-says : (s : State) (ph : Phase) (m : List ℕ) → submit s ph m .answer ≡ admitted s ph (submitRule s m)
+unfolding submit
+submit-says s ph m = settle-says (admitted s ph (submitRule s m)) s ph (stepped Answer.Done (submitted s m) ph []) refl

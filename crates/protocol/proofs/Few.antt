@@ -8,9 +8,9 @@ use lib.ListN.{length-append, length-drop}
 use lib.Dec.{ltb}
 use Rattle.octets.proofs.Choice.{pick-all}
 use Rattle.ft_number.specs.Timeout.{proposedOf}
+use Rattle.message.specs.declared.Reading
 use Rattle.message.specs.declared.Reading.{Reading}
 use Rattle.message.specs.Reading.{readingOf}
-use Rattle.message.specs.declared.Reading
 use Rattle.protocol.specs.State.{State, held, capacity}
 use Rattle.protocol.specs.Send.{sentState, numbered, sendNext}
 use Rattle.protocol.specs.Acked.{acked, ackBorne}
@@ -18,8 +18,11 @@ use Rattle.protocol.specs.Init.{fresh, resumed, startState, initReceived
 use Rattle.protocol.specs.Receive.{receivedState, taken, takenAs, ackCount, ackOn, receive}
 use Rattle.protocol.specs.Submit.{submitted, submitRule, submit}
 use Rattle.protocol.specs.Phases.{issuedCount, isUp, mayOpen, sentOf, waitingFor}
+use Rattle.protocol.specs.declared.Start
 use Rattle.protocol.specs.declared.Start.{Start}
+use Rattle.protocol.specs.declared.Phase
 use Rattle.protocol.specs.declared.Phase.{Phase}
+use Rattle.protocol.specs.declared.Answer
 use Rattle.protocol.specs.declared.Answer.{Answer}
 use Rattle.protocol.specs.Writer.{writer}
 use Rattle.protocol.specs.Calls.{step, Call, opens, fails, formats, greets, keeps-alive, passes, receives, restores, sends, submits}
@@ -29,9 +32,6 @@ use Rattle.protocol.specs.Step.{Step, settle}
 use Rattle.protocol.specs.ConnectionFailed.{connectionFailed}
 use Rattle.protocol.specs.TimePassed.{timePassed, expired}
 use Rattle.protocol.specs.KeepAlive.{keepalive, aliveBytes}
-use Rattle.protocol.specs.declared.Answer
-use Rattle.protocol.specs.declared.Phase
-use Rattle.protocol.specs.declared.Start
 use Rattle.protocol.proofs.Submits.{done-accepted}
 use Rattle.protocol.proofs.Answered.{settle-leaves}
 use Rattle.protocol.proofs.Settling.{admitted-done}

@@ -11,11 +11,13 @@ use Rattle.octets.proofs.Choice.{by-test, pick-all}
 use Rattle.ft_number.specs.declared.MessageId.{MessageId}
 use Rattle.ft_number.specs.declared.Proposal.{Proposal}
 use Rattle.ft_number.specs.Timeout.{proposedOf}
+use Rattle.message.specs.declared.Reading
 use Rattle.message.specs.declared.Reading.{Reading}
 use Rattle.message.specs.Reading.{readingOf}
-use Rattle.message.specs.declared.Reading
 use Rattle.message_writer.specs.declared.OwnParameters.{OwnParameters}
+use Rattle.protocol.specs.declared.Answer
 use Rattle.protocol.specs.declared.Answer.{Answer}
+use Rattle.protocol.specs.declared.Phase
 use Rattle.protocol.specs.declared.Phase.{Phase}
 use Rattle.protocol.specs.State.{State}
 use Rattle.protocol.specs.Step.{Step, admitted, broken, roomFor, settle, stepped}
@@ -31,8 +33,6 @@ use Rattle.protocol.specs.Open.{openBytes, openSession}
 use Rattle.protocol.specs.Begin.{restore}
 use Rattle.protocol.specs.Submit.{submit, submitRule, submitted}
 use Rattle.protocol.specs.Writer.{writer}
-use Rattle.protocol.specs.declared.Answer
-use Rattle.protocol.specs.declared.Phase
 use Rattle.protocol.proofs.Settling.{Harmless, admitted-done, admitted-harmless, done-harmless, settle-does, settle-refusal}
 use Rattle.protocol.proofs.Answered.{release-from, settle-cases}
 use Rattle.protocol.proofs.Submits.{submit-harmless}

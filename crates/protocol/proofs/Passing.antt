@@ -9,10 +9,11 @@ use lib.Dec.{leb, ltb}
 use lib.ListN.{length}
 use Rattle.octets.proofs.Choice.{no, passed, cleared}
 use Rattle.message.specs.Submission.{submissionOf}
-use Rattle.message.specs.declared.Submission.{Submission}
 use Rattle.message.specs.declared.Submission
-use Rattle.label_events.specs.declared.Acceptance.{Acceptance}
+use Rattle.message.specs.declared.Submission.{Submission}
 use Rattle.label_events.specs.declared.Acceptance
+use Rattle.label_events.specs.declared.Acceptance.{Acceptance}
+use Rattle.protocol.specs.declared.Answer
 use Rattle.protocol.specs.declared.Answer.{Answer}
 use Rattle.protocol.specs.declared.Phase.{Phase}
 use Rattle.protocol.specs.State.{State, held, capacity}
@@ -21,7 +22,6 @@ use Rattle.protocol.specs.Held.{shortest, longest, Storable}
 use Rattle.protocol.specs.Step.{admitted}
 use Rattle.protocol.specs.Accepting.{isBarred, acceptedAs}
 use Rattle.protocol.specs.Submit.{roomRule, acceptanceRule, kindRule, submissionRule, submitRule, submit}
-use Rattle.protocol.specs.declared.Answer
 use Rattle.protocol.proofs.Settling.{admitted-is}
 use Rattle.protocol.proofs.Answered.{submit-says}
 

@@ -5,20 +5,21 @@ use mathlib.Core.List.{[], List, _∷_}
 use mathlib.Core.Bool.{Bool, true}
 use lib.Dec.{eqb}
 use Rattle.octets.proofs.Choice.{pick-all}
+use Rattle.message.specs.declared.Kind
 use Rattle.message.specs.declared.Kind.{Kind}
+use Rattle.message.specs.declared.Submission
 use Rattle.message.specs.declared.Submission.{Submission}
 use Rattle.message.specs.Kinds.{kindNumber}
 use Rattle.message.specs.Submission.{submissionOf}
-use Rattle.message.specs.declared.Kind
-use Rattle.message.specs.declared.Submission
+use Rattle.label_list.specs.declared.LabelMessage
 use Rattle.label_list.specs.declared.LabelMessage.{LabelMessage}
 use Rattle.label_list.specs.Word.{isFree}
 use Rattle.label_list.specs.Sweep.{sweptOf}
 use Rattle.label_list.specs.declared.SweepRule.the-variants.{AfterBreak}
 use Rattle.label_list.specs.Valid.{validOf, validWord}
-use Rattle.label_list.specs.declared.LabelMessage
 use Rattle.label_meaning.specs.Event.{Accepted as Offered, Acked, Received, Broken, step}
 use Rattle.label_meaning.proofs.Step.{step-valid}
+use Rattle.protocol.specs.declared.LabelEffect
 use Rattle.protocol.specs.declared.LabelEffect.{LabelEffect}
 use Rattle.protocol.specs.Accepting.{acceptedAs}
 use Rattle.protocol.specs.Submit.{acceptedLabels}
@@ -26,7 +27,6 @@ use Rattle.protocol.specs.Labels.{effectLabels}
 use Rattle.protocol.specs.Held.{kindIn, labelIn}
 use Rattle.protocol.specs.State.{noTable}
 use Rattle.protocol.specs.Acked.{releasedKind, releasedLabels}
-use Rattle.protocol.specs.declared.LabelEffect
 
 -- ---- a message is accepted
 module _ (P : List ℕ → Type 0) (words : List ℕ) (here : P words) (each : (message : LabelMessage) (label : ℕ) → P (step words (Offered message label))) where

@@ -8,10 +8,10 @@ use mathlib.Core.Logic.{_⊎_, inl, inr, ⊎-elim}
 use borrow.Author.Tests.{eq-eqb}
 use Rattle.octets.proofs.Choice.{by-test}
 use Rattle.message.specs.Submission.{submissionOf}
-use Rattle.message.specs.declared.Kind.{Kind}
-use Rattle.message.specs.declared.Submission.{Submission}
 use Rattle.message.specs.declared.Kind
+use Rattle.message.specs.declared.Kind.{Kind}
 use Rattle.message.specs.declared.Submission
+use Rattle.message.specs.declared.Submission.{Submission}
 use Rattle.label_list.specs.Valid.{validOf}
 use Rattle.label_list.specs.declared.LabelMessage.{LabelMessage}
 use Rattle.label_list.specs.declared.LabelMessage.the-variants.{Mapping, Withdraw, Release}

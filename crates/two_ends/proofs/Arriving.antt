@@ -5,28 +5,28 @@ use mathlib.Core.Path.{_≡_, refl, ap}
 use mathlib.Core.Bool.{true, false}
 use mathlib.Core.List.{List, [], _∷_, map}
 use lib.ListN.{length}
+use Rattle.ft_number.specs.declared.Ack
 use Rattle.ft_number.specs.declared.Ack.{Ack}
 use Rattle.ft_number.specs.declared.FtNumber.{FtNumber}
 use Rattle.ft_number.specs.declared.MessageId.{MessageId}
-use Rattle.ft_number.specs.declared.Ack
-use Rattle.tlv.specs.declared.FtField.{FtField}
 use Rattle.tlv.specs.declared.FtField
+use Rattle.tlv.specs.declared.FtField.{FtField}
 use Rattle.message.specs.Kinds.{kindOf}
 use Rattle.message.specs.Reading.{readingOf}
 use Rattle.message.specs.declared.Message.{Message}
-use Rattle.message.specs.declared.Reading.{Reading}
 use Rattle.message.specs.declared.Reading
+use Rattle.message.specs.declared.Reading.{Reading}
 use Rattle.message.proofs.Laws.{accepted}
 use Rattle.message_writer.specs.ReadBack.{keepaliveMessage, protectedMessage}
 use Rattle.message_writer.proofs.Own.{keepalive-reads}
 use Rattle.message_writer.proofs.RoundTrip.{submitted, sent-reads, sent-kind, sent-payload}
 use Rattle.protocol.specs.Labels.{labelEffect, protectionRule}
 use Rattle.protocol.specs.Received.{isInit}
+use Rattle.protocol.specs.declared.Answer
 use Rattle.protocol.specs.declared.Answer.{Answer}
 use Rattle.protocol.specs.Receive.{ackOn, ftRule, receive}
 use Rattle.protocol.specs.State.{State}
 use Rattle.protocol.specs.Phases.{upWith}
-use Rattle.protocol.specs.declared.Answer
 use Rattle.two_ends.specs.World.{History, End}
 use Rattle.two_ends.specs.Calls.{keeps, took, securing}
 use Rattle.two_ends.proofs.Direction.{half-turn}

@@ -1,17 +1,17 @@
--- What the peer's Init leaves of an image, where it is not refused, and where its parameters are others. Assumes nothing.
+-- What the peer's Init leaves, where it is not refused, and where its parameters are others. Assumes nothing.
 use Prim.Native.Nat.{ℕ}
 use native.Mathlib.Omega.{arith}
 use mathlib.Core.Path.{_≡_, refl, _∙_, ap}
 use mathlib.Core.List.{List, []}
+use Rattle.protocol.specs.declared.Answer
 use Rattle.protocol.specs.declared.Answer.{Answer}
 use Rattle.protocol.specs.declared.Phase.{Phase}
+use Rattle.protocol.specs.declared.Start
 use Rattle.protocol.specs.declared.Start.{Start}
 use Rattle.protocol.specs.State.{State}
 use Rattle.protocol.specs.Step.{Step, releasedWith, stepped, admitted, settle}
 use Rattle.protocol.specs.Init.{startState, initStart, initReceived, startAnswer, startPhase}
 use Rattle.protocol.specs.Phases.{phaseFits, upWith, waitingFor}
-use Rattle.protocol.specs.declared.Answer
-use Rattle.protocol.specs.declared.Start
 use Rattle.protocol.proofs.Settling.{answered-released, settle-does}
 
 -- ---- what the call leaves

@@ -29,7 +29,6 @@ use Rattle.protocol.specs.Acked.{acked}
 use Rattle.protocol.specs.Answers.{answerNumber}
 use Rattle.protocol.specs.Init.{fresh, resumed}
 use Rattle.protocol.specs.Receive.{isFatal, receive}
-use Rattle.protocol.specs.KeepAlive.{keepalive}
 use Rattle.protocol.specs.Labels.{protectionRule}
 use Rattle.protocol.specs.Phases.{upWith, waitingFor}
 use Rattle.protocol.proofs.Moves.{receive-frees}

@@ -9,10 +9,10 @@ use mathlib.Core.Logic.{_⊎_, inl, inr, ⊎-elim}
 use lib.Dec.{eqb}
 use Rattle.octets.proofs.Choice.{by-test, pick-all}
 use Rattle.message.specs.Submission.{submissionOf}
-use Rattle.message.specs.declared.Kind.{Kind}
-use Rattle.message.specs.declared.Submission.{Submission}
 use Rattle.message.specs.declared.Kind
+use Rattle.message.specs.declared.Kind.{Kind}
 use Rattle.message.specs.declared.Submission
+use Rattle.message.specs.declared.Submission.{Submission}
 use Rattle.label_list.specs.Word.{onSide}
 use Rattle.label_list.specs.Rules.{codeReceived}
 use Rattle.label_list.specs.declared.LabelMessage.the-variants.{Mapping, Withdraw}

@@ -1,8 +1,8 @@
 -- The oldest message of a line is delivered. Assumes nothing.
+use Prim.Native.Nat.{ℕ}
 use mathlib.Core.Path.{_≡_, refl}
 use mathlib.Core.List.{[], List, _∷_}
 use mathlib.Core.Bool.{Bool, false, not, true}
-use Prim.Native.Nat.{ℕ}
 use Rattle.octets.specs.Pick.{both, pick}
 use Rattle.octets.proofs.Choice.{both-true}
 use Rattle.protocol.specs.declared.Start.{Start}

@@ -7,7 +7,6 @@ use Rattle.message_writer.specs.declared.OwnParameters.{OwnParameters}
 use Rattle.protocol.specs.declared.Phase.{Phase}
 use Rattle.protocol.specs.State.{State}
 use Rattle.protocol.specs.ConnectionFailed.{connectionFailed}
-use Rattle.protocol.specs.KeepAlive.{keepalive}
 use Rattle.protocol.specs.Open.{keptAck}
 use Rattle.protocol.specs.Begin.{restore}
 use Rattle.protocol.specs.TimePassed.{timePassed}

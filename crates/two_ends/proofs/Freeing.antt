@@ -6,8 +6,8 @@ use mathlib.Core.Bool.{true, false}
 use mathlib.Core.List.{List, _∷_, append-nil}
 use lib.ListN.{length}
 use Rattle.ft_number.specs.Ack.{ackOf}
-use Rattle.ft_number.specs.declared.Ack.{Ack}
 use Rattle.ft_number.specs.declared.Ack
+use Rattle.ft_number.specs.declared.Ack.{Ack}
 use Rattle.two_ends.proofs.Half.{Snd, Rcv, Half}
 use Rattle.two_ends.proofs.Lines.{asc-le}
 use Rattle.two_ends.proofs.Books.{frees, held-length, ack-right, books-free}

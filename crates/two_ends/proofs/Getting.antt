@@ -11,17 +11,17 @@ use Rattle.octets.specs.Pick.{pick}
 use Rattle.octets.proofs.Choice.{by-test, pick-all}
 use Rattle.ft_number.specs.declared.FtNumber.{FtNumber}
 use Rattle.tlv.specs.declared.Fec.{Fec}
+use Rattle.tlv.specs.declared.Field
 use Rattle.tlv.specs.declared.Field.{Field}
 use Rattle.tlv.specs.declared.FtField.{FtField}
-use Rattle.tlv.specs.declared.Field
 use Rattle.message.specs.Kinds.{kindOf, kindNumber, fatalOf, codeOf, resourcesAvailable, notificationKind, kindFor}
 use Rattle.message.specs.Submission.{submissionOf}
-use Rattle.message.specs.declared.Kind.{Kind}
-use Rattle.message.specs.declared.MessageType.{MessageType}
-use Rattle.message.specs.declared.Submission.{Submission}
 use Rattle.message.specs.declared.Kind
+use Rattle.message.specs.declared.Kind.{Kind}
 use Rattle.message.specs.declared.MessageType
+use Rattle.message.specs.declared.MessageType.{MessageType}
 use Rattle.message.specs.declared.Submission
+use Rattle.message.specs.declared.Submission.{Submission}
 use Rattle.message.proofs.Laws.{accepted}
 use Rattle.message_writer.proofs.RoundTrip.{sent-kind}
 use Rattle.label_list.specs.Word.{listable}
@@ -33,12 +33,12 @@ use Rattle.label_list.specs.declared.Side.the-variants.{Given, Used}
 use Rattle.label_list.proofs.Standing.{within-range}
 use Rattle.label_events.specs.Change.{codeAt, changeOf, changed}
 use Rattle.label_events.specs.Receive.{receivedChange, receptionOf, receivedOf}
-use Rattle.label_events.specs.declared.Change.{Change}
-use Rattle.label_events.specs.declared.Reception.{Reception}
-use Rattle.label_events.specs.declared.Touched.{Touched}
 use Rattle.label_events.specs.declared.Change
+use Rattle.label_events.specs.declared.Change.{Change}
 use Rattle.label_events.specs.declared.Reception
+use Rattle.label_events.specs.declared.Reception.{Reception}
 use Rattle.label_events.specs.declared.Touched
+use Rattle.label_events.specs.declared.Touched.{Touched}
 use Rattle.label_meaning.specs.Event.{Received, step, Moves, named, given-back, withdrawn-back}
 use Rattle.label_meaning.specs.View.{Effect}
 use Rattle.label_meaning.proofs.Meaning.{valid-means}
@@ -49,12 +49,12 @@ use Rattle.label_meaning.proofs.Step.{code-proper, received-outcome}
 use Rattle.label_meaning.proofs.Life.{move-happens}
 use Rattle.protocol.specs.Labels.{touchedBy, effectOn, effectReception, effectLabels, labelEffect}
 use Rattle.protocol.specs.Held.{bears, isHeld}
+use Rattle.protocol.specs.declared.LabelEffect
 use Rattle.protocol.specs.declared.LabelEffect.{LabelEffect}
 use Rattle.protocol.specs.State.{State}
 use Rattle.protocol.specs.Phases.{upWith}
-use Rattle.protocol.specs.declared.LabelEffect
 use Rattle.two_ends.specs.Agree.{codeBy, codeAfter, IsGiven, IsUsed, Agree}
-use Rattle.two_ends.specs.World.{End, History, none}
+use Rattle.two_ends.specs.World.{End, History}
 use Rattle.two_ends.proofs.Agreeing.{moved}
 use Rattle.two_ends.proofs.Acking.{none-given}
 use Rattle.two_ends.proofs.Invariant.{Inv}

@@ -8,15 +8,15 @@ use mathlib.Core.Logic.{inl}
 use Rattle.ft_number.specs.declared.MessageId.{MessageId}
 use Rattle.tlv.specs.declared.FtField.{FtField}
 use Rattle.message_writer.specs.declared.OwnParameters.{OwnParameters}
+use Rattle.protocol.specs.declared.Start
 use Rattle.protocol.specs.declared.Start.{Start}
 use Rattle.protocol.specs.declared.Terms.{Terms}
 use Rattle.protocol.specs.Init.{fresh, initStart, initReceived}
 use Rattle.protocol.specs.State.{State}
-use Rattle.protocol.specs.Phases.{upWith, waitingFor, waiting}
+use Rattle.protocol.specs.Phases.{upWith, waitingFor}
+use Rattle.protocol.specs.declared.Answer
 use Rattle.protocol.specs.declared.Answer.{Answer}
 use Rattle.protocol.specs.Step.{stepped}
-use Rattle.protocol.specs.declared.Start
-use Rattle.protocol.specs.declared.Answer
 use Rattle.two_ends.specs.World.{History, End, none}
 use Rattle.two_ends.specs.Calls.{greeted}
 use Rattle.two_ends.proofs.Packets.{Packet, first, bytesOf, Fine}

@@ -8,18 +8,18 @@ use Rattle.ft_number.specs.declared.MessageId.{MessageId}
 use Rattle.ft_number.specs.declared.FtNumber.{FtNumber}
 use Rattle.tlv.specs.declared.FtField.{FtField}
 use Rattle.message_writer.specs.declared.OwnParameters.{OwnParameters}
+use Rattle.protocol.specs.declared.Answer
 use Rattle.protocol.specs.declared.Answer.{Answer}
+use Rattle.protocol.specs.declared.Phase
 use Rattle.protocol.specs.declared.Phase.{Phase}
 use Rattle.protocol.specs.State.{State}
 use Rattle.protocol.specs.Step.{Step, stepped}
 use Rattle.protocol.specs.Phases.{waitingFor, upWith}
 use Rattle.protocol.specs.Acked.{ackBorne, acked}
 use Rattle.protocol.specs.Receive.{taken, ackOn, receivedState}
+use Rattle.protocol.specs.declared.Start
 use Rattle.protocol.specs.declared.Start.{Start}
 use Rattle.protocol.specs.Init.{fresh, initStart, resumed}
-use Rattle.protocol.specs.declared.Answer
-use Rattle.protocol.specs.declared.Phase
-use Rattle.protocol.specs.declared.Start
 use Rattle.two_ends.specs.World.{End, History}
 use Rattle.two_ends.specs.Calls.{keeps}
 use Rattle.two_ends.proofs.Invariant.{sideOf, Inv, Leads}

@@ -5,12 +5,12 @@ use mathlib.Core.Bool.{Bool, true, false}
 use mathlib.Core.List.{List, [], _∷_, map}
 use mathlib.Core.Logic.{_⊎_}
 use Rattle.octets.specs.Pick.{pick, both}
-use Rattle.tlv.specs.declared.FtField.{FtField}
 use Rattle.tlv.specs.declared.FtField
+use Rattle.tlv.specs.declared.FtField.{FtField}
+use Rattle.protocol.specs.declared.Phase
 use Rattle.protocol.specs.declared.Phase.{Phase}
 use Rattle.protocol.specs.Phases.{isUpFT, sentOf, awaits}
 use Rattle.protocol.specs.State.{State, releasedState, held, capacity}
-use Rattle.protocol.specs.declared.Phase
 use Rattle.two_ends.specs.World.{History, End, World, none, Lasts}
 use Rattle.two_ends.specs.Calls.{keeps}
 use Rattle.two_ends.proofs.Half.{Snd, Rcv, Half}
@@ -51,7 +51,7 @@ live x = both (x .joined) (isUpFT (x .phase))
 abbrev pub Leads : Bool → FtField → Type 0
 Leads kept ack = (ack ≡ FtField.Absent) ⊎ (kept ≡ false)
 
--- the reader has not read the sender's Init yet: it comes first, and once; the reader has begun or not, and its image has that kept
+-- the reader has not read the sender's Init yet: it comes first, and once; the reader has begun or not, and its state has that kept
 abbrev pub Headed : Bool → Bool → List Packet → Type 0
 Headed begun kept [] = ⊥
 Headed begun kept (first id p seconds ack ∷ ps) = (begun ≡ false) × Leads kept ack × NoInit ps

@@ -21,7 +21,6 @@ use Rattle.two_ends.specs.Start.{Afresh, Fit, Opener, start}
 use Rattle.two_ends.specs.Runs.{AllProper, Event, act, breaks, delivers, keepalives, notices, opens, passes, restarts, run, sends, step, submits}
 use Rattle.two_ends.proofs.Invariant.{sideOf, Good}
 use Rattle.two_ends.proofs.Labels.{Labels, labels-broken, labels-none, labels-swap}
-use Rattle.two_ends.proofs.Arriving.{f}
 use Rattle.two_ends.proofs.Worlds.{at-swap, next}
 use Rattle.two_ends.proofs.Oldest.{by-oldest}
 use Rattle.two_ends.proofs.Begun.{at-start}

@@ -1,16 +1,16 @@
 -- The labels of the two ends, after each change of the state of one. Assumes nothing.
+use Prim.Native.Nat.{ℕ}
 use mathlib.Core.Path.{_≡_}
 use mathlib.Core.List.{[], _++_, List, _∷_}
 use mathlib.Core.Bool.{true}
 use lib.ListN.{take}
-use Prim.Native.Nat.{ℕ}
 use Rattle.message.specs.declared.Kind.{Kind}
 use Rattle.message.specs.declared.Message.{Message}
+use Rattle.message.specs.declared.Submission
 use Rattle.message.specs.declared.Submission.{Submission}
 use Rattle.message.specs.Submission.{submissionOf}
-use Rattle.message.specs.declared.Submission
-use Rattle.label_events.specs.declared.Reception.{Reception}
 use Rattle.label_events.specs.declared.Reception
+use Rattle.label_events.specs.declared.Reception.{Reception}
 use Rattle.protocol.specs.State.{State, noTable, releasedState}
 use Rattle.protocol.specs.Acked.{acked}
 use Rattle.protocol.specs.Labels.{effectReception, isProtected, labelEffect}

@@ -10,13 +10,14 @@ use Rattle.octets.proofs.Choice.{pick-all}
 use Rattle.ft_number.specs.declared.MessageId.{MessageId}
 use Rattle.ft_number.specs.declared.Proposal.{Proposal}
 use Rattle.ft_number.specs.Timeout.{proposedOf}
-use Rattle.ft_number.specs.declared.Ack.{Ack}
 use Rattle.ft_number.specs.declared.Ack
+use Rattle.ft_number.specs.declared.Ack.{Ack}
 use Rattle.message.specs.declared.Message.{Message}
+use Rattle.message.specs.declared.Reading
 use Rattle.message.specs.declared.Reading.{Reading}
 use Rattle.message.specs.Reading.{readingOf}
-use Rattle.message.specs.declared.Reading
 use Rattle.message_writer.specs.declared.OwnParameters.{OwnParameters}
+use Rattle.protocol.specs.declared.Answer
 use Rattle.protocol.specs.declared.Answer.{Answer}
 use Rattle.protocol.specs.declared.Phase.{Phase}
 use Rattle.protocol.specs.State.{State, withIssued}
@@ -32,15 +33,12 @@ use Rattle.protocol.specs.Submit.{submit}
 use Rattle.protocol.specs.Writer.{writer}
 use Rattle.protocol.specs.Acked.{acked}
 use Rattle.protocol.specs.Receive.{taken, ackOn, ftRule, receive, receivedPhase, receivedState}
-use Rattle.protocol.specs.declared.Answer
 use Rattle.protocol.proofs.Answered.{settle-cases, settle-leaves}
 use Rattle.protocol.proofs.Settling.{admitted-done}
 use Rattle.protocol.proofs.Effects.{done-is}
 use Rattle.two_ends.specs.World.{History}
 use Rattle.two_ends.specs.Calls.{accepts, letGo, securing, takes}
 use Rattle.two_ends.proofs.Labels.{Labels, labels-broken, labels-same, labels-submitted}
-use Rattle.two_ends.proofs.Arriving.{f, secures}
-use Rattle.two_ends.proofs.Worlds.{next}
 use Rattle.two_ends.proofs.Delivering.{let-go}
 
 never : {P : Type 0} → false ≡ true → P

@@ -1,7 +1,7 @@
 -- A world that has not lasted does not last again: what lasts after an event lasted before it. Assumes nothing.
+use Prim.Native.Nat.{ℕ}
 use mathlib.Core.List.{[], List, _∷_}
 use mathlib.Core.Bool.{Bool, false, true}
-use Prim.Native.Nat.{ℕ}
 use Rattle.octets.specs.Pick.{both}
 use Rattle.octets.proofs.Choice.{both-true}
 use Rattle.protocol.specs.Step.{Step}
@@ -35,7 +35,9 @@ module _ (w : World) where
   written x = by-write Lasted broken-lasted w x (called-lasted (called (w .a) x (w .a .history)) (put (w .a .joined) (w .ab) x) (w .ba))
 
   act-lasted : (v : Event) → Lasted (act w v)
-  act-lasted (submits m) = let x = submit (w .a .state) (w .a .phase) m in by-submit Lasted broken-lasted w m x (called-lasted (called (w .a) x (counts (w .a) x (accepts m (w .a .history)))) (w .ab) (w .ba))
+  act-lasted (submits m) =
+      let x = submit (w .a .state) (w .a .phase) m in
+      by-submit Lasted broken-lasted w m x (called-lasted (called (w .a) x (counts (w .a) x (accepts m (w .a .history)))) (w .ab) (w .ba))
   act-lasted (sends ask room) = written (sendNext (w .a .state) (w .a .phase) ask room)
   act-lasted (keepalives id room) = written (keepalive (w .a .state) (w .a .phase) id room)
   act-lasted (opens id p t room) =

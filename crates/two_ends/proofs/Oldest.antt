@@ -7,11 +7,11 @@ use Rattle.ft_number.specs.declared.FtNumber.{FtNumber}
 use Rattle.ft_number.specs.declared.MessageId.{MessageId}
 use Rattle.tlv.specs.declared.FtField.{FtField}
 use Rattle.message_writer.specs.declared.OwnParameters.{OwnParameters}
+use Rattle.protocol.specs.declared.Phase
 use Rattle.protocol.specs.declared.Phase.{Phase}
 use Rattle.protocol.specs.State.{State}
 use Rattle.protocol.specs.Phases.{upWith, waitingFor}
-use Rattle.protocol.specs.declared.Phase
-use Rattle.two_ends.specs.World.{End, History, none}
+use Rattle.two_ends.specs.World.{End, History}
 use Rattle.two_ends.proofs.Invariant.{Headed, Inv, Leads, Shape, Some}
 use Rattle.two_ends.proofs.Packets.{NoInit, Packet, again, alive, bytesOf, carried, first}
 use Rattle.two_ends.proofs.Worlds.{ended}

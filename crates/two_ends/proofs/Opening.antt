@@ -8,21 +8,21 @@ use mathlib.Core.Logic.{_⊎_, inl, ⊎-elim}
 use Rattle.octets.specs.Pick.{pick}
 use Rattle.ft_number.specs.Timeout.{proposedOf}
 use Rattle.ft_number.specs.declared.MessageId.{MessageId}
-use Rattle.ft_number.specs.declared.Proposal.{Proposal}
 use Rattle.ft_number.specs.declared.Proposal
-use Rattle.tlv.specs.declared.FtField.{FtField}
+use Rattle.ft_number.specs.declared.Proposal.{Proposal}
 use Rattle.tlv.specs.declared.FtField
+use Rattle.tlv.specs.declared.FtField.{FtField}
 use Rattle.message_writer.specs.ReadBack.{InitFits}
 use Rattle.message_writer.specs.declared.OwnParameters.{OwnParameters}
+use Rattle.protocol.specs.declared.Answer
 use Rattle.protocol.specs.declared.Answer.{Answer}
+use Rattle.protocol.specs.declared.Phase
 use Rattle.protocol.specs.declared.Phase.{Phase}
 use Rattle.protocol.specs.Answers.{isDone}
 use Rattle.protocol.specs.Step.{Step, stepped}
 use Rattle.protocol.specs.Phases.{mayOpen, waitingFor}
 use Rattle.protocol.specs.Open.{openBytes, openSession, keptAck}
 use Rattle.protocol.specs.State.{State}
-use Rattle.protocol.specs.declared.Answer
-use Rattle.protocol.specs.declared.Phase
 use Rattle.two_ends.specs.World.{History, End, World}
 use Rattle.two_ends.specs.Calls.{called, put, on, opened, replaced, plainly}
 use Rattle.two_ends.specs.Runs.{Widths, Seconds}

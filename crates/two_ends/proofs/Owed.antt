@@ -10,10 +10,10 @@ use Rattle.octets.specs.Pick.{pick}
 use Rattle.octets.proofs.Choice.{pick-all}
 use Rattle.message.specs.Kinds.{kindNumber}
 use Rattle.message.specs.Submission.{submissionOf}
-use Rattle.message.specs.declared.Kind.{Kind}
-use Rattle.message.specs.declared.Submission.{Submission}
 use Rattle.message.specs.declared.Kind
+use Rattle.message.specs.declared.Kind.{Kind}
 use Rattle.message.specs.declared.Submission
+use Rattle.message.specs.declared.Submission.{Submission}
 use Rattle.label_list.specs.Sweep.{sweptOf}
 use Rattle.label_list.specs.Valid.{validOf}
 use Rattle.label_list.specs.declared.LabelMessage.{LabelMessage}
@@ -27,9 +27,9 @@ use Rattle.protocol.specs.Labels.{effectLabels}
 use Rattle.protocol.specs.Accepting.{acceptedAs}
 use Rattle.protocol.specs.Submit.{acceptedLabels}
 use Rattle.protocol.specs.Held.{bears, isHeld}
+use Rattle.protocol.specs.declared.LabelEffect
 use Rattle.protocol.specs.declared.LabelEffect.{LabelEffect}
 use Rattle.protocol.specs.State.{noTable}
-use Rattle.protocol.specs.declared.LabelEffect
 use Rattle.two_ends.specs.Labels.{Due, withdrawal, release, sideOf, codeOf, messageOf, kindOf, Owed}
 use Rattle.two_ends.proofs.Sixless.{none-code}
 

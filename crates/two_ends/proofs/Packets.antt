@@ -5,8 +5,8 @@ use mathlib.Core.List.{List, [], _∷_, _++_}
 use Rattle.octets.specs.Bytes.{Bytes}
 use Rattle.ft_number.specs.declared.FtNumber.{FtNumber}
 use Rattle.ft_number.specs.declared.MessageId.{MessageId}
-use Rattle.tlv.specs.declared.FtField.{FtField}
 use Rattle.tlv.specs.declared.FtField
+use Rattle.tlv.specs.declared.FtField.{FtField}
 use Rattle.message_writer.specs.Forms.{initBytes, keepaliveBytes, protectedBytes}
 use Rattle.message_writer.specs.ReadBack.{AckFits, InitFits}
 use Rattle.message_writer.specs.declared.OwnParameters.{OwnParameters}

@@ -10,10 +10,10 @@ use lib.ListN.{take, drop}
 use Rattle.octets.proofs.Choice.{by-test}
 use Rattle.message.specs.Kinds.{kindNumber}
 use Rattle.message.specs.Submission.{submissionOf}
-use Rattle.message.specs.declared.Kind.{Kind}
-use Rattle.message.specs.declared.Submission.{Submission}
 use Rattle.message.specs.declared.Kind
+use Rattle.message.specs.declared.Kind.{Kind}
 use Rattle.message.specs.declared.Submission
+use Rattle.message.specs.declared.Submission.{Submission}
 use Rattle.label_list.specs.Valid.{validOf}
 use Rattle.label_list.specs.declared.LabelMessage.{LabelMessage}
 use Rattle.label_list.specs.declared.LabelMessage.the-variants.{Withdraw, Release}

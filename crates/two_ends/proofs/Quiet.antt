@@ -5,12 +5,12 @@ use mathlib.Core.Bool.{Bool, true, false}
 use mathlib.Core.List.{List}
 use Rattle.octets.specs.Pick.{pick, both}
 use Rattle.protocol.specs.declared.Answer.{Answer}
+use Rattle.protocol.specs.declared.Effect
 use Rattle.protocol.specs.declared.Effect.{Effect}
 use Rattle.protocol.specs.declared.Phase.{Phase}
 use Rattle.protocol.specs.Answers.{effectOf, isDone}
 use Rattle.protocol.specs.Step.{Step, settle, admitted}
 use Rattle.protocol.specs.State.{State}
-use Rattle.protocol.specs.declared.Effect
 use Rattle.protocol.proofs.Settling.{settle-refusal, Harmless, admitted-harmless}
 use Rattle.two_ends.specs.World.{History, End}
 use Rattle.two_ends.specs.Calls.{called, put, counts}

@@ -24,7 +24,7 @@ use Rattle.protocol.specs.Acked.{ackBorne, acked}
 use Rattle.protocol.specs.Step.{Step, releasedWith, stepped, settle}
 use Rattle.protocol.specs.Receive.{ackOn, taken, receivedState, receive, ftRule, receivedPhase}
 use Rattle.protocol.specs.Cases.{Case}
-use Rattle.protocol.specs.Phases.{phaseFits, issuedCount, countOf, upWith, waiting}
+use Rattle.protocol.specs.Phases.{phaseFits, issuedCount, countOf, upWith}
 use Rattle.protocol.proofs.Settling.{answered-failed, answered-released, admitted-is, settle-does}
 use Rattle.protocol.proofs.Cases.{cases}
 use Rattle.protocol.proofs.Answered.{settle-says}

@@ -5,7 +5,9 @@ use mathlib.Core.Bool.{Bool, true, false, true≢false, not}
 use mathlib.Core.List.{List}
 use Rattle.octets.specs.Pick.{pick}
 use Rattle.octets.proofs.Choice.{by-test}
+use Rattle.protocol.specs.declared.Answer
 use Rattle.protocol.specs.declared.Answer.{Answer}
+use Rattle.protocol.specs.declared.Phase
 use Rattle.protocol.specs.declared.Phase.{Phase}
 use Rattle.protocol.specs.Phases.{connected, waiting}
 use Rattle.protocol.specs.Answers.{isDone}
@@ -13,8 +15,6 @@ use Rattle.protocol.specs.Step.{Step, failedWith, releasedWith, admitted, uncha
 use Rattle.protocol.specs.ConnectionFailed.{connectionFailed}
 use Rattle.protocol.specs.TimePassed.{expired, timePassed}
 use Rattle.protocol.specs.State.{releasedState, State}
-use Rattle.protocol.specs.declared.Answer
-use Rattle.protocol.specs.declared.Phase
 use Rattle.protocol.proofs.Settling.{done-harmless, settle-does, admitted-done}
 use Rattle.protocol.proofs.Refusals.{may-harmless}
 use Rattle.two_ends.specs.World.{History, End, World}

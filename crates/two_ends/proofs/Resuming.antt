@@ -9,18 +9,18 @@ use lib.ListN.{take, length-drop}
 use Rattle.ft_number.specs.declared.FtNumber.{FtNumber}
 use Rattle.ft_number.specs.declared.MessageId.{MessageId}
 use Rattle.message_writer.specs.declared.OwnParameters.{OwnParameters}
+use Rattle.protocol.specs.declared.Answer
 use Rattle.protocol.specs.declared.Answer.{Answer}
+use Rattle.protocol.specs.declared.Phase
 use Rattle.protocol.specs.declared.Phase.{Phase}
+use Rattle.protocol.specs.declared.Start
 use Rattle.protocol.specs.declared.Start.{Start}
 use Rattle.protocol.specs.declared.Terms.{Terms}
 use Rattle.protocol.specs.State.{State}
 use Rattle.protocol.specs.Step.{Step, stepped}
 use Rattle.protocol.specs.Init.{resumed, initStart, initReceived}
 use Rattle.protocol.specs.Acked.{acked}
-use Rattle.protocol.specs.Phases.{upWith, waitingFor, waiting}
-use Rattle.protocol.specs.declared.Answer
-use Rattle.protocol.specs.declared.Phase
-use Rattle.protocol.specs.declared.Start
+use Rattle.protocol.specs.Phases.{upWith, waitingFor}
 use Rattle.two_ends.specs.World.{History, End}
 use Rattle.two_ends.specs.Calls.{keeps, takes}
 use Rattle.two_ends.proofs.Freeing.{Freed, half-init}

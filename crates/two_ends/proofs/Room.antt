@@ -5,12 +5,12 @@ use mathlib.Core.Path.{_≡_, refl, _∙_}
 use mathlib.Core.Bool.{Bool, false, true}
 use mathlib.Core.List.{List, _∷_, []}
 use Rattle.octets.proofs.Choice.{pick-all}
-use Rattle.message.proofs.Laws.{accepted}
 use Rattle.protocol.specs.Calls.{Call, fails, restores, keeps-alive, greets as says-init, receives as reads, submits as gives, sends as writes, opens as begins, passes as waits, step as rule}
 use Rattle.protocol.specs.declared.Phase.{Phase}
 use Rattle.protocol.specs.State.{State, capacity, held}
 use Rattle.protocol.specs.Open.{openSession}
 use Rattle.protocol.specs.Submit.{submit}
+use Rattle.protocol.specs.declared.Answer
 use Rattle.protocol.specs.declared.Answer.{Answer}
 use Rattle.protocol.specs.ConnectionFailed.{connectionFailed}
 use Rattle.protocol.specs.KeepAlive.{keepalive}
@@ -18,7 +18,6 @@ use Rattle.protocol.specs.Begin.{restore}
 use Rattle.protocol.specs.Send.{sendNext}
 use Rattle.protocol.specs.TimePassed.{timePassed}
 use Rattle.protocol.specs.Phases.{awaits}
-use Rattle.protocol.specs.declared.Answer
 use Rattle.protocol.proofs.Few.{few-held}
 use Rattle.protocol.proofs.Passing.{full-passes, passes-done, passes-full}
 use Rattle.two_ends.specs.Runs.{Event, submits, sends, keepalives, opens, passes, delivers, breaks, notices, restarts, act, step, run}

@@ -17,7 +17,7 @@ use Rattle.protocol.specs.Answers.{isDone}
 use Rattle.protocol.specs.State.{State, held}
 use Rattle.protocol.specs.Send.{nextMessage, numberAt, ackAsked, sendBytes, sendRule, sentState, sendNext}
 use Rattle.protocol.specs.Step.{stepped, Step, roomFor, admitted}
-use Rattle.protocol.specs.Phases.{upWith, sentOf, waiting}
+use Rattle.protocol.specs.Phases.{upWith, sentOf}
 use Rattle.protocol.proofs.Settling.{settle-does, admitted-done}
 use Rattle.protocol.proofs.Refusals.{send-harmless}
 use Rattle.two_ends.specs.World.{History, End, World}

@@ -9,13 +9,13 @@ use lib.Dec.{leb}
 use lib.ListN.{drop}
 use Rattle.octets.specs.Pick.{pick}
 use Rattle.message_writer.specs.ReadBack.{AckFits}
+use Rattle.protocol.specs.declared.Answer
 use Rattle.protocol.specs.declared.Answer.{Answer}
 use Rattle.protocol.specs.declared.Phase.{Phase}
 use Rattle.protocol.specs.Phases.{isUpFT, sentOf}
 use Rattle.protocol.specs.Answers.{isDone}
 use Rattle.protocol.specs.Send.{ackAsked, sendRule}
 use Rattle.protocol.specs.State.{State, held}
-use Rattle.protocol.specs.declared.Answer
 use Rattle.two_ends.proofs.Packets.{Okay, Okays}
 
 -- ---- an answer that is Done tells that a message is unsent

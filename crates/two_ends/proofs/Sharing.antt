@@ -5,14 +5,14 @@ use mathlib.Core.Bool.{true}
 use mathlib.Core.List.{List, [], _∷_, _++_, append-nil, append-assoc}
 use Rattle.message.specs.Submission.{submissionOf}
 use Rattle.message.specs.declared.Kind.{Kind}
-use Rattle.message.specs.declared.Submission.{Submission}
 use Rattle.message.specs.declared.Submission
+use Rattle.message.specs.declared.Submission.{Submission}
 use Rattle.label_list.specs.Sweep.{sweptOf}
 use Rattle.label_list.specs.Valid.{validOf}
 use Rattle.label_list.specs.declared.SweepRule.the-variants.{AfterBreak}
 use Rattle.label_list.specs.declared.Side.the-variants.{Given}
-use Rattle.label_events.specs.declared.Reception.{Reception}
 use Rattle.label_events.specs.declared.Reception
+use Rattle.label_events.specs.declared.Reception.{Reception}
 use Rattle.protocol.specs.State.{noTable}
 use Rattle.protocol.specs.Labels.{effectReception, effectLabels}
 use Rattle.protocol.specs.Submit.{acceptedLabels}

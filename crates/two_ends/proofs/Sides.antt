@@ -7,12 +7,12 @@ use mathlib.Core.List.{List, [], _∷_, _++_, append-nil}
 use lib.ListN.{length}
 use Rattle.ft_number.specs.declared.MessageId.{MessageId}
 use Rattle.message_writer.specs.declared.OwnParameters.{OwnParameters}
+use Rattle.protocol.specs.declared.Phase
 use Rattle.protocol.specs.declared.Phase.{Phase}
 use Rattle.protocol.specs.State.{State}
 use Rattle.protocol.specs.Step.{broken}
 use Rattle.protocol.specs.Submit.{submitted}
 use Rattle.protocol.specs.Phases.{upWith, waitingFor}
-use Rattle.protocol.specs.declared.Phase
 use Rattle.two_ends.specs.World.{History}
 use Rattle.two_ends.specs.Calls.{accepts}
 use Rattle.two_ends.proofs.Direction.{half-accept, half-ack-out, half-lost, half-again, half-rest}

@@ -7,26 +7,26 @@ use mathlib.Core.Logic.{_⊎_, inl, inr, ⊎-elim}
 use borrow.Author.Tests.{eq-eqb}
 use Rattle.octets.specs.Pick.{pick}
 use Rattle.ft_number.specs.Ack.{ackOf}
+use Rattle.ft_number.specs.declared.Ack
 use Rattle.ft_number.specs.declared.Ack.{Ack}
 use Rattle.ft_number.specs.declared.FtNumber.{FtNumber}
 use Rattle.ft_number.specs.declared.MessageId.{MessageId}
-use Rattle.ft_number.specs.declared.Ack
-use Rattle.tlv.specs.declared.FtField.{FtField}
 use Rattle.tlv.specs.declared.FtField
+use Rattle.tlv.specs.declared.FtField.{FtField}
 use Rattle.message.specs.Reading.{readingOf}
-use Rattle.message.specs.declared.Reading.{Reading}
 use Rattle.message.specs.declared.Reading
+use Rattle.message.specs.declared.Reading.{Reading}
 use Rattle.message_writer.specs.Forms.{initBytes}
 use Rattle.message_writer.specs.ReadBack.{InitFits, initMessage}
 use Rattle.message_writer.specs.declared.OwnParameters.{OwnParameters}
 use Rattle.message_writer.proofs.Own.{init-reads}
+use Rattle.protocol.specs.declared.Answer
 use Rattle.protocol.specs.declared.Answer.{Answer}
+use Rattle.protocol.specs.declared.Start
 use Rattle.protocol.specs.declared.Start.{Start}
 use Rattle.protocol.specs.declared.Terms.{Terms}
 use Rattle.protocol.specs.Init.{bothSet, startOf, termsOf, equalParameters}
 use Rattle.protocol.specs.State.{State}
-use Rattle.protocol.specs.declared.Answer
-use Rattle.protocol.specs.declared.Start
 use Rattle.two_ends.proofs.Invariant.{Leads}
 
 module _ (h : State) (t : ℕ) (id : MessageId) (p : OwnParameters) (seconds : ℕ) where

@@ -9,13 +9,13 @@ use lib.ListN.{length-append}
 use Rattle.octets.specs.Pick.{pick, both}
 use Rattle.octets.specs.Bytes.{Bytes}
 use Rattle.octets.proofs.Choice.{by-test}
+use Rattle.protocol.specs.declared.Answer
 use Rattle.protocol.specs.declared.Answer.{Answer}
 use Rattle.protocol.specs.declared.Phase.{Phase}
 use Rattle.protocol.specs.State.{capacity, State, held}
 use Rattle.protocol.specs.Submit.{submitRule, submitted, submit}
 use Rattle.protocol.specs.Step.{admitted, stepped}
 use Rattle.protocol.specs.Answers.{isDone}
-use Rattle.protocol.specs.declared.Answer
 use Rattle.protocol.proofs.Submits.{Accepted, done-accepted, submit-harmless}
 use Rattle.protocol.proofs.Effects.{done-is}
 use Rattle.protocol.proofs.Settling.{settle-does, admitted-done}

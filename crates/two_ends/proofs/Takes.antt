@@ -7,12 +7,12 @@ use mathlib.Core.List.{List, [], _∷_, append-nil}
 use lib.ListN.{take}
 use Rattle.ft_number.specs.Circle.{stepsOf}
 use Rattle.ft_number.specs.Ack.{ackOf}
+use Rattle.ft_number.specs.declared.Ack
 use Rattle.ft_number.specs.declared.Ack.{Ack}
 use Rattle.ft_number.specs.declared.FtNumber.{FtNumber}
 use Rattle.ft_number.specs.declared.MessageId.{MessageId}
-use Rattle.ft_number.specs.declared.Ack
-use Rattle.tlv.specs.declared.FtField.{FtField}
 use Rattle.tlv.specs.declared.FtField
+use Rattle.tlv.specs.declared.FtField.{FtField}
 use Rattle.message.specs.declared.Message.{Message}
 use Rattle.message_writer.specs.declared.OwnParameters.{OwnParameters}
 use Rattle.protocol.specs.declared.Terms.{Terms}

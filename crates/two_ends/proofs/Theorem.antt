@@ -6,13 +6,11 @@ use mathlib.Core.Bool.{Bool, true, false}
 use mathlib.Core.List.{List, [], _∷_, _++_}
 use lib.ListN.{length, take, drop, length-append, take-append-drop}
 use lib.Seq.{take-take, length-take-le}
-use Rattle.message.proofs.Laws.{whole}
 use Rattle.protocol.specs.State.{State}
 use Rattle.two_ends.specs.World.{End, World, swap, Lasts}
 use Rattle.two_ends.specs.Runs.{Event, submits, sends, keepalives, opens, passes, delivers, breaks, notices, restarts, Proper, act, step, run, AllProper}
 use Rattle.two_ends.specs.Start.{Opener, start, Fit, Afresh}
 use Rattle.two_ends.specs.Demand.{Opens, store, Safe, Demand}
-use Rattle.two_ends.specs.Calls.{counts}
 use Rattle.two_ends.proofs.Packets.{Packet}
 use Rattle.two_ends.proofs.Invariant.{sideOf, Ready, Dir, Good}
 use Rattle.two_ends.proofs.Worlds.{at-broken, at-swap}
@@ -26,7 +24,6 @@ use Rattle.two_ends.proofs.Begun.{at-start}
 use Rattle.two_ends.proofs.Arriving.{f}
 use Rattle.two_ends.proofs.Positions.{num}
 use Rattle.two_ends.proofs.Room.{refused-at-64}
-use Rattle.two_ends.proofs.Delivering.{let-go}
 
 -- ---- every event keeps the invariant
 at-act : (w : World) (v : Event) → Proper v → Good w → Good (act w v)

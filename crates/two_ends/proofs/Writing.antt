@@ -8,7 +8,9 @@ use mathlib.Core.Logic.{_⊎_, inl, inr, ⊎-elim}
 use Rattle.octets.specs.Pick.{pick}
 use Rattle.octets.proofs.Choice.{by-test}
 use Rattle.ft_number.specs.declared.MessageId.{MessageId}
+use Rattle.protocol.specs.declared.Answer
 use Rattle.protocol.specs.declared.Answer.{Answer}
+use Rattle.protocol.specs.declared.Phase
 use Rattle.protocol.specs.declared.Phase.{Phase}
 use Rattle.protocol.specs.Phases.{isUp}
 use Rattle.protocol.specs.Answers.{isDone}
@@ -16,8 +18,6 @@ use Rattle.protocol.specs.Step.{Step, stepped, roomFor, admitted}
 use Rattle.protocol.specs.Writer.{writer}
 use Rattle.protocol.specs.KeepAlive.{aliveBytes, keepalive}
 use Rattle.protocol.specs.State.{State}
-use Rattle.protocol.specs.declared.Answer
-use Rattle.protocol.specs.declared.Phase
 use Rattle.protocol.proofs.Settling.{admitted-done, settle-does}
 use Rattle.protocol.proofs.Refusals.{may-harmless, room-harmless}
 use Rattle.two_ends.specs.World.{History, End, World}

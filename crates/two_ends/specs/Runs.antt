@@ -4,8 +4,8 @@ use mathlib.Core.Bool.{Bool, true, false}
 use mathlib.Core.List.{List, [], _∷_}
 use Rattle.octets.specs.Bytes.{Bytes}
 use Rattle.ft_number.specs.declared.MessageId.{MessageId}
-use Rattle.ft_number.specs.declared.Proposal.{Proposal}
 use Rattle.ft_number.specs.declared.Proposal
+use Rattle.ft_number.specs.declared.Proposal.{Proposal}
 use Rattle.message_writer.specs.declared.OwnParameters.{OwnParameters}
 use Rattle.protocol.specs.Submit.{submit}
 use Rattle.protocol.specs.Send.{sendNext}
