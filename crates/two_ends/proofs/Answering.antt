@@ -26,12 +26,12 @@ use Rattle.protocol.specs.Acked.{acked}
 use Rattle.protocol.specs.Init.{initStart}
 use Rattle.protocol.specs.Labels.{labelEffect, protectionRule}
 use Rattle.protocol.specs.Phases.{waitingFor}
+use Rattle.protocol.proofs.Begins.{changed as changed-init}
 use Rattle.two_ends.specs.Answers.{Comes, taken, no-word, changed, fatal, answerTo, AllCome}
 use Rattle.two_ends.specs.Start.{Afresh, Fit, Opener, start}
 use Rattle.two_ends.specs.Runs.{AllProper, Event, run}
 use Rattle.two_ends.specs.World.{End, Lasts, World, swap}
 use Rattle.two_ends.specs.Calls.{on}
-use Rattle.two_ends.proofs.Begins.{changed as changed-init}
 use Rattle.two_ends.proofs.Judging.{Fair, fair-done, fair-fatal, fair-full, fair-missing, fair-wrong}
 use Rattle.two_ends.proofs.Invariant.{Good}
 use Rattle.two_ends.proofs.Hearing.{Labelled}

@@ -17,13 +17,13 @@ use Rattle.protocol.specs.Phases.{upWith, waitingFor}
 use Rattle.protocol.specs.declared.Answer
 use Rattle.protocol.specs.declared.Answer.{Answer}
 use Rattle.protocol.specs.Step.{stepped}
+use Rattle.protocol.proofs.Begins.{begins}
 use Rattle.two_ends.specs.World.{History, End, none}
 use Rattle.two_ends.specs.Calls.{greeted}
 use Rattle.two_ends.proofs.Packets.{Packet, first, bytesOf, Fine}
 use Rattle.two_ends.proofs.Invariant.{Leads, Ready, Inv}
 use Rattle.two_ends.proofs.Takes.{dir-fresh, dir-fresh-peer}
 use Rattle.two_ends.proofs.Worlds.{ended, Settled}
-use Rattle.two_ends.proofs.Begins.{begins}
 use Rattle.two_ends.proofs.Starting.{terms, starts-fresh}
 
 -- the end after it

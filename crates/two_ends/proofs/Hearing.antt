@@ -20,6 +20,7 @@ use Rattle.protocol.specs.Receive.{taken, ackOn, receivedState}
 use Rattle.protocol.specs.declared.Start
 use Rattle.protocol.specs.declared.Start.{Start}
 use Rattle.protocol.specs.Init.{fresh, initStart, resumed}
+use Rattle.protocol.proofs.Begins.{changed}
 use Rattle.two_ends.specs.World.{End, History}
 use Rattle.two_ends.specs.Calls.{keeps}
 use Rattle.two_ends.proofs.Invariant.{sideOf, Inv, Leads}
@@ -36,7 +37,6 @@ use Rattle.two_ends.proofs.Delivering.{let-go}
 use Rattle.two_ends.proofs.Oldest.{Oldests}
 use Rattle.two_ends.proofs.Resuming.{again-begins, again-start}
 use Rattle.two_ends.proofs.Acts.{hearer}
-use Rattle.two_ends.proofs.Begins.{changed}
 use Rattle.two_ends.proofs.Greeted.{first-begins, fresh-start}
 use Rattle.two_ends.proofs.Resting.{released-ends}
 use Rattle.two_ends.proofs.Starting.{terms}

@@ -21,13 +21,11 @@ pub mod Resting
 pub mod Submitting
 pub mod Writing
 pub mod Opening
-pub mod Sent
 pub mod Sending
 -- .. and the oldest message delivered: the peer's Init, a message in UpFT
 pub mod Delivering
 pub mod Oldest
 pub mod Starting
-pub mod Begins
 pub mod Greeted
 pub mod Resuming
 pub mod Judging

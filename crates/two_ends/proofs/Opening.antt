@@ -23,6 +23,8 @@ use Rattle.protocol.specs.Step.{Step, stepped}
 use Rattle.protocol.specs.Phases.{mayOpen, waitingFor}
 use Rattle.protocol.specs.Open.{openBytes, openSession, keptAck}
 use Rattle.protocol.specs.State.{State}
+use Rattle.protocol.proofs.Quiet.{Quiet}
+use Rattle.protocol.proofs.Writers.{Wrote, writer-says}
 use Rattle.two_ends.specs.World.{History, End, World}
 use Rattle.two_ends.specs.Calls.{called, put, on, opened, replaced, plainly}
 use Rattle.two_ends.specs.Runs.{Widths, Seconds}
@@ -30,9 +32,8 @@ use Rattle.two_ends.proofs.Packets.{Packet, again, bytesOf}
 use Rattle.two_ends.proofs.Invariant.{Ready, Inv, Some, Good}
 use Rattle.two_ends.proofs.Sides.{dir-open, dir-open-peer}
 use Rattle.two_ends.proofs.Worlds.{ended, kept-one, at-replaced, Settled}
-use Rattle.two_ends.proofs.Quiet.{Quiet, quietly}
+use Rattle.two_ends.proofs.Quiet.{quietly}
 use Rattle.two_ends.proofs.Resting.{at-plain}
-use Rattle.two_ends.proofs.Writing.{Wrote, writer-says}
 use Rattle.two_ends.proofs.Direction.{half-secured}
 
 -- the proposed seconds have their width

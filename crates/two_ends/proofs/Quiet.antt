@@ -1,35 +1,17 @@
--- A call that changes nothing. Assumes nothing.
+-- A call that changes nothing leaves the end as it was, and both lines. Assumes nothing.
 use Prim.Native.Nat.{ℕ}
 use mathlib.Core.Path.{_≡_, refl}
 use mathlib.Core.Bool.{Bool, true, false}
 use mathlib.Core.List.{List}
 use Rattle.octets.specs.Pick.{pick, both}
-use Rattle.protocol.specs.declared.Answer.{Answer}
-use Rattle.protocol.specs.declared.Effect
-use Rattle.protocol.specs.declared.Effect.{Effect}
-use Rattle.protocol.specs.declared.Phase.{Phase}
-use Rattle.protocol.specs.Answers.{effectOf, isDone}
-use Rattle.protocol.specs.Step.{Step, settle, admitted}
-use Rattle.protocol.specs.State.{State}
-use Rattle.protocol.proofs.Settling.{settle-refusal, Harmless, admitted-harmless}
+use Rattle.protocol.specs.Answers.{isDone}
+use Rattle.protocol.specs.Step.{Step}
+use Rattle.protocol.proofs.Quiet.{Quiet}
 use Rattle.two_ends.specs.World.{History, End}
 use Rattle.two_ends.specs.Calls.{called, put, counts}
 use Rattle.two_ends.proofs.Invariant.{Some}
 use Rattle.two_ends.proofs.Worlds.{same-end, settled-same, Settled}
 
-pub record Quiet (now : State) (ph : Phase) (x : Step) : Type 0 where
-  pub state : x .state ≡ now
-  pub phase : x .phase ≡ ph
-  pub still : isDone (x .answer) ≡ false
-
-pub settled-quiet : (a : Answer) (now : State) (ph : Phase) (d : Step) → effectOf a ≡ Effect.Nothing → isDone a ≡ false → Quiet now ph (settle a now ph d)
-settled-quiet a now ph d e n = rw (settle-refusal a now ph d e) (record { state = refl; phase = refl; still = n })
-
--- a call whose refusals change nothing is quiet where it is not done
-pub refused-quiet : (a : Answer) (now : State) (ph : Phase) (d : Step) → Harmless a → isDone (admitted now ph a) ≡ false → Quiet now ph (settle (admitted now ph a) now ph d)
-refused-quiet a now ph d h n = settled-quiet (admitted now ph a) now ph d (admitted-harmless now ph a h n) n
-
--- ---- it leaves the end as it was, and writes nothing
 put-by : (jo b : Bool) (line more : List (List ℕ)) → b ≡ false → pick (both jo b) more line ≡ line
 put-by true b line more e = rw e
 put-by false b line more e = refl

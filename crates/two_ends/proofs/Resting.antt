@@ -17,12 +17,13 @@ use Rattle.protocol.specs.TimePassed.{expired, timePassed}
 use Rattle.protocol.specs.State.{releasedState, State}
 use Rattle.protocol.proofs.Settling.{done-harmless, settle-does, admitted-done}
 use Rattle.protocol.proofs.Refusals.{may-harmless}
+use Rattle.protocol.proofs.Quiet.{refused-quiet}
 use Rattle.two_ends.specs.World.{History, End, World}
 use Rattle.two_ends.specs.Calls.{keeps, called, plainly}
 use Rattle.two_ends.proofs.Invariant.{Waiting, Some, Good}
 use Rattle.two_ends.proofs.Worlds.{ended, begun-else, at-replaced, settled-same, Settled}
 use Rattle.two_ends.proofs.Failing.{failing}
-use Rattle.two_ends.proofs.Quiet.{quietly, refused-quiet}
+use Rattle.two_ends.proofs.Quiet.{quietly}
 
 -- a call that touches no line
 pub at-plain : (w : World) (x : Step) → Good w

@@ -21,6 +21,7 @@ use Rattle.protocol.specs.Step.{Step, stepped}
 use Rattle.protocol.specs.Init.{resumed, initStart, initReceived}
 use Rattle.protocol.specs.Acked.{acked}
 use Rattle.protocol.specs.Phases.{upWith, waitingFor}
+use Rattle.protocol.proofs.Begins.{begins, changed}
 use Rattle.two_ends.specs.World.{History, End}
 use Rattle.two_ends.specs.Calls.{keeps, takes}
 use Rattle.two_ends.proofs.Freeing.{Freed, half-init}
@@ -30,7 +31,6 @@ use Rattle.two_ends.proofs.Takes.{dir-resume, dir-resume-peer}
 use Rattle.two_ends.proofs.Worlds.{ended, kept-one, Settled}
 use Rattle.two_ends.proofs.Resting.{released-ends}
 use Rattle.two_ends.proofs.Delivering.{let-go}
-use Rattle.two_ends.proofs.Begins.{begins, changed}
 use Rattle.two_ends.proofs.Starting.{terms, starts-again}
 use Rattle.two_ends.proofs.Greeted.{greetedBy}
 

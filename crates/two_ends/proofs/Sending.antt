@@ -1,5 +1,5 @@
 -- A message is sent. Assumes nothing.
-use Prim.Native.Nat.{ℕ, suc, _+_, _<_, _^_}
+use Prim.Native.Nat.{ℕ, suc, _+_, _<_, _^_, zero}
 use native.Mathlib.Omega.{arith}
 use mathlib.Core.Path.{_≡_, refl, sym, _∙_}
 use mathlib.Core.Bool.{Bool, true, false, true≢false}
@@ -9,6 +9,7 @@ use lib.ListN.{drop}
 use lib.Seq.{drop-cons}
 use Rattle.octets.proofs.Choice.{by-test}
 use Rattle.ft_number.proofs.Circle.{after-small}
+use Rattle.message_writer.specs.ReadBack.{AckFits}
 use Rattle.protocol.specs.declared.Answer
 use Rattle.protocol.specs.declared.Answer.{Answer}
 use Rattle.protocol.specs.declared.Phase
@@ -20,16 +21,29 @@ use Rattle.protocol.specs.Step.{stepped, Step, roomFor, admitted}
 use Rattle.protocol.specs.Phases.{upWith, sentOf}
 use Rattle.protocol.proofs.Settling.{settle-does, admitted-done}
 use Rattle.protocol.proofs.Refusals.{send-harmless}
+use Rattle.protocol.proofs.Sends.{Sendable, sendable, sent-kept, sent-queue}
+use Rattle.protocol.proofs.Quiet.{refused-quiet}
 use Rattle.two_ends.specs.World.{History, End, World}
 use Rattle.two_ends.specs.Calls.{called, put, wrote as writes}
 use Rattle.two_ends.proofs.Direction.{half-secured, half-place}
-use Rattle.two_ends.proofs.Packets.{Packet, carried, Fine}
+use Rattle.two_ends.proofs.Packets.{Packet, carried, Fine, Okay, Okays}
 use Rattle.two_ends.proofs.Invariant.{Ready, Some, Good, Inv}
-use Rattle.two_ends.proofs.Sends.{sent-queue, sent-kept, dir-send, dir-send-lost, dir-send-peer, dir-send-lost-peer}
+use Rattle.two_ends.proofs.Sends.{dir-send, dir-send-lost, dir-send-peer, dir-send-lost-peer}
 use Rattle.two_ends.proofs.Worlds.{ended, ready-open, at-replaced, Settled}
-use Rattle.two_ends.proofs.Quiet.{quietly-puts, refused-quiet}
-use Rattle.two_ends.proofs.Sent.{Sendable, sendable, okay-at, ack-fits}
+use Rattle.two_ends.proofs.Quiet.{quietly-puts}
 use Rattle.two_ends.proofs.Writing.{line-more}
+
+-- ---- a message accepted stands at its place
+okay-at : (n : ℕ) (l : List (List ℕ)) (m : List ℕ) (ms : List (List ℕ)) → drop n l ≡ m ∷ ms → Okays l → Okay m
+okay-at zero [] m ms e o = absurd (let q : _≡_ {A = ℕ} 0 1 = cc in omega arith)
+okay-at zero (x ∷ l) m ms e o = let q : x ≡ m = cc in rw q at (o .0)
+okay-at (suc n) [] m ms e o = absurd (let q : _≡_ {A = ℕ} 0 1 = cc in omega arith)
+okay-at (suc n) (x ∷ l) m ms e o = okay-at n l m ms e (o .1)
+
+ack-fits : (ask : Bool) (s : State) → s .secured .0 < 4294967296 → AckFits (ackAsked ask s)
+unfolding ackAsked
+ack-fits true s l = omega arith
+ack-fits false s l = tt
 
 -- ---- the answer is Done
 module _ (now : State) (sent : ℕ) (h : History) (ask : Bool) (some : sent < held now) where

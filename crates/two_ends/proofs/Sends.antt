@@ -6,7 +6,6 @@ use mathlib.Core.List.{List, [], _∷_, _++_, append-nil}
 use lib.Dec.{ltb}
 use lib.ListN.{drop}
 use Rattle.octets.specs.Pick.{pick}
-use Rattle.octets.proofs.Choice.{pick-all}
 use Rattle.ft_number.specs.Circle.{after}
 use Rattle.ft_number.specs.declared.FtNumber.{FtNumber}
 use Rattle.tlv.specs.declared.FtField
@@ -14,6 +13,7 @@ use Rattle.tlv.specs.declared.FtField.{FtField}
 use Rattle.protocol.specs.State.{State}
 use Rattle.protocol.specs.Phases.{issuedCount, upWith}
 use Rattle.protocol.specs.Send.{numberAt, ackAsked, numbered, sentState}
+use Rattle.protocol.proofs.Sends.{sent-kept}
 use Rattle.two_ends.specs.World.{History}
 use Rattle.two_ends.proofs.Books.{issues}
 use Rattle.two_ends.proofs.Direction.{half-ack-out, half-send, half-send-lost}
@@ -44,14 +44,6 @@ sent-secured s sent h = by (ltb sent (issuedCount s))
     by : (b : Bool) → rcvOf (pick b s (numbered s sent)) h ≡ rcvOf s h
     by true = refl
     by false = refl
-
-pub sent-kept : (s : State) (sent : ℕ) → sentState s sent .kept ≡ s .kept
-unfolding sentState numbered
-sent-kept s sent = pick-all (λ (t : State). t .kept ≡ s .kept) (ltb sent (issuedCount s)) refl refl
-
-pub sent-queue : (s : State) (sent : ℕ) → sentState s sent .queue ≡ s .queue
-unfolding sentState numbered
-sent-queue s sent = pick-all (λ (t : State). t .queue ≡ s .queue) (ltb sent (issuedCount s)) refl refl
 
 abbrev before-sending : State → ℕ → Bool → Bool → History → Side
 before-sending s sent jo bg h = side s (s .kept) (upWith sent) jo bg h

@@ -30,13 +30,13 @@ use Rattle.protocol.specs.Submit.{submit}
 use Rattle.protocol.specs.TimePassed.{timePassed}
 use Rattle.protocol.specs.Phases.{upWith, waitingFor}
 use Rattle.protocol.proofs.Moves.{Moves, alive-moves, notice-moves, open-moves, receive-frees, restore-moves, send-moves, submit-moves, time-moves}
+use Rattle.protocol.proofs.Begins.{changed as changed-init}
 use Rattle.two_ends.specs.Start.{Afresh, Fit, Opener, start}
 use Rattle.two_ends.specs.Runs.{AllProper, Event, act, breaks, delivers, keepalives, notices, opens, passes, restarts, run, sends, step, submits}
 use Rattle.two_ends.specs.World.{End, History, Lasts, World, swap}
 use Rattle.two_ends.specs.Calls.{accepts, broken, called, counts, keeps, plainly, put, wrote, on}
 use Rattle.two_ends.specs.Answers.{answerTo}
 use Rattle.two_ends.specs.Staying.{Stays, Releasing, ReleasingAt, NoneReleases}
-use Rattle.two_ends.proofs.Begins.{changed as changed-init}
 use Rattle.two_ends.proofs.Invariant.{Good, Inv}
 use Rattle.two_ends.proofs.Oldest.{Oldests, by-oldest}
 use Rattle.two_ends.proofs.Packets.{Packet, again, alive, bytesOf, carried}

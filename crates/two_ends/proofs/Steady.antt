@@ -25,15 +25,15 @@ use Rattle.protocol.specs.Submit.{submit}
 use Rattle.protocol.proofs.Moves.{Moves, alive-moves, open-moves, send-moves, submit-moves}
 use Rattle.protocol.proofs.Settling.{admitted-done}
 use Rattle.protocol.proofs.Answered.{settle-cases}
+use Rattle.protocol.proofs.Sends.{Sendable, sendable}
+use Rattle.protocol.proofs.Quiet.{Quiet}
+use Rattle.protocol.proofs.Writers.{Wrote, writer-says}
 use Rattle.two_ends.specs.World.{End, History, Lasts, World}
 use Rattle.two_ends.specs.Runs.{Seconds, Widths}
 use Rattle.two_ends.specs.Calls.{accepts, broken, called, counts, on, opened, plainly, put, submitted, wrote}
 use Rattle.two_ends.specs.Steady.{Mild}
 use Rattle.two_ends.proofs.Saying.{All, alive-says, all-append, all-at, all-drop, init-says, Says, carried-says}
 use Rattle.two_ends.proofs.Invariant.{Good, Some, Waiting}
-use Rattle.two_ends.proofs.Quiet.{Quiet}
-use Rattle.two_ends.proofs.Sent.{Sendable, sendable}
-use Rattle.two_ends.proofs.Writing.{Wrote, writer-says}
 use Rattle.two_ends.proofs.Worlds.{begun-else, ended, next}
 use Rattle.two_ends.proofs.Acts.{by-open, by-plain, by-submit, by-write}
 use Rattle.two_ends.proofs.Sending.{does, sends-fine}

@@ -19,13 +19,14 @@ use Rattle.protocol.specs.Answers.{isDone}
 use Rattle.protocol.proofs.Submits.{Accepted, done-accepted, submit-harmless}
 use Rattle.protocol.proofs.Effects.{done-is}
 use Rattle.protocol.proofs.Settling.{settle-does, admitted-done}
+use Rattle.protocol.proofs.Quiet.{refused-quiet}
 use Rattle.two_ends.specs.World.{History, End, World}
 use Rattle.two_ends.specs.Calls.{called, counts, accepts, submitted as submits}
 use Rattle.two_ends.proofs.Packets.{okays-snoc}
 use Rattle.two_ends.proofs.Invariant.{Ready, Some, Good}
 use Rattle.two_ends.proofs.Sides.{dir-accept, dir-accept-peer}
 use Rattle.two_ends.proofs.Worlds.{ended, ready-open, at-replaced, Settled}
-use Rattle.two_ends.proofs.Quiet.{refused-quiet, quietly-counts}
+use Rattle.two_ends.proofs.Quiet.{quietly-counts}
 
 both-same : (b : Bool) → both b true ≡ b
 both-same true = refl

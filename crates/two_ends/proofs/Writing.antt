@@ -2,24 +2,20 @@
 use Prim.Native.Nat.{ℕ, _<_}
 use native.Mathlib.Omega.{arith}
 use mathlib.Core.Path.{_≡_, refl, sym, ap, _∙_}
-use mathlib.Core.Bool.{Bool, true, false, true≢false, not}
+use mathlib.Core.Bool.{Bool, true, false, true≢false}
 use mathlib.Core.List.{List, [], _∷_, _++_, map}
-use mathlib.Core.Logic.{_⊎_, inl, inr, ⊎-elim}
-use Rattle.octets.specs.Pick.{pick}
-use Rattle.octets.proofs.Choice.{by-test}
+use mathlib.Core.Logic.{inl, ⊎-elim}
 use Rattle.ft_number.specs.declared.MessageId.{MessageId}
 use Rattle.protocol.specs.declared.Answer
 use Rattle.protocol.specs.declared.Answer.{Answer}
 use Rattle.protocol.specs.declared.Phase
 use Rattle.protocol.specs.declared.Phase.{Phase}
 use Rattle.protocol.specs.Phases.{isUp}
-use Rattle.protocol.specs.Answers.{isDone}
-use Rattle.protocol.specs.Step.{Step, stepped, roomFor, admitted}
-use Rattle.protocol.specs.Writer.{writer}
+use Rattle.protocol.specs.Step.{stepped}
 use Rattle.protocol.specs.KeepAlive.{aliveBytes, keepalive}
 use Rattle.protocol.specs.State.{State}
-use Rattle.protocol.proofs.Settling.{admitted-done, settle-does}
-use Rattle.protocol.proofs.Refusals.{may-harmless, room-harmless}
+use Rattle.protocol.proofs.Quiet.{Quiet}
+use Rattle.protocol.proofs.Writers.{Wrote, writer-says}
 use Rattle.two_ends.specs.World.{History, End, World}
 use Rattle.two_ends.specs.Calls.{called, put, wrote as writes}
 use Rattle.two_ends.proofs.Packets.{Packet, alive, Fine, bytesOf}
@@ -27,28 +23,7 @@ use Rattle.two_ends.proofs.Invariant.{Some, Good}
 use Rattle.two_ends.proofs.Sides.{dir-alive, dir-alive-peer}
 use Rattle.two_ends.proofs.Direction.{half-secured}
 use Rattle.two_ends.proofs.Worlds.{ended, ready-open, at-replaced, Settled}
-use Rattle.two_ends.proofs.Quiet.{Quiet, quietly-puts, refused-quiet}
-
--- ---- what a writer answers: it writes where it may and has room, or changes nothing
-may-done : (b : Bool) (a : Answer) → isDone (pick (not b) Answer.WrongPhase a) ≡ true → b ≡ true
-may-done true a t = refl
-may-done false a t = absurd (true≢false (sym t))
-
-pub record Wrote (now : State) (may : Bool) (next : Phase) (bytes : List ℕ) (x : Step) : Type 0 where
-  pub may-write : may ≡ true
-  pub is : x ≡ stepped Answer.Done now next bytes
-
-pub writer-says : (now : State) (ph : Phase) (may : Bool) (next : Phase) (bytes : List ℕ) (room : ℕ)
-    → Wrote now may next bytes (writer now ph may next bytes room) ⊎ Quiet now ph (writer now ph may next bytes room)
-unfolding writer
-writer-says now ph may next bytes room =
-    let rule = pick (not may) Answer.WrongPhase (roomFor bytes room) in
-    by-test (isDone (admitted now ph rule))
-    (λ t. inl (record {
-      may-write = may-done may (roomFor bytes room) (admitted-done now ph rule t);
-      is = settle-does (admitted now ph rule) now ph (stepped Answer.Done now next bytes) t;
-    }))
-    (λ n. inr (refused-quiet rule now ph (stepped Answer.Done now next bytes) (may-harmless may (roomFor bytes room) (room-harmless bytes room)) n))
+use Rattle.two_ends.proofs.Quiet.{quietly-puts}
 
 -- ---- what it puts on the line
 map-snoc : (ps : List Packet) (p : Packet) → map bytesOf (ps ++ (p ∷ [])) ≡ map bytesOf ps ++ (bytesOf p ∷ [])
