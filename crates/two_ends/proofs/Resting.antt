@@ -15,11 +15,13 @@ use Rattle.protocol.specs.Step.{Step, failedWith, releasedWith, admitted, uncha
 use Rattle.protocol.specs.ConnectionFailed.{connectionFailed}
 use Rattle.protocol.specs.TimePassed.{expired, timePassed}
 use Rattle.protocol.specs.State.{releasedState, State}
+use Rattle.protocol.specs.Begin.{restore}
 use Rattle.protocol.proofs.Settling.{done-harmless, settle-does, admitted-done}
 use Rattle.protocol.proofs.Refusals.{may-harmless}
 use Rattle.protocol.proofs.Quiet.{refused-quiet}
 use Rattle.two_ends.specs.World.{History, End, World}
 use Rattle.two_ends.specs.Calls.{keeps, called, plainly}
+use Rattle.two_ends.specs.Runs.{act, restarts}
 use Rattle.two_ends.proofs.Invariant.{Waiting, Some, Good}
 use Rattle.two_ends.proofs.Worlds.{ended, begun-else, at-replaced, settled-same, Settled}
 use Rattle.two_ends.proofs.Failing.{failing}
@@ -49,8 +51,8 @@ module _ (w : World) (g : Good w) where
       (λ n. quietly (w .a) (connectionFailed now ph) (refused-quiet _ now ph (failedWith Answer.Done now) (may-harmless (connected ph) Answer.Done done-harmless) n) s))
 
   -- ---- a restart
-  pub at-restarts : Good (plainly w (failedWith Answer.Done (w .a .state)))
-  at-restarts = at-plain w (failedWith Answer.Done (w .a .state)) g (λ s k. failing (w .a .state) (w .a .phase) (w .a .joined) (w .a .begun) (w .a .history) s)
+  pub at-restarts : Good (act w restarts)
+  at-restarts = at-plain w (restore (w .a .state)) g (λ s k. failing (w .a .state) (w .a .phase) (w .a .joined) (w .a .begun) (w .a .history) s)
 
 -- ---- time passes
 module _ (now : State) (jo bg : Bool) (h : History) (elapsed : ℕ) (b : End) (ab ba : List (List ℕ)) where
