@@ -1,5 +1,5 @@
 #!/usr/bin/env python3
-"""The script that session_cases plays, and the lines that it prints: what a cabinet written from the build paper (paper/) makes of it.
+"""The script that session_cases plays, and the lines that it prints: what a cabinet written from the build paper (tests/paper) makes of it.
 
     tests/session/make.py            writes crates/session_cases/{stdin,stdout}
     tests/session/make.py --check    fails where a stored file is another
@@ -8,9 +8,12 @@ import pathlib
 import sys
 
 sys.dont_write_bytecode = True
-from paper import reading as r  # noqa: E402
-from paper.pair import ADDRESS, MAPPING, P1, P2, RELEASE, WITHDRAW, Pair, label_message  # noqa: E402
-from paper.player import LINES, SCRIPT  # noqa: E402
+sys.path.append(str(pathlib.Path(__file__).resolve().parents[1]))
+from pair import AN_ADDRESS, P1, P2, Pair, label_message  # noqa: E402
+from paper.wire import ADDRESS, FEC, INIT, KEEPALIVE, MAPPING, RELEASE, RESOURCES, TYPE, WITHDRAW, ack_tlv  # noqa: E402
+from paper.wire import label_tlv, message, parameters_tlv, protection_tlv, session_tlv, status_tlv, tlv  # noqa: E402
+from player import LINES, SCRIPT  # noqa: E402
+from stored import settle  # noqa: E402
 
 # Beside P1 and P2: an image that is kept, and the copy that a call is made on; SHORT is the copy of all bytes but the last.
 SHORT, KEPT, COPY = 0, 3, 4
@@ -151,9 +154,9 @@ def lengths(p):
     p.title("lengths")
     p.fresh()
     for size in (480, 481):
-        p.submit(P1, f"P1 submit {size} bytes", r.message(0x0300, 4, r.tlv(0x0101, bytes(size - 12))))
-    p.submit(P1, "P1 submit 8 bytes", r.message(0x0300, 4))
-    p.submit(P1, "P1 submit 7 bytes", r.message(0x0300, 4)[:7])
+        p.submit(P1, f"P1 submit {size} bytes", message(TYPE[ADDRESS], 4, tlv(0x0101, bytes(size - 12))))
+    p.submit(P1, "P1 submit 8 bytes", message(TYPE[ADDRESS], 4))
+    p.submit(P1, "P1 submit 7 bytes", message(TYPE[ADDRESS], 4)[:7])
     for room in (495, 496):
         p.send(P1, f"P1 send, room {room}", room, True)
     p.counts(P1, "P1")
@@ -176,78 +179,69 @@ def full_store(p):
 ID = 9
 
 
-def protection(n):
-    return r.tlv(r.PROTECTION, r.field(n, 4))
-
-
-def ack(n):
-    return r.tlv(r.ACK, r.field(n, 4))
-
-
 def keepalive(*tlvs):
-    return r.message(0x0201, ID, *tlvs)
+    return message(KEEPALIVE, ID, *tlvs)
 
 
 def bare_address(*tlvs):
-    return r.message(0x0300, ID, *tlvs)
+    return message(TYPE[ADDRESS], ID, *tlvs)
+
+
+def without_label(kind):
+    return message(TYPE[kind], ID, tlv(FEC, b""))
 
 
 def with_label(kind, label, *tlvs):
-    return r.message(kind, ID, r.tlv(r.FEC, b""), r.tlv(r.LABEL, r.field(label, 4)), *tlvs)
+    return message(TYPE[kind], ID, tlv(FEC, b""), label_tlv(label), *tlvs)
 
 
 def status(code):
-    return r.message(0x0001, ID, r.tlv(r.STATUS, r.field(code, 4) + bytes(6)))
+    return message(TYPE[RESOURCES], ID, status_tlv(code))
 
 
 def init(*tlvs, ident=0):
-    return r.message(0x0200, ident, *tlvs)
+    return message(INIT, ident, *tlvs)
 
 
 def own(seconds=15, size=1500):
-    return r.tlv(r.PARAMETERS, r.field(1, 2) + r.field(seconds, 2) + bytes(2) + r.field(size, 2) + bytes(6))
+    return parameters_tlv(seconds, size)
 
 
-def session(again, seconds):
-    return r.tlv(0x8503, r.field(0x8000 * again, 2) + r.field(seconds, 2))
-
-
-NO_LABEL = r.message(MAPPING, ID, r.tlv(r.FEC, b""))
 RECEIVED = (
-    keepalive(ack(1)),
-    keepalive(ack(2)),
-    keepalive(ack(3)),
-    keepalive(ack(0)),
-    bare_address(protection(2), ack(2)),
-    bare_address(protection(3), ack(2)),
-    bare_address(protection(3), ack(3)),
-    bare_address(protection(1)),
-    bare_address(protection(0)),
-    keepalive(protection(2)),
+    keepalive(ack_tlv(1)),
+    keepalive(ack_tlv(2)),
+    keepalive(ack_tlv(3)),
+    keepalive(ack_tlv(0)),
+    bare_address(protection_tlv(2), ack_tlv(2)),
+    bare_address(protection_tlv(3), ack_tlv(2)),
+    bare_address(protection_tlv(3), ack_tlv(3)),
+    bare_address(protection_tlv(1)),
+    bare_address(protection_tlv(0)),
+    keepalive(protection_tlv(2)),
     bare_address(),
     with_label(MAPPING, 201),
-    with_label(MAPPING, 1000, protection(2)),
-    with_label(WITHDRAW, 201, protection(2)),
-    with_label(RELEASE, 101, protection(2)),
-    keepalive(protection(2), ack(2))[:20],
+    with_label(MAPPING, 1000, protection_tlv(2)),
+    with_label(WITHDRAW, 201, protection_tlv(2)),
+    with_label(RELEASE, 101, protection_tlv(2)),
+    keepalive(protection_tlv(2), ack_tlv(2))[:20],
     with_label(MAPPING, 1048576),
-    NO_LABEL,
+    without_label(MAPPING),
     init(ident=ID),
     status(0x8000000A),
 )
 PLAIN = (
     keepalive(),
     with_label(MAPPING, 300),
-    keepalive(ack(0)),
-    bare_address(protection(1)),
-    NO_LABEL,
+    keepalive(ack_tlv(0)),
+    bare_address(protection_tlv(1)),
+    without_label(MAPPING),
     status(0x8000000A),
 )
 SUBMITTED = (
-    NO_LABEL,
-    with_label(MAPPING, 102, protection(3)),
-    r.message(0x0401, ID, r.tlv(r.FEC, b"")),
-    r.message(WITHDRAW, ID, r.tlv(r.FEC, b"")),
+    without_label(MAPPING),
+    with_label(MAPPING, 102, protection_tlv(3)),
+    message(0x0401, ID, tlv(FEC, b"")),
+    without_label(WITHDRAW),
     status(0xE),
     status(0xF),
     with_label(MAPPING, 15),
@@ -256,14 +250,14 @@ SUBMITTED = (
     with_label(RELEASE, 201),
 )
 INITS = (
-    init(own(), session(1, 5), ack(2)),
-    init(own(), session(1, 5), ack(3)),
-    init(own(seconds=16), session(1, 5), ack(2)),
-    init(own(size=1501), session(1, 5), ack(2)),
-    init(own(), session(0, 3), ack(9)),
-    init(own(), session(1, 5)),
+    init(own(), session_tlv(1, 5), ack_tlv(2)),
+    init(own(), session_tlv(1, 5), ack_tlv(3)),
+    init(own(seconds=16), session_tlv(1, 5), ack_tlv(2)),
+    init(own(size=1501), session_tlv(1, 5), ack_tlv(2)),
+    init(own(), session_tlv(0, 3), ack_tlv(9)),
+    init(own(), session_tlv(1, 5)),
     init(own()),
-    init(session(0, 5), ident=ID),
+    init(session_tlv(0, 5), ident=ID),
     keepalive(),
 )
 
@@ -308,10 +302,10 @@ def every_call(p, title, copy=COPY):
     for name, step, *rest in (
         ("open", p.open),
         ("keepalive", p.keepalive, 64),
-        ("init", p.init, ADDRESS),
-        ("submit", p.submit, ADDRESS),
+        ("init", p.init, AN_ADDRESS),
+        ("submit", p.submit, AN_ADDRESS),
         ("send", p.send, 64),
-        ("receive", p.receive, ADDRESS),
+        ("receive", p.receive, AN_ADDRESS),
         ("connection failed", p.failed),
         ("time passed 0", p.time, 0),
     ):
@@ -364,13 +358,7 @@ def main():
     p = Pair()
     for part in (example, recovery, restart, net_zero, timeouts, lengths, full_store, full_labels, messages, refused_images, beginnings, plain_session):
         part(p)
-    crate = pathlib.Path(__file__).resolve().parents[2] / "crates/session_cases"
-    for name, lines in (("stdin", SCRIPT), ("stdout", LINES)):
-        text = "".join(line + "\n" for line in lines)
-        if sys.argv[1:] != ["--check"]:
-            (crate / name).write_text(text)
-        elif (crate / name).read_text() != text:
-            sys.exit(f"{name} of session_cases is not what tests/session/make.py makes")
+    settle({f"session_cases/{name}": "".join(line + "\n" for line in lines).encode() for name, lines in (("stdin", SCRIPT), ("stdout", LINES))})
 
 
 main()

@@ -1,9 +1,8 @@
 """Cabinets at five places, 0 to 4; the image at place 0 is a byte too short. Every method is a line of the script that session_cases plays, and is played here too: SCRIPT has the
 lines of the script, LINES what is printed. A message is bytes, or the place whose last output it is."""
 
-from . import calls as c
-from . import image as im
-from . import reading as r
+from paper import calls as c
+from paper import image as im
 
 SCRIPT, LINES = [], []
 
@@ -87,14 +86,7 @@ class Player:
     # What is done to the images and phases.
     def counts(self, place, name):
         step(name, "counts", place)
-        bad = im.refusal(self.image[place])
-        if bad:
-            LINES.append(f"{name} refused {bad[0]} block {bad[1]}")
-            return
-        st = im.State(im.block_of(self.image[place], 0))
-        pended = st.held - r.steps(st.released, st.issued)
-        labels = sum(w != 0 for w in st.words)
-        LINES.append(f"{name} released {st.released} issued {st.issued} secured {st.secured} held {st.held} pended {pended} labels {labels}")
+        LINES.append(f"{name} {' '.join(im.report(self.image[place]))}")
 
     def put(self, place, phase):
         step("", phase[0], place, *phase[1:])
@@ -107,7 +99,7 @@ class Player:
 
     def block(self, place, k, source, j):
         step("", "copy", place, source, k, j)
-        self.image[place][512 * k : 512 * k + 512] = im.block_of(self.image[source], j)
+        self.image[place][im.BLOCK * k : im.BLOCK * (k + 1)] = im.block_of(self.image[source], j)
         self.phase[place] = self.phase[source]
 
     def spoil(self, place, at, byte):

@@ -1,18 +1,16 @@
 """Two cabinets, P1 and P2, at the places 1 and 2: the steps that they take together, or that are taken again and again."""
 
-from . import reading as r
-from .player import Player
+from paper.wire import ADDRESS, FEC, MAPPING, RELEASE, TYPE, WITHDRAW, label_tlv, message, tlv
+from player import Player
 
 P1, P2 = 1, 2
 OTHER = {P1: P2, P2: P1}
-MAPPING, WITHDRAW, RELEASE = 0x0400, 0x0402, 0x0403
+AN_ADDRESS = message(TYPE[ADDRESS], 3, tlv(0x0101, bytes.fromhex("0001c0000201")))
 
 
 def label_message(kind, label):
-    return r.message(kind, label, r.tlv(r.FEC, bytes.fromhex("020001200a000001")), r.tlv(r.LABEL, r.field(label, 4)))
+    return message(TYPE[kind], label, tlv(FEC, bytes.fromhex("020001200a000001")), label_tlv(label))
 
-
-ADDRESS = r.message(0x0300, 3, r.tlv(0x0101, bytes.fromhex("0001c0000201")))
 
 
 class Pair(Player):
@@ -44,7 +42,7 @@ class Pair(Player):
         self.submit(end, f"P{end} submit Release {label}", label_message(RELEASE, label))
 
     def address(self, end):
-        self.submit(end, f"P{end} submit Address", ADDRESS)
+        self.submit(end, f"P{end} submit Address", AN_ADDRESS)
 
     def send_lost(self, end):
         self.send(end, f"P{end} send, lost")

@@ -2,9 +2,14 @@
 
 Every call decodes the image, does what the paper says, and lays block 0 anew. What the paper says in a sentence is quoted."""
 
-from .image import GIVEN, SIZE, USED, State, block_of, live, refusal, slot_block
-from .reading import ACK, ADDRESS, ADDRESS_WITHDRAW, MAPPING, PARAMETERS, PROTECTION, RELEASE, RESOURCES, SESSION, WITHDRAW
-from .reading import Message, field, lesser, message, number, steps, submission, successor, tlv
+from .image import BLOCK, SIZE, SLOTS, State, block_of, held_message, refusal, slot_block, state_of
+from .labels import EVERY
+from .message import Message, submission
+from .numbers import acknowledged, advance, lesser, steps, successor
+from .wire import ACK, ADDRESS, ADDRESS_WITHDRAW, INIT, KEEPALIVE, MAPPING, PARAMETERS, PROTECTION, RELEASE, RESOURCES, SESSION, WITHDRAW
+from .wire import ack_tlv, field, message, number, parameters_tlv, protection_tlv, session_tlv
+
+LABEL_KINDS = (MAPPING, WITHDRAW, RELEASE)
 
 
 def allowed(st, phase):
@@ -29,16 +34,16 @@ def call(rule):
         bad = refusal(image)
         if bad:
             return Outcome(bad[0], phase, block=bad[1])
-        st, old = State(block_of(image, 0)), block_of(image, 0)
+        st, old = state_of(image), block_of(image, 0)
         o = Outcome(1, phase) if phase and not allowed(st, phase) else rule(image, st, phase, *rest)
         if 20 <= o.answer <= 23:
-            st = State(old)
-            st.free_unprotected()
+            st = state_of(old)
+            st.labels.lose_connection()
             o.phase = RESTING[st.kept]
         if o.answer >= 30:
             st, o.phase = State(), ("Idle",)
         if o.answer == 0 or o.answer >= 20:
-            image[:512] = getattr(o, "state", st).block()
+            image[:BLOCK] = getattr(o, "state", st).block()
         o.block0 = block_of(image, 0) != old
         return o
 
@@ -55,7 +60,7 @@ def begun(st, phase, out=b""):
 def format_image(image):
     if len(image) != SIZE:
         return Outcome(12, ("Idle",))
-    image[:] = State().block() + bytes(512 * 64)
+    image[:] = State().block() + bytes(BLOCK * SLOTS)
     o = Outcome(0, ("Idle",))
     o.block0 = True
     return o
@@ -69,7 +74,7 @@ def restore(image):
 
 def fail(st):
     """Code 6 words are freed; Failed if kept, else Idle."""
-    st.free_unprotected()
+    st.labels.lose_connection()
     return Outcome(0, RESTING[st.kept])
 
 
@@ -79,13 +84,10 @@ def open_session(image, st, phase, ident, parameters, proposal, room):
     if phase[0] not in ("Idle", "Failed"):
         return Outcome(1, phase)
     seconds = 5 if proposal is None else proposal
-    keepalive, maxpdu, lsr, space = parameters
-    own = field(1, 2) + field(keepalive, 2) + field(0, 2) + field(maxpdu, 2) + field(lsr, 4) + field(space, 2)
-    session = field(0x8000 if st.kept else 0, 2) + field(seconds, 2)
-    tlvs = [tlv(PARAMETERS, own), tlv(0x8000 | SESSION, session)]
+    tlvs = [parameters_tlv(*parameters), session_tlv(st.kept, seconds)]
     if st.kept:
-        tlvs.append(tlv(ACK, field(st.secured, 4)))
-    out = message(0x0200, ident, *tlvs)
+        tlvs.append(ack_tlv(st.secured))
+    out = message(INIT, ident, *tlvs)
     return Outcome(9, phase) if len(out) > room else Outcome(0, ("InitWait", seconds), out)
 
 
@@ -93,7 +95,7 @@ def open_session(image, st, phase, ident, parameters, proposal, room):
 def keepalive(image, st, phase, ident, room):
     if phase[0] not in ("UpFT", "UpPlain"):
         return Outcome(1, phase)
-    out = message(0x0201, ident, *([tlv(ACK, field(st.secured, 4))] if phase[0] == "UpFT" else []))
+    out = message(KEEPALIVE, ident, *([ack_tlv(st.secured)] if phase[0] == "UpFT" else []))
     return Outcome(9, phase) if len(out) > room else Outcome(0, phase, out)
 
 
@@ -112,11 +114,6 @@ def time_passed(image, st, phase, elapsed):
     return Outcome(0, phase)
 
 
-def held_message(image, st, i):
-    block = block_of(image, live(st)[i])
-    return block[8 : 8 + number(block[:2])]
-
-
 @call
 def submit(image, st, phase, m):
     if not st.kept:
@@ -126,25 +123,21 @@ def submit(image, st, phase, m):
     answer, kind, label = submission(m)
     if answer:
         return Outcome(answer, phase)
-    answer = accept(image, st, kind, label) or (7 if st.held == 64 else 0)
+    answer = accept(image, st, kind, label) or (7 if st.held == SLOTS else 0)
     if answer:
         return Outcome(answer, phase)
-    slot = (st.first + st.held) % 64 + 1
-    image[512 * slot : 512 * slot + 512] = slot_block(m, kind, label)
+    slot = (st.first + st.held) % SLOTS + 1
+    image[BLOCK * slot : BLOCK * (slot + 1)] = slot_block(m, kind, label)
     st.held += 1
     return Outcome(0, phase, slot=slot)
 
 
 def accept(image, st, kind, label):
-    """Accepted for sending: Mapping, absent or 1, becomes 1; Withdraw, 1 becomes 2; Release, 3 becomes 5, 4 becomes free."""
-    if kind > RELEASE:
+    """6 for a Withdraw or Release too where one of the same label is held; then by the label's code."""
+    if kind not in LABEL_KINDS:
         return 0
-    side = USED if kind == RELEASE else GIVEN
-    become = {MAPPING: {0: 1, 1: 1}, WITHDRAW: {1: 2}, RELEASE: {3: 5, 4: 0}}[kind].get(st.code(side, label))
     held = [submission(held_message(image, st, i))[1:] for i in range(st.held)]
-    if label < 16 or become is None or (kind != MAPPING and (kind, label) in held):
-        return 6
-    return 0 if st.put(side, label, become) else 13
+    return 6 if kind != MAPPING and (kind, label) in held else st.labels.accept(kind, label)
 
 
 @call
@@ -155,11 +148,8 @@ def send_next(image, st, phase, ack, room):
     sent = phase[1]
     if sent >= st.held:
         return Outcome(8, phase)
-    n = st.released
-    for _ in range(sent + 1):
-        n = successor(n)
-    m = held_message(image, st, sent)
-    added = tlv(PROTECTION, field(n, 4)) + (tlv(ACK, field(st.secured, 4)) if ack else b"")
+    n, m = advance(st.released, sent + 1), held_message(image, st, sent)
+    added = protection_tlv(n) + (ack_tlv(st.secured) if ack else b"")
     out = m[:2] + field(number(m[2:4]) + len(added), 2) + m[4:] + added
     if len(out) > room:
         return Outcome(9, phase)
@@ -168,22 +158,15 @@ def send_next(image, st, phase, ack, room):
     return Outcome(0, ("UpFT", sent + 1), out)
 
 
-def released_by(st, ack):
-    """An ACK is right if it is R or one of the numbers up to I; it releases every message through it."""
-    k = steps(st.released, ack)
-    return k if k is not None and k <= steps(st.released, st.issued) else None
-
-
 def apply_ack(image, st, ack):
-    """Released by ACK: Withdraw 2 becomes free; Release 5 becomes free; other codes stay."""
-    count = released_by(st, ack)
-    for i in range(count):
+    """How many messages an ACK releases, each with what that makes of its label; None where it is wrong."""
+    count = acknowledged(st.released, st.issued, ack)
+    for i in range(count or 0):
         _, kind, label = submission(held_message(image, st, i))
-        if kind == WITHDRAW and st.code(GIVEN, label) == 2:
-            st.put(GIVEN, label, 0)
-        if kind == RELEASE and st.code(USED, label) == 5:
-            st.put(USED, label, 0)
-    st.released, st.first, st.held = ack, (st.first + count) % 64, st.held - count
+        if kind in LABEL_KINDS:
+            st.labels.acknowledge(kind, label)
+    if count is not None:
+        st.released, st.first, st.held = ack, (st.first + count) % SLOTS, st.held - count
     return count
 
 
@@ -192,7 +175,7 @@ def init_received(image, st, phase, m):
     if phase[0] != "InitWait":
         return Outcome(1, phase)
     read = Message(m)
-    if read.bad or read.type != 0x0200:
+    if read.bad or read.type != INIT:
         return Outcome(22, phase)
     session = read.tlvs.get(SESSION)
     again = session is not None and session[0] >= 0x80
@@ -205,9 +188,8 @@ def init_received(image, st, phase, m):
     if again and st.kept:
         if peers != (st.keepalive, st.maxpdu):
             return Outcome(35, phase)
-        if released_by(st, read.value(ACK)) is None:
+        if apply_ack(image, st, read.value(ACK)) is None:
             return Outcome(34, phase)
-        apply_ack(image, st, read.value(ACK))
     else:
         st = State()
         st.kept, (st.keepalive, st.maxpdu) = 1, peers
@@ -220,7 +202,7 @@ def receive(image, st, phase, m):
     if phase[0] not in ("UpFT", "UpPlain"):
         return Outcome(1, phase)
     read = Message(m)
-    if read.bad or read.type == 0x0200:
+    if read.bad or read.type == INIT:
         return Outcome(22, phase)
     if read.fatal():
         return Outcome(36, phase)
@@ -229,16 +211,10 @@ def receive(image, st, phase, m):
     protected = read.has(PROTECTION)
     if protected and read.value(PROTECTION) == 0:
         return Outcome(30, phase)
-    count = 0
-    if read.has(ACK):
-        if released_by(st, read.value(ACK)) is None:
-            return Outcome(34, phase)
-        count = apply_ack(image, st, read.value(ACK))
+    count = apply_ack(image, st, read.value(ACK)) if read.has(ACK) else 0
+    if count is None:
+        return Outcome(34, phase)
     answer = judge(st, read, protected)
-    if not answer and protected and read.value(PROTECTION) != successor(st.secured):
-        answer = 20
-    if not answer and not take(st, read, protected):
-        answer = 21
     if answer:
         return Outcome(answer, phase)
     if protected:
@@ -246,28 +222,12 @@ def receive(image, st, phase, m):
     return Outcome(0, ("UpFT", max(phase[1] - count, 0)))
 
 
-def touched(st, read):
-    """The labels that a Mapping, Withdraw or Release touches on its own side."""
-    side = GIVEN if read.kind() == RELEASE else USED
-    if read.kind() not in (MAPPING, WITHDRAW, RELEASE):
-        return side, []
-    if read.every():
-        return side, [w & 0xFFFFF for w in st.words if w and w >> 20 in side]
-    return side, [read.label()] if read.label() is not None and read.label() >= 16 else []
-
-
 def judge(st, read, protected):
-    """Protection is missing (33) or wrong (32)."""
-    side, labels = touched(st, read)
-    codes = [st.code(side, label) for label in labels]
-    if not protected:
-        return 33 if read.kind() in (ADDRESS, ADDRESS_WITHDRAW, RESOURCES) or any(1 <= c <= 5 for c in codes) else 0
-    return 32 if read.label() is not None and read.kind() in (MAPPING, WITHDRAW) and 6 in codes else 0
-
-
-def take(st, read, protected):
-    """Received: Mapping protected, absent or 3 or 5 becomes 3, 4 stays; unprotected, absent becomes 6, 6 stays.
-    Withdraw: 3 becomes 4; 4, 5 stay; 6 becomes free. Release: 1, 2 become free."""
-    become = {MAPPING: {0: 3, 5: 3} if protected else {0: 6}, WITHDRAW: {3: 4, 6: 0}, RELEASE: {1: 0, 2: 0}}.get(read.kind(), {})
-    side, labels = touched(st, read)
-    return all(st.put(side, label, become.get(st.code(side, label), st.code(side, label))) for label in labels)
+    """Protection missing (33) or wrong (32), the number not the next (20), no word for the label (21): else the labels have changed."""
+    kind, label = read.kind(), EVERY if read.every() else read.label()
+    if kind in (ADDRESS, ADDRESS_WITHDRAW, RESOURCES) and not protected:
+        return 33
+    answer = st.labels.judge(kind, label, protected) if kind in LABEL_KINDS else 0
+    if not answer and protected and read.value(PROTECTION) != successor(st.secured):
+        return 20
+    return answer or (st.labels.take(kind, label, protected) if kind in LABEL_KINDS else 0)
