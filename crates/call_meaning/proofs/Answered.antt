@@ -16,6 +16,7 @@ use Rattle.calls.proofs.Ends.{settle-fail, settle-release, settle-refusal, sett
 use Rattle.image.proofs.Changes.{release-decodes, break-decodes}
 use Rattle.call_meaning.specs.Standing.{Standing}
 use Rattle.call_meaning.specs.Ended.{Unapplied, ReleasedIdle}
+use Rattle.calls.proofs.Putting.{break-puts, release-puts}
 use Rattle.call_meaning.proofs.Refusals.{settle-does}
 
 module _ (a : Answer) (ph : Phase) (im o : List ℕ) (done : After) where
@@ -49,8 +50,12 @@ module _ (a : Answer) (ph : Phase) (im o : List ℕ) (done : After) where
 module _ (im : List ℕ) (ph : Phase) (st : Standing im ph) (a : Answer) (o : List ℕ) where
   pub failed-unapplied : Unapplied im (failedOn a im o)
   unfolding failedOn
-  failed-unapplied = record { image = refl; state = break-decodes im (st .sound) (st .range); phase = refl }
+  failed-unapplied = record {
+    image = break-puts im (st .sound);
+    state = rw (break-puts im (st .sound), break-decodes im (st .sound) (st .range));
+    phase = refl;
+  }
 
   pub released-idle : ReleasedIdle im (releasedOn a im o)
   unfolding releasedOn
-  released-idle = record { image = refl; state = release-decodes im (st .sound .size); phase = refl }
+  released-idle = record { image = release-puts im; state = rw (release-puts im, release-decodes im (st .sound .size)); phase = refl }

@@ -11,12 +11,13 @@ use Rattle.protocol.specs.declared.Effect
 use Rattle.protocol.specs.declared.Effect.{Effect}
 use Rattle.calls.specs.declared.Outcome.{Outcome}
 use Rattle.protocol.specs.declared.Phase.{Phase}
-use Rattle.protocol.proofs.Settling.{admitted-is}
+
 use Rattle.protocol.specs.Answers.{answerNumber, effectBy, effectOf, isDone}
 use Rattle.calls.specs.Outcomes.{After, after, refusal, checked, admittedOn, settleOf}
-use Rattle.calls.proofs.Settled.{admit-refused, admit-passed, checks-sound}
+use Rattle.calls.proofs.Settled.{admit-refused, admit-passed, admitted-is, checks-sound}
+use Rattle.protocol.proofs.Settling.{done-harmless}
 use Rattle.calls.proofs.Ends.{settle-refusal, unchanged-is}
-use Rattle.call_meaning.proofs.Refusals.{checked-harmless, admitted-harmless, done-harmless, settle-does}
+use Rattle.call_meaning.proofs.Refusals.{checked-harmless, admitted-harmless, settle-does}
 
 -- ---- restore's checks alone
 module _ (im : List ℕ) {r : Answer} (e : r ≡ checked (verdict im) Answer.Done) where

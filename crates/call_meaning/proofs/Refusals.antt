@@ -12,6 +12,7 @@ use Rattle.protocol.specs.declared.Phase.{Phase}
 use Rattle.protocol.specs.Answers.{answerNumber, effectOf, isDone}
 use Rattle.calls.specs.Outcomes.{After, checked, admittedOn, settleOf}
 use Rattle.protocol.proofs.Effects.{effect-nothing}
+use Rattle.protocol.proofs.Settling.{Harmless}
 use Rattle.calls.proofs.Settled.{checked-all, admitted-all}
 
 refusal-harmless : (x : Answer) → 0 < answerNumber x → answerNumber x < 20 → Harmless x

@@ -1,6 +1,6 @@
 -- However a call ends, it leaves a sound image in range and a phase that the image allows. Assumes nothing.
-use mathlib.Core.Path.{_≡_}
-use mathlib.Core.Bool.{true}
+use mathlib.Core.Path.{_≡_, refl}
+use mathlib.Core.Bool.{true, Bool, false}
 use mathlib.Core.List.{List}
 use Prim.Native.Nat.{ℕ, _≤_, _<_}
 use native.Mathlib.Omega.{arith}
@@ -9,7 +9,7 @@ use mathlib.Core.Logic.{⊎-elim}
 use borrow.Author.Tests.{eq-eqb}
 use Rattle.octets.proofs.Choice.{by-test}
 use Rattle.block0.specs.declared.Header.{Header}
-use Rattle.image.specs.State.{State, decode, InRange}
+use Rattle.image.specs.State.{decode, InRange}
 use Rattle.image.specs.Verdict.{IsSound}
 use Rattle.image.proofs.Changes.{in-range-released, release-decodes, release-sound, break-decodes, break-sound, in-range-broken}
 use Rattle.image.proofs.Sound.{parts-sound, sound-valid}
@@ -23,35 +23,45 @@ use Rattle.protocol.specs.Answers.{effectOf, isDone}
 use Rattle.calls.specs.Outcomes.{After, untouched, failedOn, releasedOn, leftBy, settleOf}
 use Rattle.calls.proofs.Settled.{Admitted}
 use Rattle.calls.proofs.Ends.{settle-other}
-use Rattle.calls.proofs.Phasing.{resting-failed, resting-idle}
-use Rattle.call_meaning.specs.Standing.{Standing, Stands, Stored}
+use Rattle.calls.proofs.Putting.{break-puts, release-puts}
+use Rattle.call_meaning.proofs.Putting.{Puts, put-range, put-sound, put-state}
+use Rattle.call_meaning.specs.Standing.{Standing, Stands}
 use Rattle.call_meaning.proofs.Refusals.{settle-does}
+use Rattle.protocol.specs.State.{State}
+use Rattle.calls.specs.State.{stateOf}
+use Rattle.calls.specs.Storing.{Slots, stored}
+use Rattle.octets.specs.Pick.{pick}
+use Rattle.protocol.specs.Step.{broken}
 
 -- a call that comes to what stands is admittedOn
 pub standing-admitted : {im : List ℕ} {ph : Phase} → Standing im ph → Admitted im ph
 standing-admitted {im} st = record { passes = parts-sound im (st .sound); fits = st .fits }
 
--- the phase at rest is one that the image allows
-pub resting-fits : (h : Header) → h .kept ≤ 1 → phaseFits (restingPhase h) h ≡ true
+-- the phase at rest is one that the state allows
+pub resting-fits : (s : State) → phaseFits (restingPhase s) s ≡ true
 unfolding phaseFits
-resting-fits h l =
-    ⊎-elim
-    (λ (e : h .kept ≡ 1). rw (← resting-failed h e) (eq-eqb (h .kept) 1 e))
-    (λ (z : h .kept < 1). rw (← resting-idle h (λ (e : h .kept ≡ 1). omega arith)) (eq-eqb (h .kept) 0 (omega arith)))
-    (eq-or-lt-of-le l)
+resting-fits s = by (s .kept) refl
+  where
+    by : (b : Bool) → s .kept ≡ b → phaseFits (pick b Phase.Failed Phase.Idle) s ≡ true
+    by true e = e
+    by false e = rw e
 
 -- a state that is stored stands
-pub stored-stands : {im : List ℕ} {s : State} {ph : Phase} → Stored im s ph → Standing im ph
-stored-stands d = record { sound = d .sound; range = rw (d .decodes) (d .range); fits = rw (d .decodes) (d .fits) }
+pub puts-stands : {im : List ℕ} → IsSound im → {slots : Slots} {s : State} {ph : Phase} → Puts im slots s → phaseFits ph s ≡ true → Standing (stored im slots s) ph
+puts-stands {im} sound {slots} {s} p f = record {
+  sound = put-sound im sound slots s p;
+  range = put-range im sound slots s p;
+  fits = rw (put-state im sound slots s p) f;
+}
 
 -- ---- the three ends of a call that is not done
 -- as connection failed, whatever the phase was
 pub failure-stands : (im : List ℕ) → IsSound im → InRange (decode im) → (a : Answer) (o : List ℕ) → Stands (failedOn a im o)
 unfolding failedOn
 failure-stands im s r a o = record {
-  sound = break-sound im s r;
-  range = rw (break-decodes im s r) (in-range-broken im s r);
-  fits = rw (break-decodes im s r) (resting-fits (decode im .header) (sound-valid im s .kept));
+  sound = rw (break-puts im s) (break-sound im s r);
+  range = rw (break-puts im s, break-decodes im s r) (in-range-broken im s r);
+  fits = rw (break-puts im s, break-decodes im s r) (resting-fits (broken (stateOf im)));
 }
 
 module _ (im : List ℕ) (ph : Phase) (st : Standing im ph) (a : Answer) (o : List ℕ) where
@@ -61,9 +71,9 @@ module _ (im : List ℕ) (ph : Phase) (st : Standing im ph) (a : Answer) (o : Li
   pub released-stands : Stands (releasedOn a im o)
   unfolding releasedOn phaseFits
   released-stands = record {
-    sound = release-sound im (st .sound .size);
-    range = rw (release-decodes im (st .sound .size)) in-range-released;
-    fits = rw (release-decodes im (st .sound .size));
+    sound = rw (release-puts im) (release-sound im (st .sound .size));
+    range = rw (release-puts im, release-decodes im (st .sound .size)) in-range-released;
+    fits = rw (release-puts im, release-decodes im (st .sound .size));
   }
 
   other-stands : (f : Effect) → Stands (leftBy f a ph im o (untouched a ph im o))

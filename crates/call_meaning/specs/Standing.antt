@@ -7,6 +7,7 @@ use Rattle.image.specs.State.{State, decode, InRange}
 use Rattle.image.specs.Verdict.{IsSound}
 use Rattle.protocol.specs.declared.Phase.{Phase}
 use Rattle.protocol.specs.Phases.{phaseFits}
+use Rattle.calls.specs.State.{stateOf}
 use Rattle.calls.specs.Outcomes.{After}
 
 pub record Standing (im : List ℕ) (ph : Phase) : Type 0 where
@@ -17,10 +18,3 @@ pub record Standing (im : List ℕ) (ph : Phase) : Type 0 where
 -- what a call leaves stands
 abbrev pub Stands : After → Type 0
 Stands x = Standing (x .image) (x .outcome .phase)
-
--- a state stored in an image: it is read back, the image is sound, its numbers are in range, and it allows the phase
-pub record Stored (im : List ℕ) (s : State) (ph : Phase) : Type 0 where
-  pub decodes : decode im ≡ s
-  pub sound : IsSound im
-  pub range : InRange s
-  pub fits : phaseFits ph (stateBy (s .header) (s .labels) (s .queue)) ≡ true

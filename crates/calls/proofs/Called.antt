@@ -28,7 +28,7 @@ checked-refused (Verdict.BadBlock b) a n = refl
 checked-refused (Verdict.BadField b) a n = refl
 
 module _ (im : List ℕ) (ph : Phase) (o : List ℕ) (slots : Slots) (a : Answer) (s : State) (d : Step) (e : d .answer ≡ Answer.Done) where
-  call-settles : callOf im ph o slots (settle a s ph d) ≡ settleOf (checked (verdict im) a) ph im o (stepStored im slots d o)
+  pub call-settles : callOf im ph o slots (settle a s ph d) ≡ settleOf (checked (verdict im) a) ph im o (stepStored im slots d o)
   unfolding callOf
   call-settles =
       by-test (isDone a)

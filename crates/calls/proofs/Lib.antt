@@ -6,3 +6,4 @@ pub mod Freeing
 pub mod Ends
 pub mod Saying
 pub mod Called
+pub mod Acknowledged

@@ -1,9 +1,9 @@
 -- A store of what the image says already changes nothing, and a store of anything else changes the bytes of block 0; so do a break and a release. Assumes nothing.
-use mathlib.Core.Path.{_≡_, sym, ap, ap₂, _∙_}
+use mathlib.Core.Path.{_≡_, refl, sym, ap, ap₂, _∙_}
 use mathlib.Core.Bool.{true, false, false≢true}
 use mathlib.Core.List.{List, [], _∷_}
 use mathlib.Core.Logic.{_≢_}
-use Prim.Native.Nat.{ℕ, zero, suc}
+use Prim.Native.Nat.{ℕ}
 use native.Mathlib.Omega.{arith}
 use borrow.Author.Tests.{eqb-true, eqb-false, ne-eqb}
 use lib.Dec.{eqb}
@@ -11,7 +11,7 @@ use lib.ListN.{length, getD, drop, take-append-drop, length-map, List·getD-map}
 use lib.Seq.{ext-getD}
 use Rattle.octets.specs.Bytes.{Bytes}
 use Rattle.octets.specs.Differ.{differ}
-use Rattle.octets.proofs.Choice.{by-test, cleared}
+use Rattle.octets.proofs.Choice.{by-test}
 use Rattle.octets.proofs.Differ.{differ-false}
 use Rattle.label_list.specs.Word.{wordCount, codeOf, wordOf}
 use Rattle.label_list.specs.Find.{any}
@@ -19,12 +19,12 @@ use Rattle.label_list.specs.Rules.{codeSwept}
 use Rattle.label_list.specs.Sweep.{wordSwept, sweptOf}
 use Rattle.label_list.specs.declared.SweepRule.the-variants.{AfterBreak}
 use Rattle.label_meaning.specs.Valid.{InRange, IsValid}
-use Rattle.label_meaning.proofs.Meaning.{valid-means}
+use Rattle.label_meaning.proofs.Meaning.{any-none, valid-means, range-listed}
 use Rattle.block.specs.Run.{Words}
 use Rattle.block0.specs.declared.Header.{Header}
 use Rattle.block0.specs.Layout.{headerOf, labelsOf}
 use Rattle.block0.specs.Fields.{Fits}
-use Rattle.block0.specs.Unprotected.{unprotected}
+use Rattle.block0.specs.Unprotected.{isUnprotected, unprotected}
 use Rattle.block0.proofs.Same.{block0-same}
 use Rattle.image.specs.Sizes.{imageSize, block}
 use Rattle.image.specs.State.{State, decode, store0}
@@ -76,19 +76,13 @@ word-kept w range other =
     (λ z. rw z (omega arith)))
   where
     free : codeOf w ≡ 0 → 0 ≡ w
-    free z = by-test (eqb w 0) (λ e. sym (eqb-true w 0 e)) (λ e. let r : InRange w = range (eqb-false w 0 e) in absurd (omega arith))
-
-none-at : (ls : List ℕ) → unprotected ls ≡ false → (i : ℕ) → codeOf (getD ls i 0) ≡ 6 → ⊥
-unfolding any
-none-at [] e i six = omega (arith, six)
-none-at (w ∷ ws) e zero six = eqb-false (codeOf w) 6 (cleared (eqb (codeOf w) 6) true (unprotected ws) false (λ z. cc) e .0) six
-none-at (w ∷ ws) e (suc i) six = none-at ws (cleared (eqb (codeOf w) 6) true (unprotected ws) false (λ z. cc) e .1) i six
+    free z = by-test (eqb w 0) (λ e. sym (eqb-true w 0 e)) (λ e. absurd (range-listed (range (eqb-false w 0 e)) z))
 
 words-kept : (ls : List ℕ) → IsValid ls → unprotected ls ≡ false → sweptOf ls AfterBreak ≡ ls
 unfolding wordSwept wordOf codeSwept
 words-kept ls v none =
     ext-getD 0 (sweptOf ls AfterBreak) ls (length-map ls (wordSwept AfterBreak)) (λ i h.
-    List·getD-map (wordSwept AfterBreak) ls i 0 ∙ word-kept (getD ls i 0) (v .each i) (none-at ls none i))
+    List·getD-map (wordSwept AfterBreak) ls i 0 ∙ word-kept (getD ls i 0) (v .each i) (eqb-false _ 6 (any-none isUnprotected ls none refl i)))
 
 pub break-same : (image : List ℕ) → IsSound image → Bytes image → unprotected (decode image .labels) ≡ false → breakOf image ≡ image
 unfolding breakOf

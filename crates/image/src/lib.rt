@@ -8,9 +8,10 @@ ghost use Rattle.message.specs.declared.Submission.the-variants.{Accepted};
 ghost use Rattle.block.specs.Check.{blockSize};
 ghost use Rattle.block0.specs.Layout.{slotCount};
 ghost use Rattle.message.specs.Storable.{longest};
-ghost use Rattle.image.specs.Sizes.{imageSize, block};
+ghost use Rattle.image.specs.Sizes.{blockCount, imageSize, block, blockOf};
+ghost use Rattle.image.specs.Ring.{ring};
 ghost use Rattle.image.specs.State.{decode, storeSlot, store0};
-ghost use Rattle.image.specs.Verdict.{scan, verdict, verdictNumber, verdictBlock};
+ghost use Rattle.image.specs.Verdict.{bytesJudged, firstFault, verdict, verdictNumber, verdictBlock};
 use block0::Header;
 use message::Kind;
 use slot::SlotVerdict;
@@ -34,10 +35,20 @@ pub enum Verdict {
     BadField(usize),
 }
 
-// The slots of the ring, and the size of the image: they and block 0.
+// What restore's checks say of one block, of which the verdict is the first fault; a slot that is not live is idle.
+pub enum Judgement {
+    Good,
+    BadCheck,
+    BadFields,
+    Idle,
+}
+
+// The slots of the ring; the blocks of the image, block 0 and the slots; its size.
 pub const SLOT_COUNT: usize = block0::SLOT_COUNT as usize;
 
-pub const IMAGE_SIZE: usize = (SLOT_COUNT + 1) * block::BLOCK_SIZE;
+const BLOCK_COUNT: usize = 1 + SLOT_COUNT;
+
+pub const IMAGE_SIZE: usize = BLOCK_COUNT * block::BLOCK_SIZE;
 
 // The paper's number of a verdict.
 pub fn verdict_number(v: Verdict) -> u32
@@ -71,7 +82,7 @@ fn wide(x: u16) -> usize
 
 // Block b, as that very part of the image.
 fn block_at(image: &[u8], b: usize) -> &[u8]
-    requires { ⌜ (length (now image) ≡ imageSize) × (b ≤ slotCount) ⌝ }
+    requires { ⌜ (length (now image) ≡ imageSize) × (b < blockCount) ⌝ }
     ensures { λ r. ⌜ (now r ≡ block (now (image .entry)) b) × (length (now r) ≡ blockSize) ⌝ }
     ensures place { λ r. ⌜ (r .ptr .0 ≡ image .entry .ptr .0) × (r .ptr .1 ≡ b * blockSize + image .entry .ptr .1) ⌝ }
 {
@@ -83,7 +94,7 @@ fn block_at(image: &[u8], b: usize) -> &[u8]
 // The live slots in ring order: the check of each, then its fields.
 fn scan_slots(image: &[u8], first: usize, held: usize) -> Verdict
     requires { ⌜ (length (now image) ≡ imageSize) × (first < 65536) × (held < 65536) ⌝ }
-    ensures { λ r. ⌜ r ≡ scan (now (image .entry)) first held ⌝ }
+    ensures { λ r. ⌜ r ≡ firstFault (bytesJudged (now (image .entry))) (ring blockOf first held) ⌝ }
 {
     let mut i: usize = 0;
     while i < held {

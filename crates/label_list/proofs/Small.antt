@@ -3,7 +3,7 @@ use mathlib.Core.Bool.{Bool, true, false}
 use Prim.Native.Nat.{ℕ, _<_}
 use lib.Dec.{lit<, leb, eqb}
 use Rattle.octets.proofs.Choice.{pick-all}
-use Rattle.label_list.specs.Word.{within}
+use Rattle.label_list.specs.Word.{within, withoutProtection}
 use Rattle.label_list.specs.Rules.{codeAccepted, codeAcked, codeReceived, codeSwept}
 use Rattle.label_list.specs.declared.LabelMessage.{LabelMessage}
 use Rattle.label_list.specs.declared.LabelMessage.the-variants.{Mapping, Withdraw, Release}
@@ -35,11 +35,11 @@ pub received-small : (m : LabelMessage) (p : Bool) (c : ℕ) → Small c → Sma
 unfolding codeReceived
 received-small Mapping true c h = pick-all Small (eqb c 0) (lit< tt) (pick-all Small (eqb c 5) (lit< tt) h)
 received-small Mapping false c h = pick-all Small (eqb c 0) (lit< tt) h
-received-small Withdraw p c h = pick-all Small (eqb c 3) (lit< tt) (pick-all Small (eqb c 6) (lit< tt) h)
+received-small Withdraw p c h = pick-all Small (eqb c 3) (lit< tt) (pick-all Small (eqb c withoutProtection) (lit< tt) h)
 received-small Release p c h = pick-all Small (within 1 2 c) (lit< tt) h
 
 pub swept-small : (r : SweepRule) (c : ℕ) → Small c → Small (codeSwept r c)
 unfolding codeSwept
 swept-small WithdrawAll c h = received-small Withdraw true c h
 swept-small ReleaseAll c h = received-small Release true c h
-swept-small AfterBreak c h = pick-all Small (eqb c 6) (lit< tt) h
+swept-small AfterBreak c h = pick-all Small (eqb c withoutProtection) (lit< tt) h

@@ -21,7 +21,7 @@ pub data EndsWithdrawal : Event → ℕ → Type 0 where
   by-ack : {k : ℕ} → EndsWithdrawal (Acked Withdraw k) k
   by-release : {p : Bool} {t : Touched} {k : ℕ} → Touches t k → EndsWithdrawal (Received Release p t) k
 
--- the events that free a label of codes 1 to 5, and from which code
+-- the events that free a label of any code but 6, and from which code
 pub data Frees : Event → Side → ℕ → ℕ → Type 0 where
   release-of-given : {p : Bool} {t : Touched} {k : ℕ} → Touches t k → Frees (Received Release p t) Given k 1
   release-of-withdrawing : {p : Bool} {t : Touched} {k : ℕ} → Touches t k → Frees (Received Release p t) Given k 2

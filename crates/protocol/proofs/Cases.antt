@@ -23,7 +23,7 @@ use Rattle.protocol.specs.declared.Progress.{Progress}
 use Rattle.protocol.specs.State.{State}
 use Rattle.protocol.specs.Acked.{acked}
 use Rattle.protocol.specs.Receive.{ackRule, ackOn, ftRule, receiveRule, isFatal, messageRule, plainRule, isZero, inTurn, receptionRule, protectedRule, labelsRule, readRule, ackCount}
-use Rattle.protocol.specs.Cases.{receives, wordsAfter, Heard, AckRight, ProtectionRight, TurnRight, Takes, Case, wrong-phase, malformed, an-init, fatal, ft-tlv, passed-on, zero-number, wrong-ack, missing, wrong, out-of-turn, no-word, taken}
+use Rattle.protocol.specs.Cases.{mayReceive, wordsAfter, Heard, AckRight, ProtectionRight, TurnRight, Takes, Case, wrong-phase, malformed, an-init, fatal, ft-tlv, passed-on, zero-number, wrong-ack, missing, wrong, out-of-turn, no-word, taken}
 
 -- 22 and 36, then the tests of the phase
 heard-case : (P : Answer → Type 0) (g : Message) (a : Answer) → (isInit (g .typename) ≡ true → P Answer.MalformedReceived)
@@ -92,7 +92,7 @@ cases s Phase.UpPlain rd = plain-case s rd
 cases s Phase.Failed rd = wrong-phase refl
 
 -- ---- and each case has its answer
-pub wrong-by : (s : State) (ph : Phase) (rd : Reading) → receives ph ≡ false → receiveRule s ph rd ≡ Answer.WrongPhase
+pub wrong-by : (s : State) (ph : Phase) (rd : Reading) → mayReceive ph ≡ false → receiveRule s ph rd ≡ Answer.WrongPhase
 wrong-by s Phase.Idle rd e = refl
 wrong-by s (Phase.InitWait v) rd e = refl
 wrong-by s (Phase.UpFT u) rd e = absurd (true≢false e)
@@ -100,7 +100,7 @@ wrong-by s Phase.UpPlain rd e = absurd (true≢false e)
 wrong-by s Phase.Failed rd e = refl
 
 -- 22 and 36 are judged alike in both phases
-alike : (s : State) (ph : Phase) (rd : Reading) (x : Answer) → receives ph ≡ true → ((rest : Message → Answer) → readRule rd (λ g. messageRule g (rest g)) ≡ x)
+alike : (s : State) (ph : Phase) (rd : Reading) (x : Answer) → mayReceive ph ≡ true → ((rest : Message → Answer) → readRule rd (λ g. messageRule g (rest g)) ≡ x)
     → receiveRule s ph rd ≡ x
 unfolding ftRule
 alike s Phase.Idle rd x e f = absurd (false≢true e)

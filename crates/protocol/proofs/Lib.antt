@@ -34,3 +34,14 @@ pub mod MeaningSubmit
 pub mod MeaningSend
 pub mod MeaningReceive
 pub mod Numbered
+-- what is settled, case by case; the calls whose refusals change nothing; the writers, Send next and the peer's Init as two ends need them
+pub mod Leaving
+pub mod Refusals
+pub mod Quiet
+pub mod Writers
+pub mod Sends
+pub mod Begins
+-- whatever the call: how many are held, what is left of kept, the parameters and the store, and the label words
+pub mod Few
+pub mod Moves
+pub mod Words

@@ -16,7 +16,7 @@ use Rattle.label_list.specs.Rules.{codeSwept}
 use Rattle.label_list.specs.Sweep.{wordSwept, sweptOf}
 use Rattle.label_list.specs.declared.SweepRule.the-variants.{AfterBreak}
 use Rattle.label_meaning.specs.Valid.{InRange, IsValid}
-use Rattle.label_meaning.proofs.Meaning.{valid-means}
+use Rattle.label_meaning.proofs.Meaning.{valid-means, range-listed}
 use Rattle.protocol.specs.declared.Answer
 use Rattle.protocol.specs.declared.Answer.{Answer}
 use Rattle.protocol.specs.declared.Phase
@@ -41,7 +41,7 @@ word-freed w range =
     (λ other. rw other (by-test (eqb (codeOf w) 0) (λ z. rw z (free (eqb-true (codeOf w) 0 z))) (λ z. rw z (omega arith))))
   where
     free : codeOf w ≡ 0 → 0 ≡ w
-    free z = by-test (eqb w 0) (λ e. sym (eqb-true w 0 e)) (λ e. let r : InRange w = range (eqb-false w 0 e) in absurd (omega arith))
+    free z = by-test (eqb w 0) (λ e. sym (eqb-true w 0 e)) (λ e. absurd (range-listed (range (eqb-false w 0 e)) z))
 
 pub words-freed : (ls : List ℕ) → IsValid ls → sweptOf ls AfterBreak ≡ map freed ls
 unfolding wordSwept wordOf codeSwept

@@ -27,12 +27,12 @@ use Rattle.protocol.specs.State.{State}
 use Rattle.protocol.specs.Receive.{ackOn, isFatal, isZero, inTurn}
 
 -- the phases in which messages are received
-abbrev pub receives : Phase → Bool
-receives Phase.Idle = false
-receives (Phase.InitWait v) = false
-receives (Phase.UpFT u) = true
-receives Phase.UpPlain = true
-receives Phase.Failed = false
+abbrev pub mayReceive : Phase → Bool
+mayReceive Phase.Idle = false
+mayReceive (Phase.InitWait v) = false
+mayReceive (Phase.UpFT u) = true
+mayReceive Phase.UpPlain = true
+mayReceive Phase.Failed = false
 
 -- the label words as an ACK leaves them that releases the oldest k held
 abbrev pub wordsAfter : State → ℕ → List ℕ
@@ -66,12 +66,12 @@ pub record Takes (s : State) (g : Message) (k : ℕ) : Type 0 where
 
 pub data Case (s : State) : Phase → Reading → Answer → Type 0 where
   -- "1: wrong phase"
-  wrong-phase : {ph : Phase} {rd : Reading} → receives ph ≡ false → Case s ph rd Answer.WrongPhase
+  wrong-phase : {ph : Phase} {rd : Reading} → mayReceive ph ≡ false → Case s ph rd Answer.WrongPhase
   -- "22: malformed received", "Init received in UpFT or UpPlain"
-  malformed : {ph : Phase} → receives ph ≡ true → Case s ph Reading.Malformed Answer.MalformedReceived
-  an-init : {ph : Phase} {g : Message} → receives ph ≡ true → isInit (g .typename) ≡ true → Case s ph (Reading.Whole g) Answer.MalformedReceived
+  malformed : {ph : Phase} → mayReceive ph ≡ true → Case s ph Reading.Malformed Answer.MalformedReceived
+  an-init : {ph : Phase} {g : Message} → mayReceive ph ≡ true → isInit (g .typename) ≡ true → Case s ph (Reading.Whole g) Answer.MalformedReceived
   -- "36: Status with E set"
-  fatal : {ph : Phase} {g : Message} → receives ph ≡ true → isInit (g .typename) ≡ false → isFatal (g .status) ≡ true → Case s ph (Reading.Whole g) Answer.StatusFatal
+  fatal : {ph : Phase} {g : Message} → mayReceive ph ≡ true → isInit (g .typename) ≡ false → isFatal (g .status) ≡ true → Case s ph (Reading.Whole g) Answer.StatusFatal
   -- "31: FT TLV in UpPlain"
   ft-tlv : {g : Message} → Heard g → bearsFt (g .found) ≡ true → Case s Phase.UpPlain (Reading.Whole g) Answer.FtTlvInPlain
   -- "In UpPlain messages are passed on."

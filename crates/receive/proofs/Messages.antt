@@ -10,8 +10,8 @@ use Rattle.message.specs.declared.Message.{Message}
 use Rattle.label_events.specs.declared.Touched.{Touched}
 use Rattle.label_list.specs.declared.Protection
 use Rattle.label_list.specs.declared.Protection.{Protection}
-use Rattle.receive.specs.declared.LabelEffect.{LabelEffect}
-use Rattle.receive.specs.Labels.{touchedBy, effectOn, labelEffect, isProtected, alwaysProtected, effectProtection, protectionRule}
+use Rattle.protocol.specs.declared.LabelEffect.{LabelEffect}
+use Rattle.protocol.specs.Labels.{touchedBy, effectOn, labelEffect, isProtected, alwaysProtected, effectProtection, protectionRule}
 
 pub effect-is : (g : Message) {t : Touched} {e : LabelEffect} → t ≡ touchedBy (g .label) (g .fec) → e ≡ effectOn (g .typename) t → e ≡ labelEffect g
 unfolding labelEffect

@@ -12,16 +12,16 @@ use Rattle.label_events.specs.declared.Acceptance
 use Rattle.label_events.specs.declared.Acceptance.{Acceptance}
 use Rattle.label_events.specs.declared.Reception
 use Rattle.label_events.specs.declared.Reception.{Reception}
-use Rattle.image.specs.State.{State}
+use Rattle.protocol.specs.State.{State}
 use Rattle.image.specs.Verdict.{verdictNumber, verdictBlock}
 use Rattle.image.specs.declared.Verdict
 use Rattle.image.specs.declared.Verdict.{Verdict}
 use Rattle.protocol.specs.declared.Answer
 use Rattle.protocol.specs.declared.Answer.{Answer}
-use Rattle.calls.specs.Answers.{answerNumber, answerBlock}
+use Rattle.protocol.specs.Receive.{receptionRule, protectedRule}
+use Rattle.protocol.specs.Submit.{acceptanceRule}
+use Rattle.protocol.specs.Answers.{answerNumber, answerBlock}
 use Rattle.calls.specs.Outcomes.{checked}
-use Rattle.submit.specs.Rule.{acceptanceRule}
-use Rattle.receive.specs.Rule.{receptionRule, protectedRule}
 
 -- 12, 10 and 11, with the block
 pub checks-numbered : (v : Verdict) → (answerNumber (checked v Answer.Done) ≡ verdictNumber v) × (answerBlock (checked v Answer.Done) ≡ verdictBlock v)

@@ -3,15 +3,14 @@ use mathlib.Core.Path.{_≡_, refl, sym, _∙_}
 use mathlib.Core.Bool.{true}
 use mathlib.Core.List.{List}
 use mathlib.Core.Logic.{⊎-elim}
-use Prim.Native.Nat.{ℕ, _+_, _-_, _≤_, _<_}
+use Prim.Native.Nat.{ℕ, _+_, _≤_, _<_}
 use native.Mathlib.Omega.{arith}
 use borrow.Author.Tests.{leb-true, eqb-true, le-leb, eq-eqb}
 use lib.Dec.{leb, eqb}
 use lib.ListN.{length}
 use Rattle.octets.specs.Be.{beAt}
-use Rattle.octets.specs.Pick.{pick}
 use Rattle.octets.proofs.Part.{length-part}
-use Rattle.octets.proofs.Choice.{no, both-true, passed, below-or-not}
+use Rattle.octets.proofs.Choice.{no, both-true, below-or-not}
 use Rattle.message.specs.Kinds.{kindNumber}
 use Rattle.message.specs.declared.Kind.{Kind}
 use Rattle.message.specs.declared.Submission.{Submission}
@@ -22,8 +21,7 @@ use Rattle.tlv.specs.Tlv.{largestLabel}
 use Rattle.block.specs.Check.{blockSize, sound}
 use Rattle.block.specs.Zeros.{allZero}
 use Rattle.slot.specs.Layout.{lengthOf, kindOf, labelOf, messageOf, paddingOf, slotBlock}
-use Rattle.slot.specs.Fields.{slotOk, slotVerdict}
-use Rattle.slot.specs.declared.SlotVerdict.the-variants.{Good, BadCheck, BadFields}
+use Rattle.slot.specs.Fields.{slotOk}
 use Rattle.message.specs.Storable.{shortest, longest, bears, Storable, kindIn, labelIn}
 use Rattle.slot.specs.Held.{slotFor}
 use Rattle.slot.proofs.Written.{length-slot, slot-sound, slot-length, slot-kind, slot-spare, slot-label, message-slot, padding-slot}
@@ -42,18 +40,6 @@ unfolding messageOf
 length-message b long ok =
     let high : lengthOf b ≤ 480 = high-length b ok in
     length-part b 8 (8 + lengthOf b) (omega arith) ∙ omega arith
-
--- a verdict and its clauses
-pub good-parts : (b : List ℕ) → slotVerdict b ≡ Good → (sound b ≡ true) × (slotOk b ≡ true)
-unfolding slotVerdict
-good-parts b h =
-    let p = passed (sound b) (pick (slotOk b) Good BadFields) BadCheck Good (λ e. cc) h in
-    let q = passed (slotOk b) Good BadFields Good (λ e. cc) (p .1) in
-    (p .0, q .0)
-
-pub parts-good : (b : List ℕ) → sound b ≡ true → slotOk b ≡ true → slotVerdict b ≡ Good
-unfolding slotVerdict
-parts-good b s f = simp (s, f)
 
 -- what a slot with right fields holds: a message that Submit takes, with the slot's kind and label
 pub record Holds (b : List ℕ) : Type 0 where

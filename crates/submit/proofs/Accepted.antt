@@ -22,7 +22,7 @@ use Rattle.label_meaning.proofs.Step.{step-valid}
 use Rattle.block.specs.Run.{Words}
 use Rattle.image.proofs.Ranges.{valid-words}
 use Rattle.protocol.specs.Accepting.{acceptedAs}
-use Rattle.submit.specs.Act.{acceptedLabels}
+use Rattle.protocol.specs.Submit.{acceptedLabels}
 
 -- the answer to a message that names no label
 pub unlisted : (words : List ℕ) (r : Accepted) {a : Acceptance} → (r .acceptance ≡ a) × (r .change ≡ Keep)

@@ -20,8 +20,18 @@ use Rattle.protocol.specs.declared.Answer
 use Rattle.protocol.specs.declared.Answer.{Answer}
 use Rattle.protocol.specs.Accepting.{isBarred, acceptedAs}
 use Rattle.protocol.specs.Submit.{acceptanceRule, submissionRule, kindRule, submitRule}
-use Rattle.submit.specs.Seen.{stateOf}
-use Rattle.submit.specs.Passed.{Fitting, Judged}
+use Rattle.calls.specs.State.{stateOf}
+
+-- 1 and 3 are passed: kept is 1, and the length lies within 8 to 480
+pub record Fitting (s : State) (m : List ℕ) : Type 0 where
+  pub kept : s .kept ≡ true
+  pub low : shortest ≤ length m
+  pub high : length m ≤ longest
+
+-- nothing held bars the message, and `a` is what its label's code says
+pub record Judged (s : State) (kind : Kind) (label : ℕ) (a : Acceptance) : Type 0 where
+  pub free : isBarred (s .queue) kind label ≡ false
+  pub acceptance : acceptedAs (s .table .words) kind label .0 ≡ a
 
 -- ---- 1, 3, 4, 5
 module _ (im m : List ℕ) {h : Header} (eh : h ≡ decode im .header) where
@@ -32,12 +42,12 @@ module _ (im m : List ℕ) {h : Header} (eh : h ≡ decode im .header) where
   module _ (kept : h .kept ≡ 1) where
     pub too-short : length m < shortest → Answer.LengthOutOfRange ≡ submitRule (stateOf im) m
     unfolding submitRule
-    too-short l = rw (← eh, eq-eqb (h .kept) 1 kept, lt-leb shortest (length m) l)
+    too-short l = rw (← eh, eq-eqb (h .kept) 1 kept, lt-ltb (length m) shortest l)
 
     module _ (low : shortest ≤ length m) where
       pub too-long : longest < length m → Answer.LengthOutOfRange ≡ submitRule (stateOf im) m
       unfolding submitRule
-      too-long l = rw (← eh, eq-eqb (h .kept) 1 kept, le-leb shortest (length m) low, lt-leb (length m) longest l)
+      too-long l = rw (← eh, eq-eqb (h .kept) 1 kept, le-ltb (length m) shortest low, lt-ltb longest (length m) l)
 
       pub fitting-is : length m ≤ longest → Fitting (stateOf im) m
       fitting-is high = record { kept = rw (← eh) (eq-eqb (h .kept) 1 kept); low = low; high = high }
@@ -45,7 +55,7 @@ module _ (im m : List ℕ) {h : Header} (eh : h ≡ decode im .header) where
 pub submission-is : {s : State} {m : List ℕ} → Fitting s m → {j x : Submission} → j ≡ submissionOf m → j ≡ x → submissionRule s x ≡ submitRule s m
 unfolding submitRule
 submission-is {s} {m} w ej e =
-    rw (w .kept, le-leb shortest (length m) (w .low), le-leb (length m) longest (w .high), ← ej, e)
+    rw (w .kept, le-ltb (length m) shortest (w .low), le-ltb longest (length m) (w .high), ← ej, e)
 
 -- ---- 6, 13, 7
 module _ (im : List ℕ) (kind : Kind) (label : ℕ) {b : Bool} (eb : b ≡ isBarred (decode im .queue) kind label) where
@@ -63,7 +73,7 @@ module _ (im : List ℕ) {kind : Kind} {label : ℕ} {a : Acceptance} (w : Judge
 
   module _ (taken : a ≡ Acceptance.Taken) {h : Header} (eh : h ≡ decode im .header) where
     pub full-is : slotCount ≤ h .held → Answer.StoreFull ≡ kindRule (stateOf im) kind label
-    full-is l = rw (← acceptance-is taken, queue-length im, ← eh, le-ltb (h .held) slotCount l)
+    full-is l = rw (← acceptance-is taken, queue-length im, ← eh, le-leb slotCount (h .held) l)
 
     pub done-is : h .held < slotCount → Answer.Done ≡ kindRule (stateOf im) kind label
-    done-is l = rw (← acceptance-is taken, queue-length im, ← eh, lt-ltb (h .held) slotCount l)
+    done-is l = rw (← acceptance-is taken, queue-length im, ← eh, lt-leb slotCount (h .held) l)

@@ -4,7 +4,7 @@ use native.Mathlib.Omega.{arith}
 use mathlib.Core.Path.{_≡_, refl}
 use mathlib.Core.Bool.{true}
 use mathlib.Core.List.{List, [], _∷_}
-use mathlib.Core.Logic.{_⊎_, ⊎-elim}
+use mathlib.Core.Logic.{⊎-elim}
 use lib.Dec.{eqb}
 use Rattle.octets.proofs.Choice.{pick-all}
 use Rattle.message.specs.Submission.{submissionOf}
@@ -17,9 +17,9 @@ use Rattle.label_list.specs.declared.Side.the-variants.{Given, Used}
 use Rattle.label_list.specs.declared.SweepRule.the-variants.{AfterBreak}
 use Rattle.label_events.specs.Change.{codeAt}
 use Rattle.label_meaning.specs.Event.{Acked, Broken, step, Moves, withdraw-acked, release-acked, bare-lost}
+use Rattle.protocol.specs.Acked.{releasedKind, releasedLabels}
 use Rattle.message.specs.Storable.{kindIn, labelIn}
-use Rattle.calls.specs.Acked.{releasedKind, releasedLabels}
-use Rattle.call_meaning.proofs.Released.{released-valid}
+use Rattle.protocol.proofs.Words.{released-valid}
 use Rattle.two_ends.specs.Agree.{codeAfter, IsGiven, IsUsed, Agree}
 use Rattle.two_ends.proofs.Sixless.{NoSix}
 use Rattle.two_ends.proofs.Codes.{five-zero}

@@ -21,9 +21,10 @@ use Rattle.label_events.specs.Change.{codeAt}
 use Rattle.label_meaning.specs.Event.{Event, Accepted, step, Moves, given, withdrawn, released, returned}
 use Rattle.label_meaning.proofs.Meaning.{valid-means}
 use Rattle.label_meaning.proofs.Moved.{every-move}
+use Rattle.protocol.specs.Accepting.{acceptedAs}
+use Rattle.protocol.specs.Submit.{acceptedLabels}
 use Rattle.message.specs.Storable.{bears}
-use Rattle.submit.specs.Act.{acceptedLabels}
-use Rattle.submit.specs.Labels.{isHeld, acceptedAs}
+use Rattle.protocol.specs.Held.{isHeld}
 use Rattle.two_ends.specs.Agree.{codeAfter, Agree}
 use Rattle.two_ends.proofs.Sixless.{NoSix}
 use Rattle.two_ends.proofs.Owed.{held-more, held-last}

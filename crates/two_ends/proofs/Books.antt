@@ -9,12 +9,12 @@ use lib.Dec.{ltb}
 use lib.ListN.{length, take, drop, length-append, length-drop}
 use lib.Seq.{take-append-le, drop-append-le, drop-drop, take-add}
 use Rattle.octets.specs.Pick.{pick}
+use Rattle.octets.proofs.Choice.{by-test}
 use Rattle.ft_number.specs.Circle.{after, stepsOf}
 use Rattle.ft_number.specs.Ack.{ackOf}
 use Rattle.ft_number.specs.declared.Ack
 use Rattle.ft_number.specs.declared.Ack.{Ack}
-use Rattle.octets.proofs.Choice.{by-test}
-use Rattle.calls.specs.Phases.{countOf}
+use Rattle.protocol.specs.Phases.{countOf}
 use Rattle.two_ends.proofs.Positions.{num, num-after, num-count, num-ack}
 use Rattle.two_ends.proofs.Half.{Snd, Rcv, Books}
 

@@ -63,9 +63,6 @@ module _ {A : Type 0} where
     pub half-place : (m : A) (ms : List A) → drop sent (x .queue) ≡ m ∷ ms → drop (p .r + sent) (x .accepted) ≡ m ∷ drop (suc (p .r + sent)) (x .accepted)
     half-place m ms e = place (p .books) sent m ms e
 
-    pub half-number : after (sent + 1) (x .R) ≤ circle
-    half-number = rw (numbered (p .books) sent) (num-le (p .r + (sent + 1)))
-
   -- a sender that is not up counts from the oldest again
   pub half-rest : {x : Snd A} {sent : ℕ} {y : Rcv A} {dat : List (ℕ × A)} {acks : List ℕ} → Half x sent false y dat acks → Half x 0 false y dat acks
   half-rest p = record { r = p .r; i = p .i; s = p .s; books = p .books; sentI = omega (arith, p .books .rs, p .books .si); flow = p .flow; line = p .line }

@@ -2,6 +2,7 @@
 use Prim.Native.Nat.{ℕ, _^_, _<_}
 use mathlib.Core.Path.{_≡_, refl, ap}
 use mathlib.Core.List.{List, [], _∷_, _++_}
+use Rattle.octets.specs.Bytes.{Bytes}
 use Rattle.ft_number.specs.declared.FtNumber.{FtNumber}
 use Rattle.ft_number.specs.declared.MessageId.{MessageId}
 use Rattle.tlv.specs.declared.FtField
@@ -10,7 +11,6 @@ use Rattle.message_writer.specs.Forms.{initBytes, keepaliveBytes, protectedByte
 use Rattle.message_writer.specs.ReadBack.{AckFits, InitFits}
 use Rattle.message_writer.specs.declared.OwnParameters.{OwnParameters}
 use Rattle.message.specs.Storable.{Storable}
-use Rattle.octets.specs.Bytes.{Bytes}
 use Rattle.two_ends.proofs.Octets.{init-octets, alive-octets, protected-octets}
 
 -- the Init of the start, a later Init, a KeepAlive in UpFT, and a message with its number

@@ -13,12 +13,12 @@ use Rattle.label_list.specs.declared.SweepRule.the-variants.{AfterBreak}
 use Rattle.label_list.specs.declared.Side.the-variants.{Given}
 use Rattle.label_events.specs.declared.Reception
 use Rattle.label_events.specs.declared.Reception.{Reception}
-use Rattle.block0.specs.Layout.{noLabels}
-use Rattle.calls.specs.Acked.{releasedLabels}
-use Rattle.call_meaning.proofs.Released.{released-valid}
-use Rattle.submit.specs.Act.{acceptedLabels}
-use Rattle.receive.specs.declared.LabelEffect.{LabelEffect}
-use Rattle.receive.specs.Labels.{effectReception, effectLabels}
+use Rattle.protocol.specs.State.{noTable}
+use Rattle.protocol.specs.Labels.{effectReception, effectLabels}
+use Rattle.protocol.specs.Submit.{acceptedLabels}
+use Rattle.protocol.specs.Acked.{releasedLabels}
+use Rattle.protocol.specs.declared.LabelEffect.{LabelEffect}
+use Rattle.protocol.proofs.Words.{released-valid}
 use Rattle.two_ends.specs.World.{History}
 use Rattle.two_ends.specs.Calls.{accepts, takes}
 use Rattle.two_ends.specs.Agree.{Agree}
@@ -32,7 +32,7 @@ pub record Shared (xl : List ℕ) (xh : History) (yl : List ℕ) (yh : History) 
   pub agree : (out back : List (List ℕ)) → xh .accepted ≡ yh .secured ++ out → yh .accepted ≡ xh .secured ++ back → Agree xl yl out back
 
 -- ---- the start
-pub shared-none : (yl : List ℕ) (xh yh : History) → Shared noLabels xh yl yh
+pub shared-none : (yl : List ℕ) (xh yh : History) → Shared (noTable .words) xh yl yh
 shared-none yl xh yh = record { agree = λ out back p q l may g held. none-given (none-code Given l) g }
 
 module _ {xl : List ℕ} {xh : History} {yl : List ℕ} {yh : History} where

@@ -16,8 +16,7 @@ use Rattle.label_list.specs.Rules.{codeReceived}
 use Rattle.label_list.specs.declared.LabelMessage.the-variants.{Mapping, Withdraw}
 use Rattle.label_list.specs.declared.Side.the-variants.{Given, Used}
 use Rattle.label_events.specs.Change.{codeAt}
-use Rattle.image.specs.State.{decode}
-use Rattle.submit.specs.Labels.{isHeld}
+use Rattle.protocol.specs.Held.{isHeld}
 use Rattle.two_ends.specs.World.{End}
 
 -- the code of label l at its user, after a protected message with that submission
@@ -52,4 +51,4 @@ Agree giver user out back =
 
 -- every label that x lists as given or withdrawing is in use or asked back at y
 abbrev pub InUse : End → End → Type 0
-InUse x y = (l : ℕ) → listable l ≡ true → IsGiven (codeAt (decode (x .image) .labels) Given l) → IsUsed (codeAt (decode (y .image) .labels) Used l)
+InUse x y = (l : ℕ) → listable l ≡ true → IsGiven (codeAt (x .state .table .words) Given l) → IsUsed (codeAt (y .state .table .words) Used l)

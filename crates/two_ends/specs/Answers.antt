@@ -6,13 +6,14 @@ use mathlib.Core.List.{List, _∷_}
 use Rattle.octets.specs.Pick.{pick}
 use Rattle.protocol.specs.declared.Answer
 use Rattle.protocol.specs.declared.Answer.{Answer}
-use Rattle.init.specs.Begun.{awaits, initReceivedOf}
-use Rattle.receive.specs.Rule.{receiveOf}
+use Rattle.protocol.specs.Receive.{receive}
+use Rattle.protocol.specs.Init.{initReceived}
+use Rattle.protocol.specs.Phases.{awaits}
 use Rattle.two_ends.specs.World.{End, World}
 
 -- what the end answers to the message m, through the call that its phase asks for
 abbrev pub answerTo : End → List ℕ → Answer
-answerTo e m = pick (awaits (e .phase)) (initReceivedOf (e .image) (e .phase) m .outcome .answer) (receiveOf (e .image) (e .phase) m .outcome .answer)
+answerTo e m = pick (awaits (e .phase)) (initReceived (e .state) (e .phase) m .answer) (receive (e .state) (e .phase) m .answer)
 
 -- the answers that come: no other of the table does, so not 20, 22, 23, 30, 31, 32, 33 nor 34
 pub data Comes : Answer → Type 0 where

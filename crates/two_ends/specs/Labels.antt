@@ -11,8 +11,7 @@ use Rattle.label_list.specs.declared.LabelMessage.{LabelMessage}
 use Rattle.label_list.specs.declared.Side
 use Rattle.label_list.specs.declared.Side.{Side}
 use Rattle.label_events.specs.Change.{codeAt}
-use Rattle.image.specs.State.{decode}
-use Rattle.submit.specs.Labels.{isHeld}
+use Rattle.protocol.specs.Held.{isHeld}
 use Rattle.two_ends.specs.World.{End}
 use Rattle.two_ends.specs.Demand.{store}
 
@@ -43,8 +42,8 @@ Owed labels queue = (due : Due) (l : ℕ) → codeAt labels (sideOf due) l ≡ c
 -- ---- an end that has begun
 pub record Listed (e : End) : Type 0 where
   -- "withdrawing" and "releasing" last as long as the Withdraw or Release is held
-  pub owed : Owed (decode (e .image) .labels) (store e)
+  pub owed : Owed (e .state .table .words) (store e)
   -- so with an empty store no label is either
-  pub settled : store e ≡ [] → (due : Due) (l : ℕ) → codeAt (decode (e .image) .labels) (sideOf due) l ≡ codeOf due → ⊥
+  pub settled : store e ≡ [] → (due : Due) (l : ℕ) → codeAt (e .state .table .words) (sideOf due) l ≡ codeOf due → ⊥
   -- no label is in use without protection
-  pub protected : (l : ℕ) → codeAt (decode (e .image) .labels) Side.Used l ≡ 6 → ⊥
+  pub protected : (l : ℕ) → codeAt (e .state .table .words) Side.Used l ≡ 6 → ⊥

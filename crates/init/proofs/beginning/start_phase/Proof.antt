@@ -1,3 +1,4 @@
+-- `init::beginning::start_phase` meets its contract. Assumes nothing.
 use borrow.Author.Needs.{needs}
 use Rattle.init.proofs.beginning.start_phase.Statement.{statement}
 use Rattle.init.proofs.beginning.start_phase.Tie as tie

@@ -1,0 +1,85 @@
+-- An owner who stores what the outcome tells has the call's image on the medium; one whose power goes before has there an image
+-- that passes the same checks and stands for the same state as before the call. Assumes nothing.
+use Prim.Native.Nat.{ℕ, zero, suc, _≤_, _<_}
+use mathlib.Core.Path.{_≡_, refl, sym, ap, _∙_}
+use mathlib.Core.Bool.{Bool, true, false}
+use mathlib.Core.List.{List}
+use mathlib.Core.Logic.{_≢_}
+use native.Mathlib.Omega.{arith}
+use borrow.Author.Tests.{eqb-false}
+use lib.Dec.{eqb}
+use lib.ListN.{length}
+use Rattle.octets.specs.Bytes.{Bytes}
+use Rattle.octets.proofs.Differ.{differ-false}
+use Rattle.protocol.specs.declared.Answer
+use Rattle.protocol.specs.declared.Answer.{Answer}
+use Rattle.protocol.specs.declared.Phase.{Phase}
+use Rattle.protocol.specs.Phases.{restingPhase}
+use Rattle.protocol.specs.Proper.{Proper}
+use Rattle.protocol.specs.Step.{broken, Step}
+use Rattle.protocol.specs.Calls.{Call, restores, step}
+use Rattle.block0.specs.Layout.{slotCount}
+use Rattle.image.specs.Sizes.{block}
+use Rattle.image.specs.State.{decode}
+use Rattle.image.proofs.Sound.{parts-sound, sound-parts}
+use Rattle.calls.specs.State.{stateOf}
+use Rattle.calls.specs.Outcomes.{After, stepStored}
+use Rattle.call_meaning.specs.Medium.{Same, allStored, committed, stores}
+use Rattle.call_meaning.specs.Seen.{seen}
+use Rattle.call_meaning.specs.Standing.{Standing}
+use Rattle.call_meaning.proofs.Slots.{slot-alone, slot-same}
+use Rattle.call_meaning.proofs.Written.{Without, fewer-told, not-slot, not-zeroth, told-within, written-all}
+use Rattle.session.specs.Call.{leaves, makesImage}
+use Rattle.session.proofs.Refines.{refines, stands}
+use Rattle.session.proofs.Told.{block0-told, every, others-kept, slot-not-live}
+
+module _ (c : Call) (im : List ℕ) (ph : Phase) (out : List ℕ) (other : makesImage c ≡ false) (st : Standing im ph) where
+  abbrev x : After
+  x = leaves c im ph out
+
+  low-slot : x .outcome .slot ≤ slotCount
+  low-slot = by (x .outcome .slot) refl
+    where
+      by : (k : ℕ) → x .outcome .slot ≡ k → k ≤ slotCount
+      by zero e = omega arith
+      by (suc j) e = let l = slot-not-live c im ph out other j (e ∙ omega arith) .0 in omega arith
+
+  untold-kept : (k : ℕ) → Without k (stores (x .outcome)) → block (x .image) k ≡ block im k
+  untold-kept zero w =
+      sym (differ-false (block im 0) _ (sym (block0-told c im ph out other) ∙ not-zeroth (eqb (x .outcome .slot) 0) (x .outcome .slot) (x .outcome .block0) w))
+  untold-kept (suc k) w =
+      others-kept c im ph out other (suc k) (omega arith) (not-slot (eqb (x .outcome .slot) 0) (x .outcome .slot) (x .outcome .block0) (suc k) refl (omega arith) w)
+
+  -- with all of them stored the medium is the call's image
+  pub all-stored : Proper c ph → allStored im x ≡ x .image
+  all-stored p =
+      written-all im (x .image) (stores (x .outcome)) (st .sound .size) (stands im ph st out c p .sound .size)
+      (told-within (eqb (x .outcome .slot) 0) (x .outcome .slot) (x .outcome .block0) low-slot)
+      untold-kept
+
+  -- with fewer "restore gives the state before the call": the same checks are passed, and the state is the same
+  pub fewer-same : (n : ℕ) → n < length (stores (x .outcome)) → Same im (committed n im x)
+  fewer-same =
+      every c im ph out other (λ (y : After). (n : ℕ) → n < length (stores (y .outcome)) → Same im (committed n im y))
+      (λ a q o n less. absurd (omega arith))
+      (λ slots y o s f n less.
+      let z = stepStored im slots y o in
+      fewer-told (λ (cut : List ℕ). Same im cut) im (z .image) (eqb (z .outcome .slot) 0) (z .outcome .slot) (z .outcome .block0) n less
+      (record { checks = refl; state = refl })
+      (λ some. rw (slot-alone im (s .size) (y .state) slots f (eqb-false (z .outcome .slot) 0 some)) (slot-same im s slots f)))
+
+  -- ".. code 6 words freed", in the phase without a connection
+  pub cut-restores : (n : ℕ) → n < length (stores (x .outcome))
+      → (seen (leaves restores (committed n im x) ph out) .answer ≡ Answer.Done)
+      × (stateOf (leaves restores (committed n im x) ph out .image) ≡ broken (stateOf im))
+      × (leaves restores (committed n im x) ph out .outcome .phase ≡ restingPhase (stateOf im))
+  unfolding step
+  cut-restores n less =
+      let same = fewer-same n less in
+      let there : Standing (committed n im x) ph = record {
+        sound = sound-parts (committed n im x) (same .checks ∙ parts-sound im (st .sound));
+        range = rw (same .state) (st .range);
+        fits = rw (same .state) (st .fits);
+      } in
+      let e = refines (committed n im x) ph there out restores tt in
+      (ap (λ (y : Step). y .answer) e, ap (λ (y : Step). y .state) e ∙ rw (same .state), ap (λ (y : Step). y .phase) e ∙ rw (same .state))
