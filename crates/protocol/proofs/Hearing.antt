@@ -1,21 +1,17 @@
 -- A call that hears nothing of the peer's changes nothing where it is not done. Assumes nothing.
-use mathlib.Core.Path.{_≡_, refl}
-use mathlib.Core.Bool.{Bool, false, not, true≢false}
-use mathlib.Core.List.{List}
+use mathlib.Core.Path.{_≡_}
+use mathlib.Core.Bool.{false, not, true≢false}
 use Prim.Native.Nat.{ℕ}
-use lib.Dec.{leb, ltb}
-use lib.ListN.{length}
-use Rattle.octets.specs.Pick.{pick}
-use Rattle.octets.proofs.Choice.{by-test, pick-all}
+use Rattle.octets.proofs.Choice.{by-test}
 use Rattle.protocol.specs.declared.Answer
 use Rattle.protocol.specs.declared.Answer.{Answer}
 use Rattle.protocol.specs.declared.Phase.{Phase}
-use Rattle.protocol.specs.State.{State, held}
-use Rattle.protocol.specs.Answers.{effectOf, isDone}
-use Rattle.protocol.specs.Phases.{isUp, isUpFT, mayOpen, sentOf, waiting, connected}
-use Rattle.protocol.specs.Step.{Step, unchanged, roomFor}
+use Rattle.protocol.specs.State.{State}
+use Rattle.protocol.specs.Answers.{isDone}
+use Rattle.protocol.specs.Phases.{isUp, mayOpen, sentOf, waiting, connected}
+use Rattle.protocol.specs.Step.{Step, unchanged}
 use Rattle.protocol.specs.Open.{openBytes}
-use Rattle.protocol.specs.Send.{sendBytes, sendRule}
+use Rattle.protocol.specs.Send.{sendBytes}
 use Rattle.protocol.specs.KeepAlive.{aliveBytes}
 use Rattle.protocol.specs.Calls.{Call, formats, restores, fails, opens, greets, passes, submits, sends, keeps-alive, receives, step}
 use Rattle.protocol.specs.Judged.{judged, done}
@@ -24,30 +20,19 @@ use Rattle.protocol.proofs.Effects.{done-is}
 use Rattle.protocol.proofs.Settling.{Harmless, done-harmless, admitted-harmless, settle-refusal}
 use Rattle.protocol.proofs.Settles.{settles, step-does}
 use Rattle.protocol.proofs.Submits.{submit-harmless}
-
-room-harmless : (bytes : List ℕ) (room : ℕ) → Harmless (roomFor bytes room)
-unfolding effectOf
-room-harmless bytes room = pick-all Harmless (ltb room (length bytes)) (λ n. refl) done-harmless
-
-phase-harmless : (may : Bool) (a : Answer) → Harmless a → Harmless (pick (not may) Answer.WrongPhase a)
-unfolding effectOf
-phase-harmless may a h = pick-all Harmless (not may) (λ n. refl) h
-
-send-harmless : (s : State) (ph : Phase) (room : Answer) → Harmless room → Harmless (sendRule s ph room)
-unfolding sendRule effectOf
-send-harmless s ph room h = phase-harmless (isUpFT ph) _ (pick-all Harmless (leb (held s) (sentOf ph)) (λ n. refl) h)
+use Rattle.protocol.proofs.Refusals.{room-harmless, may-harmless, send-harmless}
 
 pub harmless : (c : Call) (s : State) (ph : Phase) (room : ℕ) → hears c ≡ false → Harmless (judged c s ph room)
 unfolding judged
 harmless formats s ph room q = done-harmless
 harmless restores s ph room q = done-harmless
-harmless fails s ph room q = admitted-harmless s ph _ (phase-harmless (connected ph) _ done-harmless)
-harmless (opens id own proposal) s ph room q = admitted-harmless s ph _ (phase-harmless (mayOpen ph) _ (room-harmless (openBytes s id own proposal) room))
+harmless fails s ph room q = admitted-harmless s ph _ (may-harmless (connected ph) _ done-harmless)
+harmless (opens id own proposal) s ph room q = admitted-harmless s ph _ (may-harmless (mayOpen ph) _ (room-harmless (openBytes s id own proposal) room))
 harmless (greets m) s ph room q = absurd (true≢false q)
-harmless (passes elapsed) s ph room q = admitted-harmless s ph _ (phase-harmless (waiting ph) _ done-harmless)
+harmless (passes elapsed) s ph room q = admitted-harmless s ph _ (may-harmless (waiting ph) _ done-harmless)
 harmless (submits m) s ph room q = admitted-harmless s ph _ (submit-harmless s m)
-harmless (sends ask) s ph room q = admitted-harmless s ph _ (send-harmless s ph _ (room-harmless (sendBytes s (sentOf ph) ask) room))
-harmless (keeps-alive id) s ph room q = admitted-harmless s ph _ (phase-harmless (isUp ph) _ (room-harmless (aliveBytes s ph id) room))
+harmless (sends ask) s ph room q = admitted-harmless s ph _ (send-harmless s ph (sendBytes s (sentOf ph) ask) room)
+harmless (keeps-alive id) s ph room q = admitted-harmless s ph _ (may-harmless (isUp ph) _ (room-harmless (aliveBytes s ph id) room))
 harmless (receives m) s ph room q = absurd (true≢false q)
 
 -- so what holds of the state as it was and of what is done holds of what the call leaves

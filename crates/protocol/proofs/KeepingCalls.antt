@@ -26,7 +26,8 @@ use Rattle.protocol.proofs.Settles.{ends}
 use Rattle.protocol.proofs.KeepingPhases.{LawfulIn, resting-fits}
 use Rattle.protocol.proofs.KeepingStates.{lawful-released, lawful-broken, lawful-submitted}
 use Rattle.protocol.proofs.KeepingInit.{greeted-lawful}
-use Rattle.protocol.proofs.KeepingSend.{Sendable, sendable, kept-up, sent-stands}
+use Rattle.protocol.proofs.Sends.{Sendable, sendable}
+use Rattle.protocol.proofs.KeepingSend.{kept-up, sent-stands}
 use Rattle.protocol.proofs.KeepingReceive.{taken-stands}
 
 abbrev Stands : Step → Type 0
@@ -56,7 +57,8 @@ done-stands (greets m) s ph room p st d = greeted-lawful s ph m (st .0) (st .1) 
 done-stands (passes elapsed) s ph room p st d = pick-all Stands (expired s elapsed) (lawful-released, refl) st
 done-stands (submits m) s ph room p st d = (lawful-submitted s (st .0) m (own-done s ph (submitRule s m) d), submitted-fits ph s m ∙ st .1)
 done-stands (sends ask) s ph room p st d =
-    let x : Sendable s ph = sendable s ph _ (own-done s ph (sendRule s ph (roomFor (sendBytes s (sentOf ph) ask) room)) d) in
+    let e : sendRule s ph (roomFor (sendBytes s (sentOf ph) ask) room) ≡ Answer.Done = own-done s ph (sendRule s ph (roomFor (sendBytes s (sentOf ph) ask) room)) d in
+    let x : Sendable s ph = sendable s ph (roomFor (sendBytes s (sentOf ph) ask) room) (rw e) in
     sent-stands s (sentOf ph) (st .0) (kept-up ph s (x .up) (st .1)) (x .some)
 done-stands (keeps-alive id) s ph room p st d = st
 done-stands (receives m) s ph room p st d = taken-stands s ph m st p (own-done s ph (receiveRule s ph (readingOf m)) d)

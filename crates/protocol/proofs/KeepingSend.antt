@@ -1,34 +1,20 @@
--- Send next: what its tests say, and that the state in which a message is numbered stands. Assumes nothing.
+-- Send next leaves a lawful state, in a phase that it allows. Assumes nothing.
 use mathlib.Core.Path.{_≡_}
-use mathlib.Core.Bool.{true, not}
+use mathlib.Core.Bool.{true}
 use Prim.Native.Nat.{ℕ, _+_, _<_}
 use native.Mathlib.Omega.{arith}
-use borrow.Author.Tests.{leb-false, ltb-true, not-false}
-use lib.Dec.{leb, ltb}
-use Rattle.octets.proofs.Choice.{by-test, cleared, no}
-use Rattle.protocol.specs.declared.Answer
-use Rattle.protocol.specs.declared.Answer.{Answer}
+use borrow.Author.Tests.{ltb-true}
+use lib.Dec.{ltb}
+use Rattle.octets.proofs.Choice.{by-test, no}
 use Rattle.protocol.specs.declared.Phase
 use Rattle.protocol.specs.declared.Phase.{Phase}
 use Rattle.protocol.specs.State.{State, held}
-use Rattle.protocol.specs.Phases.{phaseFits, isUpFT, sentOf, issuedCount, upWith}
-use Rattle.protocol.specs.Send.{numbered, sendRule, sentState}
+use Rattle.protocol.specs.Phases.{phaseFits, isUpFT, issuedCount, upWith}
+use Rattle.protocol.specs.Send.{numbered, sentState}
 use Rattle.protocol.specs.Lawful.{Lawful}
 use Rattle.protocol.proofs.KeepingNumbers.{numbered-issued}
 use Rattle.protocol.proofs.KeepingPhases.{LawfulIn, fits-up, up-fits}
 use Rattle.protocol.proofs.KeepingStates.{lawful-numbered}
-
--- what the tests of Send next say of phase and queue
-pub record Sendable (s : State) (ph : Phase) : Type 0 where
-  pub up : isUpFT ph ≡ true
-  pub some : sentOf ph < held s
-
-pub sendable : (s : State) (ph : Phase) (room : Answer) → sendRule s ph room ≡ Answer.Done → Sendable s ph
-unfolding sendRule
-sendable s ph room e =
-    let u = cleared (not (isUpFT ph)) Answer.WrongPhase _ Answer.Done (λ f. cc) e in
-    let l = cleared (leb (held s) (sentOf ph)) Answer.NothingUnsent room Answer.Done (λ f. cc) (u .1) in
-    record { up = not-false (isUpFT ph) (u .0); some = leb-false (held s) (sentOf ph) (l .0) }
 
 pub kept-up : (ph : Phase) (s : State) → isUpFT ph ≡ true → phaseFits ph s ≡ true → s .kept ≡ true
 kept-up Phase.Idle s u f = no (cc)

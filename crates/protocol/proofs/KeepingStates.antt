@@ -28,7 +28,7 @@ use Rattle.protocol.specs.Receive.{securedBy, taken}
 use Rattle.protocol.specs.Init.{fresh, resumed}
 use Rattle.protocol.specs.Lawful.{TermsFit, Lawful}
 use Rattle.protocol.proofs.Submits.{Accepted, done-accepted}
-use Rattle.protocol.proofs.KeepingLabels.{WordsValid, none-valid, broken-valid, released-valid, accepted-valid, effect-valid}
+use Rattle.protocol.proofs.KeepingLabels.{WordsValid, none-words, broken-words, released-words, accepted-words, effect-words}
 use Rattle.protocol.proofs.KeepingNumbers.{ack-window, number-fits, numbered-window}
 use Rattle.protocol.proofs.KeepingQueue.{queued-storable, dropped-storable}
 
@@ -42,8 +42,8 @@ lawful-fresh t f = record {
   terms = f;
   few = omega arith;
   window = record { steps = 0; reaches = refl; within = omega arith };
-  words = none-valid .0;
-  labels = none-valid .1;
+  words = none-words .0;
+  labels = none-words .1;
   storable = λ i l. absurd (omega arith);
   idle = λ z. absurd (true≢false z);
 }
@@ -57,8 +57,8 @@ lawful-released = record {
   terms = record { timeout = omega arith; keepalive = omega arith; maxpdu = omega arith };
   few = omega arith;
   window = record { steps = 0; reaches = refl; within = omega arith };
-  words = none-valid .0;
-  labels = none-valid .1;
+  words = none-words .0;
+  labels = none-words .1;
   storable = λ i l. absurd (omega arith);
   idle = λ z. refl;
 }
@@ -74,7 +74,7 @@ module _ (s : State) (law : Lawful s) where
 
   pub lawful-broken : Lawful (broken s)
   lawful-broken =
-      let v = broken-valid (s .table .words) words-valid in
+      let v = broken-words (s .table .words) words-valid in
       record {
         released = law .released;
         issued = law .issued;
@@ -93,7 +93,7 @@ module _ (s : State) (law : Lawful s) where
   unfolding submitted
   lawful-submitted m e =
       let d : Accepted s m = done-accepted s m e in
-      let v = accepted-valid (s .table .words) words-valid (submissionOf m) in
+      let v = accepted-words (s .table .words) words-valid (submissionOf m) in
       let more : held (submitted s m) ≡ held s + 1 = length-append (s .queue) (m ∷ []) in
       record {
         released = law .released;
@@ -140,7 +140,7 @@ module _ (s : State) (law : Lawful s) where
     pub lawful-acked : Lawful (acked s k a)
     unfolding acked
     lawful-acked =
-        let v = released-valid (take k (s .queue)) (s .table .words) words-valid in
+        let v = released-words (take k (s .queue)) (s .table .words) words-valid in
         record {
           released = la;
           issued = law .issued;
@@ -163,7 +163,7 @@ module _ (s : State) (law : Lawful s) (kept : s .kept ≡ true) where
   pub lawful-taken : (g : Message) → securedBy (s .secured) (g .protection) .0 < 4294967296 → Lawful (taken s g)
   unfolding taken
   lawful-taken g l =
-      let v = effect-valid (s .table .words) (isProtected (g .protection)) (labelEffect g) (law .words, law .labels) in
+      let v = effect-words (s .table .words) (isProtected (g .protection)) (labelEffect g) (law .words, law .labels) in
       record {
         released = law .released;
         issued = law .issued;

@@ -6,16 +6,19 @@ pub mod Cases
 pub mod InitCases
 pub mod SubmitCases
 pub mod Submits
--- every call is its tests' answer, settled
+-- the calls whose refusals change nothing; every call is its tests' answer, settled
+pub mod Refusals
 pub mod Settles
 pub mod Hearing
--- every call keeps the state lawful
+-- the label words that the rules leave; every call keeps the state lawful
+pub mod Words
 pub mod KeepingLabels
 pub mod KeepingNumbers
 pub mod KeepingQueue
 pub mod KeepingStates
 pub mod KeepingPhases
 pub mod KeepingInit
+pub mod Sends
 pub mod KeepingSend
 pub mod KeepingReceive
 pub mod KeepingCalls
@@ -34,14 +37,11 @@ pub mod MeaningSubmit
 pub mod MeaningSend
 pub mod MeaningReceive
 pub mod Numbered
--- what is settled, case by case; the calls whose refusals change nothing; the writers, Send next and the peer's Init as two ends need them
+-- what is settled, case by case; the writers and the peer's Init as two ends need them
 pub mod Leaving
-pub mod Refusals
 pub mod Quiet
 pub mod Writers
-pub mod Sends
 pub mod Begins
--- whatever the call: how many are held, what is left of kept, the parameters and the store, and the label words
+-- whatever the call: how many are held, and what is left of kept, the parameters and the store
 pub mod Few
 pub mod Moves
-pub mod Words
