@@ -1,11 +1,11 @@
 // A block of the stored image: 512 bytes, the last four of them the check of the others.
-ghost use mathlib.Core.Path.{_≡_};
-ghost use mathlib.Core.Bool.{true};
 ghost use Prim.Native.Nat.{_≤_};
+ghost use mathlib.Core.Bool.{true};
+ghost use mathlib.Core.Path.{_≡_};
 ghost use lib.ListN.{length, take};
 ghost use Rattle.octets.specs.Part.{part};
-ghost use Rattle.block.specs.Zeros.{allZero};
 ghost use Rattle.block.specs.Check.{blockSize, checkAt, checkOf, sound, sealed, blockCheckOf};
+ghost use Rattle.block.specs.Zeros.{allZero};
 
 mod rows;
 pub mod words;

@@ -1,6 +1,6 @@
 // A run of 32-bit words in lent bytes, loaded into a lent slice of numbers and stored back.
-ghost use mathlib.Core.Path.{_≡_};
 ghost use Prim.Native.Nat.{_+_, _*_, _≤_};
+ghost use mathlib.Core.Path.{_≡_};
 ghost use lib.ListN.{length};
 ghost use Rattle.block.specs.Run.{wordsAt, withWords};
 

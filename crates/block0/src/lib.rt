@@ -1,14 +1,14 @@
 // Block 0 of the stored image: the session's numbers and its 120 label words.
-ghost use mathlib.Core.Path.{_≡_};
 ghost use Prim.Native.Nat.{_<_};
+ghost use mathlib.Core.Path.{_≡_};
 ghost use lib.ListN.{length, getD, set, take, drop};
-ghost use Rattle.label_list.specs.Valid.{validOf};
-ghost use Rattle.label_list.specs.Word.{wordCount};
 ghost use Rattle.block.specs.Check.{blockSize};
 ghost use Rattle.block.specs.Run.{putRun};
-ghost use Rattle.block0.specs.Layout.{widths, values, headerOf, labelsOf, releasedHeader, noLabels, block0};
 ghost use Rattle.ft_number.specs.Circle.{stepsOf};
+ghost use Rattle.label_list.specs.Valid.{validOf};
+ghost use Rattle.label_list.specs.Word.{wordCount};
 ghost use Rattle.block0.specs.Fields.{atMost, headerOk, fieldsOk};
+ghost use Rattle.block0.specs.Layout.{widths, values, headerOf, labelsOf, releasedHeader, noLabels, block0};
 ghost use Rattle.block0.specs.Unprotected.{isUnprotected, unprotected};
 use ft_number::FtNumber;
 use ft_number::Steps;

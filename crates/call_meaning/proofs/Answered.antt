@@ -1,22 +1,19 @@
 -- What a call leaves by the number of its answer, and that this is the answer of its tests. Assumes nothing.
-use mathlib.Core.Path.{_≡_, refl, sym, _∙_}
-use mathlib.Core.List.{List}
 use Prim.Native.Nat.{ℕ, _≤_, _<_}
+use mathlib.Core.List.{List}
+use mathlib.Core.Path.{_≡_, refl, sym, _∙_}
 use Rattle.octets.proofs.Choice.{by-test}
-use Rattle.protocol.specs.declared.Answer
+use Rattle.image.proofs.Changes.{release-decodes, break-decodes}
 use Rattle.protocol.specs.declared.Answer.{Answer}
-use Rattle.protocol.specs.declared.Effect
 use Rattle.protocol.specs.declared.Effect.{Effect}
 use Rattle.protocol.specs.declared.Phase.{Phase}
-use Rattle.protocol.proofs.Effects.{done-is}
 use Rattle.protocol.specs.Answers.{answerNumber, effectOf, isDone}
+use Rattle.protocol.proofs.Effects.{done-is, effect-nothing, effect-fail, effect-release}
 use Rattle.calls.specs.Outcomes.{After, untouched, failedOn, releasedOn, leftBy, settleOf}
-use Rattle.protocol.proofs.Effects.{effect-nothing, effect-fail, effect-release}
 use Rattle.calls.proofs.Ends.{settle-fail, settle-release, settle-refusal, settle-other}
-use Rattle.image.proofs.Changes.{release-decodes, break-decodes}
-use Rattle.call_meaning.specs.Standing.{Standing}
-use Rattle.call_meaning.specs.Ended.{Unapplied, ReleasedIdle}
 use Rattle.calls.proofs.Putting.{break-puts, release-puts}
+use Rattle.call_meaning.specs.Ended.{Unapplied, ReleasedIdle}
+use Rattle.call_meaning.specs.Standing.{Standing}
 use Rattle.call_meaning.proofs.Refusals.{settle-does}
 
 module _ (a : Answer) (ph : Phase) (im o : List ℕ) (done : After) where

@@ -1,22 +1,20 @@
 -- The ways in which a call returns: by its first tests, and by its own. Assumes nothing.
-use mathlib.Core.Path.{_≡_, sym, ap, _∙_}
+use Prim.Native.Nat.{ℕ}
 use mathlib.Core.Bool.{true, false}
 use mathlib.Core.List.{List}
-use Prim.Native.Nat.{ℕ}
+use mathlib.Core.Path.{_≡_, sym, ap, _∙_}
 use Rattle.image.specs.Verdict.{verdict, IsSound}
 use Rattle.image.proofs.Sound.{sound-parts}
-use Rattle.protocol.specs.declared.Answer
 use Rattle.protocol.specs.declared.Answer.{Answer}
-use Rattle.protocol.specs.declared.Effect
 use Rattle.protocol.specs.declared.Effect.{Effect}
-use Rattle.calls.specs.declared.Outcome.{Outcome}
 use Rattle.protocol.specs.declared.Phase.{Phase}
+use Rattle.calls.specs.declared.Outcome.{Outcome}
 
 use Rattle.protocol.specs.Answers.{answerNumber, effectBy, effectOf, isDone}
-use Rattle.calls.specs.Outcomes.{After, after, refusal, checked, admittedOn, settleOf}
-use Rattle.calls.proofs.Settled.{admit-refused, admit-passed, admitted-is, checks-sound}
 use Rattle.protocol.proofs.Settling.{done-harmless}
+use Rattle.calls.specs.Outcomes.{After, after, refusal, checked, admittedOn, settleOf}
 use Rattle.calls.proofs.Ends.{settle-refusal, unchanged-is}
+use Rattle.calls.proofs.Settled.{admit-refused, admit-passed, admitted-is, checks-sound}
 use Rattle.call_meaning.proofs.Refusals.{checked-harmless, admitted-harmless, settle-does}
 
 -- ---- restore's checks alone

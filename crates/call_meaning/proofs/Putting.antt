@@ -1,34 +1,34 @@
 -- A state that is stored is read back, from a sound image: once for all calls. Assumes nothing.
-use mathlib.Core.Path.{_≡_, refl, sym, ap, _∙_}
+use Prim.Native.Nat.{ℕ, _+_, _-_, _<_, _≤_}
 use mathlib.Core.Bool.{Bool, true, false, false≢true}
 use mathlib.Core.List.{List, [], _∷_, _++_}
 use mathlib.Core.Logic.{⊎-elim}
-use Prim.Native.Nat.{ℕ, _+_, _-_, _<_, _≤_}
+use mathlib.Core.Path.{_≡_, refl, sym, ap, _∙_}
 use native.Mathlib.Nat.{eq-or-lt-of-le}
 use native.Mathlib.Omega.{arith}
-use borrow.Author.Tests.{eq-eqb, ne-eqb, le-leb, leb-true}
-use lib.Dec.{eqb, leb}
-use lib.ListN.{length, drop, getD, length-append, length-drop}
+use lib.Dec.{eqb}
+use lib.ListN.{length, drop, length-append, length-drop}
+use borrow.Author.Tests.{eq-eqb, le-leb, leb-true}
 use Rattle.octets.specs.Pick.{pick}
-use Rattle.ft_number.specs.Circle.{stepsOf}
+use Rattle.block.specs.Run.{Words}
 use Rattle.ft_number.specs.declared.Steps.{Steps}
 use Rattle.ft_number.specs.declared.Steps.the-variants.{Count, Unreachable}
-use Rattle.message.specs.Storable.{Storable}
+use Rattle.ft_number.specs.Circle.{stepsOf}
 use Rattle.label_list.specs.Word.{wordCount}
-use Rattle.protocol.specs.State.{State, held, releasedState}
-use Rattle.protocol.specs.Lawful.{Lawful, Window}
-use Rattle.block.specs.Run.{Words}
+use Rattle.block0.specs.declared.Header.{Header}
 use Rattle.block0.specs.Fields.{Fits, Valid, atMost}
 use Rattle.block0.specs.Layout.{releasedHeader, slotCount}
-use Rattle.block0.specs.declared.Header.{Header}
+use Rattle.message.specs.Storable.{Storable}
+use Rattle.image.specs.Ring.{ring}
 use Rattle.image.specs.Sizes.{slotAt}
 use Rattle.image.specs.State.{InRange, decode}
-use Rattle.image.specs.Ring.{ring}
 use Rattle.image.specs.Verdict.{IsSound}
 use Rattle.image.proofs.Queue.{queue-length, queue-storable}
 use Rattle.image.proofs.Ranges.{labels-count, valid-words}
 use Rattle.image.proofs.Sound.{sound-accept, sound-keep, sound-release, sound-store0, sound-valid}
 use Rattle.image.proofs.Stored.{decode-accept, decode-keep, decode-release, decode-store0, state-eq}
+use Rattle.protocol.specs.Lawful.{Lawful}
+use Rattle.protocol.specs.State.{State, held, releasedState}
 use Rattle.calls.specs.State.{stateOf}
 use Rattle.calls.specs.Storing.{Slots, stay, empty, one-more, fewer, firstAfter, headerFor, stored}
 

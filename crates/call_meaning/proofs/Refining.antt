@@ -1,30 +1,26 @@
 -- A call on an image that stands is the protocol's step on the state that the image stands for, and what it leaves stands: once for all calls. Assumes nothing.
-use mathlib.Core.Path.{_≡_, refl, sym, ap, _∙_}
-use mathlib.Core.Bool.{true, false, true≢false}
-use mathlib.Core.List.{List, []}
 use Prim.Native.Nat.{ℕ}
+use mathlib.Core.Bool.{true, false}
+use mathlib.Core.List.{List}
+use mathlib.Core.Path.{_≡_, refl, ap, _∙_}
 use lib.ListN.{length, take, drop}
 use lib.Seq.{take-append-seam}
+use Rattle.octets.specs.Part.{overlaid}
 use Rattle.octets.proofs.Choice.{by-test}
-use Rattle.protocol.specs.declared.Answer
+use Rattle.image.specs.declared.Verdict.{Verdict}
+use Rattle.image.proofs.Changes.{break-decodes, release-decodes}
+use Rattle.image.proofs.Sound.{parts-sound}
 use Rattle.protocol.specs.declared.Answer.{Answer}
-use Rattle.protocol.specs.declared.Effect
 use Rattle.protocol.specs.declared.Effect.{Effect}
 use Rattle.protocol.specs.declared.Phase.{Phase}
 use Rattle.protocol.specs.Answers.{effectOf, isDone}
 use Rattle.protocol.specs.Phases.{phaseFits}
-use Rattle.protocol.specs.State.{State}
 use Rattle.protocol.specs.Step.{Step, settle, settledBy}
 use Rattle.protocol.proofs.Effects.{act-done}
 use Rattle.protocol.proofs.Settling.{settle-does}
-use Rattle.octets.specs.Part.{overlaid}
-use Rattle.image.specs.Verdict.{verdict}
-use Rattle.image.specs.declared.Verdict.{Verdict}
-use Rattle.image.proofs.Changes.{break-decodes, release-decodes}
-use Rattle.image.proofs.Sound.{parts-sound}
+use Rattle.calls.specs.Outcomes.{callOf, checked, failedOn, leftBy, releasedOn, settleOf, stepStored, untouched}
 use Rattle.calls.specs.State.{stateOf}
 use Rattle.calls.specs.Storing.{Slots}
-use Rattle.calls.specs.Outcomes.{After, callOf, checked, failedOn, leftBy, releasedOn, settleOf, stepStored, untouched}
 use Rattle.calls.proofs.Called.{call-settles}
 use Rattle.calls.proofs.Ends.{settle-other}
 use Rattle.calls.proofs.Putting.{break-puts, release-puts}

@@ -1,18 +1,15 @@
 -- What the first tests of a call leave, whatever its own tests are. Assumes nothing.
-use mathlib.Core.Path.{_≡_, refl, sym}
-use mathlib.Core.Bool.{true, false, true≢false}
-use mathlib.Core.List.{List}
 use Prim.Native.Nat.{ℕ, _<_}
+use mathlib.Core.Bool.{true}
+use mathlib.Core.List.{List}
+use mathlib.Core.Path.{_≡_, refl, sym}
 use Rattle.image.specs.declared.Verdict.{Verdict}
-use Rattle.protocol.specs.declared.Answer
 use Rattle.protocol.specs.declared.Answer.{Answer}
-use Rattle.protocol.specs.declared.Effect
-use Rattle.protocol.specs.declared.Effect.{Effect}
 use Rattle.protocol.specs.declared.Phase.{Phase}
 use Rattle.protocol.specs.Answers.{answerNumber, effectOf, isDone}
-use Rattle.calls.specs.Outcomes.{After, checked, admittedOn, settleOf}
 use Rattle.protocol.proofs.Effects.{effect-nothing}
 use Rattle.protocol.proofs.Settling.{Harmless}
+use Rattle.calls.specs.Outcomes.{After, checked, admittedOn, settleOf}
 use Rattle.calls.proofs.Settled.{checked-all, admitted-all}
 
 refusal-harmless : (x : Answer) → 0 < answerNumber x → answerNumber x < 20 → Harmless x

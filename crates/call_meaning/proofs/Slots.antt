@@ -1,18 +1,18 @@
 -- What is stored for a state, block by block: the slot is not live, every other block keeps its bytes, and with the slot alone the image is as before. Assumes nothing.
-use mathlib.Core.Path.{_≡_, refl, sym, ap, _∙_}
+use Prim.Native.Nat.{ℕ, _<_}
 use mathlib.Core.List.{List}
 use mathlib.Core.Logic.{_≢_}
-use Prim.Native.Nat.{ℕ, _<_}
+use mathlib.Core.Path.{_≡_, refl, sym, ap, _∙_}
 use native.Mathlib.Omega.{arith}
 use lib.ListN.{length}
-use Rattle.message.specs.Storable.{Storable}
-use Rattle.protocol.specs.State.{State}
 use Rattle.block0.specs.Layout.{slotCount}
+use Rattle.message.specs.Storable.{Storable}
 use Rattle.image.specs.Sizes.{block, blockOf, imageSize, withBlock}
 use Rattle.image.specs.State.{decode, storeSlot}
 use Rattle.image.specs.Verdict.{IsSound}
 use Rattle.image.proofs.Sound.{idle-last, parts-sound, sound-slot}
 use Rattle.image.proofs.Stored.{Idle, decode-slot, length-storeSlot, slot-other, slot-put, zeroth-other}
+use Rattle.protocol.specs.State.{State}
 use Rattle.calls.specs.Storing.{Slots, stay, empty, one-more, fewer, nextSlot, slotNamed, slotStored, stored}
 use Rattle.call_meaning.specs.Medium.{Same}
 

@@ -1,37 +1,30 @@
 -- However a call ends, it leaves a sound image in range and a phase that the image allows. Assumes nothing.
-use mathlib.Core.Path.{_≡_, refl}
+use Prim.Native.Nat.{ℕ}
 use mathlib.Core.Bool.{true, Bool, false}
 use mathlib.Core.List.{List}
-use Prim.Native.Nat.{ℕ, _≤_, _<_}
-use native.Mathlib.Omega.{arith}
-use native.Mathlib.Nat.{eq-or-lt-of-le}
-use mathlib.Core.Logic.{⊎-elim}
-use borrow.Author.Tests.{eq-eqb}
+use mathlib.Core.Path.{_≡_, refl}
+use Rattle.octets.specs.Pick.{pick}
 use Rattle.octets.proofs.Choice.{by-test}
-use Rattle.block0.specs.declared.Header.{Header}
 use Rattle.image.specs.State.{decode, InRange}
 use Rattle.image.specs.Verdict.{IsSound}
 use Rattle.image.proofs.Changes.{in-range-released, release-decodes, release-sound, break-decodes, break-sound, in-range-broken}
-use Rattle.image.proofs.Sound.{parts-sound, sound-valid}
+use Rattle.image.proofs.Sound.{parts-sound}
 use Rattle.protocol.specs.declared.Answer.{Answer}
-use Rattle.protocol.specs.declared.Effect
 use Rattle.protocol.specs.declared.Effect.{Effect}
-use Rattle.protocol.specs.declared.Phase
 use Rattle.protocol.specs.declared.Phase.{Phase}
-use Rattle.protocol.specs.Phases.{phaseFits, restingPhase}
 use Rattle.protocol.specs.Answers.{effectOf, isDone}
-use Rattle.calls.specs.Outcomes.{After, untouched, failedOn, releasedOn, leftBy, settleOf}
-use Rattle.calls.proofs.Settled.{Admitted}
-use Rattle.calls.proofs.Ends.{settle-other}
-use Rattle.calls.proofs.Putting.{break-puts, release-puts}
-use Rattle.call_meaning.proofs.Putting.{Puts, put-range, put-sound, put-state}
-use Rattle.call_meaning.specs.Standing.{Standing, Stands}
-use Rattle.call_meaning.proofs.Refusals.{settle-does}
+use Rattle.protocol.specs.Phases.{phaseFits, restingPhase}
 use Rattle.protocol.specs.State.{State}
+use Rattle.protocol.specs.Step.{broken}
+use Rattle.calls.specs.Outcomes.{After, untouched, failedOn, releasedOn, leftBy, settleOf}
 use Rattle.calls.specs.State.{stateOf}
 use Rattle.calls.specs.Storing.{Slots, stored}
-use Rattle.octets.specs.Pick.{pick}
-use Rattle.protocol.specs.Step.{broken}
+use Rattle.calls.proofs.Ends.{settle-other}
+use Rattle.calls.proofs.Putting.{break-puts, release-puts}
+use Rattle.calls.proofs.Settled.{Admitted}
+use Rattle.call_meaning.specs.Standing.{Standing, Stands}
+use Rattle.call_meaning.proofs.Putting.{Puts, put-range, put-sound, put-state}
+use Rattle.call_meaning.proofs.Refusals.{settle-does}
 
 -- a call that comes to what stands is admittedOn
 pub standing-admitted : {im : List ℕ} {ph : Phase} → Standing im ph → Admitted im ph

@@ -1,9 +1,9 @@
 -- The medium: what an owner has stored who stores what each outcome tells, in the order told, each block whole.
 -- 01: "A call stores at most one slot, one that isn't live, and then block 0. A block is stored whole or not at all".
 use Prim.Native.Nat.{ℕ}
-use mathlib.Core.Path.{_≡_}
 use mathlib.Core.Bool.{Bool}
 use mathlib.Core.List.{List, [], _∷_, _++_}
+use mathlib.Core.Path.{_≡_}
 use lib.Dec.{eqb}
 use lib.ListN.{take}
 use Rattle.octets.specs.Pick.{pick}

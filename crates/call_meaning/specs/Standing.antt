@@ -1,14 +1,14 @@
 -- What every call keeps: a sound image whose numbers have their widths, and a phase that it allows.
-use mathlib.Core.Path.{_≡_}
+use Prim.Native.Nat.{ℕ}
 use mathlib.Core.Bool.{true}
 use mathlib.Core.List.{List}
-use Prim.Native.Nat.{ℕ}
-use Rattle.image.specs.State.{State, decode, InRange}
+use mathlib.Core.Path.{_≡_}
+use Rattle.image.specs.State.{decode, InRange}
 use Rattle.image.specs.Verdict.{IsSound}
 use Rattle.protocol.specs.declared.Phase.{Phase}
 use Rattle.protocol.specs.Phases.{phaseFits}
-use Rattle.calls.specs.State.{stateOf}
 use Rattle.calls.specs.Outcomes.{After}
+use Rattle.calls.specs.State.{stateOf}
 
 pub record Standing (im : List ℕ) (ph : Phase) : Type 0 where
   pub sound : IsSound im

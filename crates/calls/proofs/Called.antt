@@ -1,10 +1,11 @@
 -- A call is its protocol's step, judged and settled on the image. Assumes nothing.
-use mathlib.Core.Path.{_≡_, refl, sym, ap, _∙_}
-use mathlib.Core.Bool.{true, false}
-use mathlib.Core.List.{List}
 use Prim.Native.Nat.{ℕ}
+use mathlib.Core.Bool.{false}
+use mathlib.Core.List.{List}
+use mathlib.Core.Path.{_≡_, refl, ap, _∙_}
 use Rattle.octets.proofs.Choice.{by-test}
-use Rattle.protocol.specs.declared.Answer
+use Rattle.image.specs.declared.Verdict.{Verdict}
+use Rattle.image.specs.Verdict.{verdict}
 use Rattle.protocol.specs.declared.Answer.{Answer}
 use Rattle.protocol.specs.declared.Phase.{Phase}
 use Rattle.protocol.specs.Answers.{isDone}
@@ -12,12 +13,9 @@ use Rattle.protocol.specs.State.{State}
 use Rattle.protocol.specs.Step.{Step, admitted, settle}
 use Rattle.protocol.proofs.Effects.{done-is}
 use Rattle.protocol.proofs.Settling.{settle-answer, settle-does}
-use Rattle.image.specs.Verdict.{verdict}
-use Rattle.image.specs.declared.Verdict
-use Rattle.image.specs.declared.Verdict.{Verdict}
+use Rattle.calls.specs.Outcomes.{admittedOn, callOf, checked, settleOf, stepStored}
 use Rattle.calls.specs.State.{stateOf}
 use Rattle.calls.specs.Storing.{Slots}
-use Rattle.calls.specs.Outcomes.{After, admittedOn, callOf, checked, settleOf, stepStored}
 use Rattle.calls.proofs.Ends.{settle-other}
 
 -- restore's checks refuse what is refused

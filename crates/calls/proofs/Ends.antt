@@ -1,31 +1,28 @@
 -- How a call ends, by its answer's effect. Assumes nothing.
-use mathlib.Core.Path.{_≡_, refl, sym, _∙_}
+use Prim.Native.Nat.{ℕ}
 use mathlib.Core.Bool.{Bool, true, false}
 use mathlib.Core.List.{List}
 use mathlib.Core.Logic.{_≢_}
-use Prim.Native.Nat.{ℕ}
+use mathlib.Core.Path.{_≡_, refl, sym, _∙_}
 use lib.Dec.{eqb, ltb}
-use Rattle.octets.specs.Pick.{pick}
 use Rattle.octets.specs.Bytes.{Bytes}
+use Rattle.octets.specs.Pick.{pick}
 use Rattle.octets.proofs.Differ.{differ-self}
 use Rattle.block0.specs.declared.Header.{Header}
 use Rattle.block0.specs.Unprotected.{unprotected}
-use Rattle.image.specs.State.{decode}
 use Rattle.image.specs.Events.{releaseOf, breakOf}
+use Rattle.image.specs.State.{decode}
 use Rattle.image.specs.Verdict.{IsSound}
 use Rattle.image.proofs.Same.{break-same, break-changed, release-same, release-changed}
-use Rattle.protocol.specs.declared.Answer
 use Rattle.protocol.specs.declared.Answer.{Answer}
-use Rattle.protocol.specs.declared.Effect
 use Rattle.protocol.specs.declared.Effect.{Effect}
-use Rattle.calls.specs.declared.Outcome.{Outcome}
-use Rattle.protocol.specs.declared.Phase
 use Rattle.protocol.specs.declared.Phase.{Phase}
-use Rattle.protocol.specs.Phases.{restingPhase}
 use Rattle.protocol.specs.Answers.{answerNumber, effectBy, effectOf, isDone}
+use Rattle.protocol.specs.Phases.{restingPhase}
+use Rattle.calls.specs.declared.Outcome.{Outcome}
+use Rattle.calls.specs.Outcomes.{After, after, refusal, settleOf, untouched, failedOn, releasedOn, leftBy}
 use Rattle.calls.specs.State.{numbersOf}
 use Rattle.calls.proofs.Putting.{break-puts, release-puts}
-use Rattle.calls.specs.Outcomes.{After, after, refusal, settleOf, untouched, failedOn, releasedOn, leftBy}
 
 -- ---- as connection failed; the premises are what the callees ensure
 module _ (a : Answer) (im o : List ℕ) (s : IsSound im) (byte : Bytes im) {h : Header} {ph : Phase} {b : Bool}

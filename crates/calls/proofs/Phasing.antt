@@ -1,16 +1,15 @@
 -- The steps from R to I as a count, and the phases that an image allows, by block 0's numbers. Assumes nothing.
-use mathlib.Core.Path.{_≡_, refl}
+use Prim.Native.Nat.{ℕ}
 use mathlib.Core.Bool.{Bool}
 use mathlib.Core.List.{List}
-use Prim.Native.Nat.{ℕ}
-use Rattle.ft_number.specs.Circle.{stepsOf}
+use mathlib.Core.Path.{_≡_, refl}
 use Rattle.ft_number.specs.declared.Steps.{Steps}
-use Rattle.protocol.specs.declared.Phase
-use Rattle.protocol.specs.declared.Phase.{Phase}
-use Rattle.protocol.specs.State.{State}
-use Rattle.protocol.specs.Phases.{countOf, issuedCount, phaseFits}
+use Rattle.ft_number.specs.Circle.{stepsOf}
 use Rattle.block0.specs.declared.Header.{Header}
 use Rattle.image.specs.State.{decode}
+use Rattle.protocol.specs.declared.Phase.{Phase}
+use Rattle.protocol.specs.Phases.{countOf, issuedCount, phaseFits}
+use Rattle.protocol.specs.State.{State}
 use Rattle.calls.specs.State.{stateBy, stateOf, numbersOf}
 
 pub issued-is : (s : State) (x t : Steps) → x ≡ stepsOf (s .released .0) (s .issued .0) → x ≡ t → countOf t ≡ issuedCount s

@@ -1,25 +1,24 @@
 -- What is stored for a state of the protocol is what the image's own changes write. Assumes nothing.
-use mathlib.Core.Path.{_≡_, refl, sym, ap, _∙_}
-use mathlib.Core.List.{List}
 use Prim.Native.Nat.{ℕ, _<_, _≤_}
-use borrow.Author.Tests.{eq-eqb}
-use lib.Dec.{eqb}
+use mathlib.Core.List.{List}
+use mathlib.Core.Logic.{⊎-elim}
+use mathlib.Core.Path.{_≡_, refl}
 use native.Mathlib.Nat.{eq-or-lt-of-le}
 use native.Mathlib.Omega.{arith}
-use mathlib.Core.Logic.{⊎-elim}
-use Rattle.octets.specs.Pick.{pick}
+use lib.Dec.{eqb}
+use borrow.Author.Tests.{eq-eqb}
 use Rattle.octets.specs.Bytes.{Bytes}
-use Rattle.protocol.specs.State.{State, releasedState}
-use Rattle.protocol.specs.Step.{broken}
-use Rattle.block0.specs.declared.Header.{Header}
-use Rattle.image.specs.State.{decode, store0}
+use Rattle.octets.specs.Pick.{pick}
 use Rattle.image.specs.Events.{breakOf, releaseOf}
+use Rattle.image.specs.State.{decode}
 use Rattle.image.specs.Verdict.{IsSound}
 use Rattle.image.proofs.Queue.{queue-length}
 use Rattle.image.proofs.Same.{store-same}
 use Rattle.image.proofs.Sound.{sound-valid}
+use Rattle.protocol.specs.State.{releasedState}
+use Rattle.protocol.specs.Step.{broken}
 use Rattle.calls.specs.State.{stateOf}
-use Rattle.calls.specs.Storing.{headerFor, putState, stored, stay, empty}
+use Rattle.calls.specs.Storing.{headerFor, stored, stay, empty}
 
 -- kept is 0 or 1
 pub kept-is : (k : ℕ) → k ≤ 1 → pick (eqb k 1) 1 0 ≡ k

@@ -1,23 +1,21 @@
 -- The first tests of a call, and what its answer leaves. Assumes nothing.
-use mathlib.Core.Path.{_≡_, refl, sym, ap, _∙_}
+use Prim.Native.Nat.{ℕ, _<_}
 use mathlib.Core.Bool.{Bool, true, false, not, true≢false}
 use mathlib.Core.List.{List}
-use Prim.Native.Nat.{ℕ, _<_}
+use mathlib.Core.Path.{_≡_, refl, sym, ap, _∙_}
 use native.Mathlib.Omega.{arith}
 use borrow.Author.Tests.{eqb-true}
 use Rattle.octets.specs.Pick.{pick}
-use Rattle.image.specs.Verdict.{verdict, IsSound}
-use Rattle.image.specs.declared.Verdict
 use Rattle.image.specs.declared.Verdict.{Verdict}
+use Rattle.image.specs.Verdict.{verdict, IsSound}
 use Rattle.image.proofs.Sound.{sound-parts}
-use Rattle.protocol.specs.declared.Answer
 use Rattle.protocol.specs.declared.Answer.{Answer}
 use Rattle.protocol.specs.declared.Phase.{Phase}
-use Rattle.protocol.specs.Phases.{phaseFits}
 use Rattle.protocol.specs.Answers.{answerNumber, isDone}
+use Rattle.protocol.specs.Phases.{phaseFits}
 use Rattle.protocol.specs.Step.{admitted}
-use Rattle.calls.specs.State.{stateOf}
 use Rattle.calls.specs.Outcomes.{checked, admittedOn}
+use Rattle.calls.specs.State.{stateOf}
 
 -- what a call knows that was admittedOn
 pub record Admitted (im : List ℕ) (ph : Phase) : Type 0 where

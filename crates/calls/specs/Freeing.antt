@@ -4,11 +4,10 @@ use mathlib.Core.Bool.{Bool, true, false}
 use mathlib.Core.List.{List, [], _∷_}
 use lib.Dec.{eqb}
 use Rattle.octets.specs.Pick.{pick}
+use Rattle.message.specs.declared.Kind.{Kind}
 use Rattle.message.specs.Kinds.{kindNumber}
 use Rattle.message.specs.Storable.{kindIn}
 use Rattle.message.specs.Submission.{submissionOf}
-use Rattle.message.specs.declared.Kind
-use Rattle.message.specs.declared.Kind.{Kind}
 
 -- of the kinds, those whose release may free a label
 unfoldable pub freesLabel : ℕ → Bool

@@ -4,19 +4,16 @@ use Prim.Native.Nat.{ℕ}
 use mathlib.Core.Bool.{false}
 use mathlib.Core.List.{List}
 use lib.ListN.{length}
-use Rattle.octets.specs.Part.{overlaid}
 use Rattle.octets.specs.Differ.{differ}
-use Rattle.protocol.specs.declared.Answer
+use Rattle.octets.specs.Part.{overlaid}
+use Rattle.image.specs.declared.Verdict.{Verdict}
+use Rattle.image.specs.Sizes.{block}
+use Rattle.image.specs.Verdict.{verdict}
 use Rattle.protocol.specs.declared.Answer.{Answer}
-use Rattle.protocol.specs.declared.Effect
 use Rattle.protocol.specs.declared.Effect.{Effect}
 use Rattle.protocol.specs.declared.Phase.{Phase}
 use Rattle.protocol.specs.Answers.{effectOf}
 use Rattle.protocol.specs.Step.{Step, admitted, failedWith, releasedWith}
-use Rattle.image.specs.Sizes.{block}
-use Rattle.image.specs.Verdict.{verdict}
-use Rattle.image.specs.declared.Verdict
-use Rattle.image.specs.declared.Verdict.{Verdict}
 use Rattle.calls.specs.declared.Outcome.{Outcome}
 use Rattle.calls.specs.State.{stateOf}
 use Rattle.calls.specs.Storing.{Slots, stay, empty, slotNamed, stored}

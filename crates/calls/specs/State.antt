@@ -2,9 +2,9 @@
 use Prim.Native.Nat.{ℕ}
 use mathlib.Core.List.{List, []}
 use lib.Dec.{eqb}
-use Rattle.protocol.specs.State.{State}
 use Rattle.block0.specs.declared.Header.{Header}
 use Rattle.image.specs.State.{decode}
+use Rattle.protocol.specs.State.{State}
 
 -- block 0's numbers, its label words, and the messages held
 abbrev pub stateBy : Header → List ℕ → List (List ℕ) → State

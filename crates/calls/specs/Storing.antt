@@ -2,10 +2,10 @@
 use Prim.Native.Nat.{ℕ}
 use mathlib.Core.List.{List}
 use Rattle.octets.specs.Pick.{pick}
-use Rattle.protocol.specs.State.{State, held}
 use Rattle.block0.specs.declared.Header.{Header}
 use Rattle.image.specs.Sizes.{blockOf, slotAt}
 use Rattle.image.specs.State.{decode, storeSlot, store0}
+use Rattle.protocol.specs.State.{State, held}
 
 -- block 0's numbers, where the oldest message held lies in that slot
 abbrev pub headerFor : ℕ → State → Header

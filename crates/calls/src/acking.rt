@@ -1,11 +1,11 @@
 // What an acknowledgement makes of block 0's numbers and label words.
-ghost use mathlib.Core.Path.{_≡_};
 ghost use Prim.Native.Nat.{_-_, _≤_};
+ghost use mathlib.Core.Path.{_≡_};
 ghost use lib.ListN.{take};
-ghost use Rattle.image.specs.State.{decode};
-ghost use Rattle.image.specs.Verdict.{IsSound};
 ghost use Rattle.block0.specs.Updates.{headerReleased};
 ghost use Rattle.image.specs.Sizes.{slotAt};
+ghost use Rattle.image.specs.State.{decode};
+ghost use Rattle.image.specs.Verdict.{IsSound};
 ghost use Rattle.protocol.specs.Acked.{releasedKind, releasedLabels};
 ghost use Rattle.calls.specs.Freeing.{freesLabel, freesNone};
 use block0::Header;

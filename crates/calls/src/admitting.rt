@@ -2,7 +2,6 @@
 ghost use mathlib.Core.Path.{_≡_};
 ghost use Rattle.image.specs.Verdict.{verdict};
 ghost use Rattle.calls.specs.Outcomes.{checked, admittedOn, refusal};
-ghost use Rattle.protocol.specs.declared.Answer;
 use crate::Answer;
 use crate::Outcome;
 use crate::Phase;

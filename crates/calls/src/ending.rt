@@ -1,6 +1,6 @@
 // How a call ends that is not Done: nothing changed, as connection failed, or released.
-ghost use mathlib.Core.Path.{_≡_};
 ghost use mathlib.Core.List.{[]};
+ghost use mathlib.Core.Path.{_≡_};
 ghost use Rattle.image.specs.Verdict.{IsSound};
 ghost use Rattle.calls.specs.Outcomes.{after, settleOf, untouched, failedOn, releasedOn};
 use crate::Answer;

@@ -22,12 +22,12 @@ pub use ending::settle;
 pub use phases::issued_count;
 pub use phases::phase_fits;
 pub use phases::resting_phase;
-pub use receiving::is_init;
 pub use protocol::Answer;
 pub use protocol::Effect;
 pub use protocol::Phase;
 pub use protocol::Progress;
 pub use protocol::Waiting;
+pub use receiving::is_init;
 pub use storing::store_changed;
 pub use storing::store_numbers;
 

@@ -1,22 +1,19 @@
 -- The returns of Format and Restore. Assumes nothing.
-use mathlib.Core.Path.{_≡_, refl, sym, _∙_}
+use Prim.Native.Nat.{ℕ}
 use mathlib.Core.Bool.{Bool, true, false, not}
 use mathlib.Core.List.{List, []}
-use Prim.Native.Nat.{ℕ}
+use mathlib.Core.Path.{_≡_, refl, sym, _∙_}
 use native.Mathlib.Omega.{arith}
 use lib.Dec.{eqb}
 use lib.ListN.{length}
 use Rattle.octets.specs.Pick.{pick}
-use Rattle.protocol.specs.declared.Answer
+use Rattle.image.specs.declared.Verdict.{Verdict}
+use Rattle.image.specs.Events.{sizeVerdict, newImage, formatOf as formattedOf}
+use Rattle.image.specs.Sizes.{imageSize}
+use Rattle.image.specs.Verdict.{verdict, verdictNumber}
 use Rattle.protocol.specs.declared.Answer.{Answer}
-use Rattle.protocol.specs.declared.Phase
 use Rattle.protocol.specs.declared.Phase.{Phase}
 use Rattle.protocol.specs.Answers.{effectOf, isDone}
-use Rattle.image.specs.Sizes.{imageSize}
-use Rattle.image.specs.Events.{sizeVerdict, newImage, formatOf as formattedOf}
-use Rattle.image.specs.Verdict.{verdict, verdictNumber}
-use Rattle.image.specs.declared.Verdict
-use Rattle.image.specs.declared.Verdict.{Verdict}
 use Rattle.calls.specs.declared.Outcome.{Outcome}
 use Rattle.calls.specs.Outcomes.{After, after, refusal, callOf, checked, failedOn, settleOf}
 use Rattle.calls.proofs.Ends.{settle-done}

@@ -1,45 +1,42 @@
 -- The returns of Open and KeepAlive. Assumes nothing.
-use mathlib.Core.Path.{_≡_, refl, sym, ap, _∙_}
+use Prim.Native.Nat.{ℕ}
 use mathlib.Core.Bool.{Bool, true, false, not}
 use mathlib.Core.List.{List}
-use Prim.Native.Nat.{ℕ}
+use mathlib.Core.Path.{_≡_, refl, sym, ap, _∙_}
 use lib.Dec.{ltb}
 use lib.ListN.{length}
 use Rattle.octets.specs.Bytes.{Bytes}
 use Rattle.octets.specs.Part.{overlaid}
 use Rattle.octets.specs.Pick.{pick}
 use Rattle.octets.proofs.Differ.{differ-self}
-use Rattle.ft_number.specs.Timeout.{proposedOf}
 use Rattle.ft_number.specs.declared.MessageId.{MessageId}
 use Rattle.ft_number.specs.declared.Proposal.{Proposal}
-use Rattle.tlv.specs.declared.FtField
+use Rattle.ft_number.specs.Timeout.{proposedOf}
+use Rattle.block0.specs.declared.Header.{Header}
 use Rattle.tlv.specs.declared.FtField.{FtField}
+use Rattle.message_writer.specs.declared.OwnParameters.{OwnParameters}
+use Rattle.message_writer.specs.declared.Written.{Written}
 use Rattle.message_writer.specs.Forms.{initBytes, keepaliveBytes}
 use Rattle.message_writer.specs.Written.{writtenOf}
-use Rattle.message_writer.specs.declared.OwnParameters.{OwnParameters}
-use Rattle.message_writer.specs.declared.Written
-use Rattle.message_writer.specs.declared.Written.{Written}
-use Rattle.protocol.specs.declared.Answer
+use Rattle.image.specs.State.{decode}
+use Rattle.image.specs.Verdict.{IsSound}
 use Rattle.protocol.specs.declared.Answer.{Answer}
 use Rattle.protocol.specs.declared.Phase.{Phase}
 use Rattle.protocol.specs.Answers.{effectOf, isDone}
-use Rattle.protocol.specs.State.{State}
+use Rattle.protocol.specs.KeepAlive.{aliveAck, aliveBytes, keepalive}
+use Rattle.protocol.specs.Open.{keptAck, openBytes, openSession}
 use Rattle.protocol.specs.Phases.{isUp, mayOpen, waitingFor}
+use Rattle.protocol.specs.State.{State}
 use Rattle.protocol.specs.Step.{roomFor, stepped}
 use Rattle.protocol.specs.Writer.{writer}
-use Rattle.protocol.specs.Open.{keptAck, openBytes, openSession}
-use Rattle.protocol.specs.KeepAlive.{aliveAck, aliveBytes, keepalive}
-use Rattle.block0.specs.declared.Header.{Header}
-use Rattle.image.specs.State.{decode}
-use Rattle.image.specs.Verdict.{IsSound}
 use Rattle.calls.specs.declared.Outcome.{Outcome}
+use Rattle.calls.specs.Outcomes.{After, after, refusal, admittedOn, callOf, settleOf, stepStored}
 use Rattle.calls.specs.State.{stateOf, numbersOf}
 use Rattle.calls.specs.Storing.{stay}
-use Rattle.calls.specs.Outcomes.{After, after, refusal, admittedOn, callOf, settleOf, stepStored}
-use Rattle.calls.proofs.Settled.{admit-passed, admitted-sound}
+use Rattle.calls.proofs.Called.{call-is}
 use Rattle.calls.proofs.Ends.{settle-done}
 use Rattle.calls.proofs.Putting.{put-same}
-use Rattle.calls.proofs.Called.{call-is}
+use Rattle.calls.proofs.Settled.{admit-passed, admitted-sound}
 use Rattle.call_meaning.proofs.Calling.{call-refused, call-own, own-refused}
 use Rattle.connect.specs.Writers.{writtenAs, openOf, keepaliveOf}
 

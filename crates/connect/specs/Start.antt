@@ -5,16 +5,14 @@ use mathlib.Core.List.{List, []}
 use lib.Dec.{eqb}
 use lib.ListN.{length}
 use Rattle.octets.specs.Pick.{pick}
-use Rattle.protocol.specs.declared.Answer
+use Rattle.image.specs.Events.{newImage}
+use Rattle.image.specs.Sizes.{imageSize}
 use Rattle.protocol.specs.declared.Answer.{Answer}
-use Rattle.protocol.specs.declared.Phase
 use Rattle.protocol.specs.declared.Phase.{Phase}
 use Rattle.protocol.specs.Begin.{format, restore}
-use Rattle.image.specs.Sizes.{imageSize}
-use Rattle.image.specs.Events.{newImage}
+use Rattle.calls.specs.Outcomes.{After, after, callOf, settleOf}
 use Rattle.calls.specs.State.{stateOf}
 use Rattle.calls.specs.Storing.{stay}
-use Rattle.calls.specs.Outcomes.{After, after, callOf, settleOf}
 
 -- a new image, and no session; every block is to be stored
 abbrev pub formatted : After

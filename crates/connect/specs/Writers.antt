@@ -6,17 +6,15 @@ use lib.ListN.{length}
 use Rattle.ft_number.specs.declared.MessageId.{MessageId}
 use Rattle.ft_number.specs.declared.Proposal.{Proposal}
 use Rattle.message_writer.specs.declared.OwnParameters.{OwnParameters}
-use Rattle.message_writer.specs.declared.Written
 use Rattle.message_writer.specs.declared.Written.{Written}
-use Rattle.protocol.specs.declared.Answer
 use Rattle.protocol.specs.declared.Answer.{Answer}
 use Rattle.protocol.specs.declared.Phase.{Phase}
-use Rattle.protocol.specs.Open.{openSession}
 use Rattle.protocol.specs.KeepAlive.{keepalive}
+use Rattle.protocol.specs.Open.{openSession}
 use Rattle.calls.specs.declared.Outcome.{Outcome}
+use Rattle.calls.specs.Outcomes.{After, callOf, refusal}
 use Rattle.calls.specs.State.{stateOf}
 use Rattle.calls.specs.Storing.{stay}
-use Rattle.calls.specs.Outcomes.{After, callOf, refusal}
 
 -- "Open (Idle, Failed): writes Init, R = kept, ACK = S."
 unfoldable pub openOf : List ℕ → Phase → MessageId → OwnParameters → Proposal → List ℕ → After

@@ -1,10 +1,10 @@
 // Open and KeepAlive: the messages that a session writes of its own. They leave the image, so they are lent it to read.
 ghost use mathlib.Core.Path.{_≡_};
-ghost use Rattle.protocol.specs.Phases.{isUp, mayOpen};
-ghost use Rattle.protocol.specs.Open.{keptAck};
 ghost use Rattle.protocol.specs.KeepAlive.{aliveAck};
-ghost use Rattle.calls.specs.State.{numbersOf};
+ghost use Rattle.protocol.specs.Open.{keptAck};
+ghost use Rattle.protocol.specs.Phases.{isUp, mayOpen};
 ghost use Rattle.calls.specs.Outcomes.{after};
+ghost use Rattle.calls.specs.State.{numbersOf};
 ghost use Rattle.connect.specs.Writers.{openOf, keepaliveOf, writtenAs};
 use block0::Header;
 use calls::Answer;

@@ -2,12 +2,12 @@
 pub mod line; // line.rt: the line of one message
 pub mod stream; // stream.rt: a stream of PDUs
 
-ghost use mathlib.Core.Path.{_≡_};
 ghost use Prim.Native.Nat.{_≤_};
+ghost use mathlib.Core.Path.{_≡_};
 ghost use lib.ListN.{length};
+ghost use Rattle.pdu.specs.declared.Opened.the-variants.{Whole};
 ghost use Rattle.pdu.specs.Pdu.{openedOf};
 ghost use Rattle.pdu.specs.Split.{handedOut};
-ghost use Rattle.pdu.specs.declared.Opened.the-variants.{Whole};
 ghost use Rattle.text.specs.Text.{Put};
 ghost use Rattle.dump.specs.Line.{linesOf, pduText, isWhole, textRoom, largestPdu};
 

@@ -1,9 +1,9 @@
 // A stream of PDUs of any length, read PDU by PDU and written as text to standard output.
-use crate::dump_pdu;
-use libc::STDOUT_FILENO;
 ghost use Prim.Native.Nat.{_≤_};
 ghost use lib.ListN.{length};
 ghost use Rattle.dump.specs.Line.{textRoom, largestPdu};
+use crate::dump_pdu;
+use libc::STDOUT_FILENO;
 
 // Reads the next PDU into `buffer`, version and length first, and answers how many bytes came: 0 at the stream's end, fewer than
 // the PDU has where the stream ends inside it.

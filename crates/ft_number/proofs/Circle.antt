@@ -1,18 +1,18 @@
 -- What the numbers' definitions mean: `stepsOf` counts successors and is the fewest there are, the count is unique within the circle, and an ACK
 -- is right exactly if it lies on the way from R to I. Assumes nothing.
 use Prim.Native.Nat.{ℕ, zero, suc, _+_, _-_, _%_, _<_, _≤_}
+use mathlib.Core.Bool.{Bool, true, false}
+use mathlib.Core.Path.{_≡_, refl, sym, ap, _∙_}
 use native.Mathlib.Numerals.{add-one}
 use native.Mathlib.Omega.{arith}
-use mathlib.Core.Path.{_≡_, refl, sym, ap, _∙_}
-use borrow.Author.Tests.{ne-eqb, leb-true}
-use mathlib.Core.Bool.{Bool, true, false}
 use lib.Dec.{leb}
+use borrow.Author.Tests.{ne-eqb, leb-true}
 use Rattle.octets.specs.Pick.{pick}
-use Rattle.ft_number.specs.Circle.{circle, next, after, forward, stepsOf}
-use Rattle.ft_number.specs.Ack.{within, ackOf}
+use Rattle.ft_number.specs.declared.Ack.the-variants.{Releases, SequenceError}
 use Rattle.ft_number.specs.declared.Steps.{Steps}
 use Rattle.ft_number.specs.declared.Steps.the-variants.{Count, Unreachable}
-use Rattle.ft_number.specs.declared.Ack.the-variants.{Releases, SequenceError}
+use Rattle.ft_number.specs.Ack.{within, ackOf}
+use Rattle.ft_number.specs.Circle.{circle, next, after, forward, stepsOf}
 use Rattle.ft_number.proofs.Laws.{steps-none, steps-on}
 
 -- the successor of "none" is 1, and the number after the last is 1 again

@@ -1,16 +1,16 @@
 -- What the signed distance means: so many successors lead forward from one number to the other, or back. Assumes nothing.
 use Prim.Native.Nat.{ℕ, zero, suc, _+_, _-_, _%_, _<_, _≤_}
-use native.Mathlib.Omega.{arith}
-use mathlib.Core.Path.{_≡_, refl, sym, ap, _∙_}
 use mathlib.Core.Bool.{Bool, true, false}
+use mathlib.Core.Path.{_≡_, refl, sym, ap, _∙_}
+use native.Mathlib.Omega.{arith}
 use lib.Dec.{leb}
 use lib.IntN.{ℤ, pos, negsuc, negℤ}
 use borrow.Author.Tests.{leb-true, leb-false, le-leb, lt-leb, ne-eqb}
 use Rattle.octets.specs.Pick.{pick}
-use Rattle.ft_number.specs.Circle.{circle, after, forward}
-use Rattle.ft_number.specs.Distance.{half, shorter, distanceOf}
 use Rattle.ft_number.specs.declared.Distance.{Distance}
 use Rattle.ft_number.specs.declared.Distance.the-variants.{Steps, Refused}
+use Rattle.ft_number.specs.Circle.{circle, after, forward}
+use Rattle.ft_number.specs.Distance.{half, shorter, distanceOf}
 use Rattle.ft_number.proofs.Circle.{after-none, after-is}
 
 -- z places on from a is b, and that is the shorter way: forward by successors of a, or back by successors of b

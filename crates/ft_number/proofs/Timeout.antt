@@ -1,7 +1,7 @@
 -- What the lesser timeout means, zero counting as infinite. Assumes nothing.
 use Prim.Native.Nat.{ℕ, zero, suc, min, _<_, _≤_}
-use native.Mathlib.Omega.{arith}
 use mathlib.Core.Path.{_≡_, refl, sym, _∙_}
+use native.Mathlib.Omega.{arith}
 use Rattle.ft_number.specs.Timeout.{lesserOf}
 
 -- zero is its neutral element ..

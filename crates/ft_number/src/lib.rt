@@ -1,7 +1,7 @@
 // FT sequence numbers and message IDs, the acknowledgement decision, the signed distance, and the reconnection timeout.
 ghost use mathlib.Core.Path.{_≡_};
-ghost use Rattle.ft_number.specs.Circle.{next, after, forward, stepsOf};
 ghost use Rattle.ft_number.specs.Ack.{ackOf};
+ghost use Rattle.ft_number.specs.Circle.{next, after, forward, stepsOf};
 ghost use Rattle.ft_number.specs.Distance.{distanceOf};
 ghost use Rattle.ft_number.specs.Timeout.{lesserOf, proposedOf};
 

@@ -1,8 +1,8 @@
 -- One block of an image put, and the others as they were. Assumes nothing.
-use mathlib.Core.Path.{_≡_, _∙_}
+use Prim.Native.Nat.{ℕ, _+_, _-_, _*_, _≤_, _<_}
 use mathlib.Core.List.{List}
 use mathlib.Core.Logic.{_≢_}
-use Prim.Native.Nat.{ℕ, _+_, _-_, _*_, _≤_, _<_}
+use mathlib.Core.Path.{_≡_, _∙_}
 use native.Mathlib.Omega.{arith, ne-cases}
 use lib.ListN.{length}
 use Rattle.octets.proofs.Part.{length-part, length-withPart, part-same, part-before, part-after}

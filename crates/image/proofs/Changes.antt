@@ -1,35 +1,35 @@
 -- What becomes of the state of a released image, of a new one, and of one as after a break. Assumes nothing.
-use mathlib.Core.Path.{_≡_, refl, ap, _∙_}
+use Prim.Native.Nat.{ℕ, _<_}
 use mathlib.Core.Bool.{true}
 use mathlib.Core.List.{List}
 use mathlib.Core.Logic.{_≢_}
-use Prim.Native.Nat.{ℕ, _<_}
+use mathlib.Core.Path.{_≡_, refl, ap, _∙_}
 use native.Mathlib.Omega.{arith}
 use lib.ListN.{length, replicate, length-map}
 use Rattle.octets.proofs.Fill.{length-zeros}
-use Rattle.ft_number.specs.Circle.{stepsOf}
-use Rattle.label_list.specs.Word.{wordCount, wordOf}
-use Rattle.label_list.specs.Rules.{codeSwept}
-use Rattle.label_list.specs.Sweep.{wordSwept, sweptOf}
-use Rattle.label_list.specs.Valid.{validOf}
-use Rattle.label_list.specs.declared.SweepRule.the-variants.{AfterBreak}
-use Rattle.label_meaning.proofs.Meaning.{valid-means, means-valid}
-use Rattle.label_meaning.proofs.Swept.{sweep-valid}
 use Rattle.block.specs.Check.{blockSize}
 use Rattle.block.specs.Run.{Words}
 use Rattle.block.proofs.WordRun.{none-fit}
-use Rattle.block0.specs.Layout.{slotCount, releasedHeader, noLabels}
+use Rattle.ft_number.specs.Circle.{stepsOf}
+use Rattle.label_list.specs.declared.SweepRule.the-variants.{AfterBreak}
+use Rattle.label_list.specs.Rules.{codeSwept}
+use Rattle.label_list.specs.Sweep.{wordSwept, sweptOf}
+use Rattle.label_list.specs.Valid.{validOf}
+use Rattle.label_list.specs.Word.{wordCount, wordOf}
 use Rattle.block0.specs.Fields.{Fits, Valid}
+use Rattle.block0.specs.Layout.{slotCount, releasedHeader, noLabels}
 use Rattle.block0.proofs.Rules.{none-valid}
-use Rattle.image.specs.Sizes.{imageSize, block, blockOf}
+use Rattle.label_meaning.proofs.Meaning.{valid-means, means-valid}
+use Rattle.label_meaning.proofs.Swept.{sweep-valid}
+use Rattle.image.specs.Events.{released, releaseOf, newImage, broken, breakOf}
 use Rattle.image.specs.Ring.{ring}
+use Rattle.image.specs.Sizes.{imageSize, block, blockOf}
 use Rattle.image.specs.State.{InRange, decode}
 use Rattle.image.specs.Verdict.{IsSound}
-use Rattle.image.specs.Events.{released, releaseOf, newImage, broken, breakOf}
-use Rattle.image.proofs.Stored.{decode-store0, decode-keep, zeroth-other}
-use Rattle.image.proofs.Sound.{sound-store0, sound-keep, sound-valid}
 use Rattle.image.proofs.Formatted.{block-zeros}
 use Rattle.image.proofs.Ranges.{valid-words}
+use Rattle.image.proofs.Sound.{sound-store0, sound-keep, sound-valid}
+use Rattle.image.proofs.Stored.{decode-store0, decode-keep, zeroth-other}
 
 -- ---- released
 fits-released : Fits releasedHeader

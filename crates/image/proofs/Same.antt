@@ -1,35 +1,35 @@
 -- A store of what the image says already changes nothing, and a store of anything else changes the bytes of block 0; so do a break and a release. Assumes nothing.
-use mathlib.Core.Path.{_≡_, refl, sym, ap, ap₂, _∙_}
+use Prim.Native.Nat.{ℕ}
 use mathlib.Core.Bool.{true, false, false≢true}
 use mathlib.Core.List.{List, [], _∷_}
 use mathlib.Core.Logic.{_≢_}
-use Prim.Native.Nat.{ℕ}
+use mathlib.Core.Path.{_≡_, refl, sym, ap, ap₂, _∙_}
 use native.Mathlib.Omega.{arith}
-use borrow.Author.Tests.{eqb-true, eqb-false, ne-eqb}
 use lib.Dec.{eqb}
 use lib.ListN.{length, getD, drop, take-append-drop, length-map, List·getD-map}
 use lib.Seq.{ext-getD}
+use borrow.Author.Tests.{eqb-true, eqb-false, ne-eqb}
 use Rattle.octets.specs.Bytes.{Bytes}
 use Rattle.octets.specs.Differ.{differ}
 use Rattle.octets.proofs.Choice.{by-test}
 use Rattle.octets.proofs.Differ.{differ-false}
-use Rattle.label_list.specs.Word.{wordCount, codeOf, wordOf}
+use Rattle.block.specs.Run.{Words}
+use Rattle.label_list.specs.declared.SweepRule.the-variants.{AfterBreak}
 use Rattle.label_list.specs.Find.{any}
 use Rattle.label_list.specs.Rules.{codeSwept}
 use Rattle.label_list.specs.Sweep.{wordSwept, sweptOf}
-use Rattle.label_list.specs.declared.SweepRule.the-variants.{AfterBreak}
-use Rattle.label_meaning.specs.Valid.{InRange, IsValid}
-use Rattle.label_meaning.proofs.Meaning.{any-none, valid-means, range-listed}
-use Rattle.block.specs.Run.{Words}
+use Rattle.label_list.specs.Word.{wordCount, codeOf, wordOf}
 use Rattle.block0.specs.declared.Header.{Header}
-use Rattle.block0.specs.Layout.{headerOf, labelsOf}
 use Rattle.block0.specs.Fields.{Fits}
+use Rattle.block0.specs.Layout.{headerOf, labelsOf}
 use Rattle.block0.specs.Unprotected.{isUnprotected, unprotected}
 use Rattle.block0.proofs.Same.{block0-same}
+use Rattle.label_meaning.specs.Valid.{InRange, IsValid}
+use Rattle.label_meaning.proofs.Meaning.{any-none, valid-means, range-listed}
+use Rattle.image.specs.Events.{releaseOf, breakOf}
 use Rattle.image.specs.Sizes.{imageSize, block}
 use Rattle.image.specs.State.{State, decode, store0}
 use Rattle.image.specs.Verdict.{IsSound}
-use Rattle.image.specs.Events.{releaseOf, breakOf}
 use Rattle.image.proofs.Changes.{release-decodes, break-decodes}
 use Rattle.image.proofs.Ranges.{bytes-block, bytes-in-range}
 use Rattle.image.proofs.Sound.{sound-valid}

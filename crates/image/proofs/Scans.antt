@@ -1,30 +1,28 @@
 -- The blocks that restore looks at, and the clauses of `verdict` by the tests that lead to each answer. Assumes nothing.
-use mathlib.Core.Path.{_≡_, refl, sym, ap, _∙_}
+use Prim.Native.Nat.{ℕ, zero, suc, _+_, _-_, _%_, _≤_, _<_}
 use mathlib.Core.Bool.{Bool, true, false, not}
 use mathlib.Core.List.{List}
 use mathlib.Core.Logic.{_≢_}
-use Prim.Native.Nat.{ℕ, zero, suc, _+_, _-_, _%_, _≤_, _<_}
+use mathlib.Core.Path.{_≡_, refl, sym, ap, _∙_}
 use native.Mathlib.Omega.{arith}
-use borrow.Author.Tests.{eq-eqb, ne-eqb, not-true, not-false}
 use lib.Dec.{eqb}
 use lib.ListN.{length, getD}
+use borrow.Author.Tests.{eq-eqb, ne-eqb, not-true, not-false}
 use Rattle.octets.specs.Pick.{pick}
 use Rattle.octets.proofs.Choice.{pick-all}
+use Rattle.block.specs.Check.{sound}
 use Rattle.label_list.specs.Find.{any}
 use Rattle.label_list.proofs.Sought.{any-cons}
-use Rattle.block.specs.Check.{sound}
 use Rattle.block0.specs.declared.Header.{Header}
-use Rattle.block0.specs.Layout.{slotCount, headerOf}
 use Rattle.block0.specs.Fields.{fieldsOk}
-use Rattle.slot.specs.declared.SlotVerdict
+use Rattle.block0.specs.Layout.{slotCount, headerOf}
 use Rattle.slot.specs.declared.SlotVerdict.{SlotVerdict}
 use Rattle.slot.specs.Fields.{slotOk, slotVerdict}
-use Rattle.image.specs.declared.Judgement
 use Rattle.image.specs.declared.Judgement.{Judgement}
 use Rattle.image.specs.declared.Verdict.{Verdict}
 use Rattle.image.specs.declared.Verdict.the-variants.{Sound, WrongSize, BadBlock, BadField}
-use Rattle.image.specs.Sizes.{blockCount, imageSize, block, blockOf, slotAt}
 use Rattle.image.specs.Ring.{ring}
+use Rattle.image.specs.Sizes.{blockCount, imageSize, block, blockOf, slotAt}
 use Rattle.image.specs.State.{decode}
 use Rattle.image.specs.Verdict.{looked, fieldsRight, bytesJudged, blockJudged, faultThen, firstFault, verdict, verdictNumber, verdictBlock}
 use Rattle.image.proofs.Faults.{fault-same, named-below}

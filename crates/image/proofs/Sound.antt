@@ -1,28 +1,28 @@
 -- A sound image, clause by clause, and what storing leaves of it. Assumes nothing.
-use mathlib.Core.Path.{_≡_, refl, sym, _∙_}
+use Prim.Native.Nat.{ℕ, zero, suc, _+_, _-_, _≤_, _<_}
 use mathlib.Core.Bool.{Bool, true, false, not}
 use mathlib.Core.List.{List}
 use mathlib.Core.Logic.{_≢_, ⊎-elim}
-use Prim.Native.Nat.{ℕ, zero, suc, _+_, _-_, _≤_, _<_}
+use mathlib.Core.Path.{_≡_, refl, sym, _∙_}
 use native.Mathlib.Nat.{eq-or-lt-of-le}
 use native.Mathlib.Omega.{arith}
-use borrow.Author.Tests.{eqb-true, eq-eqb, not-false}
 use lib.Dec.{eqb}
 use lib.ListN.{length, getD}
+use borrow.Author.Tests.{eqb-true, eq-eqb, not-false}
 use Rattle.octets.specs.Pick.{pick}
 use Rattle.octets.proofs.Choice.{cleared}
-use Rattle.label_list.specs.Word.{wordCount}
 use Rattle.block.specs.Check.{blockSize, sound}
 use Rattle.block.specs.Run.{Words}
+use Rattle.label_list.specs.Word.{wordCount}
 use Rattle.block0.specs.declared.Header.{Header}
-use Rattle.block0.specs.Layout.{slotCount, headerOf, block0}
 use Rattle.block0.specs.Fields.{Fits, Valid}
-use Rattle.block0.proofs.Written.{header-block0, block0-sound}
+use Rattle.block0.specs.Layout.{slotCount, headerOf, block0}
 use Rattle.block0.proofs.Rules.{fields-valid, valid-fields}
+use Rattle.block0.proofs.Written.{header-block0, block0-sound}
 use Rattle.message.specs.Storable.{Storable}
 use Rattle.slot.proofs.Holding.{slotFor-sound, slotFor-ok}
-use Rattle.image.specs.declared.Verdict.the-variants.{Sound, WrongSize}
 use Rattle.image.specs.declared.Judgement.the-variants.{Good, BadCheck, BadFields}
+use Rattle.image.specs.declared.Verdict.the-variants.{Sound, WrongSize}
 use Rattle.image.specs.Sizes.{block, blockOf, slotAt, imageSize}
 use Rattle.image.specs.State.{decode, storeSlot, store0}
 use Rattle.image.specs.Verdict.{looked, fieldsRight, bytesJudged, verdict, IsSound, SlotGood}

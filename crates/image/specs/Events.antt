@@ -4,8 +4,8 @@ use mathlib.Core.List.{List, []}
 use lib.Dec.{eqb}
 use lib.ListN.{length, replicate}
 use Rattle.octets.specs.Pick.{pick}
-use Rattle.label_list.specs.Sweep.{sweptOf}
 use Rattle.label_list.specs.declared.SweepRule.the-variants.{AfterBreak}
+use Rattle.label_list.specs.Sweep.{sweptOf}
 use Rattle.block0.specs.Layout.{releasedHeader, noLabels}
 use Rattle.image.specs.declared.Verdict.{Verdict}
 use Rattle.image.specs.declared.Verdict.the-variants.{Sound, WrongSize}

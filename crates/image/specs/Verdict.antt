@@ -1,23 +1,23 @@
 -- Restore's checks. "Restore checks size, block 0, its fields, then live slots in ring order: check, then fields."
 use Prim.Native.Nat.{ℕ, _<_}
-use mathlib.Core.Path.{_≡_}
 use mathlib.Core.Bool.{Bool, true, not}
 use mathlib.Core.List.{List, [], _∷_}
+use mathlib.Core.Path.{_≡_}
 use lib.Dec.{eqb}
 use lib.ListN.{length}
 use Rattle.octets.specs.Pick.{pick}
-use Rattle.label_list.specs.Find.{any}
 use Rattle.block.specs.Check.{sound}
+use Rattle.label_list.specs.Find.{any}
 use Rattle.block0.specs.declared.Header.{Header}
-use Rattle.block0.specs.Layout.{headerOf}
 use Rattle.block0.specs.Fields.{fieldsOk}
+use Rattle.block0.specs.Layout.{headerOf}
 use Rattle.slot.specs.Fields.{slotOk}
 use Rattle.image.specs.declared.Judgement.{Judgement}
 use Rattle.image.specs.declared.Judgement.the-variants.{Good, BadCheck, BadFields, Idle}
 use Rattle.image.specs.declared.Verdict.{Verdict}
 use Rattle.image.specs.declared.Verdict.the-variants.{Sound, WrongSize, BadBlock, BadField}
-use Rattle.image.specs.Sizes.{imageSize, slotAt, block, blockOf}
 use Rattle.image.specs.Ring.{ring}
+use Rattle.image.specs.Sizes.{imageSize, slotAt, block, blockOf}
 
 -- ---- the judgement of a block
 -- the blocks that are looked at, in this order: block 0, then the live slots that it names. "Slots that aren't live are not looked at."

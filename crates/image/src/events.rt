@@ -2,8 +2,8 @@
 ghost use mathlib.Core.Path.{_≡_};
 ghost use lib.ListN.{length};
 ghost use Rattle.block0.specs.Unprotected.{unprotected};
-ghost use Rattle.image.specs.Sizes.{imageSize};
 ghost use Rattle.image.specs.Events.{sizeVerdict, formatOf, releaseOf, breakOf};
+ghost use Rattle.image.specs.Sizes.{imageSize};
 ghost use Rattle.image.specs.State.{decode};
 use crate::Verdict;
 use label_list::SweepRule;

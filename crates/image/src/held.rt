@@ -1,12 +1,12 @@
 // The messages held by a sound image, counted from the oldest: each as that very part of the image, with its kind and label.
-ghost use mathlib.Core.Path.{_≡_};
-ghost use mathlib.Core.List.{[]};
 ghost use Prim.Native.Nat.{_+_, _<_};
+ghost use mathlib.Core.List.{[]};
+ghost use mathlib.Core.Path.{_≡_};
 ghost use lib.ListN.{length, getD};
-ghost use Rattle.message.specs.Submission.{submissionOf};
 ghost use Rattle.block.specs.Check.{blockSize};
-ghost use Rattle.slot.specs.Layout.{messageAt};
 ghost use Rattle.message.specs.Storable.{kindIn, labelIn};
+ghost use Rattle.message.specs.Submission.{submissionOf};
+ghost use Rattle.slot.specs.Layout.{messageAt};
 ghost use Rattle.image.specs.State.{decode, heldBlock, heldPlace};
 ghost use Rattle.image.specs.Verdict.{IsSound};
 

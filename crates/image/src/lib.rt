@@ -1,15 +1,15 @@
 // The stored image: 65 blocks of 512 bytes. Block 0 holds the session's numbers and label words, the others are slots of a ring.
-ghost use mathlib.Core.Path.{_≡_};
 ghost use Prim.Native.Nat.{_+_, _*_, _≤_, _<_};
+ghost use mathlib.Core.Path.{_≡_};
 ghost use lib.ListN.{length, getD, set};
-ghost use Rattle.label_list.specs.Word.{wordCount};
-ghost use Rattle.message.specs.Submission.{submissionOf};
-ghost use Rattle.message.specs.declared.Submission.the-variants.{Accepted};
 ghost use Rattle.block.specs.Check.{blockSize};
+ghost use Rattle.label_list.specs.Word.{wordCount};
 ghost use Rattle.block0.specs.Layout.{slotCount};
+ghost use Rattle.message.specs.declared.Submission.the-variants.{Accepted};
 ghost use Rattle.message.specs.Storable.{longest};
-ghost use Rattle.image.specs.Sizes.{blockCount, imageSize, block, blockOf};
+ghost use Rattle.message.specs.Submission.{submissionOf};
 ghost use Rattle.image.specs.Ring.{ring};
+ghost use Rattle.image.specs.Sizes.{blockCount, imageSize, block, blockOf};
 ghost use Rattle.image.specs.State.{decode, storeSlot, store0};
 ghost use Rattle.image.specs.Verdict.{bytesJudged, firstFault, verdict, verdictNumber, verdictBlock};
 use block0::Header;

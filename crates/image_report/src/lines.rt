@@ -1,10 +1,10 @@
 // A report as lines of text: each function puts its text from `at` on and answers where it ends.
-use crate::Counts;
-use crate::Report;
 ghost use Prim.Native.Nat.{_+_, _≤_};
 ghost use lib.ListN.{length};
 ghost use Rattle.text.specs.Text.{Put};
 ghost use Rattle.image_report.specs.Lines.{textRoom, line, numbersText, countsText, refusedText, textOf};
+use crate::Counts;
+use crate::Report;
 
 // A name, a number and the line's end. The longest name has nine letters.
 fn put_line(out: &mut [u8], at: usize, name: &[u8], n: u64) -> usize

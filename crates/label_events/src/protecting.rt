@@ -1,8 +1,8 @@
 // Whether a received message bears the protection that the labels it touches demand.
 ghost use mathlib.Core.Path.{_≡_};
+ghost use Rattle.label_events.specs.declared.Touched.the-variants.{Every};
 ghost use Rattle.label_events.specs.Protect.{protectionOf};
 ghost use Rattle.label_events.specs.Receive.{receivedPlace};
-ghost use Rattle.label_events.specs.declared.Touched.the-variants.{Every};
 use crate::Touched;
 use crate::changing::code_at;
 use label_list::Found;

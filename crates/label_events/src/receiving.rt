@@ -1,7 +1,7 @@
 // Messages of the peer's: what they make of the list.
 ghost use mathlib.Core.Path.{_≡_};
-ghost use Rattle.label_events.specs.Receive.{receivedPlace, receivedChange, receptionOf, everyReceived, receivedOf};
 ghost use Rattle.label_events.specs.declared.Touched.the-variants.{Label};
+ghost use Rattle.label_events.specs.Receive.{receivedPlace, receivedChange, receptionOf, everyReceived, receivedOf};
 use crate::Change;
 use crate::Reception;
 use crate::Touched;

@@ -1,16 +1,16 @@
 -- A code that a rule gives has room in a word of 32 bits, as the code before it had. Assumes nothing.
-use mathlib.Core.Bool.{Bool, true, false}
 use Prim.Native.Nat.{ℕ, _<_}
+use mathlib.Core.Bool.{Bool, true, false}
 use lib.Dec.{lit<, leb, eqb}
 use Rattle.octets.proofs.Choice.{pick-all}
-use Rattle.label_list.specs.Word.{within, withoutProtection}
-use Rattle.label_list.specs.Rules.{codeAccepted, codeAcked, codeReceived, codeSwept}
 use Rattle.label_list.specs.declared.LabelMessage.{LabelMessage}
 use Rattle.label_list.specs.declared.LabelMessage.the-variants.{Mapping, Withdraw, Release}
 use Rattle.label_list.specs.declared.Next.{Next}
 use Rattle.label_list.specs.declared.Next.the-variants.{Code, NotAllowed}
 use Rattle.label_list.specs.declared.SweepRule.{SweepRule}
 use Rattle.label_list.specs.declared.SweepRule.the-variants.{WithdrawAll, ReleaseAll, AfterBreak}
+use Rattle.label_list.specs.Rules.{codeAccepted, codeAcked, codeReceived, codeSwept}
+use Rattle.label_list.specs.Word.{within, withoutProtection}
 
 abbrev pub Small : ℕ → Type 0
 Small code = code < 4096

@@ -1,16 +1,16 @@
 -- Laws of one label word: ranges of codes, sides, and the label that a word stands for. Assumes nothing.
-use mathlib.Core.Path.{_≡_, refl, _∙_}
+use Prim.Native.Nat.{ℕ, _≤_, _<_}
 use mathlib.Core.Bool.{true, false, false≢true}
 use mathlib.Core.Logic.{_≢_}
-use Prim.Native.Nat.{ℕ, _≤_, _<_}
+use mathlib.Core.Path.{_≡_, refl, _∙_}
 use native.Mathlib.Omega.{arith}
 use lib.Dec.{eqb, leb}
 use borrow.Author.Tests.{le-leb, lt-leb, leb-true, eq-eqb, eqb-true}
 use Rattle.octets.proofs.Choice.{both-true, both-commutes}
-use Rattle.label_list.specs.Word.{labelOf, codeOf, within, onSide, standsFor}
-use Rattle.label_list.specs.Find.{bears}
 use Rattle.label_list.specs.declared.Side.{Side}
 use Rattle.label_list.specs.declared.Side.the-variants.{Given, Used}
+use Rattle.label_list.specs.Find.{bears}
+use Rattle.label_list.specs.Word.{labelOf, codeOf, within, onSide, standsFor}
 
 module _ (low high n : ℕ) where
   pub within-in : low ≤ n → n ≤ high → true ≡ within low high n

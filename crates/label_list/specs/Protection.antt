@@ -3,13 +3,13 @@ use Prim.Native.Nat.{ℕ}
 use mathlib.Core.Bool.{Bool, true, false, not}
 use lib.Dec.{eqb}
 use Rattle.octets.specs.Pick.{pick, both}
-use Rattle.label_list.specs.Word.{codeOf, withoutProtection, onSide}
-use Rattle.label_list.specs.Rules.{receivedSide}
-use Rattle.label_list.specs.declared.Side.{Side}
 use Rattle.label_list.specs.declared.LabelMessage.{LabelMessage}
 use Rattle.label_list.specs.declared.LabelMessage.the-variants.{Mapping, Withdraw, Release}
 use Rattle.label_list.specs.declared.Protection.{Protection}
 use Rattle.label_list.specs.declared.Protection.the-variants.{Right, Missing, Wrong}
+use Rattle.label_list.specs.declared.Side.{Side}
+use Rattle.label_list.specs.Rules.{receivedSide}
+use Rattle.label_list.specs.Word.{codeOf, withoutProtection, onSide}
 
 -- 01: "Protection is missing (33) .. on a message touching codes 1 to 5 on its own side (Mapping and Withdraw 3-5, Release 1-2)": any code of its side but 6
 unfoldable pub needsProtection : Side → ℕ → Bool

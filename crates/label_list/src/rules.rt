@@ -1,7 +1,7 @@
 // What each event makes of a label's code; code 0 stands for a label that is absent.
 ghost use mathlib.Core.Path.{_≡_};
-ghost use Rattle.label_list.specs.Rules.{sentSide, receivedSide, codeAccepted, codeAcked, codeReceived, codeSwept};
 ghost use Rattle.label_list.specs.Protection.{needsProtection, barsProtection, codeProtection};
+ghost use Rattle.label_list.specs.Rules.{sentSide, receivedSide, codeAccepted, codeAcked, codeReceived, codeSwept};
 use crate::LabelMessage;
 use crate::Next;
 use crate::Protection;

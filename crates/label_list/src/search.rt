@@ -1,7 +1,7 @@
 // Searches of the label words.
 ghost use mathlib.Core.Path.{_≡_};
-ghost use Rattle.label_list.specs.Word.{standsFor};
 ghost use Rattle.label_list.specs.Find.{passes, bears, nextOf, findOf, countOf};
+ghost use Rattle.label_list.specs.Word.{standsFor};
 use crate::Found;
 use crate::Side;
 use crate::Wanted;

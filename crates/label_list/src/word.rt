@@ -1,6 +1,6 @@
 // One label word: its label, its code, and the side on which it stands.
-ghost use mathlib.Core.Path.{_≡_};
 ghost use Prim.Native.Nat.{_<_};
+ghost use mathlib.Core.Path.{_≡_};
 ghost use Rattle.label_list.specs.Word.{labelCount, wordOf, onSide};
 use crate::Side;
 

@@ -1,29 +1,29 @@
 -- A change that writes one label's word keeps the list valid, gives that label its code and leaves every other. Assumes nothing.
-use mathlib.Core.Path.{_≡_, refl, sym, _∙_}
+use Prim.Native.Nat.{ℕ, _+_, _*_, _≤_, _<_}
 use mathlib.Core.Bool.{true, false, true≢false}
 use mathlib.Core.List.{List}
 use mathlib.Core.Logic.{_≢_, _⊎_, inl, inr, ⊎-elim}
-use Prim.Native.Nat.{ℕ, _+_, _*_, _≤_, _<_}
+use mathlib.Core.Path.{_≡_, refl, sym, _∙_}
 use native.Mathlib.Omega.{arith}
+use lib.Dec.{eqb}
 use lib.ListN.{length, getD, set}
 use lib.Seq.{getD-set-same, getD-set-other}
-use lib.Dec.{eqb}
 use borrow.Author.Tests.{eqb-true, eqb-false, eq-eqb, ne-eqb}
 use Rattle.octets.proofs.Choice.{by-test}
-use Rattle.label_list.specs.Word.{labelCount, labelOf, codeOf, wordOf, isFree, onSide, standsFor}
-use Rattle.label_list.specs.Find.{findOf}
-use Rattle.label_list.specs.declared.Side.{Side}
 use Rattle.label_list.specs.declared.Found.{Found}
 use Rattle.label_list.specs.declared.Found.the-variants.{At, Nowhere}
-use Rattle.label_list.proofs.Standing.{side-listed, parts-stands, free-stands}
+use Rattle.label_list.specs.declared.Side.{Side}
+use Rattle.label_list.specs.Find.{findOf}
+use Rattle.label_list.specs.Word.{labelCount, labelOf, codeOf, wordOf, isFree, onSide, standsFor}
 use Rattle.label_list.proofs.Reached.{found-in, found-place, found-passes}
-use Rattle.label_events.specs.Change.{takeFree, changeAt, changeOf, changed}
+use Rattle.label_list.proofs.Standing.{side-listed, parts-stands, free-stands}
 use Rattle.label_events.specs.declared.Change.the-variants.{NoRoom}
+use Rattle.label_events.specs.Change.{takeFree, changeAt, changeOf, changed}
 use Rattle.label_meaning.specs.Valid.{InRange, IsValid}
 use Rattle.label_meaning.specs.View.{CodeIs, listed, absent, Effect}
 use Rattle.label_meaning.proofs.Meaning.{stands-same}
-use Rattle.label_meaning.proofs.View.{found-none}
 use Rattle.label_meaning.proofs.Proper.{Proper}
+use Rattle.label_meaning.proofs.View.{found-none}
 
 -- A word that may be written for a label under a code: free for code 0, else one that lists it under that code.
 pub record Lists (s : Side) (l c w : ℕ) : Type 0 where

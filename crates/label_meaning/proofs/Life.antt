@@ -1,32 +1,32 @@
 -- The life of a label in a valid list. Assumes nothing.
-use mathlib.Core.Path.{_≡_, refl, sym, _∙_}
+use Prim.Native.Nat.{ℕ}
 use mathlib.Core.Bool.{Bool, true}
 use mathlib.Core.List.{List}
 use mathlib.Core.Logic.{_≢_, _⊎_, inl, inr, ⊎-elim}
-use Prim.Native.Nat.{ℕ}
+use mathlib.Core.Path.{_≡_, refl, sym, _∙_}
 use native.Mathlib.Omega.{arith}
-use Rattle.label_list.specs.Word.{withoutProtection}
-use Rattle.label_list.specs.Rules.{sentSide, receivedSide, codeAccepted, codeAcked, codeReceived, codeSwept}
-use Rattle.label_list.specs.Sweep.{sweptOf}
-use Rattle.label_list.specs.declared.Side.{Side}
-use Rattle.label_list.specs.declared.Side.the-variants.{Given, Used}
 use Rattle.label_list.specs.declared.LabelMessage.{LabelMessage}
 use Rattle.label_list.specs.declared.LabelMessage.the-variants.{Mapping, Withdraw, Release}
 use Rattle.label_list.specs.declared.Next.the-variants.{Code}
+use Rattle.label_list.specs.declared.Side.{Side}
+use Rattle.label_list.specs.declared.Side.the-variants.{Given, Used}
 use Rattle.label_list.specs.declared.SweepRule.{SweepRule}
 use Rattle.label_list.specs.declared.SweepRule.the-variants.{WithdrawAll, ReleaseAll, AfterBreak}
-use Rattle.label_events.specs.Change.{codeAt}
-use Rattle.label_events.specs.Receive.{everyReceived, receivedOf}
+use Rattle.label_list.specs.Rules.{sentSide, receivedSide, codeAccepted, codeAcked, codeReceived, codeSwept}
+use Rattle.label_list.specs.Sweep.{sweptOf}
+use Rattle.label_list.specs.Word.{withoutProtection}
 use Rattle.label_events.specs.declared.Touched.{Touched}
 use Rattle.label_events.specs.declared.Touched.the-variants.{Label}
-use Rattle.label_meaning.specs.Valid.{IsValid}
-use Rattle.label_meaning.specs.View.{Effect}
+use Rattle.label_events.specs.Change.{codeAt}
+use Rattle.label_events.specs.Receive.{everyReceived, receivedOf}
 use Rattle.label_meaning.specs.Event.{Event, Accepted, Acked, Received, step, Touches, named, every, Moves, given, withdrawn, released, returned, withdraw-acked, release-acked, taken, taken-again, taken-bare, asked-back, bare-withdrawn, given-back, withdrawn-back, bare-lost}
 use Rattle.label_meaning.specs.Life.{EndsWithdrawal, by-ack, by-release, Frees, release-of-given, release-of-withdrawing, ack-of-withdraw, our-release, ack-of-release}
-use Rattle.label_meaning.proofs.View.{code-is, is-code}
-use Rattle.label_meaning.proofs.Swept.{sweep-valid, sweep-code}
-use Rattle.label_meaning.proofs.Step.{accepted-listed, received-listed, acked-effect}
+use Rattle.label_meaning.specs.Valid.{IsValid}
+use Rattle.label_meaning.specs.View.{Effect}
 use Rattle.label_meaning.proofs.Moved.{every-move}
+use Rattle.label_meaning.proofs.Step.{accepted-listed, received-listed, acked-effect}
+use Rattle.label_meaning.proofs.Swept.{sweep-valid, sweep-code}
+use Rattle.label_meaning.proofs.View.{code-is, is-code}
 
 -- The moves from one code, taken apart.
 ends : {e : Event} {k c d : ℕ} → c ≡ 2 → Moves e Given k c d → (d ≡ 0) × EndsWithdrawal e k

@@ -1,22 +1,22 @@
 -- Validity means what it says: `validOf` holds exactly if `IsValid` does. Assumes nothing.
-use mathlib.Core.Path.{_≡_, refl, sym, ap, _∙_}
+use Prim.Native.Nat.{ℕ, zero, suc, _*_, _≤_, _<_}
 use mathlib.Core.Bool.{Bool, true, false, not, false≢true, true≢false}
 use mathlib.Core.List.{List, [], _∷_}
 use mathlib.Core.Logic.{_≢_, ⊎-elim}
-use Prim.Native.Nat.{ℕ, zero, suc, _*_, _≤_, _<_}
+use mathlib.Core.Path.{_≡_, refl, sym, ap, _∙_}
 use native.Mathlib.Omega.{arith}
-use lib.ListN.{getD}
 use lib.Dec.{eqb, leb}
+use lib.ListN.{getD}
 use borrow.Author.Tests.{eqb-true, eqb-false, ne-eqb, leb-true}
 use Rattle.octets.specs.Pick.{pick, both}
 use Rattle.octets.proofs.Choice.{by-test, both-true, below-or-not}
-use Rattle.label_list.specs.Word.{labelCount, labelOf, codeOf, isFree, onSide, standsFor}
-use Rattle.label_list.specs.Find.{any}
-use Rattle.label_list.specs.Valid.{absent, standsOnce, validWord, validOf}
 use Rattle.label_list.specs.declared.Side.{Side}
 use Rattle.label_list.specs.declared.Side.the-variants.{Given, Used}
-use Rattle.label_list.proofs.Standing.{off-high, side-listed, one-side, stands-parts, parts-stands, free-stands}
+use Rattle.label_list.specs.Find.{any}
+use Rattle.label_list.specs.Valid.{absent, standsOnce, validWord, validOf}
+use Rattle.label_list.specs.Word.{labelCount, labelOf, codeOf, isFree, onSide, standsFor}
 use Rattle.label_list.proofs.Checked.{word-free, word-given, word-used}
+use Rattle.label_list.proofs.Standing.{off-high, side-listed, one-side, stands-parts, parts-stands, free-stands}
 use Rattle.label_meaning.specs.Valid.{InRange, IsValid}
 
 -- No word passes a test exactly if none does at any index.

@@ -1,37 +1,37 @@
 -- A label's code changes by the moves that 01 names, and by nothing else. Assumes nothing.
-use mathlib.Core.Path.{_≡_, refl}
+use Prim.Native.Nat.{ℕ, _≤_}
 use mathlib.Core.Bool.{Bool, true, false}
 use mathlib.Core.List.{List}
 use mathlib.Core.Logic.{_≢_, _⊎_, inl, inr, ⊎-elim}
-use Prim.Native.Nat.{ℕ, _≤_}
+use mathlib.Core.Path.{_≡_, refl}
 use native.Mathlib.Omega.{arith}
 use lib.Dec.{eqb, leb}
 use borrow.Author.Tests.{eqb-true, eqb-false, leb-true}
 use Rattle.octets.proofs.Choice.{by-test}
-use Rattle.label_list.specs.Word.{within, withoutProtection, onSide}
-use Rattle.label_list.specs.Rules.{sentSide, receivedSide, codeAccepted, codeAcked, codeReceived, codeSwept}
-use Rattle.label_list.specs.Sweep.{sweptOf}
-use Rattle.label_list.specs.declared.Side.{Side}
-use Rattle.label_list.specs.declared.Side.the-variants.{Given, Used}
 use Rattle.label_list.specs.declared.LabelMessage.{LabelMessage}
 use Rattle.label_list.specs.declared.LabelMessage.the-variants.{Mapping, Withdraw, Release}
 use Rattle.label_list.specs.declared.Next.the-variants.{Code}
+use Rattle.label_list.specs.declared.Side.{Side}
+use Rattle.label_list.specs.declared.Side.the-variants.{Given, Used}
 use Rattle.label_list.specs.declared.SweepRule.{SweepRule}
 use Rattle.label_list.specs.declared.SweepRule.the-variants.{WithdrawAll, ReleaseAll, AfterBreak}
+use Rattle.label_list.specs.Rules.{sentSide, receivedSide, codeAccepted, codeAcked, codeReceived, codeSwept}
+use Rattle.label_list.specs.Sweep.{sweptOf}
+use Rattle.label_list.specs.Word.{within, withoutProtection, onSide}
 use Rattle.label_list.proofs.Standing.{within-range}
-use Rattle.label_events.specs.Change.{codeAt}
-use Rattle.label_events.specs.Accept.{acceptedOf}
-use Rattle.label_events.specs.Receive.{everyReceived, receivedOf}
 use Rattle.label_events.specs.declared.Touched.{Touched}
 use Rattle.label_events.specs.declared.Touched.the-variants.{Label, Every, Nothing}
-use Rattle.label_meaning.specs.Valid.{IsValid}
-use Rattle.label_meaning.specs.View.{Effect}
+use Rattle.label_events.specs.Accept.{acceptedOf}
+use Rattle.label_events.specs.Change.{codeAt}
+use Rattle.label_events.specs.Receive.{everyReceived, receivedOf}
 use Rattle.label_meaning.specs.Event.{Event, Accepted, Acked, Received, Broken, step, Touches, named, every, Moves, given, withdrawn, released, returned, withdraw-acked, release-acked, taken, taken-again, taken-bare, asked-back, bare-withdrawn, given-back, withdrawn-back, bare-lost}
 use Rattle.label_meaning.specs.Life.{Moved}
-use Rattle.label_meaning.proofs.View.{code-is, is-code}
+use Rattle.label_meaning.specs.Valid.{IsValid}
+use Rattle.label_meaning.specs.View.{Effect}
 use Rattle.label_meaning.proofs.Proper.{Proper, proper-side}
-use Rattle.label_meaning.proofs.Swept.{sweep-valid, sweep-code}
 use Rattle.label_meaning.proofs.Step.{Accepts, code-proper, accepted-outcome, acked-effect, received-outcome}
+use Rattle.label_meaning.proofs.Swept.{sweep-valid, sweep-code}
+use Rattle.label_meaning.proofs.View.{code-is, is-code}
 
 -- The rules, as moves of one code: it stays, or it is a move.
 abbrev Move : Event → Side → ℕ → ℕ → ℕ → Type 0

@@ -1,21 +1,21 @@
 -- Each rule leaves a label on its side: the code becomes 0 or one of the same side. Assumes nothing.
-use mathlib.Core.Path.{_≡_, refl}
+use Prim.Native.Nat.{ℕ}
 use mathlib.Core.Bool.{Bool, true, false}
 use mathlib.Core.Logic.{_⊎_, inl, inr, ⊎-elim}
-use Prim.Native.Nat.{ℕ}
+use mathlib.Core.Path.{_≡_, refl}
 use lib.Dec.{eqb, leb}
 use borrow.Author.Tests.{eqb-true}
 use Rattle.octets.proofs.Choice.{by-test, pick-all}
-use Rattle.label_list.specs.Word.{within, withoutProtection, onSide}
-use Rattle.label_list.specs.Rules.{sentSide, receivedSide, codeAccepted, codeAcked, codeReceived, codeSwept}
-use Rattle.label_list.specs.declared.Side.{Side}
-use Rattle.label_list.specs.declared.Side.the-variants.{Given, Used}
 use Rattle.label_list.specs.declared.LabelMessage.{LabelMessage}
 use Rattle.label_list.specs.declared.LabelMessage.the-variants.{Mapping, Withdraw, Release}
 use Rattle.label_list.specs.declared.Next.{Next}
 use Rattle.label_list.specs.declared.Next.the-variants.{Code, NotAllowed}
+use Rattle.label_list.specs.declared.Side.{Side}
+use Rattle.label_list.specs.declared.Side.the-variants.{Given, Used}
 use Rattle.label_list.specs.declared.SweepRule.{SweepRule}
 use Rattle.label_list.specs.declared.SweepRule.the-variants.{WithdrawAll, ReleaseAll, AfterBreak}
+use Rattle.label_list.specs.Rules.{sentSide, receivedSide, codeAccepted, codeAcked, codeReceived, codeSwept}
+use Rattle.label_list.specs.Word.{within, withoutProtection, onSide}
 use Rattle.label_list.proofs.Standing.{side-listed, one-side}
 
 -- A code that a label can have on a side: 0, absent, or one of the side.

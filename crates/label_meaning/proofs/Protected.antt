@@ -1,37 +1,37 @@
 -- The verdict on protection and the transitions agree: where protection is right, an unprotected message changes no listed label but those of code 6. Assumes nothing.
-use mathlib.Core.Path.{_≡_, refl, sym, _∙_}
+use Prim.Native.Nat.{ℕ, suc}
 use mathlib.Core.Bool.{Bool, true, false, not, true≢false, false≢true}
 use mathlib.Core.List.{List, [], _∷_}
 use mathlib.Core.Logic.{_≢_, ⊎-elim}
-use Prim.Native.Nat.{ℕ, suc}
+use mathlib.Core.Path.{_≡_, refl, sym, _∙_}
 use native.Mathlib.Omega.{arith}
-use lib.ListN.{getD}
 use lib.Dec.{eqb}
+use lib.ListN.{getD}
 use borrow.Author.Tests.{eqb-false}
 use Rattle.octets.specs.Pick.{pick}
 use Rattle.octets.proofs.Choice.{by-test, both-true}
-use Rattle.label_list.specs.Word.{labelOf, codeOf, withoutProtection, onSide, standsFor}
-use Rattle.label_list.specs.Rules.{receivedSide}
-use Rattle.label_list.specs.Protection.{needsProtection, barsProtection, codeProtection, protectedOn}
-use Rattle.label_list.specs.Find.{any}
-use Rattle.label_list.specs.declared.Side.{Side}
-use Rattle.label_list.specs.declared.Side.the-variants.{Given, Used}
 use Rattle.label_list.specs.declared.LabelMessage.{LabelMessage}
 use Rattle.label_list.specs.declared.LabelMessage.the-variants.{Mapping, Withdraw, Release}
 use Rattle.label_list.specs.declared.Protection.{Protection}
 use Rattle.label_list.specs.declared.Protection.the-variants.{Right, Missing, Wrong}
+use Rattle.label_list.specs.declared.Side.{Side}
+use Rattle.label_list.specs.declared.Side.the-variants.{Given, Used}
+use Rattle.label_list.specs.Find.{any}
+use Rattle.label_list.specs.Protection.{needsProtection, barsProtection, codeProtection, protectedOn}
+use Rattle.label_list.specs.Rules.{receivedSide}
+use Rattle.label_list.specs.Word.{labelOf, codeOf, withoutProtection, onSide, standsFor}
 use Rattle.label_list.proofs.Standing.{parts-stands}
-use Rattle.label_events.specs.Change.{codeAt}
-use Rattle.label_events.specs.Protect.{protectionOf}
 use Rattle.label_events.specs.declared.Touched.{Touched}
 use Rattle.label_events.specs.declared.Touched.the-variants.{Label, Every, Nothing}
-use Rattle.label_meaning.specs.Valid.{IsValid}
-use Rattle.label_meaning.specs.View.{CodeIs, listed, absent}
+use Rattle.label_events.specs.Change.{codeAt}
+use Rattle.label_events.specs.Protect.{protectionOf}
 use Rattle.label_meaning.specs.Event.{Received, step, Touches, named, every, Moves, taken-bare, asked-back, bare-withdrawn, given-back, withdrawn-back}
 use Rattle.label_meaning.specs.Protected.{TouchesProtected}
+use Rattle.label_meaning.specs.Valid.{IsValid}
+use Rattle.label_meaning.specs.View.{CodeIs, listed, absent}
 use Rattle.label_meaning.proofs.Meaning.{any-none}
-use Rattle.label_meaning.proofs.View.{code-is, is-code}
 use Rattle.label_meaning.proofs.Moved.{every-move}
+use Rattle.label_meaning.proofs.View.{code-is, is-code}
 
 -- A listed label whose code needs protection makes some word one that may not be touched.
 needs-none : (s : Side) → needsProtection s 0 ≡ false

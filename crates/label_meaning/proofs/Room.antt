@@ -1,37 +1,35 @@
 -- 13 and 21 come exactly for a Mapping that needs a word where none is free; every other absent label takes the first free word. Assumes nothing.
-use mathlib.Core.Path.{_≡_, refl, sym}
+use Prim.Native.Nat.{ℕ}
 use mathlib.Core.Bool.{Bool, true, false}
 use mathlib.Core.List.{List}
 use mathlib.Core.Logic.{_≢_, _⊎_, inl, inr, ⊎-elim}
-use Prim.Native.Nat.{ℕ}
+use mathlib.Core.Path.{_≡_, refl, sym}
 use native.Mathlib.Omega.{arith}
-use lib.ListN.{getD}
 use lib.Dec.{eqb}
+use lib.ListN.{getD}
 use borrow.Author.Tests.{eqb-false, ne-eqb}
 use Rattle.octets.proofs.Choice.{by-test, no}
-use Rattle.label_list.specs.Word.{withoutProtection, codeOf, wordOf, isFree, listable, standsFor}
-use Rattle.label_list.specs.Rules.{sentSide, receivedSide, codeAccepted, codeReceived}
-use Rattle.label_list.specs.Find.{findOf}
-use Rattle.label_list.specs.declared.Side.{Side}
-use Rattle.label_list.specs.declared.Side.the-variants.{Given, Used}
 use Rattle.label_list.specs.declared.Found.{Found}
 use Rattle.label_list.specs.declared.Found.the-variants.{At, Nowhere}
 use Rattle.label_list.specs.declared.LabelMessage.{LabelMessage}
 use Rattle.label_list.specs.declared.LabelMessage.the-variants.{Mapping, Withdraw, Release}
 use Rattle.label_list.specs.declared.Next.{Next}
 use Rattle.label_list.specs.declared.Next.the-variants.{Code, NotAllowed}
-use Rattle.label_list.proofs.Standing.{side-listed, stands-parts}
+use Rattle.label_list.specs.declared.Side.{Side}
+use Rattle.label_list.specs.declared.Side.the-variants.{Given, Used}
+use Rattle.label_list.specs.Find.{findOf}
+use Rattle.label_list.specs.Rules.{sentSide, receivedSide, codeAccepted, codeReceived}
+use Rattle.label_list.specs.Word.{withoutProtection, codeOf, wordOf, isFree, listable, standsFor}
 use Rattle.label_list.proofs.Reached.{found-in, found-place, found-passes, passed-over}
-use Rattle.label_events.specs.Change.{codeIn, codeAt, takeFree, changeAt, changeOf, changed}
-use Rattle.label_events.specs.Accept.{planBy, planOf, acceptanceOf, acceptedBy, acceptedOf}
-use Rattle.label_events.specs.Receive.{receivedChange, receptionOf, receivedOf}
-use Rattle.label_events.specs.declared.Acceptance
+use Rattle.label_list.proofs.Standing.{side-listed, stands-parts}
 use Rattle.label_events.specs.declared.Acceptance.{Acceptance}
-use Rattle.label_events.specs.declared.Reception
-use Rattle.label_events.specs.declared.Reception.{Reception}
 use Rattle.label_events.specs.declared.Change.{Change}
 use Rattle.label_events.specs.declared.Change.the-variants.{Keep, Put, NoRoom}
+use Rattle.label_events.specs.declared.Reception.{Reception}
 use Rattle.label_events.specs.declared.Touched.the-variants.{Label, Every, Nothing}
+use Rattle.label_events.specs.Accept.{planBy, planOf, acceptanceOf, acceptedBy, acceptedOf}
+use Rattle.label_events.specs.Change.{codeIn, codeAt, takeFree, changeAt, changeOf, changed}
+use Rattle.label_events.specs.Receive.{receivedChange, receptionOf, receivedOf}
 use Rattle.label_events.proofs.Planned.{change-full}
 use Rattle.label_meaning.specs.Event.{Event, Accepted, Acked, Received, Broken, step, Moves, given, withdrawn, released, returned, withdraw-acked, release-acked, taken, taken-again, taken-bare, asked-back, bare-withdrawn, given-back, withdrawn-back, bare-lost}
 use Rattle.label_meaning.specs.Room.{NeedsWord, NoneFree, LacksRoom, sent, received, NoRoomAnswered, FirstTaken}

@@ -1,26 +1,26 @@
 -- A rule for every word keeps the list valid and takes each label's code through the rule. Assumes nothing.
-use mathlib.Core.Path.{_≡_, refl, sym, _∙_}
+use Prim.Native.Nat.{ℕ}
 use mathlib.Core.Bool.{true, true≢false}
 use mathlib.Core.List.{List}
 use mathlib.Core.Logic.{_≢_, inr, ⊎-elim}
-use Prim.Native.Nat.{ℕ}
+use mathlib.Core.Path.{_≡_, refl, sym, _∙_}
 use native.Mathlib.Omega.{arith}
-use lib.ListN.{getD, List·getD-map}
 use lib.Dec.{eqb}
+use lib.ListN.{getD, List·getD-map}
 use borrow.Author.Tests.{eqb-true, eqb-false}
 use Rattle.octets.proofs.Choice.{by-test}
-use Rattle.label_list.specs.Word.{labelOf, codeOf, wordOf, onSide, standsFor}
-use Rattle.label_list.specs.Rules.{codeReceived, codeSwept}
-use Rattle.label_list.specs.Sweep.{wordSwept, sweptOf}
 use Rattle.label_list.specs.declared.Side.{Side}
 use Rattle.label_list.specs.declared.SweepRule.{SweepRule}
 use Rattle.label_list.specs.declared.SweepRule.the-variants.{WithdrawAll, ReleaseAll, AfterBreak}
+use Rattle.label_list.specs.Rules.{codeReceived, codeSwept}
+use Rattle.label_list.specs.Sweep.{wordSwept, sweptOf}
+use Rattle.label_list.specs.Word.{labelOf, codeOf, wordOf, onSide, standsFor}
 use Rattle.label_list.proofs.Standing.{stands-parts, parts-stands, free-stands}
 use Rattle.label_meaning.specs.Valid.{InRange, IsValid}
 use Rattle.label_meaning.specs.View.{CodeIs, listed, absent}
+use Rattle.label_meaning.proofs.Effect.{Lists, Written, word-written}
 use Rattle.label_meaning.proofs.Meaning.{stands-same}
 use Rattle.label_meaning.proofs.Proper.{swept-proper}
-use Rattle.label_meaning.proofs.Effect.{Lists, Written, word-written}
 
 rule-none : (r : SweepRule) → codeSwept r 0 ≡ 0
 unfolding codeSwept codeReceived

@@ -1,17 +1,17 @@
 -- In a valid list a label has one code on one side, that of `codeAt`. Assumes nothing.
-use mathlib.Core.Path.{_≡_, refl, sym, ap, _∙_}
+use Prim.Native.Nat.{ℕ}
 use mathlib.Core.Bool.{false, true≢false}
 use mathlib.Core.List.{List}
-use Prim.Native.Nat.{ℕ}
+use mathlib.Core.Path.{_≡_, refl, sym, ap, _∙_}
 use lib.ListN.{getD}
-use Rattle.label_list.specs.Word.{codeOf, standsFor}
-use Rattle.label_list.specs.Find.{findOf}
-use Rattle.label_list.specs.declared.Side.{Side}
 use Rattle.label_list.specs.declared.Found.{Found}
 use Rattle.label_list.specs.declared.Found.the-variants.{At, Nowhere}
-use Rattle.label_list.proofs.Standing.{free-stands}
-use Rattle.label_list.proofs.Sought.{found-any}
+use Rattle.label_list.specs.declared.Side.{Side}
+use Rattle.label_list.specs.Find.{findOf}
+use Rattle.label_list.specs.Word.{codeOf, standsFor}
 use Rattle.label_list.proofs.Reached.{found-passes}
+use Rattle.label_list.proofs.Sought.{found-any}
+use Rattle.label_list.proofs.Standing.{free-stands}
 use Rattle.label_events.specs.Change.{codeIn, codeAt}
 use Rattle.label_meaning.specs.Valid.{IsValid}
 use Rattle.label_meaning.specs.View.{CodeIs, listed, absent}

@@ -2,18 +2,18 @@
 use Prim.Native.Nat.{ℕ}
 use mathlib.Core.Bool.{Bool, true, false}
 use mathlib.Core.List.{List}
-use Rattle.label_list.specs.Word.{withoutProtection}
-use Rattle.label_list.specs.Sweep.{sweptOf}
-use Rattle.label_list.specs.declared.Side.{Side}
-use Rattle.label_list.specs.declared.Side.the-variants.{Given, Used}
 use Rattle.label_list.specs.declared.LabelMessage.{LabelMessage}
 use Rattle.label_list.specs.declared.LabelMessage.the-variants.{Mapping, Withdraw, Release}
+use Rattle.label_list.specs.declared.Side.{Side}
+use Rattle.label_list.specs.declared.Side.the-variants.{Given, Used}
 use Rattle.label_list.specs.declared.SweepRule.the-variants.{AfterBreak}
+use Rattle.label_list.specs.Sweep.{sweptOf}
+use Rattle.label_list.specs.Word.{withoutProtection}
+use Rattle.label_events.specs.declared.Touched.{Touched}
+use Rattle.label_events.specs.declared.Touched.the-variants.{Label, Every}
 use Rattle.label_events.specs.Accept.{acceptedOf}
 use Rattle.label_events.specs.Ack.{ackedOf}
 use Rattle.label_events.specs.Receive.{receivedOf}
-use Rattle.label_events.specs.declared.Touched.{Touched}
-use Rattle.label_events.specs.declared.Touched.the-variants.{Label, Every}
 
 -- a message of ours is accepted for sending or released by an ACK, one of the peer's is received (the Bool: protected), a connection ends
 pub data Event : Type 0 where

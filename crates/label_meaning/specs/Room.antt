@@ -1,22 +1,20 @@
 -- Room for a label: which Mapping finds no free word, and where every other Mapping of an absent label writes it.
 use Prim.Native.Nat.{ℕ, _+_, _*_, _<_}
-use mathlib.Core.Path.{_≡_}
 use mathlib.Core.Bool.{Bool, true}
 use mathlib.Core.List.{List}
 use mathlib.Core.Logic.{_≢_}
+use mathlib.Core.Path.{_≡_}
 use lib.ListN.{length, getD, set}
-use Rattle.label_list.specs.Word.{labelCount, listable}
+use Rattle.label_list.specs.declared.LabelMessage.the-variants.{Mapping}
 use Rattle.label_list.specs.declared.Side.{Side}
 use Rattle.label_list.specs.declared.Side.the-variants.{Given, Used}
-use Rattle.label_list.specs.declared.LabelMessage.the-variants.{Mapping}
-use Rattle.label_events.specs.Change.{codeAt}
-use Rattle.label_events.specs.Accept.{acceptedOf}
-use Rattle.label_events.specs.Receive.{receivedOf}
-use Rattle.label_events.specs.declared.Acceptance
+use Rattle.label_list.specs.Word.{labelCount, listable}
 use Rattle.label_events.specs.declared.Acceptance.{Acceptance}
-use Rattle.label_events.specs.declared.Reception
 use Rattle.label_events.specs.declared.Reception.{Reception}
 use Rattle.label_events.specs.declared.Touched.the-variants.{Label}
+use Rattle.label_events.specs.Accept.{acceptedOf}
+use Rattle.label_events.specs.Change.{codeAt}
+use Rattle.label_events.specs.Receive.{receivedOf}
 use Rattle.label_meaning.specs.Event.{Event, Accepted, Acked, Received, Broken}
 
 -- a label that may be listed and that the side lacks

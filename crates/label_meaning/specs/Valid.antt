@@ -1,12 +1,12 @@
 -- What it means that the label words are valid, over indices; past the end of the list a word counts as free.
 use Prim.Native.Nat.{ℕ, _≤_}
-use mathlib.Core.Path.{_≡_}
 use mathlib.Core.Bool.{true}
 use mathlib.Core.List.{List}
 use mathlib.Core.Logic.{_≢_}
+use mathlib.Core.Path.{_≡_}
 use lib.ListN.{getD}
-use Rattle.label_list.specs.Word.{labelOf, codeOf, onSide, standsFor}
 use Rattle.label_list.specs.declared.Side.{Side}
+use Rattle.label_list.specs.Word.{labelOf, codeOf, onSide, standsFor}
 
 -- "Labels 0 to 15 are never listed"; the code is one of a side
 pub record InRange (w : ℕ) : Type 0 where

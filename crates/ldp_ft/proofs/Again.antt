@@ -1,9 +1,7 @@
 -- A phase goes out as two numbers and comes in again as itself: what a call hands back is what the next is given. Assumes nothing.
 use mathlib.Core.Path.{_≡_, refl}
 use borrow.Author.Tests.{le-ltb}
-use Rattle.protocol.specs.declared.Phase
 use Rattle.protocol.specs.declared.Phase.{Phase}
-use Rattle.ldp_ft.specs.declared.Given
 use Rattle.ldp_ft.specs.declared.Given.{Given}
 use Rattle.ldp_ft.specs.Session.{sessionOf, awaitingOf, givenOf, Fits16}
 

@@ -1,21 +1,20 @@
 -- What a call writes is a message of at most 504 bytes. Assumes nothing.
-use mathlib.Core.Path.{refl}
+use Prim.Native.Nat.{ℕ, _≤_}
 use mathlib.Core.Bool.{Bool}
 use mathlib.Core.List.{List}
-use Prim.Native.Nat.{ℕ, _≤_}
+use mathlib.Core.Path.{refl}
 use native.Mathlib.Omega.{arith}
 use lib.ListN.{length}
 use Rattle.ft_number.specs.declared.MessageId.{MessageId}
-use Rattle.tlv.specs.declared.FtField
 use Rattle.tlv.specs.declared.FtField.{FtField}
-use Rattle.message_writer.specs.Forms.{ackTlv, ftTlvs, initBytes, keepaliveBytes}
 use Rattle.message_writer.specs.declared.OwnParameters.{OwnParameters}
+use Rattle.message_writer.specs.Forms.{ackTlv, ftTlvs, initBytes, keepaliveBytes}
 use Rattle.message_writer.proofs.Puts.{length-raised}
 use Rattle.image.specs.State.{decode}
 use Rattle.protocol.specs.declared.Phase.{Phase}
 use Rattle.send.specs.Rule.{sentOf, nextMessage, numberAt, ackAsked, sendBytes}
-use Rattle.send.proofs.Judged.{Sendable, sendable-sound}
 use Rattle.send.proofs.Acts.{next-fits}
+use Rattle.send.proofs.Judged.{Sendable, sendable-sound}
 
 ack-short : (ack : FtField) → length (ackTlv ack) ≤ 8
 ack-short FtField.Absent = omega arith

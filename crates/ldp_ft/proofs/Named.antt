@@ -1,20 +1,18 @@
 -- The block that restore's checks name is a block of the image. Assumes nothing.
-use mathlib.Core.List.{List}
 use Prim.Native.Nat.{ℕ, _≤_}
+use mathlib.Core.List.{List}
 use native.Mathlib.Omega.{arith}
 use Rattle.octets.specs.Pick.{pick}
 use Rattle.octets.proofs.Choice.{pick-all}
+use Rattle.image.specs.declared.Verdict.{Verdict}
 use Rattle.image.specs.State.{decode}
 use Rattle.image.specs.Verdict.{verdict, verdictBlock}
-use Rattle.image.specs.declared.Verdict
-use Rattle.image.specs.declared.Verdict.{Verdict}
-use Rattle.protocol.specs.declared.Answer.{Answer}
+use Rattle.image.proofs.Scans.{verdict-below}
 use Rattle.protocol.specs.declared.Answer.{Answer}
 use Rattle.protocol.specs.declared.Phase.{Phase}
-use Rattle.image.proofs.Scans.{verdict-below}
 use Rattle.calls.specs.Answers.{answerBlock}
-use Rattle.calls.specs.Phases.{phaseFits}
 use Rattle.calls.specs.Outcomes.{checked, admittedOn}
+use Rattle.calls.specs.Phases.{phaseFits}
 
 -- an image has the blocks 0 to 64
 abbrev pub Named : Answer → Type 0

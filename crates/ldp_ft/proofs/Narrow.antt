@@ -1,28 +1,24 @@
 -- The numbers of every call's outcome have 32 bits: what is written is a message, what is stored and named a block of the image. Assumes nothing.
-use mathlib.Core.Path.{_≡_}
+use Prim.Native.Nat.{ℕ, _≤_}
 use mathlib.Core.Bool.{Bool, true}
 use mathlib.Core.List.{List, []}
-use Prim.Native.Nat.{ℕ, _≤_}
+use mathlib.Core.Path.{_≡_}
 use native.Mathlib.Omega.{arith}
 use lib.Dec.{eqb}
 use lib.ListN.{length}
 use Rattle.octets.specs.Pick.{pick}
+use Rattle.octets.proofs.Choice.{by-test, pick-all}
 use Rattle.ft_number.specs.declared.MessageId.{MessageId}
 use Rattle.ft_number.specs.declared.Proposal.{Proposal}
 use Rattle.ft_number.specs.Timeout.{proposedOf}
-use Rattle.message.specs.Reading.{readingOf}
-use Rattle.message.specs.declared.Reading
 use Rattle.message.specs.declared.Reading.{Reading}
+use Rattle.message.specs.Reading.{readingOf}
 use Rattle.message_writer.specs.declared.OwnParameters.{OwnParameters}
-use Rattle.octets.proofs.Choice.{by-test, pick-all}
 use Rattle.image.specs.Sizes.{imageSize}
 use Rattle.image.specs.State.{decode}
 use Rattle.image.specs.Verdict.{verdict}
-use Rattle.protocol.specs.declared.Answer
 use Rattle.protocol.specs.declared.Answer.{Answer}
-use Rattle.protocol.specs.declared.Effect
 use Rattle.protocol.specs.declared.Effect.{Effect}
-use Rattle.protocol.specs.declared.Phase
 use Rattle.protocol.specs.declared.Phase.{Phase}
 use Rattle.calls.specs.Answers.{effectOf}
 use Rattle.calls.specs.Outcomes.{After, isDone, untouched, failedOn, releasedOn, leftBy, settleOf, checked, wrote}
@@ -31,16 +27,16 @@ use Rattle.call_meaning.proofs.Refusals.{settle-does}
 use Rattle.connect.specs.Start.{formatted, formatOf, restoreOf}
 use Rattle.connect.specs.Writers.{writerOf, opens, keptAck, openBytes, openOf, isUp, aliveAck, aliveBytes, keepaliveOf}
 use Rattle.init.specs.Begun.{proposalOf, awaits, initStart, begunAs, initReceivedOf}
-use Rattle.timers.specs.Events.{connected, waiting, eventAnswer, connectionFailedOf, expired, timePassedOf}
-use Rattle.submit.specs.Rule.{submitRule, submitAnswer}
-use Rattle.submit.specs.Act.{queued, submitOf}
+use Rattle.receive.specs.Rule.{receiveAnswer, takenAs, receiveOf}
 use Rattle.send.specs.Rule.{sentOf, sendBytes, sendAnswer, sendOf}
 use Rattle.send.proofs.Judged.{answered-sendable}
-use Rattle.receive.specs.Rule.{receiveAnswer, takenAs, receiveOf}
+use Rattle.submit.specs.Act.{queued, submitOf}
+use Rattle.submit.specs.Rule.{submitRule, submitAnswer}
+use Rattle.timers.specs.Events.{connected, waiting, eventAnswer, connectionFailedOf, expired, timePassedOf}
 use Rattle.ldp_ft.specs.Outcome.{Narrow}
+use Rattle.ldp_ft.proofs.Lengths.{init-short, alive-short, sent-short}
 use Rattle.ldp_ft.proofs.Named.{Named, none, checked-named, admitted-named}
 use Rattle.ldp_ft.proofs.Rules.{room-named, submit-named, send-named, start-named, receive-named}
-use Rattle.ldp_ft.proofs.Lengths.{init-short, alive-short, sent-short}
 
 -- ---- how calls end
 -- nothing written, and no slot

@@ -1,42 +1,35 @@
 -- The calls' own tests name no block. Assumes nothing.
-use mathlib.Core.List.{List}
 use Prim.Native.Nat.{ℕ}
+use mathlib.Core.List.{List}
 use lib.Dec.{eqb, leb, ltb}
 use lib.ListN.{length}
 use Rattle.octets.specs.Pick.{both}
-use Rattle.ft_number.specs.declared.Ack
-use Rattle.ft_number.specs.declared.Ack.{Ack}
-use Rattle.message.specs.Submission.{bearsFt, submissionOf}
-use Rattle.message.specs.declared.Message.{Message}
-use Rattle.message.specs.declared.Reading
-use Rattle.message.specs.declared.Reading.{Reading}
-use Rattle.message.specs.declared.Submission
-use Rattle.message.specs.declared.Submission.{Submission}
-use Rattle.label_list.specs.declared.Protection
-use Rattle.label_list.specs.declared.Protection.{Protection}
 use Rattle.octets.proofs.Choice.{pick-all}
-use Rattle.label_events.specs.declared.Acceptance
-use Rattle.label_events.specs.declared.Acceptance.{Acceptance}
-use Rattle.label_events.specs.declared.Reception
-use Rattle.label_events.specs.declared.Reception.{Reception}
+use Rattle.ft_number.specs.declared.Ack.{Ack}
+use Rattle.label_list.specs.declared.Protection.{Protection}
 use Rattle.block0.specs.declared.Header.{Header}
 use Rattle.block0.specs.Layout.{slotCount}
+use Rattle.label_events.specs.declared.Acceptance.{Acceptance}
+use Rattle.label_events.specs.declared.Reception.{Reception}
+use Rattle.message.specs.declared.Message.{Message}
+use Rattle.message.specs.declared.Reading.{Reading}
+use Rattle.message.specs.declared.Submission.{Submission}
 use Rattle.message.specs.Storable.{shortest, longest}
+use Rattle.message.specs.Submission.{bearsFt, submissionOf}
 use Rattle.image.specs.State.{State}
 use Rattle.protocol.specs.declared.Answer.{Answer}
-use Rattle.protocol.specs.declared.Phase
 use Rattle.protocol.specs.declared.Phase.{Phase}
 use Rattle.calls.specs.Outcomes.{roomFor}
 use Rattle.calls.specs.Received.{isInit}
-use Rattle.submit.specs.Labels.{isBarred, acceptedAs}
-use Rattle.submit.specs.Rule.{acceptanceRule, kindRule, submissionRule, submitRule}
-use Rattle.send.specs.Rule.{isUpFT, sentOf, sendRule}
 use Rattle.init.specs.declared.Start.{Start}
-use Rattle.init.specs.Judged.{startOf, startAnswer}
 use Rattle.init.specs.Cases.{Case, malformed, another, without-parameters, without-ack, plain, peer-clear, ours-clear, changed, wrong-ack, resumes}
+use Rattle.init.specs.Judged.{startOf, startAnswer}
 use Rattle.init.proofs.Cases.{cases}
 use Rattle.receive.specs.Labels.{labelEffect, isProtected, protectionRule, effectReception}
 use Rattle.receive.specs.Rule.{isFatal, messageRule, plainRule, isZero, inTurn, receptionRule, protectedRule, labelsRule, ackRule, ackOn, ftRule, readRule, receiveRule}
+use Rattle.send.specs.Rule.{isUpFT, sentOf, sendRule}
+use Rattle.submit.specs.Labels.{isBarred, acceptedAs}
+use Rattle.submit.specs.Rule.{acceptanceRule, kindRule, submissionRule, submitRule}
 use Rattle.ldp_ft.proofs.Named.{Named, none}
 
 pub room-named : (bytes : List ℕ) (room : ℕ) → Named (roomFor bytes room)

@@ -5,11 +5,8 @@ use mathlib.Core.List.{List, [], _∷_}
 use lib.Dec.{ltb}
 use Rattle.octets.specs.Pick.{pick}
 use Rattle.tlv.specs.Table.{lookup}
-use Rattle.protocol.specs.declared.Effect
 use Rattle.protocol.specs.declared.Effect.{Effect}
-use Rattle.protocol.specs.declared.Phase
 use Rattle.protocol.specs.declared.Phase.{Phase}
-use Rattle.ldp_ft.specs.declared.Given
 use Rattle.ldp_ft.specs.declared.Given.{Given}
 use Rattle.ldp_ft.specs.declared.SessionNumbers.{SessionNumbers}
 

@@ -1,6 +1,6 @@
 // PDUs and messages, read.
-ghost use mathlib.Core.Path.{_≡_};
 ghost use Prim.Native.Nat.{_≤_};
+ghost use mathlib.Core.Path.{_≡_};
 ghost use Rattle.pdu.specs.Pdu.{placeOf, openedOf};
 ghost use Rattle.message.specs.Reading.{readingOf};
 ghost use Rattle.ldp_ft.specs.Reading.{pduNumbers, partOf, partNumbers, messageNumbers};

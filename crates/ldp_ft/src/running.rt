@@ -1,13 +1,13 @@
 // A session that has begun: messages submitted, sent and received, KeepAlives, and the two events.
-ghost use mathlib.Core.Path.{_≡_};
 ghost use mathlib.Core.List.{[]};
+ghost use mathlib.Core.Path.{_≡_};
 ghost use Rattle.connect.specs.Writers.{keepaliveOf};
-ghost use Rattle.timers.specs.Events.{connectionFailedOf, timePassedOf};
-ghost use Rattle.submit.specs.Act.{submitOf};
-ghost use Rattle.send.specs.Rule.{sendOf};
 ghost use Rattle.receive.specs.Rule.{receiveOf};
-ghost use Rattle.ldp_ft.specs.Outcome.{shown, called};
+ghost use Rattle.send.specs.Rule.{sendOf};
+ghost use Rattle.submit.specs.Act.{submitOf};
+ghost use Rattle.timers.specs.Events.{connectionFailedOf, timePassedOf};
 ghost use Rattle.ldp_ft.specs.Opening.{idOf};
+ghost use Rattle.ldp_ft.specs.Outcome.{shown, called};
 use crate::Given;
 use crate::OutcomeNumbers;
 use crate::SessionNumbers;

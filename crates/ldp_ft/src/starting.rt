@@ -1,11 +1,11 @@
 // How a session begins: a new image, a restored one, our Init and the peer's.
-ghost use mathlib.Core.Path.{_≡_};
 ghost use mathlib.Core.List.{[]};
+ghost use mathlib.Core.Path.{_≡_};
 ghost use Rattle.connect.specs.Start.{formatOf, restoreOf};
 ghost use Rattle.connect.specs.Writers.{openOf};
 ghost use Rattle.init.specs.Begun.{initReceivedOf};
-ghost use Rattle.ldp_ft.specs.Outcome.{shown, shownFrom, idle, called};
 ghost use Rattle.ldp_ft.specs.Opening.{idOf, parametersOf, proposalOf};
+ghost use Rattle.ldp_ft.specs.Outcome.{shown, shownFrom, idle, called};
 use crate::Given;
 use crate::OutcomeNumbers;
 use crate::SessionNumbers;

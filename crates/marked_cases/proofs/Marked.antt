@@ -1,11 +1,11 @@
 -- Every marked case is what 01 says, by computation. Assumes nothing.
 use mathlib.Core.Path.{_≡_, refl}
+use Rattle.block.specs.Check.{sums, checkOf}
 use Rattle.ft_number.specs.Ack.{ackOf}
 use Rattle.ft_number.specs.Circle.{stepsOf}
 use Rattle.ft_number.specs.Distance.{distanceOf}
 use Rattle.ft_number.specs.Timeout.{lesserOf}
 use Rattle.message.specs.declared.Message.{Message}
-use Rattle.block.specs.Check.{sums, checkOf}
 use Rattle.image.specs.State.{State}
 use Rattle.marked_cases.specs.Marked.{cases, defined, paper}
 

@@ -5,18 +5,15 @@ use mathlib.Core.List.{List, [], _∷_, map}
 use lib.IntN.{pos, negℤ}
 use lib.ListN.{replicate}
 use Rattle.octets.specs.Be.{bytes}
+use Rattle.block.specs.Check.{checkAt, checkOf}
+use Rattle.ft_number.specs.declared.Ack.{Ack}
+use Rattle.ft_number.specs.declared.Distance.{Distance}
 use Rattle.ft_number.specs.Ack.{ackOf}
 use Rattle.ft_number.specs.Distance.{distanceOf}
 use Rattle.ft_number.specs.Timeout.{lesserOf}
-use Rattle.ft_number.specs.declared.Ack
-use Rattle.ft_number.specs.declared.Ack.{Ack}
-use Rattle.ft_number.specs.declared.Distance
-use Rattle.ft_number.specs.declared.Distance.{Distance}
-use Rattle.tlv.specs.declared.FtField
 use Rattle.tlv.specs.declared.FtField.{FtField}
 use Rattle.message.specs.declared.Message.{Message}
 use Rattle.message_writer.specs.Forms.{sessionValue, sessionTlv, ftTlvs}
-use Rattle.block.specs.Check.{checkAt, checkOf}
 use Rattle.image.specs.State.{State}
 use Rattle.calls.specs.Answers.{answerNumber}
 use Rattle.receive.specs.Rule.{ackRule}

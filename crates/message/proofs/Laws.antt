@@ -1,34 +1,29 @@
 -- What a whole reading and an accepted submission tell their callers. Assumes nothing.
 use Prim.Native.Nat.{ℕ, _+_, _≤_, _<_}
-use mathlib.Core.Path.{_≡_, refl, sym, _∙_, ap}
 use mathlib.Core.Bool.{Bool, true, false}
 use mathlib.Core.List.{List}
+use mathlib.Core.Path.{_≡_, refl, sym, _∙_, ap}
 use native.Mathlib.Omega.{arith}
-use borrow.Author.Tests.{eqb-true, not-false}
-use lib.ListN.{length}
 use lib.Dec.{eqb}
+use lib.ListN.{length}
+use borrow.Author.Tests.{eqb-true, not-false}
 use Rattle.octets.specs.Be.{beAt}
 use Rattle.octets.specs.Pick.{pick, both}
-use Rattle.tlv.specs.Tlv.{largestLabel}
-use Rattle.tlv.specs.Walk.{headSize, tlvsOf}
-use Rattle.tlv.specs.Value.{Places}
-use Rattle.tlv.specs.declared.Field
 use Rattle.tlv.specs.declared.Field.{Field}
 use Rattle.tlv.specs.declared.Found.{Found}
-use Rattle.tlv.specs.declared.walk.Walk
 use Rattle.tlv.specs.declared.walk.Walk.{Walk}
+use Rattle.tlv.specs.Tlv.{largestLabel}
+use Rattle.tlv.specs.Value.{Places}
+use Rattle.tlv.specs.Walk.{headSize, tlvsOf}
 use Rattle.tlv.proofs.Places.{whole-tlvs, found-lies, places}
 use Rattle.tlv.proofs.Values.{InMessage, part-in, field-low}
+use Rattle.message.specs.declared.Kind.{Kind}
+use Rattle.message.specs.declared.Message.{Message}
+use Rattle.message.specs.declared.Reading.{Reading}
+use Rattle.message.specs.declared.Submission.{Submission}
 use Rattle.message.specs.Kinds.{kindOf, kindNumber}
 use Rattle.message.specs.Reading.{typeOf, numberIn, idIn, bearsOf, placesBy, placesOf, messageOf, readingBy, readingOf}
 use Rattle.message.specs.Submission.{bearsFt, noLabel, labelledAs, acceptedAs, judged, submissionOf}
-use Rattle.message.specs.declared.Kind
-use Rattle.message.specs.declared.Kind.{Kind}
-use Rattle.message.specs.declared.Message.{Message}
-use Rattle.message.specs.declared.Reading
-use Rattle.message.specs.declared.Reading.{Reading}
-use Rattle.message.specs.declared.Submission
-use Rattle.message.specs.declared.Submission.{Submission}
 
 -- a message that is read whole
 pub record Whole (m : List ℕ) (g : Message) : Type 0 where

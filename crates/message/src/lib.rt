@@ -1,4 +1,12 @@
 // One LDP message: its type, its message ID and what its TLVs say, or that it is malformed; and whether it may be submitted.
+ghost use Prim.Native.Nat.{_≤_};
+ghost use mathlib.Core.Path.{_≡_};
+ghost use lib.ListN.{length};
+ghost use Rattle.tlv.specs.Value.{Places};
+ghost use Rattle.tlv.specs.Walk.{headSize};
+ghost use Rattle.message.specs.Kinds.{fatalOf, codeOf, notificationKind, kindFor, kindOf, kindNumber};
+ghost use Rattle.message.specs.Reading.{typeOf, numberIn, idIn, bearsOf, placesOf, messageOf, readingOf};
+ghost use Rattle.message.specs.Submission.{bearsFt, submissionOf};
 use ft_number::MessageId;
 pub use tlv::Fec;
 pub use tlv::Field;
@@ -9,14 +17,6 @@ pub use tlv::Part;
 pub use tlv::Session;
 use tlv::value;
 use tlv::walk;
-ghost use mathlib.Core.Path.{_≡_};
-ghost use Prim.Native.Nat.{_≤_};
-ghost use lib.ListN.{length};
-ghost use Rattle.tlv.specs.Walk.{headSize};
-ghost use Rattle.tlv.specs.Value.{Places};
-ghost use Rattle.message.specs.Reading.{typeOf, numberIn, idIn, bearsOf, placesOf, messageOf, readingOf};
-ghost use Rattle.message.specs.Kinds.{fatalOf, codeOf, notificationKind, kindFor, kindOf, kindNumber};
-ghost use Rattle.message.specs.Submission.{bearsFt, submissionOf};
 
 // The message types; Other is every number that has no name here.
 pub enum MessageType {

@@ -6,18 +6,16 @@ use borrow.Author.Tests.{le-leb, lt-leb}
 use Rattle.octets.specs.Be.{beAt, bytes}
 use Rattle.octets.specs.Fix.{fix, steps}
 use Rattle.ft_number.specs.declared.MessageId.{MessageId}
-use Rattle.tlv.specs.Tlv.{tlvOf}
-use Rattle.tlv.specs.Walk.{notedOf, turnOf, walkOf, tlvsOf}
-use Rattle.tlv.specs.Value.{partAt, fecAt, fieldAt, numberAt, parametersAt, sessionAt}
-use Rattle.tlv.specs.declared.FtField
 use Rattle.tlv.specs.declared.FtField.{FtField}
-use Rattle.message.specs.Reading.{typeOf, messageOf, placesOf, readingOf}
-use Rattle.message.specs.declared.Reading
+use Rattle.tlv.specs.Tlv.{tlvOf}
+use Rattle.tlv.specs.Value.{partAt, fecAt, fieldAt, numberAt, parametersAt, sessionAt}
+use Rattle.tlv.specs.Walk.{notedOf, turnOf, walkOf, tlvsOf}
 use Rattle.message.specs.declared.Reading.{Reading}
+use Rattle.message.specs.Reading.{typeOf, messageOf, placesOf, readingOf}
+use Rattle.message_writer.specs.declared.OwnParameters.{OwnParameters}
 use Rattle.message_writer.specs.Forms.{initBytes, keepaliveBytes}
 use Rattle.message_writer.specs.ReadBack.{AckFits, InitFits, initMessage, keepaliveMessage}
 use Rattle.message_writer.proofs.Raised.{spelled}
-use Rattle.message_writer.specs.declared.OwnParameters.{OwnParameters}
 
 pub keepalive-reads : (id : MessageId) (ack : FtField) → id .0 < 256 ^ 4 → AckFits ack → readingOf (keepaliveBytes id ack) ≡ Reading.Whole (keepaliveMessage id ack)
 unfolding readingOf placesOf messageOf tlvsOf walkOf turnOf notedOf tlvOf typeOf fix steps partAt fecAt fieldAt numberAt parametersAt sessionAt

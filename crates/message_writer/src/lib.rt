@@ -1,16 +1,16 @@
 // The messages that we write: our Init, KeepAlive, and a stored message with its FT TLVs.
-use ft_number::FtNumber;
-use ft_number::MessageId;
-use tlv::FtField;
-ghost use mathlib.Core.Path.{_≡_};
 ghost use Prim.Native.Nat.{_+_, _-_, _≤_};
 ghost use mathlib.Core.List.{_++_};
+ghost use mathlib.Core.Path.{_≡_};
 ghost use lib.ListN.{length};
 ghost use Rattle.octets.specs.Be.{bytes};
 ghost use Rattle.octets.specs.Part.{laid};
 ghost use Rattle.tlv.specs.Tlv.{protectionNumber};
 ghost use Rattle.message_writer.specs.Forms.{tlvBytes, headBytes, parametersTlv, initHead, initBytes, keepaliveBytes, raisedTo, protectedBytes};
 ghost use Rattle.message_writer.specs.Written.{writtenOf};
+use ft_number::FtNumber;
+use ft_number::MessageId;
+use tlv::FtField;
 
 // What our Init proposes: KeepAlive time, maximum PDU length, and the receiver's LDP identifier (LSR ID and label space).
 pub struct OwnParameters {

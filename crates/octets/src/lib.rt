@@ -1,10 +1,10 @@
 // Big-endian fields of 8, 16 and 32 bits at a place of lent bytes, and runs of bytes copied or cleared.
-ghost use mathlib.Core.Path.{_≡_};
 ghost use Prim.Native.Nat.{_+_, _≤_, _<_};
+ghost use mathlib.Core.Path.{_≡_};
 ghost use lib.ListN.{length};
 ghost use Rattle.octets.specs.Be.{beAt, putBe};
-ghost use Rattle.octets.specs.Fill.{copied, zeroed};
 ghost use Rattle.octets.specs.Differ.{differ};
+ghost use Rattle.octets.specs.Fill.{copied, zeroed};
 
 fn wide16(x: u8) -> u16
     ensures { λ r. ⌜ (r ≡ x) × (r < 256) ⌝ }

@@ -1,6 +1,6 @@
 // Reads one LDP PDU: the whole of it is judged first, then each message is handed out as that very part of the caller's slice.
-ghost use mathlib.Core.Path.{_≡_};
 ghost use Prim.Native.Nat.{_+_, _≤_, _<_};
+ghost use mathlib.Core.Path.{_≡_};
 ghost use lib.ListN.{length};
 ghost use Rattle.pdu.specs.Pdu.{placeOf, messageOf, startOf, countedFrom, openedOf};
 

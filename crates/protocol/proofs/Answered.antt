@@ -1,37 +1,35 @@
 -- What every call leaves by the number of its answer, and what each answers. Assumes nothing.
 use Prim.Native.Nat.{ℕ, _≤_, _<_}
-use native.Mathlib.Omega.{arith}
-use mathlib.Core.Path.{_≡_, refl, sym, ap, _∙_}
 use mathlib.Core.Bool.{true, false, not}
 use mathlib.Core.List.{List, []}
 use mathlib.Core.Logic.{_≢_}
-use borrow.Author.Tests.{ltb-true, ltb-false, ne-eqb}
+use mathlib.Core.Path.{_≡_, refl, sym, ap, _∙_}
+use native.Mathlib.Omega.{arith}
 use lib.Dec.{ltb}
+use borrow.Author.Tests.{ltb-true, ltb-false, ne-eqb}
 use Rattle.octets.specs.Pick.{pick}
 use Rattle.octets.proofs.Choice.{by-test, no}
 use Rattle.message.specs.Reading.{readingOf}
-use Rattle.protocol.specs.declared.Answer
 use Rattle.protocol.specs.declared.Answer.{Answer}
 use Rattle.protocol.specs.declared.Effect.{Effect}
-use Rattle.protocol.specs.declared.Effect
 use Rattle.protocol.specs.declared.Phase.{Phase}
-use Rattle.protocol.specs.State.{State, held, withTable}
 use Rattle.protocol.specs.Answers.{answerNumber, effectOf, isDone}
+use Rattle.protocol.specs.Calls.{Call, step}
+use Rattle.protocol.specs.Hearing.{hears}
+use Rattle.protocol.specs.Init.{initStart, startAnswer, startPhase, startState, initReceived}
+use Rattle.protocol.specs.Judged.{judged, done}
+use Rattle.protocol.specs.Lawful.{Lawful, Window}
 use Rattle.protocol.specs.Phases.{phaseFits, awaits}
+use Rattle.protocol.specs.Proper.{Proper}
+use Rattle.protocol.specs.Receive.{receiveRule, takenAs, receive}
+use Rattle.protocol.specs.State.{State, held, withTable}
 use Rattle.protocol.specs.Step.{Step, stepped, unchanged, failedWith, releasedWith, admitted, settle}
 use Rattle.protocol.specs.Submit.{submitRule, submitted, submit}
-use Rattle.protocol.specs.Init.{initStart, startAnswer, startPhase, startState, initReceived}
-use Rattle.protocol.specs.Receive.{receiveRule, takenAs, receive}
-use Rattle.protocol.specs.Calls.{Call, step}
-use Rattle.protocol.specs.Judged.{judged, done}
-use Rattle.protocol.specs.Hearing.{hears}
-use Rattle.protocol.specs.Proper.{Proper}
-use Rattle.protocol.specs.Lawful.{Lawful, Window}
 use Rattle.protocol.proofs.Effects.{effect-nothing, effect-fail, effect-release}
-use Rattle.protocol.proofs.Settling.{settle-answer, settle-does, settle-refusal, answered-failed, answered-released}
-use Rattle.protocol.proofs.Settles.{taken-done, settles, step-answer, ends}
 use Rattle.protocol.proofs.Hearing.{harmless}
 use Rattle.protocol.proofs.KeepingCalls.{lawful-step}
+use Rattle.protocol.proofs.Settles.{taken-done, settles, step-answer, ends}
+use Rattle.protocol.proofs.Settling.{settle-answer, settle-does, settle-refusal, answered-failed, answered-released}
 
 module _ (c : Call) (s : State) (ph : Phase) (room : ℕ) where
   abbrev said : Answer

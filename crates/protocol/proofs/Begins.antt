@@ -1,17 +1,15 @@
 -- What the peer's Init leaves, where it is not refused, and where its parameters are others. Assumes nothing.
-use native.Mathlib.Omega.{arith}
-use mathlib.Core.Path.{_≡_, refl, _∙_, ap}
-use mathlib.Core.List.{[], List}
 use Prim.Native.Nat.{ℕ}
-use Rattle.protocol.specs.declared.Answer
+use mathlib.Core.List.{[], List}
+use mathlib.Core.Path.{_≡_, refl, _∙_, ap}
+use native.Mathlib.Omega.{arith}
 use Rattle.protocol.specs.declared.Answer.{Answer}
 use Rattle.protocol.specs.declared.Phase.{Phase}
-use Rattle.protocol.specs.declared.Start
 use Rattle.protocol.specs.declared.Start.{Start}
-use Rattle.protocol.specs.State.{State}
-use Rattle.protocol.specs.Step.{Step, admitted, releasedWith, settle, stepped}
 use Rattle.protocol.specs.Init.{initReceived, initStart, startAnswer, startPhase, startState}
 use Rattle.protocol.specs.Phases.{phaseFits, upWith, waitingFor}
+use Rattle.protocol.specs.State.{State}
+use Rattle.protocol.specs.Step.{Step, admitted, releasedWith, settle, stepped}
 use Rattle.protocol.proofs.Settling.{answered-released, settle-does}
 
 module _ (now : State) (t : ℕ) (m : List ℕ) where

@@ -1,29 +1,23 @@
 -- The judgement of a message is the list of its cases. Assumes nothing.
-use mathlib.Core.Path.{_≡_, refl}
-use mathlib.Core.Bool.{Bool, true, false, not, true≢false, false≢true}
 use Prim.Native.Nat.{ℕ}
+use mathlib.Core.Bool.{Bool, true, false, not, true≢false, false≢true}
+use mathlib.Core.Path.{_≡_, refl}
 use Rattle.octets.specs.Pick.{pick}
-use Rattle.ft_number.specs.declared.Ack
 use Rattle.ft_number.specs.declared.Ack.{Ack}
-use Rattle.message.specs.Submission.{bearsFt}
-use Rattle.message.specs.declared.Message.{Message}
-use Rattle.message.specs.declared.Reading
-use Rattle.message.specs.declared.Reading.{Reading}
-use Rattle.label_list.specs.declared.Protection
 use Rattle.label_list.specs.declared.Protection.{Protection}
-use Rattle.label_events.specs.declared.Reception
 use Rattle.label_events.specs.declared.Reception.{Reception}
-use Rattle.protocol.specs.declared.Answer
+use Rattle.message.specs.declared.Message.{Message}
+use Rattle.message.specs.declared.Reading.{Reading}
+use Rattle.message.specs.Submission.{bearsFt}
 use Rattle.protocol.specs.declared.Answer.{Answer}
-use Rattle.protocol.specs.declared.Phase
 use Rattle.protocol.specs.declared.Phase.{Phase}
-use Rattle.protocol.specs.Labels.{labelEffect, isProtected, protectionRule, effectReception}
-use Rattle.protocol.specs.Received.{isInit}
 use Rattle.protocol.specs.declared.Progress.{Progress}
-use Rattle.protocol.specs.State.{State}
 use Rattle.protocol.specs.Acked.{acked}
-use Rattle.protocol.specs.Receive.{ackRule, ackOn, ftRule, receiveRule, isFatal, messageRule, plainRule, isZero, inTurn, receptionRule, protectedRule, labelsRule, readRule, ackCount}
 use Rattle.protocol.specs.Cases.{mayReceive, wordsAfter, Heard, AckRight, ProtectionRight, TurnRight, Takes, Case, wrong-phase, malformed, an-init, fatal, ft-tlv, passed-on, zero-number, wrong-ack, missing, wrong, out-of-turn, no-word, taken}
+use Rattle.protocol.specs.Labels.{labelEffect, isProtected, protectionRule, effectReception}
+use Rattle.protocol.specs.Receive.{ackRule, ackOn, ftRule, receiveRule, isFatal, messageRule, plainRule, isZero, inTurn, receptionRule, protectedRule, labelsRule, readRule, ackCount}
+use Rattle.protocol.specs.Received.{isInit}
+use Rattle.protocol.specs.State.{State}
 
 -- 22 and 36, then the tests of the phase
 heard-case : (P : Answer → Type 0) (g : Message) (a : Answer) → (isInit (g .typename) ≡ true → P Answer.MalformedReceived)

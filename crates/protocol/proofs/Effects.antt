@@ -1,17 +1,15 @@
 -- An answer by its number: its effect, and whether it is Done. Assumes nothing.
-use mathlib.Core.Path.{_≡_, refl}
-use mathlib.Core.Bool.{Bool, true, false}
-use lib.Dec.{ltb}
-use Rattle.octets.specs.Pick.{pick}
 use Prim.Native.Nat.{ℕ, _<_, _≤_}
+use mathlib.Core.Bool.{Bool, true, false}
+use mathlib.Core.Path.{_≡_, refl}
 use native.Mathlib.Omega.{arith}
+use lib.Dec.{ltb}
 use borrow.Author.Tests.{eq-eqb, ne-eqb, lt-ltb, le-ltb}
+use Rattle.octets.specs.Pick.{pick}
 use Rattle.octets.proofs.Choice.{no}
-use Rattle.protocol.specs.Answers.{answerNumber, effectOf, isDone}
-use Rattle.protocol.specs.declared.Answer
 use Rattle.protocol.specs.declared.Answer.{Answer}
-use Rattle.protocol.specs.declared.Effect
 use Rattle.protocol.specs.declared.Effect.{Effect}
+use Rattle.protocol.specs.Answers.{answerNumber, effectOf, isDone}
 
 module _ (a : Answer) (n : ℕ) (e : n ≡ answerNumber a) where
   pub effect-act : n ≡ 0 → Effect.Act ≡ effectOf a

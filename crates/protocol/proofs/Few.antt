@@ -1,41 +1,37 @@
 -- Whatever the call, no more than 64 messages are held after it. Assumes nothing.
 use Prim.Native.Nat.{ℕ, _≤_}
-use native.Mathlib.Omega.{arith}
-use mathlib.Core.Path.{_≡_}
 use mathlib.Core.Bool.{true, Bool}
 use mathlib.Core.List.{List, [], _∷_}
-use lib.ListN.{length-append, length-drop}
+use mathlib.Core.Path.{_≡_}
+use native.Mathlib.Omega.{arith}
 use lib.Dec.{ltb}
+use lib.ListN.{length-append, length-drop}
 use Rattle.octets.proofs.Choice.{pick-all}
 use Rattle.ft_number.specs.Timeout.{proposedOf}
-use Rattle.message.specs.declared.Reading
 use Rattle.message.specs.declared.Reading.{Reading}
 use Rattle.message.specs.Reading.{readingOf}
-use Rattle.protocol.specs.State.{State, held, capacity}
-use Rattle.protocol.specs.Send.{sentState, numbered, sendNext}
-use Rattle.protocol.specs.Acked.{acked, ackBorne}
-use Rattle.protocol.specs.Init.{fresh, resumed, startState, initReceived, initStart}
-use Rattle.protocol.specs.Receive.{receivedState, taken, takenAs, ackCount, ackOn, receive}
-use Rattle.protocol.specs.Submit.{submitted, submitRule, submit}
-use Rattle.protocol.specs.Phases.{issuedCount, isUp, mayOpen, sentOf, waitingFor}
-use Rattle.protocol.specs.declared.Start
-use Rattle.protocol.specs.declared.Start.{Start}
-use Rattle.protocol.specs.declared.Phase
-use Rattle.protocol.specs.declared.Phase.{Phase}
-use Rattle.protocol.specs.declared.Answer
 use Rattle.protocol.specs.declared.Answer.{Answer}
-use Rattle.protocol.specs.Writer.{writer}
-use Rattle.protocol.specs.Calls.{step, Call, opens, fails, formats, greets, keeps-alive, passes, receives, restores, sends, submits}
+use Rattle.protocol.specs.declared.Phase.{Phase}
+use Rattle.protocol.specs.declared.Start.{Start}
+use Rattle.protocol.specs.Acked.{acked, ackBorne}
 use Rattle.protocol.specs.Answers.{isDone}
-use Rattle.protocol.specs.Open.{openSession, openBytes}
-use Rattle.protocol.specs.Step.{Step, settle}
+use Rattle.protocol.specs.Calls.{step, Call, opens, fails, formats, greets, keeps-alive, passes, receives, restores, sends, submits}
 use Rattle.protocol.specs.ConnectionFailed.{connectionFailed}
-use Rattle.protocol.specs.TimePassed.{timePassed, expired}
+use Rattle.protocol.specs.Init.{fresh, resumed, startState, initReceived, initStart}
 use Rattle.protocol.specs.KeepAlive.{keepalive, aliveBytes}
-use Rattle.protocol.proofs.Submits.{done-accepted}
+use Rattle.protocol.specs.Open.{openSession, openBytes}
+use Rattle.protocol.specs.Phases.{issuedCount, isUp, mayOpen, sentOf, waitingFor}
+use Rattle.protocol.specs.Receive.{receivedState, taken, takenAs, ackCount, ackOn, receive}
+use Rattle.protocol.specs.Send.{sentState, numbered, sendNext}
+use Rattle.protocol.specs.State.{State, held, capacity}
+use Rattle.protocol.specs.Step.{Step, settle}
+use Rattle.protocol.specs.Submit.{submitted, submitRule, submit}
+use Rattle.protocol.specs.TimePassed.{timePassed, expired}
+use Rattle.protocol.specs.Writer.{writer}
+use Rattle.protocol.proofs.Effects.{done-is}
 use Rattle.protocol.proofs.Leaving.{settle-leaves}
 use Rattle.protocol.proofs.Settling.{admitted-done}
-use Rattle.protocol.proofs.Effects.{done-is}
+use Rattle.protocol.proofs.Submits.{done-accepted}
 
 abbrev Few : State → Type 0
 Few s = held s ≤ capacity

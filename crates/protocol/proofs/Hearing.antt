@@ -1,26 +1,25 @@
 -- A call that hears nothing of the peer's changes nothing where it is not done. Assumes nothing.
-use mathlib.Core.Path.{_≡_}
-use mathlib.Core.Bool.{false, not, true≢false}
 use Prim.Native.Nat.{ℕ}
+use mathlib.Core.Bool.{false, true≢false}
+use mathlib.Core.Path.{_≡_}
 use Rattle.octets.proofs.Choice.{by-test}
-use Rattle.protocol.specs.declared.Answer
 use Rattle.protocol.specs.declared.Answer.{Answer}
 use Rattle.protocol.specs.declared.Phase.{Phase}
-use Rattle.protocol.specs.State.{State}
 use Rattle.protocol.specs.Answers.{isDone}
-use Rattle.protocol.specs.Phases.{isUp, mayOpen, sentOf, waiting, connected}
-use Rattle.protocol.specs.Step.{Step, unchanged}
-use Rattle.protocol.specs.Open.{openBytes}
-use Rattle.protocol.specs.Send.{sendBytes}
-use Rattle.protocol.specs.KeepAlive.{aliveBytes}
 use Rattle.protocol.specs.Calls.{Call, formats, restores, fails, opens, greets, passes, submits, sends, keeps-alive, receives, step}
-use Rattle.protocol.specs.Judged.{judged, done}
 use Rattle.protocol.specs.Hearing.{hears}
+use Rattle.protocol.specs.Judged.{judged, done}
+use Rattle.protocol.specs.KeepAlive.{aliveBytes}
+use Rattle.protocol.specs.Open.{openBytes}
+use Rattle.protocol.specs.Phases.{isUp, mayOpen, sentOf, waiting, connected}
+use Rattle.protocol.specs.Send.{sendBytes}
+use Rattle.protocol.specs.State.{State}
+use Rattle.protocol.specs.Step.{Step, unchanged}
 use Rattle.protocol.proofs.Effects.{done-is}
-use Rattle.protocol.proofs.Settling.{Harmless, done-harmless, admitted-harmless, settle-refusal}
-use Rattle.protocol.proofs.Settles.{settles, step-does}
-use Rattle.protocol.proofs.Submits.{submit-harmless}
 use Rattle.protocol.proofs.Refusals.{room-harmless, may-harmless, send-harmless}
+use Rattle.protocol.proofs.Settles.{settles, step-does}
+use Rattle.protocol.proofs.Settling.{Harmless, done-harmless, admitted-harmless, settle-refusal}
+use Rattle.protocol.proofs.Submits.{submit-harmless}
 
 pub harmless : (c : Call) (s : State) (ph : Phase) (room : ℕ) → hears c ≡ false → Harmless (judged c s ph room)
 unfolding judged

@@ -1,34 +1,32 @@
 -- Every call keeps the state lawful, and leaves a phase that it allows. Assumes nothing.
-use mathlib.Core.Path.{_≡_, refl, _∙_}
+use Prim.Native.Nat.{ℕ}
 use mathlib.Core.Bool.{true}
 use mathlib.Core.List.{List}
-use Prim.Native.Nat.{ℕ}
-use Rattle.octets.proofs.Choice.{pick-all, no}
+use mathlib.Core.Path.{_≡_, refl, _∙_}
+use Rattle.octets.proofs.Choice.{pick-all}
 use Rattle.message.specs.Reading.{readingOf}
-use Rattle.protocol.specs.declared.Answer
 use Rattle.protocol.specs.declared.Answer.{Answer}
-use Rattle.protocol.specs.declared.Phase
 use Rattle.protocol.specs.declared.Phase.{Phase}
-use Rattle.protocol.specs.State.{State}
-use Rattle.protocol.specs.Phases.{phaseFits, sentOf, issuedCount}
-use Rattle.protocol.specs.Step.{Step, admitted, roomFor}
-use Rattle.protocol.specs.Submit.{submitRule, submitted}
-use Rattle.protocol.specs.Send.{sendRule, sendBytes}
-use Rattle.protocol.specs.TimePassed.{expired}
-use Rattle.protocol.specs.Receive.{receiveRule}
 use Rattle.protocol.specs.Calls.{Call, formats, restores, fails, opens, greets, passes, submits, sends, keeps-alive, receives, step}
 use Rattle.protocol.specs.Judged.{judged, done}
-use Rattle.protocol.specs.Proper.{Proper}
 use Rattle.protocol.specs.Lawful.{Lawful}
+use Rattle.protocol.specs.Phases.{phaseFits, sentOf, issuedCount}
+use Rattle.protocol.specs.Proper.{Proper}
+use Rattle.protocol.specs.Receive.{receiveRule}
+use Rattle.protocol.specs.Send.{sendRule, sendBytes}
+use Rattle.protocol.specs.State.{State}
+use Rattle.protocol.specs.Step.{Step, admitted, roomFor}
+use Rattle.protocol.specs.Submit.{submitRule, submitted}
+use Rattle.protocol.specs.TimePassed.{expired}
 use Rattle.protocol.proofs.Effects.{done-is}
-use Rattle.protocol.proofs.Settling.{admitted-done}
-use Rattle.protocol.proofs.Settles.{ends}
-use Rattle.protocol.proofs.KeepingPhases.{LawfulIn, resting-fits}
-use Rattle.protocol.proofs.KeepingStates.{lawful-released, lawful-broken, lawful-submitted}
 use Rattle.protocol.proofs.KeepingInit.{greeted-lawful}
-use Rattle.protocol.proofs.Sends.{Sendable, sendable}
-use Rattle.protocol.proofs.KeepingSend.{kept-up, sent-stands}
+use Rattle.protocol.proofs.KeepingPhases.{LawfulIn, resting-fits}
 use Rattle.protocol.proofs.KeepingReceive.{taken-stands}
+use Rattle.protocol.proofs.KeepingSend.{kept-up, sent-stands}
+use Rattle.protocol.proofs.KeepingStates.{lawful-released, lawful-broken, lawful-submitted}
+use Rattle.protocol.proofs.Sends.{Sendable, sendable}
+use Rattle.protocol.proofs.Settles.{ends}
+use Rattle.protocol.proofs.Settling.{admitted-done}
 
 abbrev Stands : Step → Type 0
 Stands x = LawfulIn (x .state) (x .phase)

@@ -1,30 +1,28 @@
 -- The peer's Init: the numbers of the start that it leads to have their widths, and the state that it leads to is lawful. Assumes nothing.
-use mathlib.Core.Path.{_≡_, refl}
+use Prim.Native.Nat.{ℕ, _<_}
 use mathlib.Core.Bool.{Bool, true}
 use mathlib.Core.List.{List}
-use Prim.Native.Nat.{ℕ, _<_}
+use mathlib.Core.Path.{_≡_, refl}
 use native.Mathlib.Omega.{arith}
 use Rattle.octets.specs.Bytes.{Bytes}
 use Rattle.ft_number.proofs.Timeout.{lesser-below}
-use Rattle.tlv.specs.declared.Session
 use Rattle.tlv.specs.declared.Session.{Session}
-use Rattle.message.specs.Reading.{readingOf}
 use Rattle.message.specs.declared.Message.{Message}
-use Rattle.message.specs.declared.Reading
 use Rattle.message.specs.declared.Reading.{Reading}
+use Rattle.message.specs.Reading.{readingOf}
 use Rattle.message.proofs.Widths.{Widths, read-widths}
 use Rattle.protocol.specs.declared.Phase.{Phase}
 use Rattle.protocol.specs.declared.Start.{Start}
 use Rattle.protocol.specs.declared.Terms.{Terms}
-use Rattle.protocol.specs.State.{State}
-use Rattle.protocol.specs.Phases.{phaseFits, proposalOf, upWith}
 use Rattle.protocol.specs.Acked.{acked}
 use Rattle.protocol.specs.Init.{termsOf, fresh, resumed, startState, startPhase, initStart}
-use Rattle.protocol.specs.Lawful.{TermsFit, Lawful}
 use Rattle.protocol.specs.InitCases.{InitWith, StartCase, unread, another-type, without-parameters, without-ack, without-session, peer-clear, ours-clear, parameters-changed, sequence-error, resumes}
+use Rattle.protocol.specs.Lawful.{TermsFit, Lawful}
+use Rattle.protocol.specs.Phases.{phaseFits, proposalOf, upWith}
+use Rattle.protocol.specs.State.{State}
 use Rattle.protocol.proofs.InitCases.{start-cases}
-use Rattle.protocol.proofs.KeepingStates.{lawful-released, lawful-fresh, lawful-resumed}
 use Rattle.protocol.proofs.KeepingPhases.{fits-up}
+use Rattle.protocol.proofs.KeepingStates.{lawful-released, lawful-fresh, lawful-resumed}
 
 terms-width : (p : ℕ) → p < 65536 → {g : Message} → Widths g → {r : Bool} {ka mp n : ℕ} → InitWith g ka mp → g .session ≡ Session.Given r n → TermsFit (termsOf p n ka mp)
 terms-width p l {g} w {r} {ka} {mp} {n} i e = record {

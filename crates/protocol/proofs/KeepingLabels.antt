@@ -1,23 +1,22 @@
 -- The label words after each of the session's events: as many as before, and valid again. Assumes nothing.
-use mathlib.Core.Path.{_≡_, refl, _∙_}
+use Prim.Native.Nat.{ℕ}
 use mathlib.Core.Bool.{Bool, true}
 use mathlib.Core.List.{List}
-use Prim.Native.Nat.{ℕ}
+use mathlib.Core.Path.{_≡_, refl, _∙_}
 use lib.ListN.{length}
-use Rattle.message.specs.declared.Submission.{Submission}
-use Rattle.label_list.specs.Word.{wordCount}
+use Rattle.label_list.specs.declared.SweepRule.the-variants.{AfterBreak}
 use Rattle.label_list.specs.Sweep.{sweptOf}
 use Rattle.label_list.specs.Valid.{validOf}
-use Rattle.label_list.specs.declared.SweepRule.the-variants.{AfterBreak}
+use Rattle.label_list.specs.Word.{wordCount}
 use Rattle.label_meaning.specs.Event.{Event, Accepted, Acked, Received, Broken, step as event}
 use Rattle.label_meaning.proofs.Kept.{step-length}
 use Rattle.label_meaning.proofs.Step.{step-valid}
-use Rattle.protocol.specs.declared.LabelEffect
+use Rattle.message.specs.declared.Submission.{Submission}
 use Rattle.protocol.specs.declared.LabelEffect.{LabelEffect}
-use Rattle.protocol.specs.State.{noTable}
 use Rattle.protocol.specs.Acked.{releasedLabels}
-use Rattle.protocol.specs.Submit.{acceptedLabels}
 use Rattle.protocol.specs.Labels.{effectLabels}
+use Rattle.protocol.specs.State.{noTable}
+use Rattle.protocol.specs.Submit.{acceptedLabels}
 use Rattle.protocol.proofs.Words.{none-valid, accepted-keeps, released-keeps}
 
 abbrev pub WordsValid : List ℕ → Type 0

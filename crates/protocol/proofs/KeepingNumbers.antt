@@ -1,24 +1,23 @@
 -- The numbers: how far they reach after an ACK and after a message was numbered, and that no message's number changes. Assumes nothing.
-use mathlib.Core.Path.{_≡_, refl, sym, ap, _∙_}
-use mathlib.Core.Bool.{Bool, true, false}
 use Prim.Native.Nat.{ℕ, _+_, _-_, _≤_, _<_}
+use mathlib.Core.Bool.{Bool, true, false}
+use mathlib.Core.Path.{_≡_, refl, sym, ap, _∙_}
 use native.Mathlib.Numerals.{add-one}
 use native.Mathlib.Omega.{arith}
-use borrow.Author.Tests.{le-leb}
 use lib.Dec.{ltb}
 use lib.ListN.{length-drop}
+use borrow.Author.Tests.{le-leb}
 use Rattle.octets.specs.Pick.{pick}
-use Rattle.ft_number.specs.Circle.{next, after as successors, stepsOf}
-use Rattle.ft_number.specs.Ack.{ackOf}
-use Rattle.ft_number.specs.declared.Ack
 use Rattle.ft_number.specs.declared.Ack.{Ack}
 use Rattle.ft_number.specs.declared.Steps.the-variants.{Count}
+use Rattle.ft_number.specs.Ack.{ackOf}
+use Rattle.ft_number.specs.Circle.{next, after as successors, stepsOf}
 use Rattle.ft_number.proofs.Circle.{after-none, after-suc, after-add, after-small, steps-after, steps-reach, steps-rest, Acknowledged, ack-releases}
-use Rattle.protocol.specs.State.{State, held, capacity}
-use Rattle.protocol.specs.Phases.{issuedCount}
 use Rattle.protocol.specs.Acked.{acked}
-use Rattle.protocol.specs.Send.{numberAt, numbered, sentState}
 use Rattle.protocol.specs.Lawful.{Window, Lawful}
+use Rattle.protocol.specs.Phases.{issuedCount}
+use Rattle.protocol.specs.Send.{numberAt, numbered, sentState}
+use Rattle.protocol.specs.State.{State, held, capacity}
 
 -- ---- what is issued
 module _ (s : State) (w : Window s) where

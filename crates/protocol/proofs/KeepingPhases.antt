@@ -1,18 +1,17 @@
 -- Phases that the state allows. Assumes nothing.
-use mathlib.Core.Path.{_≡_, refl}
-use mathlib.Core.Bool.{Bool, true, false}
 use Prim.Native.Nat.{ℕ, _≤_}
-use borrow.Author.Tests.{le-leb, leb-true}
+use mathlib.Core.Bool.{Bool, true, false}
+use mathlib.Core.Path.{_≡_, refl}
 use lib.Dec.{leb}
+use borrow.Author.Tests.{le-leb, leb-true}
 use Rattle.octets.specs.Pick.{pick}
 use Rattle.octets.proofs.Choice.{both-true}
-use Rattle.protocol.specs.declared.Phase
 use Rattle.protocol.specs.declared.Phase.{Phase}
 use Rattle.protocol.specs.declared.Progress.{Progress}
-use Rattle.protocol.specs.State.{State}
-use Rattle.protocol.specs.Phases.{phaseFits, restingPhase, upWith, issuedCount}
-use Rattle.protocol.specs.Step.{broken}
 use Rattle.protocol.specs.Lawful.{Lawful}
+use Rattle.protocol.specs.Phases.{phaseFits, restingPhase, upWith, issuedCount}
+use Rattle.protocol.specs.State.{State}
+use Rattle.protocol.specs.Step.{broken}
 
 -- a lawful state, and a phase that it allows
 abbrev pub LawfulIn : State → Phase → Type 0

@@ -1,30 +1,25 @@
 -- A received message that is taken leaves a state that stands. Assumes nothing.
-use mathlib.Core.Path.{_≡_, refl, _∙_}
+use Prim.Native.Nat.{ℕ, _-_, _≤_, _<_}
 use mathlib.Core.Bool.{true}
 use mathlib.Core.List.{List}
-use Prim.Native.Nat.{ℕ, _-_, _≤_, _<_}
+use mathlib.Core.Path.{_≡_, refl, _∙_}
 use native.Mathlib.Omega.{arith}
 use Rattle.octets.specs.Bytes.{Bytes}
-use Rattle.ft_number.specs.declared.Ack
 use Rattle.ft_number.specs.declared.Ack.{Ack}
 use Rattle.ft_number.specs.declared.FtNumber.{FtNumber}
-use Rattle.tlv.specs.declared.FtField
 use Rattle.tlv.specs.declared.FtField.{FtField}
-use Rattle.message.specs.Reading.{readingOf}
 use Rattle.message.specs.declared.Message.{Message}
-use Rattle.message.specs.declared.Reading
 use Rattle.message.specs.declared.Reading.{Reading}
+use Rattle.message.specs.Reading.{readingOf}
 use Rattle.message.proofs.Widths.{Widths, read-widths}
-use Rattle.protocol.specs.declared.Answer
 use Rattle.protocol.specs.declared.Answer.{Answer}
-use Rattle.protocol.specs.declared.Phase
 use Rattle.protocol.specs.declared.Phase.{Phase}
 use Rattle.protocol.specs.declared.Progress.{Progress}
-use Rattle.protocol.specs.State.{State}
-use Rattle.protocol.specs.Phases.{phaseFits, issuedCount}
 use Rattle.protocol.specs.Acked.{ackBorne, acked}
-use Rattle.protocol.specs.Receive.{ackOn, ackCount, securedBy, taken, receivedState, receivedPhase, receiveRule, takenAs}
 use Rattle.protocol.specs.Lawful.{Lawful}
+use Rattle.protocol.specs.Phases.{phaseFits, issuedCount}
+use Rattle.protocol.specs.Receive.{ackOn, ackCount, securedBy, taken, receivedState, receivedPhase, receiveRule, takenAs}
+use Rattle.protocol.specs.State.{State}
 use Rattle.protocol.proofs.Cases.{cases, done-takes}
 use Rattle.protocol.proofs.KeepingNumbers.{ack-issued}
 use Rattle.protocol.proofs.KeepingPhases.{LawfulIn, fits-up, up-fits}

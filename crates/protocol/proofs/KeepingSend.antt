@@ -1,17 +1,16 @@
 -- Send next leaves a lawful state, in a phase that it allows. Assumes nothing.
-use mathlib.Core.Path.{_≡_}
-use mathlib.Core.Bool.{true}
 use Prim.Native.Nat.{ℕ, _+_, _<_}
+use mathlib.Core.Bool.{true}
+use mathlib.Core.Path.{_≡_}
 use native.Mathlib.Omega.{arith}
-use borrow.Author.Tests.{ltb-true}
 use lib.Dec.{ltb}
+use borrow.Author.Tests.{ltb-true}
 use Rattle.octets.proofs.Choice.{by-test, no}
-use Rattle.protocol.specs.declared.Phase
 use Rattle.protocol.specs.declared.Phase.{Phase}
-use Rattle.protocol.specs.State.{State, held}
+use Rattle.protocol.specs.Lawful.{Lawful}
 use Rattle.protocol.specs.Phases.{phaseFits, isUpFT, issuedCount, upWith}
 use Rattle.protocol.specs.Send.{numbered, sentState}
-use Rattle.protocol.specs.Lawful.{Lawful}
+use Rattle.protocol.specs.State.{State, held}
 use Rattle.protocol.proofs.KeepingNumbers.{numbered-issued}
 use Rattle.protocol.proofs.KeepingPhases.{LawfulIn, fits-up, up-fits}
 use Rattle.protocol.proofs.KeepingStates.{lawful-numbered}

@@ -1,36 +1,34 @@
 -- Each state that a rule makes of a lawful one is lawful. Assumes nothing.
-use mathlib.Core.Path.{_≡_, refl, sym, ap, _∙_}
+use Prim.Native.Nat.{ℕ, _+_, _<_}
 use mathlib.Core.Bool.{true, false, true≢false}
 use mathlib.Core.List.{List, [], _∷_}
-use Prim.Native.Nat.{ℕ, _+_, _<_}
+use mathlib.Core.Path.{_≡_, refl, sym, ap, _∙_}
 use native.Mathlib.Omega.{arith}
 use lib.ListN.{take, length-append, length-drop}
-use Rattle.ft_number.specs.Circle.{stepsOf}
-use Rattle.ft_number.specs.Ack.{ackOf}
-use Rattle.ft_number.specs.declared.Ack
 use Rattle.ft_number.specs.declared.Ack.{Ack}
+use Rattle.ft_number.specs.Ack.{ackOf}
+use Rattle.ft_number.specs.Circle.{stepsOf}
 use Rattle.ft_number.proofs.Circle.{counted, Acknowledged, ack-releases}
-use Rattle.message.specs.Submission.{submissionOf}
-use Rattle.message.specs.declared.Message.{Message}
-use Rattle.label_list.specs.Word.{wordOf}
 use Rattle.label_list.specs.Rules.{codeSwept}
 use Rattle.label_list.specs.Sweep.{wordSwept}
-use Rattle.protocol.specs.declared.Answer
+use Rattle.label_list.specs.Word.{wordOf}
+use Rattle.message.specs.declared.Message.{Message}
+use Rattle.message.specs.Submission.{submissionOf}
 use Rattle.protocol.specs.declared.Answer.{Answer}
 use Rattle.protocol.specs.declared.Terms.{Terms}
+use Rattle.protocol.specs.Acked.{releasedLabels, acked}
+use Rattle.protocol.specs.Init.{fresh, resumed}
+use Rattle.protocol.specs.Labels.{labelEffect, isProtected}
+use Rattle.protocol.specs.Lawful.{TermsFit, Lawful}
+use Rattle.protocol.specs.Receive.{securedBy, taken}
+use Rattle.protocol.specs.Send.{numbered}
 use Rattle.protocol.specs.State.{State, held, releasedState}
 use Rattle.protocol.specs.Step.{broken}
-use Rattle.protocol.specs.Acked.{releasedLabels, acked}
 use Rattle.protocol.specs.Submit.{submitRule, submitted}
-use Rattle.protocol.specs.Send.{numbered}
-use Rattle.protocol.specs.Labels.{labelEffect, isProtected}
-use Rattle.protocol.specs.Receive.{securedBy, taken}
-use Rattle.protocol.specs.Init.{fresh, resumed}
-use Rattle.protocol.specs.Lawful.{TermsFit, Lawful}
-use Rattle.protocol.proofs.Submits.{Accepted, done-accepted}
 use Rattle.protocol.proofs.KeepingLabels.{WordsValid, none-words, broken-words, released-words, accepted-words, effect-words}
 use Rattle.protocol.proofs.KeepingNumbers.{ack-window, number-fits, numbered-window}
 use Rattle.protocol.proofs.KeepingQueue.{queued-storable, dropped-storable}
+use Rattle.protocol.proofs.Submits.{Accepted, done-accepted}
 
 -- ---- a session that begins
 pub lawful-fresh : (t : Terms) → TermsFit t → Lawful (fresh t)

@@ -1,20 +1,16 @@
 -- What is settled, case by case, and the state that it leaves. Assumes nothing.
 use Prim.Native.Nat.{ℕ, _≤_}
-use mathlib.Core.Path.{_≡_, refl, sym, _∙_}
-use mathlib.Core.List.{List, []}
 use mathlib.Core.Bool.{false, true}
-use borrow.Author.Tests.{ltb-false}
+use mathlib.Core.Path.{_≡_, refl, sym, _∙_}
 use lib.Dec.{eqb, ltb}
-use Rattle.octets.proofs.Choice.{by-test, pick-all, no, cleared}
-use Rattle.protocol.specs.declared.Answer
+use borrow.Author.Tests.{ltb-false}
+use Rattle.octets.proofs.Choice.{by-test, no, cleared}
 use Rattle.protocol.specs.declared.Answer.{Answer}
-use Rattle.protocol.specs.declared.Effect
 use Rattle.protocol.specs.declared.Effect.{Effect}
 use Rattle.protocol.specs.declared.Phase.{Phase}
-use Rattle.protocol.specs.Answers.{answerNumber, effectBy, effectOf, isDone}
+use Rattle.protocol.specs.Answers.{answerNumber, effectOf, isDone}
 use Rattle.protocol.specs.State.{State, releasedState}
-use Rattle.protocol.specs.Step.{Step, stepped, settledBy, settle, admitted, broken, failedWith, releasedWith, unchanged}
-use Rattle.protocol.specs.Submit.{submitRule, submitted, submit}
+use Rattle.protocol.specs.Step.{Step, settledBy, settle, broken, failedWith, releasedWith, unchanged}
 use Rattle.protocol.proofs.Effects.{act-done}
 
 done-acts : (a : Answer) → isDone a ≡ true → effectOf a ≡ Effect.Act

@@ -1,22 +1,20 @@
 -- What our own messages do to the label words is what the label list's events do, as they are accepted for sending and as they are acknowledged. Assumes nothing.
 use Prim.Native.Nat.{ℕ}
-use native.Mathlib.Omega.{arith}
-use mathlib.Core.Path.{_≡_, refl}
 use mathlib.Core.List.{List}
 use mathlib.Core.Logic.{_≢_}
+use mathlib.Core.Path.{_≡_, refl}
+use native.Mathlib.Omega.{arith}
 use borrow.Author.Tests.{ne-eqb}
-use Rattle.message.specs.declared.Kind.{Kind}
 use Rattle.label_list.specs.declared.LabelMessage.{LabelMessage}
-use Rattle.label_list.specs.declared.Side
 use Rattle.label_list.specs.declared.Side.{Side}
-use Rattle.label_events.specs.Change.{codeAt}
-use Rattle.label_events.specs.declared.Acceptance
 use Rattle.label_events.specs.declared.Acceptance.{Acceptance}
+use Rattle.label_events.specs.Change.{codeAt}
 use Rattle.label_meaning.specs.Event.{Accepted, step as event, withdraw-acked, release-acked}
 use Rattle.label_meaning.specs.Valid.{IsValid}
 use Rattle.label_meaning.proofs.Life.{move-happens}
-use Rattle.protocol.specs.Acked.{releasedKind}
+use Rattle.message.specs.declared.Kind.{Kind}
 use Rattle.protocol.specs.Accepting.{acceptedAs}
+use Rattle.protocol.specs.Acked.{releasedKind}
 use Rattle.protocol.specs.MeaningLabels.{NeverBare, address, address-withdraw, resources, SentKind, sent-mapping, sent-withdraw, sent-release}
 
 -- ---- "Accepted for sending": kinds 1 to 3 are events of the label, kinds 4 to 6 change nothing

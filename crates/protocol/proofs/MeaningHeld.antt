@@ -1,22 +1,20 @@
 -- A message of some kind and label is held exactly where one stands in the queue. Assumes nothing.
 use Prim.Native.Nat.{ℕ, zero, suc, _<_}
-use native.Mathlib.Omega.{arith}
-use mathlib.Core.Path.{_≡_, refl}
 use mathlib.Core.Bool.{true, false≢true}
 use mathlib.Core.List.{List, [], _∷_}
-use borrow.Author.Tests.{eq-eqb, eqb-true}
+use mathlib.Core.Path.{_≡_, refl}
+use native.Mathlib.Omega.{arith}
 use lib.Dec.{eqb}
 use lib.ListN.{length, getD}
+use borrow.Author.Tests.{eq-eqb, eqb-true}
 use Rattle.octets.proofs.Choice.{by-test, both-true}
-use Rattle.message.specs.Kinds.{kindNumber}
-use Rattle.message.specs.Submission.{submissionOf}
-use Rattle.message.specs.Storable.{bears}
-use Rattle.message.specs.declared.Kind
 use Rattle.message.specs.declared.Kind.{Kind}
-use Rattle.message.specs.declared.Submission
 use Rattle.message.specs.declared.Submission.{Submission}
-use Rattle.protocol.specs.Held.{isHeld}
+use Rattle.message.specs.Kinds.{kindNumber}
+use Rattle.message.specs.Storable.{bears}
+use Rattle.message.specs.Submission.{submissionOf}
 use Rattle.protocol.specs.Accepting.{isBarred}
+use Rattle.protocol.specs.Held.{isHeld}
 use Rattle.protocol.specs.MeaningHeld.{HeldSomewhere, BarredBy, by-withdraw, by-release}
 
 module _ (kind label : ℕ) where

@@ -1,36 +1,33 @@
 -- What the peer's Init leaves: the terms that were agreed, the state and the phase of the start, and which answers release. Assumes nothing.
 use Prim.Native.Nat.{ℕ, _≤_}
-use native.Mathlib.Omega.{arith}
-use mathlib.Core.Path.{_≡_, refl}
 use mathlib.Core.Bool.{Bool, true, not}
 use mathlib.Core.List.{List, []}
+use mathlib.Core.Path.{_≡_, refl}
+use native.Mathlib.Omega.{arith}
 use Rattle.octets.specs.Pick.{pick}
 use Rattle.octets.proofs.Choice.{pick-all}
 use Rattle.ft_number.specs.declared.FtNumber.{FtNumber}
 use Rattle.ft_number.proofs.Timeout.{lesser-zero}
-use Rattle.tlv.specs.declared.Session
 use Rattle.tlv.specs.declared.Session.{Session}
-use Rattle.message.specs.Reading.{readingOf}
 use Rattle.message.specs.declared.Message.{Message}
-use Rattle.message.specs.declared.Reading
 use Rattle.message.specs.declared.Reading.{Reading}
-use Rattle.protocol.specs.declared.Answer
+use Rattle.message.specs.Reading.{readingOf}
 use Rattle.protocol.specs.declared.Answer.{Answer}
 use Rattle.protocol.specs.declared.Phase.{Phase}
 use Rattle.protocol.specs.declared.Start.{Start}
 use Rattle.protocol.specs.declared.Terms.{Terms}
-use Rattle.protocol.specs.State.{State, noNumber, noTable}
-use Rattle.protocol.specs.Answers.{answerNumber, isDone}
-use Rattle.protocol.specs.Phases.{phaseFits, awaits, proposalOf}
-use Rattle.protocol.specs.Step.{admitted, stepped}
 use Rattle.protocol.specs.Acked.{acked}
+use Rattle.protocol.specs.Answers.{answerNumber, isDone}
 use Rattle.protocol.specs.Init.{termsOf, startOf, startAnswer, startState, startPhase, fresh, resumed, initStart, initReceived}
 use Rattle.protocol.specs.InitCases.{InitWith, Reconnects, StartCase, unread, another-type, without-parameters, without-ack, without-session, peer-clear, ours-clear, parameters-changed, sequence-error, resumes}
 use Rattle.protocol.specs.MeaningInit.{BothR, BearsTerms, Agreed, BegunFrom, ResumedFrom}
-use Rattle.protocol.proofs.Effects.{done-is}
-use Rattle.protocol.proofs.Settling.{admitted-does}
-use Rattle.protocol.proofs.InitCases.{start-cases}
+use Rattle.protocol.specs.Phases.{phaseFits, awaits, proposalOf}
+use Rattle.protocol.specs.State.{State, noNumber, noTable}
+use Rattle.protocol.specs.Step.{admitted, stepped}
 use Rattle.protocol.proofs.Answered.{init-says}
+use Rattle.protocol.proofs.Effects.{done-is}
+use Rattle.protocol.proofs.InitCases.{start-cases}
+use Rattle.protocol.proofs.Settling.{admitted-does}
 
 -- ---- the states
 -- "fresh UpFT, kept 1, peer's parameters stored": exactly that, whatever was there

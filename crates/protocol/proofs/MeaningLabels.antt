@@ -1,42 +1,32 @@
 -- The labels that a received message touches are those that 01 names, and its protection is missing or wrong exactly where 01 says so. Assumes nothing.
 use Prim.Native.Nat.{ℕ}
-use mathlib.Core.Path.{_≡_, refl, ap, _∙_}
 use mathlib.Core.Bool.{Bool, true, false, not}
 use mathlib.Core.List.{List}
+use mathlib.Core.Path.{_≡_, refl, ap, _∙_}
 use borrow.Author.Tests.{eq-eqb, eqb-true}
 use Rattle.octets.specs.Pick.{pick, both}
 use Rattle.octets.proofs.Choice.{by-test, no, passed, cleared}
 use Rattle.ft_number.specs.declared.FtNumber.{FtNumber}
-use Rattle.tlv.specs.declared.Fec
-use Rattle.tlv.specs.declared.Fec.{Fec}
-use Rattle.tlv.specs.declared.Field
-use Rattle.tlv.specs.declared.Field.{Field}
-use Rattle.tlv.specs.declared.FtField
-use Rattle.tlv.specs.declared.FtField.{FtField}
-use Rattle.message.specs.Kinds.{kindOf}
-use Rattle.message.specs.declared.Kind
-use Rattle.message.specs.declared.Kind.{Kind}
-use Rattle.message.specs.declared.Message.{Message}
-use Rattle.message.specs.declared.MessageType
-use Rattle.message.specs.declared.MessageType.{MessageType}
-use Rattle.label_list.specs.Rules.{receivedSide}
+use Rattle.label_list.specs.declared.LabelMessage.{LabelMessage}
+use Rattle.label_list.specs.declared.Protection.{Protection}
+use Rattle.label_list.specs.declared.Side.{Side}
 use Rattle.label_list.specs.Find.{any}
 use Rattle.label_list.specs.Protection.{needsProtection, barsProtection, codeProtection, protectedOn}
-use Rattle.label_list.specs.declared.LabelMessage
-use Rattle.label_list.specs.declared.LabelMessage.{LabelMessage}
-use Rattle.label_list.specs.declared.Protection
-use Rattle.label_list.specs.declared.Protection.{Protection}
-use Rattle.label_list.specs.declared.Side
-use Rattle.label_list.specs.declared.Side.{Side}
+use Rattle.label_list.specs.Rules.{receivedSide}
+use Rattle.label_events.specs.declared.Touched.{Touched}
 use Rattle.label_events.specs.Change.{codeAt}
 use Rattle.label_events.specs.Protect.{protectionOf}
-use Rattle.label_events.specs.declared.Touched
-use Rattle.label_events.specs.declared.Touched.{Touched}
+use Rattle.tlv.specs.declared.Fec.{Fec}
+use Rattle.tlv.specs.declared.Field.{Field}
+use Rattle.tlv.specs.declared.FtField.{FtField}
 use Rattle.label_meaning.specs.Event.{Touches, named, every}
-use Rattle.label_meaning.specs.Valid.{IsValid}
 use Rattle.label_meaning.specs.Protected.{TouchesProtected}
+use Rattle.label_meaning.specs.Valid.{IsValid}
 use Rattle.label_meaning.proofs.Protected.{touched-missing, missing-touches}
-use Rattle.protocol.specs.declared.LabelEffect
+use Rattle.message.specs.declared.Kind.{Kind}
+use Rattle.message.specs.declared.Message.{Message}
+use Rattle.message.specs.declared.MessageType.{MessageType}
+use Rattle.message.specs.Kinds.{kindOf}
 use Rattle.protocol.specs.declared.LabelEffect.{LabelEffect}
 use Rattle.protocol.specs.Labels.{touchedBy, effectOn, labelEffect, isProtected, alwaysProtected, effectProtection, protectionRule}
 use Rattle.protocol.specs.MeaningLabels.{LabelType, is-mapping, is-withdraw, is-release, Touching, names, under-wildcard, NeverBare, address, address-withdraw, resources, Demands, by-kind, by-label, WronglyProtected}

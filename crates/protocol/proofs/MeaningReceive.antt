@@ -1,38 +1,33 @@
 -- What a received message leaves: its answer is that of its case, and where it is taken the ACK acts first, then the message. Assumes nothing.
 use Prim.Native.Nat.{ℕ}
-use mathlib.Core.Path.{_≡_, refl, ap, _∙_}
 use mathlib.Core.Bool.{true, true≢false}
 use mathlib.Core.List.{List}
-use borrow.Author.Tests.{eqb-true}
+use mathlib.Core.Path.{_≡_, refl, ap, _∙_}
 use lib.ListN.{length-drop}
+use borrow.Author.Tests.{eqb-true}
 use Rattle.octets.proofs.Choice.{no}
-use Rattle.ft_number.specs.Circle.{next}
-use Rattle.ft_number.specs.declared.Ack
 use Rattle.ft_number.specs.declared.Ack.{Ack}
 use Rattle.ft_number.specs.declared.FtNumber.{FtNumber}
-use Rattle.tlv.specs.declared.FtField
+use Rattle.ft_number.specs.Circle.{next}
 use Rattle.tlv.specs.declared.FtField.{FtField}
-use Rattle.message.specs.Reading.{readingOf}
 use Rattle.message.specs.declared.Message.{Message}
-use Rattle.message.specs.declared.Reading
 use Rattle.message.specs.declared.Reading.{Reading}
-use Rattle.protocol.specs.declared.Answer
+use Rattle.message.specs.Reading.{readingOf}
 use Rattle.protocol.specs.declared.Answer.{Answer}
-use Rattle.protocol.specs.declared.Phase
 use Rattle.protocol.specs.declared.Phase.{Phase}
 use Rattle.protocol.specs.declared.Progress.{Progress}
-use Rattle.protocol.specs.State.{State}
-use Rattle.protocol.specs.Phases.{phaseFits}
-use Rattle.protocol.specs.Step.{unchanged}
 use Rattle.protocol.specs.Acked.{ackBorne, releasedLabels, acked}
-use Rattle.protocol.specs.Receive.{ackOn, ackCount, inTurn, securedBy, receiveRule, taken, receivedState, receive}
 use Rattle.protocol.specs.Cases.{Case, Takes, wrong-phase, malformed, an-init, fatal, ft-tlv, passed-on}
 use Rattle.protocol.specs.Lawful.{Lawful}
 use Rattle.protocol.specs.MeaningReceive.{ReceivedFrom, AckThenMessage, SecuresFrom, PlainAnswer, plain-malformed, plain-fatal, plain-ft-tlv, plain-done}
-use Rattle.protocol.proofs.Settling.{admitted-is}
+use Rattle.protocol.specs.Phases.{phaseFits}
+use Rattle.protocol.specs.Receive.{ackOn, ackCount, inTurn, securedBy, receiveRule, taken, receivedState, receive}
+use Rattle.protocol.specs.State.{State}
+use Rattle.protocol.specs.Step.{unchanged}
+use Rattle.protocol.proofs.Answered.{receive-says, receive-does}
 use Rattle.protocol.proofs.Cases.{cases, case-answer, done-takes}
 use Rattle.protocol.proofs.KeepingNumbers.{ack-again}
-use Rattle.protocol.proofs.Answered.{receive-says, receive-does}
+use Rattle.protocol.proofs.Settling.{admitted-is}
 
 -- ---- the answer
 module _ (s : State) (ph : Phase) (m : List ℕ) (fits : phaseFits ph s ≡ true) where

@@ -1,31 +1,28 @@
 -- What Send next leaves: the state, the bytes, the numbers. Assumes nothing.
 use Prim.Native.Nat.{ℕ, _+_, _≤_, _<_}
-use native.Mathlib.Omega.{arith}
-use mathlib.Core.Path.{_≡_, refl, ap}
 use mathlib.Core.Bool.{Bool, true, false}
 use mathlib.Core.List.{List}
-use borrow.Author.Tests.{lt-ltb, le-ltb, lt-leb}
+use mathlib.Core.Path.{_≡_, refl, ap}
+use native.Mathlib.Omega.{arith}
 use lib.Dec.{ltb}
 use lib.ListN.{length}
+use borrow.Author.Tests.{lt-ltb, le-ltb, lt-leb}
 use Rattle.octets.specs.Pick.{pick}
 use Rattle.octets.proofs.Choice.{pick-all}
-use Rattle.tlv.specs.declared.FtField
 use Rattle.tlv.specs.declared.FtField.{FtField}
 use Rattle.message_writer.specs.Forms.{protectedBytes}
-use Rattle.protocol.specs.declared.Answer
 use Rattle.protocol.specs.declared.Answer.{Answer}
-use Rattle.protocol.specs.declared.Phase
 use Rattle.protocol.specs.declared.Phase.{Phase}
 use Rattle.protocol.specs.declared.Progress.{Progress}
-use Rattle.protocol.specs.State.{State, held}
-use Rattle.protocol.specs.Phases.{phaseFits, issuedCount, upWith}
-use Rattle.protocol.specs.Step.{stepped, roomFor}
-use Rattle.protocol.specs.Send.{nextMessage, numberAt, ackAsked, sendBytes, sendRule, numbered, sentState, sendNext}
 use Rattle.protocol.specs.Lawful.{Lawful}
 use Rattle.protocol.specs.MeaningSend.{SentFrom, NumberedFrom}
-use Rattle.protocol.proofs.Settling.{admitted-does}
+use Rattle.protocol.specs.Phases.{phaseFits, issuedCount, upWith}
+use Rattle.protocol.specs.Send.{nextMessage, numberAt, ackAsked, sendBytes, sendRule, numbered, sentState, sendNext}
+use Rattle.protocol.specs.State.{State, held}
+use Rattle.protocol.specs.Step.{stepped, roomFor}
 use Rattle.protocol.proofs.KeepingNumbers.{number-next, number-stays}
 use Rattle.protocol.proofs.KeepingPhases.{up-fits}
+use Rattle.protocol.proofs.Settling.{admitted-does}
 
 asked : (ask : Bool) (s : State) → ackAsked ask s ≡ pick ask (FtField.Number (s .secured)) FtField.Absent
 unfolding ackAsked

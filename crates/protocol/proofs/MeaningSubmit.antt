@@ -1,23 +1,22 @@
 -- What Submit leaves: the message is the newest held and has no number; whatever the answer, no number moves. Assumes nothing.
 use Prim.Native.Nat.{ℕ}
-use mathlib.Core.Path.{_≡_, refl}
 use mathlib.Core.List.{List, [], _∷_}
+use mathlib.Core.Path.{_≡_, refl}
 use lib.ListN.{length-append, List·getD-append}
 use lib.Seq.{getD-append-seam}
-use Rattle.protocol.specs.declared.Answer
 use Rattle.protocol.specs.declared.Answer.{Answer}
 use Rattle.protocol.specs.declared.Phase.{Phase}
-use Rattle.protocol.specs.State.{State}
-use Rattle.protocol.specs.Phases.{issuedCount}
-use Rattle.protocol.specs.Step.{Step, stepped}
-use Rattle.protocol.specs.Submit.{submitted, submit}
 use Rattle.protocol.specs.Calls.{submits, step}
 use Rattle.protocol.specs.Judged.{done}
 use Rattle.protocol.specs.Lawful.{Window}
 use Rattle.protocol.specs.MeaningSubmit.{QueuedFrom}
+use Rattle.protocol.specs.Phases.{issuedCount}
+use Rattle.protocol.specs.State.{State}
+use Rattle.protocol.specs.Step.{Step, stepped}
+use Rattle.protocol.specs.Submit.{submitted, submit}
+use Rattle.protocol.proofs.Answered.{submit-does}
 use Rattle.protocol.proofs.Hearing.{unheard}
 use Rattle.protocol.proofs.KeepingNumbers.{issued-held}
-use Rattle.protocol.proofs.Answered.{submit-does}
 
 module _ (s : State) (ph : Phase) (m : List ℕ) where
   submitted-from : Window s → QueuedFrom s ph m (stepped Answer.Done (submitted s m) ph [])

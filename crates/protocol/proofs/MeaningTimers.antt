@@ -1,34 +1,32 @@
 -- What a failed connection, a restored image and passed time leave. Assumes nothing.
 use Prim.Native.Nat.{ℕ}
-use native.Mathlib.Omega.{arith}
-use mathlib.Core.Path.{_≡_, refl, sym, ap, _∙_}
 use mathlib.Core.Bool.{Bool, true, false, not}
 use mathlib.Core.List.{List, map}
 use mathlib.Core.Logic.{_≢_}
-use borrow.Author.Tests.{eq-eqb, ne-eqb, eqb-true, eqb-false, le-leb, lt-leb}
+use mathlib.Core.Path.{_≡_, refl, sym, ap, _∙_}
+use native.Mathlib.Omega.{arith}
 use lib.Dec.{eqb}
 use lib.ListN.{getD, length-map, List·getD-map}
 use lib.Seq.{ext-getD}
+use borrow.Author.Tests.{eq-eqb, ne-eqb, eqb-true, eqb-false, le-leb, lt-leb}
 use Rattle.octets.specs.Pick.{pick}
 use Rattle.octets.proofs.Choice.{by-test}
-use Rattle.label_list.specs.Word.{codeOf, wordOf}
+use Rattle.label_list.specs.declared.SweepRule.the-variants.{AfterBreak}
 use Rattle.label_list.specs.Rules.{codeSwept}
 use Rattle.label_list.specs.Sweep.{wordSwept, sweptOf}
-use Rattle.label_list.specs.declared.SweepRule.the-variants.{AfterBreak}
+use Rattle.label_list.specs.Word.{codeOf, wordOf}
 use Rattle.label_meaning.specs.Valid.{InRange, IsValid}
 use Rattle.label_meaning.proofs.Meaning.{valid-means, range-listed}
-use Rattle.protocol.specs.declared.Answer
 use Rattle.protocol.specs.declared.Answer.{Answer}
-use Rattle.protocol.specs.declared.Phase
 use Rattle.protocol.specs.declared.Phase.{Phase}
-use Rattle.protocol.specs.State.{State, withTable}
-use Rattle.protocol.specs.Phases.{phaseFits, connected}
-use Rattle.protocol.specs.Step.{unchanged, failedWith, releasedWith}
 use Rattle.protocol.specs.Begin.{restore}
 use Rattle.protocol.specs.ConnectionFailed.{connectionFailed}
-use Rattle.protocol.specs.TimePassed.{expired, timePassed}
 use Rattle.protocol.specs.Lawful.{Lawful}
 use Rattle.protocol.specs.MeaningTimers.{freed, FailedFrom, TimePassed}
+use Rattle.protocol.specs.Phases.{phaseFits, connected}
+use Rattle.protocol.specs.State.{State, withTable}
+use Rattle.protocol.specs.Step.{unchanged, failedWith, releasedWith}
+use Rattle.protocol.specs.TimePassed.{expired, timePassed}
 use Rattle.protocol.proofs.Settling.{admitted-does}
 
 -- ---- the words

@@ -1,30 +1,27 @@
 -- What Open and KeepAlive leave and write. Assumes nothing.
 use Prim.Native.Nat.{ℕ, _≤_}
-use mathlib.Core.Path.{_≡_, refl}
 use mathlib.Core.Bool.{true, false, not}
 use mathlib.Core.List.{List}
-use borrow.Author.Tests.{le-ltb}
+use mathlib.Core.Path.{_≡_, refl}
 use lib.ListN.{length}
+use borrow.Author.Tests.{le-ltb}
 use Rattle.octets.specs.Pick.{pick}
-use Rattle.ft_number.specs.Timeout.{proposedOf}
 use Rattle.ft_number.specs.declared.MessageId.{MessageId}
 use Rattle.ft_number.specs.declared.Proposal.{Proposal}
-use Rattle.tlv.specs.declared.FtField
+use Rattle.ft_number.specs.Timeout.{proposedOf}
 use Rattle.tlv.specs.declared.FtField.{FtField}
 use Rattle.message_writer.specs.declared.OwnParameters.{OwnParameters}
 use Rattle.message_writer.proofs.Own.{init-reads, keepalive-reads}
-use Rattle.protocol.specs.declared.Answer
 use Rattle.protocol.specs.declared.Answer.{Answer}
-use Rattle.protocol.specs.declared.Phase
 use Rattle.protocol.specs.declared.Phase.{Phase}
 use Rattle.protocol.specs.declared.Progress.{Progress}
-use Rattle.protocol.specs.State.{State}
-use Rattle.protocol.specs.Phases.{phaseFits, mayOpen, waitingFor}
-use Rattle.protocol.specs.Step.{stepped, roomFor}
-use Rattle.protocol.specs.Writer.{writer}
-use Rattle.protocol.specs.Open.{keptAck, openBytes, openSession}
 use Rattle.protocol.specs.KeepAlive.{aliveBytes, keepalive}
 use Rattle.protocol.specs.MeaningWriters.{OpenedFrom, AliveFrom}
+use Rattle.protocol.specs.Open.{keptAck, openBytes, openSession}
+use Rattle.protocol.specs.Phases.{phaseFits, mayOpen, waitingFor}
+use Rattle.protocol.specs.State.{State}
+use Rattle.protocol.specs.Step.{stepped, roomFor}
+use Rattle.protocol.specs.Writer.{writer}
 use Rattle.protocol.proofs.Settling.{admitted-does}
 
 -- ---- our Init: with kept state R is set and the ACK is S, without R is clear and no ACK is borne

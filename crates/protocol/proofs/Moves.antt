@@ -1,42 +1,39 @@
 -- What a call leaves of kept, of the peer's two parameters and of the store. Assumes nothing.
 use Prim.Native.Nat.{_≤_, ℕ}
-use mathlib.Core.Path.{_≡_, refl, sym}
-use mathlib.Core.List.{[], _++_, List, append-nil, _∷_}
 use mathlib.Core.Bool.{Bool, false, not, true, true≢false}
+use mathlib.Core.List.{[], _++_, List, append-nil, _∷_}
 use mathlib.Core.Logic.{inl, inr, _⊎_}
-use lib.ListN.{drop}
+use mathlib.Core.Path.{_≡_, refl, sym}
 use lib.Dec.{ltb}
+use lib.ListN.{drop}
 use Rattle.octets.specs.Pick.{pick}
 use Rattle.octets.proofs.Choice.{by-test, pick-all}
 use Rattle.ft_number.specs.declared.MessageId.{MessageId}
 use Rattle.ft_number.specs.declared.Proposal.{Proposal}
 use Rattle.ft_number.specs.Timeout.{proposedOf}
-use Rattle.message.specs.declared.Reading
 use Rattle.message.specs.declared.Reading.{Reading}
 use Rattle.message.specs.Reading.{readingOf}
 use Rattle.message_writer.specs.declared.OwnParameters.{OwnParameters}
-use Rattle.protocol.specs.declared.Answer
 use Rattle.protocol.specs.declared.Answer.{Answer}
-use Rattle.protocol.specs.declared.Phase
 use Rattle.protocol.specs.declared.Phase.{Phase}
+use Rattle.protocol.specs.Acked.{acked}
+use Rattle.protocol.specs.Answers.{answerNumber, isDone}
+use Rattle.protocol.specs.Begin.{restore}
+use Rattle.protocol.specs.ConnectionFailed.{connectionFailed}
+use Rattle.protocol.specs.KeepAlive.{aliveBytes, keepalive}
+use Rattle.protocol.specs.Open.{openBytes, openSession}
+use Rattle.protocol.specs.Phases.{connected, isUp, issuedCount, mayOpen, sentOf, waiting, waitingFor}
+use Rattle.protocol.specs.Receive.{ackCount, ackOn, receive, receivedState, takenAs, taken}
+use Rattle.protocol.specs.Send.{numbered, sendBytes, sendNext, sendRule, sentState}
 use Rattle.protocol.specs.State.{State}
 use Rattle.protocol.specs.Step.{Step, admitted, broken, roomFor, settle, stepped}
-use Rattle.protocol.specs.Receive.{ackCount, ackOn, receive, receivedState, takenAs, taken}
-use Rattle.protocol.specs.Acked.{acked}
-use Rattle.protocol.specs.KeepAlive.{aliveBytes, keepalive}
-use Rattle.protocol.specs.Answers.{answerNumber, isDone}
-use Rattle.protocol.specs.Phases.{connected, isUp, issuedCount, mayOpen, sentOf, waiting, waitingFor}
-use Rattle.protocol.specs.ConnectionFailed.{connectionFailed}
-use Rattle.protocol.specs.TimePassed.{expired, timePassed}
-use Rattle.protocol.specs.Send.{numbered, sendBytes, sendNext, sendRule, sentState}
-use Rattle.protocol.specs.Open.{openBytes, openSession}
-use Rattle.protocol.specs.Begin.{restore}
 use Rattle.protocol.specs.Submit.{submit, submitRule, submitted}
+use Rattle.protocol.specs.TimePassed.{expired, timePassed}
 use Rattle.protocol.specs.Writer.{writer}
-use Rattle.protocol.proofs.Settling.{Harmless, admitted-done, admitted-harmless, done-harmless, settle-does, settle-refusal}
 use Rattle.protocol.proofs.Leaving.{release-from, settle-cases}
-use Rattle.protocol.proofs.Submits.{submit-harmless}
 use Rattle.protocol.proofs.Refusals.{may-harmless, room-harmless, send-harmless}
+use Rattle.protocol.proofs.Settling.{Harmless, admitted-done, admitted-harmless, done-harmless, settle-does, settle-refusal}
+use Rattle.protocol.proofs.Submits.{submit-harmless}
 
 -- ---- kept and the parameters are as they were; so many of the oldest have left the store, and these messages stand behind the rest
 pub record Moves (s t : State) (gone : ℕ) (news : List (List ℕ)) : Type 0 where

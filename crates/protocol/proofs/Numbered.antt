@@ -1,21 +1,18 @@
 -- The numbers that lower crates give to their verdicts are those of the answers that the rules make of them. Assumes nothing.
-use mathlib.Core.Path.{_≡_, refl}
-use mathlib.Core.List.{List}
 use Prim.Native.Nat.{ℕ}
-use Rattle.message.specs.declared.Message.{Message}
-use Rattle.label_list.specs.declared.Protection
+use mathlib.Core.List.{List}
+use mathlib.Core.Path.{_≡_, refl}
 use Rattle.label_list.specs.declared.Protection.{Protection}
+use Rattle.label_events.specs.declared.Acceptance.{Acceptance}
+use Rattle.label_events.specs.declared.Reception.{Reception}
 use Rattle.label_events.specs.Accept.{acceptanceNumber}
 use Rattle.label_events.specs.Protect.{protectionNumber}
 use Rattle.label_events.specs.Receive.{receptionNumber}
-use Rattle.label_events.specs.declared.Acceptance
-use Rattle.label_events.specs.declared.Acceptance.{Acceptance}
-use Rattle.label_events.specs.declared.Reception
-use Rattle.label_events.specs.declared.Reception.{Reception}
-use Rattle.protocol.specs.State.{State}
+use Rattle.message.specs.declared.Message.{Message}
 use Rattle.protocol.specs.Answers.{answerNumber}
-use Rattle.protocol.specs.Submit.{acceptanceRule}
 use Rattle.protocol.specs.Receive.{receptionRule, protectedRule}
+use Rattle.protocol.specs.State.{State}
+use Rattle.protocol.specs.Submit.{acceptanceRule}
 
 -- 6 and 13; what is taken goes on to the test of the room
 pub acceptance-numbered : (s : State) → (answerNumber (acceptanceRule s Acceptance.NotAllowed) ≡ acceptanceNumber Acceptance.NotAllowed)

@@ -1,22 +1,21 @@
 -- Submit and its last test: a message that every other test passes is accepted below 64 held, and refused at 64; only there is one. Assumes nothing.
 use Prim.Native.Nat.{ℕ, _≤_, _<_}
-use native.Mathlib.Omega.{arith}
-use mathlib.Core.Path.{_≡_, sym, _∙_}
 use mathlib.Core.Bool.{true, not}
 use mathlib.Core.List.{List}
+use mathlib.Core.Path.{_≡_, sym, _∙_}
+use native.Mathlib.Omega.{arith}
 use borrow.Author.Tests.{not-false}
-use Rattle.octets.proofs.Choice.{cleared, no}
-use Rattle.protocol.specs.declared.Answer
+use Rattle.octets.proofs.Choice.{cleared}
 use Rattle.protocol.specs.declared.Answer.{Answer}
 use Rattle.protocol.specs.declared.Phase.{Phase}
-use Rattle.protocol.specs.State.{State, held}
 use Rattle.protocol.specs.Phases.{phaseFits}
+use Rattle.protocol.specs.State.{State, held}
 use Rattle.protocol.specs.Step.{admitted}
 use Rattle.protocol.specs.Submit.{submitRule, submit}
 use Rattle.protocol.specs.SubmitCases.{Unbarred, SubmitCase, store-full, queues, Passes}
+use Rattle.protocol.proofs.Answered.{submit-says}
 use Rattle.protocol.proofs.Settling.{admitted-is}
 use Rattle.protocol.proofs.SubmitCases.{Last, case-submit, done-last, full-last}
-use Rattle.protocol.proofs.Answered.{submit-says}
 
 module _ (s : State) (ph : Phase) (m : List ℕ) where
   -- ---- such a message is answered by the room alone

@@ -1,55 +1,50 @@
 -- What each call leaves of the queue and of the terms. Assumes nothing.
-use mathlib.Core.Path.{_≡_, refl, sym, _∙_}
+use Prim.Native.Nat.{ℕ, _≤_}
 use mathlib.Core.Bool.{Bool}
 use mathlib.Core.List.{List, [], _∷_, _++_}
 use mathlib.Core.Logic.{_⊎_, inl, inr}
-use Prim.Native.Nat.{ℕ, _≤_}
+use mathlib.Core.Path.{_≡_, refl, sym, _∙_}
 use native.Mathlib.Omega.{arith}
 use lib.Dec.{ltb}
 use lib.ListN.{drop}
 use Rattle.octets.proofs.Choice.{pick-all}
-use Rattle.ft_number.specs.declared.Ack
 use Rattle.ft_number.specs.declared.Ack.{Ack}
 use Rattle.ft_number.specs.declared.FtNumber.{FtNumber}
 use Rattle.ft_number.specs.declared.MessageId.{MessageId}
 use Rattle.ft_number.specs.declared.Proposal.{Proposal}
-use Rattle.message.specs.Reading.{readingOf}
 use Rattle.message.specs.declared.Message.{Message}
-use Rattle.message.specs.declared.Reading
 use Rattle.message.specs.declared.Reading.{Reading}
+use Rattle.message.specs.Reading.{readingOf}
 use Rattle.message_writer.specs.declared.OwnParameters.{OwnParameters}
-use Rattle.protocol.specs.declared.Answer
 use Rattle.protocol.specs.declared.Answer.{Answer}
-use Rattle.protocol.specs.declared.Phase
 use Rattle.protocol.specs.declared.Phase.{Phase}
 use Rattle.protocol.specs.declared.Progress.{Progress}
-use Rattle.protocol.specs.declared.Start
 use Rattle.protocol.specs.declared.Start.{Start}
 use Rattle.protocol.specs.declared.Terms.{Terms}
-use Rattle.protocol.specs.State.{State, held, releasedState}
-use Rattle.protocol.specs.Phases.{issuedCount, sentOf}
-use Rattle.protocol.specs.Step.{Step, admitted}
 use Rattle.protocol.specs.Acked.{ackBorne, acked}
-use Rattle.protocol.specs.Submit.{submitRule, submitted, submit}
-use Rattle.protocol.specs.Send.{numbered, sentState, sendNext}
-use Rattle.protocol.specs.Open.{openSession}
-use Rattle.protocol.specs.KeepAlive.{keepalive}
-use Rattle.protocol.specs.ConnectionFailed.{connectionFailed}
-use Rattle.protocol.specs.TimePassed.{expired, timePassed}
 use Rattle.protocol.specs.Begin.{restore}
-use Rattle.protocol.specs.Init.{startOf, fresh, resumed, startState, initStart, initReceived}
-use Rattle.protocol.specs.Receive.{ackOn, ackCount, taken, receivedState, receive}
 use Rattle.protocol.specs.Calls.{fails, opens, passes, sends, keeps-alive, step}
-use Rattle.protocol.specs.Judged.{done}
-use Rattle.protocol.specs.Lawful.{Window}
+use Rattle.protocol.specs.ConnectionFailed.{connectionFailed}
+use Rattle.protocol.specs.Init.{startOf, fresh, resumed, startState, initStart, initReceived}
 use Rattle.protocol.specs.InitCases.{StartCase, unread, another-type, without-parameters, without-ack, without-session, peer-clear, ours-clear, parameters-changed, sequence-error, resumes}
-use Rattle.protocol.proofs.InitCases.{start-cases}
-use Rattle.protocol.proofs.Effects.{done-is}
-use Rattle.protocol.proofs.Settling.{admitted-done}
+use Rattle.protocol.specs.Judged.{done}
+use Rattle.protocol.specs.KeepAlive.{keepalive}
+use Rattle.protocol.specs.Lawful.{Window}
+use Rattle.protocol.specs.Open.{openSession}
+use Rattle.protocol.specs.Phases.{issuedCount, sentOf}
+use Rattle.protocol.specs.Receive.{ackOn, ackCount, taken, receivedState, receive}
+use Rattle.protocol.specs.Send.{numbered, sentState, sendNext}
+use Rattle.protocol.specs.State.{State, held, releasedState}
+use Rattle.protocol.specs.Step.{Step, admitted}
+use Rattle.protocol.specs.Submit.{submitRule, submitted, submit}
+use Rattle.protocol.specs.TimePassed.{expired, timePassed}
 use Rattle.protocol.proofs.Answered.{submit-says, submit-does, init-does, receive-does}
-use Rattle.protocol.proofs.Submits.{Accepted, done-accepted}
-use Rattle.protocol.proofs.KeepingNumbers.{ack-held}
+use Rattle.protocol.proofs.Effects.{done-is}
 use Rattle.protocol.proofs.Hearing.{unheard}
+use Rattle.protocol.proofs.InitCases.{start-cases}
+use Rattle.protocol.proofs.KeepingNumbers.{ack-held}
+use Rattle.protocol.proofs.Settling.{admitted-done}
+use Rattle.protocol.proofs.Submits.{Accepted, done-accepted}
 
 -- ---- Submit: the message is queued as the newest
 module _ (s : State) (ph : Phase) (m : List ℕ) (d : submit s ph m .answer ≡ Answer.Done) where

@@ -1,13 +1,12 @@
 -- A call that changes nothing. Assumes nothing.
-use mathlib.Core.Path.{_≡_, refl}
 use mathlib.Core.Bool.{false}
+use mathlib.Core.Path.{_≡_, refl}
 use Rattle.protocol.specs.declared.Answer.{Answer}
-use Rattle.protocol.specs.declared.Effect
 use Rattle.protocol.specs.declared.Effect.{Effect}
 use Rattle.protocol.specs.declared.Phase.{Phase}
+use Rattle.protocol.specs.Answers.{effectOf, isDone}
 use Rattle.protocol.specs.State.{State}
 use Rattle.protocol.specs.Step.{Step, admitted, settle}
-use Rattle.protocol.specs.Answers.{effectOf, isDone}
 use Rattle.protocol.proofs.Settling.{Harmless, admitted-harmless, settle-refusal}
 
 pub record Quiet (now : State) (ph : Phase) (x : Step) : Type 0 where

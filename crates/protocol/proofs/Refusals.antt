@@ -1,20 +1,19 @@
 -- The calls whose refusals change nothing, but Submit. Assumes nothing.
 use Prim.Native.Nat.{ℕ}
-use mathlib.Core.Path.{refl}
 use mathlib.Core.Bool.{Bool, not}
 use mathlib.Core.List.{List}
+use mathlib.Core.Path.{refl}
 use lib.Dec.{leb, ltb}
 use lib.ListN.{length}
 use Rattle.octets.specs.Pick.{pick}
 use Rattle.octets.proofs.Choice.{pick-all}
-use Rattle.protocol.specs.declared.Answer
 use Rattle.protocol.specs.declared.Answer.{Answer}
 use Rattle.protocol.specs.declared.Phase.{Phase}
-use Rattle.protocol.specs.State.{State, held}
 use Rattle.protocol.specs.Answers.{effectOf}
 use Rattle.protocol.specs.Phases.{isUpFT, sentOf}
-use Rattle.protocol.specs.Step.{roomFor}
 use Rattle.protocol.specs.Send.{sendRule}
+use Rattle.protocol.specs.State.{State, held}
+use Rattle.protocol.specs.Step.{roomFor}
 use Rattle.protocol.proofs.Settling.{Harmless, done-harmless}
 
 -- "9: output too short"

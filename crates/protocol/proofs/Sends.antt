@@ -1,18 +1,17 @@
 -- What Send next answers, and what it leaves of kept and of the store. Assumes nothing.
 use Prim.Native.Nat.{_<_, ℕ}
-use mathlib.Core.Path.{_≡_, refl}
 use mathlib.Core.Bool.{Bool, false, not, true}
-use borrow.Author.Tests.{leb-false}
+use mathlib.Core.Path.{_≡_, refl}
 use lib.Dec.{leb, ltb}
+use borrow.Author.Tests.{leb-false}
 use Rattle.octets.specs.Pick.{pick}
 use Rattle.octets.proofs.Choice.{no, pick-all}
-use Rattle.protocol.specs.declared.Answer
 use Rattle.protocol.specs.declared.Answer.{Answer}
 use Rattle.protocol.specs.declared.Phase.{Phase}
-use Rattle.protocol.specs.State.{State, held}
 use Rattle.protocol.specs.Answers.{isDone}
 use Rattle.protocol.specs.Phases.{isUpFT, issuedCount, sentOf}
 use Rattle.protocol.specs.Send.{numbered, sendRule, sentState}
+use Rattle.protocol.specs.State.{State, held}
 
 -- ---- an answer that is Done tells that a message is unsent
 rule-done : (u l : Bool) (a : Answer) → isDone (pick (not u) Answer.WrongPhase (pick l Answer.NothingUnsent a)) ≡ true → (u ≡ true) × (l ≡ false)

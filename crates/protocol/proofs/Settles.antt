@@ -2,29 +2,25 @@
 use Prim.Native.Nat.{ℕ}
 use mathlib.Core.Path.{_≡_, refl, ap, _∙_}
 use Rattle.octets.proofs.Choice.{by-test, pick-all}
-use Rattle.message.specs.Reading.{readingOf}
-use Rattle.message.specs.declared.Reading
 use Rattle.message.specs.declared.Reading.{Reading}
-use Rattle.protocol.specs.declared.Answer
+use Rattle.message.specs.Reading.{readingOf}
 use Rattle.protocol.specs.declared.Answer.{Answer}
-use Rattle.protocol.specs.declared.Effect
 use Rattle.protocol.specs.declared.Effect.{Effect}
-use Rattle.protocol.specs.declared.Phase
 use Rattle.protocol.specs.declared.Phase.{Phase}
-use Rattle.protocol.specs.State.{State}
 use Rattle.protocol.specs.Answers.{effectOf, isDone}
-use Rattle.protocol.specs.Step.{Step, unchanged, failedWith, releasedWith, settledBy, settle}
-use Rattle.protocol.specs.Writer.{writer}
-use Rattle.protocol.specs.Open.{openSession}
-use Rattle.protocol.specs.Init.{initReceived}
-use Rattle.protocol.specs.ConnectionFailed.{connectionFailed}
-use Rattle.protocol.specs.TimePassed.{expired, timePassed}
-use Rattle.protocol.specs.Submit.{submit}
-use Rattle.protocol.specs.Send.{sendNext}
-use Rattle.protocol.specs.KeepAlive.{keepalive}
-use Rattle.protocol.specs.Receive.{takenAs, receive}
 use Rattle.protocol.specs.Calls.{Call, formats, restores, fails, opens, greets, passes, submits, sends, keeps-alive, receives, step}
+use Rattle.protocol.specs.ConnectionFailed.{connectionFailed}
+use Rattle.protocol.specs.Init.{initReceived}
 use Rattle.protocol.specs.Judged.{judged, done}
+use Rattle.protocol.specs.KeepAlive.{keepalive}
+use Rattle.protocol.specs.Open.{openSession}
+use Rattle.protocol.specs.Receive.{takenAs, receive}
+use Rattle.protocol.specs.Send.{sendNext}
+use Rattle.protocol.specs.State.{State}
+use Rattle.protocol.specs.Step.{Step, unchanged, failedWith, releasedWith, settledBy, settle}
+use Rattle.protocol.specs.Submit.{submit}
+use Rattle.protocol.specs.TimePassed.{expired, timePassed}
+use Rattle.protocol.specs.Writer.{writer}
 use Rattle.protocol.proofs.Effects.{act-done, done-is}
 use Rattle.protocol.proofs.Settling.{settle-answer}
 

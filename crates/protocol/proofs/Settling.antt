@@ -1,19 +1,17 @@
 -- What an answer leaves, by its number. Assumes nothing.
-use mathlib.Core.Path.{_≡_, refl, sym, _∙_}
-use mathlib.Core.Bool.{Bool, true, false, not, true≢false}
 use Prim.Native.Nat.{_≤_, _<_}
+use mathlib.Core.Bool.{Bool, true, false, not, true≢false}
+use mathlib.Core.Path.{_≡_, refl, sym, _∙_}
 use Rattle.octets.specs.Pick.{pick}
 use Rattle.octets.proofs.Choice.{by-test}
-use Rattle.protocol.specs.declared.Answer
 use Rattle.protocol.specs.declared.Answer.{Answer}
-use Rattle.protocol.specs.declared.Effect
 use Rattle.protocol.specs.declared.Effect.{Effect}
 use Rattle.protocol.specs.declared.Phase.{Phase}
 use Rattle.protocol.specs.Answers.{answerNumber, effectOf, isDone}
-use Rattle.protocol.proofs.Effects.{act-done, done-is, effect-fail, effect-release}
-use Rattle.protocol.specs.State.{State}
 use Rattle.protocol.specs.Phases.{phaseFits}
+use Rattle.protocol.specs.State.{State}
 use Rattle.protocol.specs.Step.{Step, unchanged, failedWith, releasedWith, settledBy, settle, admitted}
+use Rattle.protocol.proofs.Effects.{act-done, done-is, effect-fail, effect-release}
 
 module _ (a : Answer) (s : State) (ph : Phase) (d : Step) where
   pub settle-refusal : effectOf a ≡ Effect.Nothing → settle a s ph d ≡ unchanged a s ph

@@ -1,24 +1,21 @@
 -- The judgement of a submission is the list of its cases. Assumes nothing.
-use mathlib.Core.Path.{_≡_, refl, _∙_}
+use Prim.Native.Nat.{ℕ, _≤_, _<_}
 use mathlib.Core.Bool.{Bool, true, false, not}
 use mathlib.Core.List.{List}
-use Prim.Native.Nat.{ℕ, _≤_, _<_}
-use borrow.Author.Tests.{leb-true, leb-false, ltb-true, ltb-false, le-leb, lt-leb, le-ltb, lt-ltb}
+use mathlib.Core.Path.{_≡_, refl, _∙_}
 use lib.Dec.{leb, ltb}
 use lib.ListN.{length}
+use borrow.Author.Tests.{leb-true, leb-false, ltb-true, ltb-false, le-leb, lt-leb, le-ltb, lt-ltb}
 use Rattle.octets.specs.Pick.{pick}
 use Rattle.octets.proofs.Choice.{by-test, no}
-use Rattle.message.specs.Submission.{submissionOf}
-use Rattle.message.specs.Storable.{shortest, longest}
-use Rattle.message.specs.declared.Kind.{Kind}
-use Rattle.message.specs.declared.Submission
-use Rattle.message.specs.declared.Submission.{Submission}
-use Rattle.label_events.specs.declared.Acceptance
 use Rattle.label_events.specs.declared.Acceptance.{Acceptance}
-use Rattle.protocol.specs.declared.Answer
+use Rattle.message.specs.declared.Kind.{Kind}
+use Rattle.message.specs.declared.Submission.{Submission}
+use Rattle.message.specs.Storable.{shortest, longest}
+use Rattle.message.specs.Submission.{submissionOf}
 use Rattle.protocol.specs.declared.Answer.{Answer}
-use Rattle.protocol.specs.State.{State, capacity, held}
 use Rattle.protocol.specs.Accepting.{isBarred, acceptedAs}
+use Rattle.protocol.specs.State.{State, capacity, held}
 use Rattle.protocol.specs.Submit.{acceptanceRule, kindRule, submissionRule, submitRule}
 use Rattle.protocol.specs.SubmitCases.{Fitting, Unbarred, SubmitCase, not-kept, too-short, too-long, malformed-submission, not-sent, still-held, code-forbids, no-free-word, store-full, queues}
 

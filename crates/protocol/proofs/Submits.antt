@@ -1,21 +1,18 @@
 -- Submit is done where every test is passed, and changes nothing anywhere else. Assumes nothing.
-use mathlib.Core.Path.{_≡_, refl}
+use Prim.Native.Nat.{ℕ, _<_}
 use mathlib.Core.Bool.{true, not}
 use mathlib.Core.List.{List}
-use Prim.Native.Nat.{ℕ, _<_}
+use mathlib.Core.Path.{_≡_, refl}
 use lib.Dec.{leb, ltb}
 use lib.ListN.{length}
 use Rattle.octets.proofs.Choice.{pick-all}
-use Rattle.message.specs.Submission.{submissionOf}
-use Rattle.message.specs.declared.Submission
-use Rattle.message.specs.declared.Submission.{Submission}
-use Rattle.label_events.specs.declared.Acceptance
 use Rattle.label_events.specs.declared.Acceptance.{Acceptance}
+use Rattle.message.specs.declared.Submission.{Submission}
+use Rattle.message.specs.Storable.{shortest, longest, Storable}
+use Rattle.message.specs.Submission.{submissionOf}
+use Rattle.protocol.specs.declared.Answer.{Answer}
 use Rattle.protocol.specs.Accepting.{isBarred, acceptedAs}
 use Rattle.protocol.specs.Answers.{effectOf}
-use Rattle.message.specs.Storable.{shortest, longest, Storable}
-use Rattle.protocol.specs.declared.Answer
-use Rattle.protocol.specs.declared.Answer.{Answer}
 use Rattle.protocol.specs.State.{State, held, capacity}
 use Rattle.protocol.specs.Submit.{acceptanceRule, kindRule, submissionRule, submitRule}
 use Rattle.protocol.specs.SubmitCases.{Fitting}

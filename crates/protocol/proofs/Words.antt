@@ -1,32 +1,28 @@
 -- The label words that the rules leave: what every label event keeps, they keep; so they are valid again. Assumes nothing.
 use Prim.Native.Nat.{ℕ}
-use mathlib.Core.Path.{_≡_, refl}
-use mathlib.Core.List.{[], List, _∷_}
 use mathlib.Core.Bool.{Bool, true}
+use mathlib.Core.List.{[], List, _∷_}
+use mathlib.Core.Path.{_≡_, refl}
 use lib.Dec.{eqb}
 use Rattle.octets.proofs.Choice.{pick-all}
-use Rattle.message.specs.declared.Kind
-use Rattle.message.specs.declared.Kind.{Kind}
-use Rattle.message.specs.declared.Submission
-use Rattle.message.specs.declared.Submission.{Submission}
-use Rattle.message.specs.Kinds.{kindNumber}
-use Rattle.message.specs.Submission.{submissionOf}
-use Rattle.label_list.specs.declared.LabelMessage
 use Rattle.label_list.specs.declared.LabelMessage.{LabelMessage}
-use Rattle.label_list.specs.Word.{isFree}
-use Rattle.label_list.specs.Sweep.{sweptOf}
 use Rattle.label_list.specs.declared.SweepRule.the-variants.{AfterBreak}
+use Rattle.label_list.specs.Sweep.{sweptOf}
 use Rattle.label_list.specs.Valid.{validOf, validWord}
+use Rattle.label_list.specs.Word.{isFree}
 use Rattle.label_meaning.specs.Event.{Accepted as Offered, Acked, Received, Broken, step}
 use Rattle.label_meaning.proofs.Step.{step-valid}
-use Rattle.protocol.specs.declared.LabelEffect
+use Rattle.message.specs.declared.Kind.{Kind}
+use Rattle.message.specs.declared.Submission.{Submission}
+use Rattle.message.specs.Kinds.{kindNumber}
+use Rattle.message.specs.Storable.{kindIn, labelIn}
+use Rattle.message.specs.Submission.{submissionOf}
 use Rattle.protocol.specs.declared.LabelEffect.{LabelEffect}
 use Rattle.protocol.specs.Accepting.{acceptedAs}
-use Rattle.protocol.specs.Submit.{acceptedLabels}
-use Rattle.protocol.specs.Labels.{effectLabels}
-use Rattle.message.specs.Storable.{kindIn, labelIn}
-use Rattle.protocol.specs.State.{noTable}
 use Rattle.protocol.specs.Acked.{releasedKind, releasedLabels}
+use Rattle.protocol.specs.Labels.{effectLabels}
+use Rattle.protocol.specs.State.{noTable}
+use Rattle.protocol.specs.Submit.{acceptedLabels}
 
 -- ---- a message is accepted
 module _ (P : List ℕ → Type 0) (words : List ℕ) (here : P words) (each : (message : LabelMessage) (label : ℕ) → P (step words (Offered message label))) where

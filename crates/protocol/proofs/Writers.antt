@@ -1,21 +1,20 @@
 -- What Open and KeepAlive answer: they write where they may and have room, or change nothing. Assumes nothing.
-use mathlib.Core.Path.{_≡_, refl, sym}
+use Prim.Native.Nat.{ℕ}
 use mathlib.Core.Bool.{Bool, false, not, true, true≢false}
 use mathlib.Core.List.{List}
 use mathlib.Core.Logic.{inl, inr, _⊎_}
-use Prim.Native.Nat.{ℕ}
+use mathlib.Core.Path.{_≡_, refl, sym}
 use Rattle.octets.specs.Pick.{pick}
 use Rattle.octets.proofs.Choice.{by-test}
-use Rattle.protocol.specs.declared.Answer
 use Rattle.protocol.specs.declared.Answer.{Answer}
 use Rattle.protocol.specs.declared.Phase.{Phase}
+use Rattle.protocol.specs.Answers.{isDone}
 use Rattle.protocol.specs.State.{State}
 use Rattle.protocol.specs.Step.{Step, admitted, roomFor, stepped}
-use Rattle.protocol.specs.Answers.{isDone}
 use Rattle.protocol.specs.Writer.{writer}
 use Rattle.protocol.proofs.Quiet.{Quiet, refused-quiet}
-use Rattle.protocol.proofs.Settling.{admitted-done, settle-does}
 use Rattle.protocol.proofs.Refusals.{may-harmless, room-harmless}
+use Rattle.protocol.proofs.Settling.{admitted-done, settle-does}
 
 may-done : (b : Bool) (a : Answer) → isDone (pick (not b) Answer.WrongPhase a) ≡ true → b ≡ true
 may-done true a t = refl

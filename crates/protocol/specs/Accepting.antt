@@ -2,14 +2,11 @@
 use Prim.Native.Nat.{ℕ}
 use mathlib.Core.Bool.{Bool, false}
 use mathlib.Core.List.{List}
-use Rattle.message.specs.Kinds.{kindNumber}
-use Rattle.message.specs.declared.Kind.{Kind}
 use Rattle.label_list.specs.declared.LabelMessage.{LabelMessage}
-use Rattle.label_events.specs.Accept.{acceptedOf}
 use Rattle.label_events.specs.declared.Acceptance.{Acceptance}
-use Rattle.message.specs.declared.Kind
-use Rattle.label_list.specs.declared.LabelMessage
-use Rattle.label_events.specs.declared.Acceptance
+use Rattle.label_events.specs.Accept.{acceptedOf}
+use Rattle.message.specs.declared.Kind.{Kind}
+use Rattle.message.specs.Kinds.{kindNumber}
 use Rattle.protocol.specs.Held.{isHeld}
 
 -- "6: .. or same label's Withdraw/Release of that kind still held"; nothing held bars a Mapping, nor what names no label

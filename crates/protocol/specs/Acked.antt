@@ -1,20 +1,17 @@
 -- What an acknowledgement makes of the state: "it releases every message through it".
 use Prim.Native.Nat.{ℕ}
-use lib.ListN.{take, drop}
-use Rattle.tlv.specs.declared.FtField.{FtField}
 use mathlib.Core.List.{List, [], _∷_}
 use lib.Dec.{eqb}
+use lib.ListN.{take, drop}
 use Rattle.octets.specs.Pick.{pick}
-use Rattle.message.specs.Kinds.{kindNumber}
-use Rattle.message.specs.Submission.{submissionOf}
-use Rattle.message.specs.declared.Kind.{Kind}
 use Rattle.label_list.specs.declared.LabelMessage.{LabelMessage}
 use Rattle.label_events.specs.Ack.{ackedOf}
-use Rattle.tlv.specs.declared.FtField
-use Rattle.message.specs.declared.Kind
-use Rattle.label_list.specs.declared.LabelMessage
-use Rattle.protocol.specs.State.{State, withQueue, withReleased, withTable}
+use Rattle.tlv.specs.declared.FtField.{FtField}
+use Rattle.message.specs.declared.Kind.{Kind}
+use Rattle.message.specs.Kinds.{kindNumber}
 use Rattle.message.specs.Storable.{kindIn, labelIn}
+use Rattle.message.specs.Submission.{submissionOf}
+use Rattle.protocol.specs.State.{State, withQueue, withReleased, withTable}
 
 -- the label words after a held message of that kind and label was released:
 -- "Released by ACK: Withdraw 2 becomes free; Release 5 becomes free; other codes stay."

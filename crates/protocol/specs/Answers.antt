@@ -1,11 +1,9 @@
 -- 01, "What each answer does": the number of each answer, its values, and what it leaves.
 use Prim.Native.Nat.{ℕ}
+use mathlib.Core.Bool.{Bool}
 use lib.Dec.{eqb, ltb}
 use Rattle.octets.specs.Pick.{pick}
-use mathlib.Core.Bool.{Bool}
-use Rattle.protocol.specs.declared.Answer
 use Rattle.protocol.specs.declared.Answer.{Answer}
-use Rattle.protocol.specs.declared.Effect
 use Rattle.protocol.specs.declared.Effect.{Effect}
 
 -- the number in the table

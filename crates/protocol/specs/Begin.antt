@@ -1,5 +1,4 @@
 -- Format and Restore: a session begins with a new image, or with a stored one. Neither is given a phase.
-use Rattle.protocol.specs.declared.Answer
 use Rattle.protocol.specs.declared.Answer.{Answer}
 use Rattle.protocol.specs.State.{State}
 use Rattle.protocol.specs.Step.{Step, failedWith, releasedWith}

@@ -6,17 +6,17 @@ use Rattle.ft_number.specs.declared.MessageId.{MessageId}
 use Rattle.ft_number.specs.declared.Proposal.{Proposal}
 use Rattle.message_writer.specs.declared.OwnParameters.{OwnParameters}
 use Rattle.protocol.specs.declared.Phase.{Phase}
-use Rattle.protocol.specs.State.{State}
-use Rattle.protocol.specs.Step.{Step}
 use Rattle.protocol.specs.Begin.{format, restore}
-use Rattle.protocol.specs.Submit.{submit}
-use Rattle.protocol.specs.Send.{sendNext}
-use Rattle.protocol.specs.Init.{initReceived}
-use Rattle.protocol.specs.Receive.{receive}
 use Rattle.protocol.specs.ConnectionFailed.{connectionFailed}
-use Rattle.protocol.specs.TimePassed.{timePassed}
+use Rattle.protocol.specs.Init.{initReceived}
 use Rattle.protocol.specs.KeepAlive.{keepalive}
 use Rattle.protocol.specs.Open.{openSession}
+use Rattle.protocol.specs.Receive.{receive}
+use Rattle.protocol.specs.Send.{sendNext}
+use Rattle.protocol.specs.State.{State}
+use Rattle.protocol.specs.Step.{Step}
+use Rattle.protocol.specs.Submit.{submit}
+use Rattle.protocol.specs.TimePassed.{timePassed}
 
 -- a call and what its owner gives it beside the room for its output
 pub data Call : Type 0 where

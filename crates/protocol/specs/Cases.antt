@@ -1,30 +1,24 @@
 -- A received message case by case: the phase, what was read, and the answer. `cases` in proofs/Cases.antt says that the judgement is this list.
 -- 01: "Receive: 12, 1, 22, 36, 31, 30, 34, 33, 32, 20, 21; 33 and later judge labels as the ACK leaves them."
 use Prim.Native.Nat.{ℕ}
-use mathlib.Core.Path.{_≡_}
 use mathlib.Core.Bool.{Bool, true, false}
 use mathlib.Core.List.{List}
+use mathlib.Core.Path.{_≡_}
 use lib.ListN.{take}
-use Rattle.ft_number.specs.declared.Ack
 use Rattle.ft_number.specs.declared.Ack.{Ack}
-use Rattle.message.specs.Submission.{bearsFt}
-use Rattle.message.specs.declared.Message.{Message}
-use Rattle.message.specs.declared.Reading
-use Rattle.message.specs.declared.Reading.{Reading}
-use Rattle.label_list.specs.declared.Protection
 use Rattle.label_list.specs.declared.Protection.{Protection}
-use Rattle.label_events.specs.declared.Reception
 use Rattle.label_events.specs.declared.Reception.{Reception}
-use Rattle.protocol.specs.declared.Answer
+use Rattle.message.specs.declared.Message.{Message}
+use Rattle.message.specs.declared.Reading.{Reading}
+use Rattle.message.specs.Submission.{bearsFt}
 use Rattle.protocol.specs.declared.Answer.{Answer}
-use Rattle.protocol.specs.declared.Phase
 use Rattle.protocol.specs.declared.Phase.{Phase}
-use Rattle.protocol.specs.Labels.{labelEffect, isProtected, protectionRule, effectReception}
-use Rattle.protocol.specs.Received.{isInit}
-use Rattle.protocol.specs.Acked.{releasedLabels}
 use Rattle.protocol.specs.declared.Progress.{Progress}
-use Rattle.protocol.specs.State.{State}
+use Rattle.protocol.specs.Acked.{releasedLabels}
+use Rattle.protocol.specs.Labels.{labelEffect, isProtected, protectionRule, effectReception}
 use Rattle.protocol.specs.Receive.{ackOn, isFatal, isZero, inTurn}
+use Rattle.protocol.specs.Received.{isInit}
+use Rattle.protocol.specs.State.{State}
 
 -- the phases in which messages are received
 abbrev pub mayReceive : Phase → Bool

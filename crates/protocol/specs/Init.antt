@@ -7,31 +7,23 @@ use mathlib.Core.Bool.{Bool, true, false, not}
 use mathlib.Core.List.{List, []}
 use lib.Dec.{eqb}
 use Rattle.octets.specs.Pick.{pick, both}
+use Rattle.ft_number.specs.declared.Ack.{Ack}
 use Rattle.ft_number.specs.Ack.{ackOf}
+use Rattle.ft_number.specs.Timeout.{lesserOf}
 use Rattle.tlv.specs.declared.FtField.{FtField}
 use Rattle.tlv.specs.declared.Parameters.{Parameters}
 use Rattle.tlv.specs.declared.Session.{Session}
-use Rattle.message.specs.Reading.{readingOf}
 use Rattle.message.specs.declared.Reading.{Reading}
-use Rattle.ft_number.specs.Timeout.{lesserOf}
-use Rattle.ft_number.specs.declared.Ack.{Ack}
-use Rattle.tlv.specs.declared.FtField
-use Rattle.tlv.specs.declared.Parameters
-use Rattle.tlv.specs.declared.Session
-use Rattle.message.specs.declared.Reading
-use Rattle.ft_number.specs.declared.Ack
-use Rattle.protocol.specs.declared.Answer
+use Rattle.message.specs.Reading.{readingOf}
 use Rattle.protocol.specs.declared.Answer.{Answer}
-use Rattle.protocol.specs.declared.Phase
 use Rattle.protocol.specs.declared.Phase.{Phase}
-use Rattle.protocol.specs.declared.Start
 use Rattle.protocol.specs.declared.Start.{Start}
 use Rattle.protocol.specs.declared.Terms.{Terms}
-use Rattle.protocol.specs.State.{State, keptBy, releasedState, withTimeout}
+use Rattle.protocol.specs.Acked.{acked}
 use Rattle.protocol.specs.Phases.{upWith, awaits, proposalOf}
 use Rattle.protocol.specs.Received.{isInit}
+use Rattle.protocol.specs.State.{State, keptBy, releasedState, withTimeout}
 use Rattle.protocol.specs.Step.{Step, admitted, settle, stepped}
-use Rattle.protocol.specs.Acked.{acked}
 
 -- what both ends keep of the two Inits: the lesser timeout and the peer's two parameters
 abbrev pub termsOf : ℕ → ℕ → ℕ → ℕ → Terms

@@ -1,28 +1,21 @@
 -- The peer's Init case by case: what was read, and the start that it leads to. `start-cases` in proofs/InitCases.antt says that the judgement is this list.
 -- 01: "Init: 12, 1, 22, 23, 35, 34"; "35 and 34 arise only with both R set; FT ACK on an Init with R clear, and FT Protection on any Init, are ignored."
 use Prim.Native.Nat.{ℕ}
-use mathlib.Core.Path.{_≡_}
 use mathlib.Core.Bool.{true, false}
-use Rattle.ft_number.specs.Ack.{ackOf}
-use Rattle.ft_number.specs.declared.Ack
+use mathlib.Core.Path.{_≡_}
 use Rattle.ft_number.specs.declared.Ack.{Ack}
 use Rattle.ft_number.specs.declared.FtNumber.{FtNumber}
-use Rattle.tlv.specs.declared.FtField
+use Rattle.ft_number.specs.Ack.{ackOf}
 use Rattle.tlv.specs.declared.FtField.{FtField}
-use Rattle.tlv.specs.declared.Parameters
 use Rattle.tlv.specs.declared.Parameters.{Parameters}
-use Rattle.tlv.specs.declared.Session
 use Rattle.tlv.specs.declared.Session.{Session}
 use Rattle.message.specs.declared.Message.{Message}
-use Rattle.message.specs.declared.Reading
 use Rattle.message.specs.declared.Reading.{Reading}
-use Rattle.protocol.specs.declared.Answer
 use Rattle.protocol.specs.declared.Answer.{Answer}
-use Rattle.protocol.specs.declared.Start
 use Rattle.protocol.specs.declared.Start.{Start}
-use Rattle.protocol.specs.State.{State}
-use Rattle.protocol.specs.Received.{isInit}
 use Rattle.protocol.specs.Init.{termsOf}
+use Rattle.protocol.specs.Received.{isInit}
+use Rattle.protocol.specs.State.{State}
 
 -- an Init with its KeepAlive time and its maximum PDU length
 pub record InitWith (g : Message) (ka mp : ℕ) : Type 0 where

@@ -5,21 +5,20 @@ use mathlib.Core.List.{[]}
 use Rattle.octets.specs.Pick.{pick}
 use Rattle.ft_number.specs.Timeout.{proposedOf}
 use Rattle.message.specs.Reading.{readingOf}
-use Rattle.protocol.specs.declared.Answer
 use Rattle.protocol.specs.declared.Answer.{Answer}
 use Rattle.protocol.specs.declared.Phase.{Phase}
-use Rattle.protocol.specs.State.{State}
-use Rattle.protocol.specs.Phases.{upWith, waitingFor, sentOf, mayOpen, awaits, connected, waiting, isUp}
-use Rattle.protocol.specs.Step.{Step, stepped, unchanged, failedWith, releasedWith, admitted, roomFor}
 use Rattle.protocol.specs.Begin.{format, restore}
-use Rattle.protocol.specs.Open.{openBytes}
-use Rattle.protocol.specs.Init.{initStart, startAnswer, startState, startPhase}
-use Rattle.protocol.specs.TimePassed.{expired}
-use Rattle.protocol.specs.Submit.{submitRule, submitted}
-use Rattle.protocol.specs.Send.{sendBytes, sendRule, sentState}
-use Rattle.protocol.specs.KeepAlive.{aliveBytes}
-use Rattle.protocol.specs.Receive.{receiveRule, takenAs}
 use Rattle.protocol.specs.Calls.{Call, formats, restores, fails, opens, greets, passes, submits, sends, keeps-alive, receives}
+use Rattle.protocol.specs.Init.{initStart, startAnswer, startState, startPhase}
+use Rattle.protocol.specs.KeepAlive.{aliveBytes}
+use Rattle.protocol.specs.Open.{openBytes}
+use Rattle.protocol.specs.Phases.{upWith, waitingFor, sentOf, mayOpen, awaits, connected, waiting, isUp}
+use Rattle.protocol.specs.Receive.{receiveRule, takenAs}
+use Rattle.protocol.specs.Send.{sendBytes, sendRule, sentState}
+use Rattle.protocol.specs.State.{State}
+use Rattle.protocol.specs.Step.{Step, stepped, unchanged, failedWith, releasedWith, admitted, roomFor}
+use Rattle.protocol.specs.Submit.{submitRule, submitted}
+use Rattle.protocol.specs.TimePassed.{expired}
 
 -- what its tests answer; Format and Restore have none here, since theirs are of the image
 unfoldable pub judged : Call → State → Phase → ℕ → Answer

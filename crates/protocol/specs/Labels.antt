@@ -1,33 +1,22 @@
 -- What a received message does to the labels, and whether it is protected as they demand.
+use Prim.Native.Nat.{ℕ}
 use mathlib.Core.Bool.{Bool, true, false, not}
 use mathlib.Core.List.{List}
-use Prim.Native.Nat.{ℕ}
 use Rattle.octets.specs.Pick.{pick, both}
-use Rattle.message.specs.Kinds.{kindOf}
+use Rattle.label_list.specs.declared.Found.{Found}
+use Rattle.label_list.specs.declared.LabelMessage.{LabelMessage}
+use Rattle.label_list.specs.declared.Protection.{Protection}
+use Rattle.label_events.specs.declared.Reception.{Reception}
+use Rattle.label_events.specs.declared.Touched.{Touched}
+use Rattle.label_events.specs.Protect.{protectionOf}
+use Rattle.label_events.specs.Receive.{receivedPlace, receivedOf}
 use Rattle.tlv.specs.declared.Fec.{Fec}
 use Rattle.tlv.specs.declared.Field.{Field}
 use Rattle.tlv.specs.declared.FtField.{FtField}
 use Rattle.message.specs.declared.Kind.{Kind}
 use Rattle.message.specs.declared.Message.{Message}
 use Rattle.message.specs.declared.MessageType.{MessageType}
-use Rattle.label_list.specs.declared.LabelMessage.{LabelMessage}
-use Rattle.label_events.specs.Protect.{protectionOf}
-use Rattle.label_events.specs.Receive.{receivedPlace, receivedOf}
-use Rattle.label_list.specs.declared.Found.{Found}
-use Rattle.label_list.specs.declared.Protection.{Protection}
-use Rattle.label_events.specs.declared.Reception.{Reception}
-use Rattle.label_events.specs.declared.Touched.{Touched}
-use Rattle.tlv.specs.declared.Fec
-use Rattle.tlv.specs.declared.Field
-use Rattle.tlv.specs.declared.FtField
-use Rattle.message.specs.declared.Kind
-use Rattle.message.specs.declared.MessageType
-use Rattle.label_list.specs.declared.LabelMessage
-use Rattle.label_list.specs.declared.Found
-use Rattle.label_list.specs.declared.Protection
-use Rattle.label_events.specs.declared.Reception
-use Rattle.label_events.specs.declared.Touched
-use Rattle.protocol.specs.declared.LabelEffect
+use Rattle.message.specs.Kinds.{kindOf}
 use Rattle.protocol.specs.declared.LabelEffect.{LabelEffect}
 
 -- 01: "With no Label TLV, Withdraw or Release of the wildcard FEC (one element of type 1) acts on every label; of another FEC it is accepted and changes no label here."

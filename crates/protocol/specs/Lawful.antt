@@ -1,15 +1,15 @@
 -- A state that an image can hold, clause by clause: restore's "Fields: the ranges above; R to I no longer than held, and I not zero unless R is; label words by
 -- the rules below; a slot's message passes Submit's 4 and 5". Every call keeps it.
 use Prim.Native.Nat.{ℕ, _<_, _≤_}
-use mathlib.Core.Path.{_≡_}
 use mathlib.Core.Bool.{true, false}
 use mathlib.Core.List.{[]}
+use mathlib.Core.Path.{_≡_}
 use lib.ListN.{length, getD}
-use Rattle.ft_number.specs.Circle.{stepsOf}
 use Rattle.ft_number.specs.declared.Steps.the-variants.{Count}
-use Rattle.message.specs.Storable.{Storable}
-use Rattle.label_list.specs.Word.{wordCount}
+use Rattle.ft_number.specs.Circle.{stepsOf}
 use Rattle.label_list.specs.Valid.{validOf}
+use Rattle.label_list.specs.Word.{wordCount}
+use Rattle.message.specs.Storable.{Storable}
 use Rattle.protocol.specs.declared.Terms.{Terms}
 use Rattle.protocol.specs.State.{State, capacity, held, releasedState}
 

@@ -1,14 +1,12 @@
 -- What it is that a message of some kind and label is held: 01's "same label's Withdraw/Release of that kind still held".
 use Prim.Native.Nat.{ℕ, _<_}
-use mathlib.Core.Path.{_≡_}
 use mathlib.Core.List.{List, []}
+use mathlib.Core.Path.{_≡_}
 use lib.ListN.{length, getD}
+use Rattle.message.specs.declared.Kind.{Kind}
+use Rattle.message.specs.declared.Submission.{Submission}
 use Rattle.message.specs.Kinds.{kindNumber}
 use Rattle.message.specs.Submission.{submissionOf}
-use Rattle.message.specs.declared.Kind
-use Rattle.message.specs.declared.Kind.{Kind}
-use Rattle.message.specs.declared.Submission
-use Rattle.message.specs.declared.Submission.{Submission}
 
 -- at some place of the queue stands a message that was accepted with that kind's number and that label
 pub record HeldSomewhere (queue : List (List ℕ)) (kind label : ℕ) : Type 0 where

@@ -1,27 +1,22 @@
 -- What the theorems on the peer's Init say.
 use Prim.Native.Nat.{ℕ}
-use mathlib.Core.Path.{_≡_}
 use mathlib.Core.Bool.{Bool, true}
 use mathlib.Core.List.{[]}
+use mathlib.Core.Path.{_≡_}
 use lib.ListN.{take, drop}
 use Rattle.ft_number.specs.Timeout.{lesserOf}
-use Rattle.tlv.specs.declared.Parameters
 use Rattle.tlv.specs.declared.Parameters.{Parameters}
-use Rattle.tlv.specs.declared.Session
 use Rattle.tlv.specs.declared.Session.{Session}
 use Rattle.message.specs.declared.Message.{Message}
-use Rattle.message.specs.declared.Reading
 use Rattle.message.specs.declared.Reading.{Reading}
-use Rattle.protocol.specs.declared.Answer
 use Rattle.protocol.specs.declared.Answer.{Answer}
 use Rattle.protocol.specs.declared.Phase.{Phase}
-use Rattle.protocol.specs.declared.Start
 use Rattle.protocol.specs.declared.Start.{Start}
 use Rattle.protocol.specs.declared.Terms.{Terms}
-use Rattle.protocol.specs.State.{State}
-use Rattle.protocol.specs.Step.{Step}
 use Rattle.protocol.specs.Acked.{releasedLabels}
 use Rattle.protocol.specs.Init.{startState, startPhase}
+use Rattle.protocol.specs.State.{State}
+use Rattle.protocol.specs.Step.{Step}
 
 -- R is set on both sides: the state is kept, and the peer's FT Session says so
 pub record BothR (s : State) (rd : Reading) : Type 0 where

@@ -1,28 +1,21 @@
 -- Which labels a received message touches, and when its protection is missing or wrong, clause by clause.
 use Prim.Native.Nat.{ℕ}
-use mathlib.Core.Path.{_≡_}
 use mathlib.Core.Bool.{true}
 use mathlib.Core.List.{List}
+use mathlib.Core.Path.{_≡_}
 use Rattle.ft_number.specs.declared.FtNumber.{FtNumber}
-use Rattle.tlv.specs.declared.Fec
+use Rattle.label_list.specs.declared.LabelMessage.{LabelMessage}
+use Rattle.label_list.specs.declared.Side.{Side}
+use Rattle.label_list.specs.Protection.{needsProtection}
+use Rattle.label_list.specs.Rules.{receivedSide}
+use Rattle.label_events.specs.Change.{codeAt}
 use Rattle.tlv.specs.declared.Fec.{Fec}
-use Rattle.tlv.specs.declared.Field
 use Rattle.tlv.specs.declared.Field.{Field}
-use Rattle.tlv.specs.declared.FtField
 use Rattle.tlv.specs.declared.FtField.{FtField}
-use Rattle.message.specs.Kinds.{kindOf}
-use Rattle.message.specs.declared.Kind
 use Rattle.message.specs.declared.Kind.{Kind}
 use Rattle.message.specs.declared.Message.{Message}
-use Rattle.message.specs.declared.MessageType
 use Rattle.message.specs.declared.MessageType.{MessageType}
-use Rattle.label_list.specs.Rules.{receivedSide}
-use Rattle.label_list.specs.Protection.{needsProtection}
-use Rattle.label_list.specs.declared.LabelMessage
-use Rattle.label_list.specs.declared.LabelMessage.{LabelMessage}
-use Rattle.label_list.specs.declared.Side
-use Rattle.label_list.specs.declared.Side.{Side}
-use Rattle.label_events.specs.Change.{codeAt}
+use Rattle.message.specs.Kinds.{kindOf}
 
 -- the three types that touch labels
 pub data LabelType : MessageType → LabelMessage → Type 0 where

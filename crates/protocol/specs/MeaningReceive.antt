@@ -1,22 +1,20 @@
 -- What a received message means for the state, clause by clause.
 use Prim.Native.Nat.{ℕ, _-_}
-use mathlib.Core.Path.{_≡_}
 use mathlib.Core.List.{[]}
+use mathlib.Core.Path.{_≡_}
 use lib.ListN.{drop}
-use Rattle.ft_number.specs.Circle.{next}
 use Rattle.ft_number.specs.declared.FtNumber.{FtNumber}
-use Rattle.tlv.specs.declared.FtField
+use Rattle.ft_number.specs.Circle.{next}
 use Rattle.tlv.specs.declared.FtField.{FtField}
 use Rattle.message.specs.declared.Message.{Message}
-use Rattle.protocol.specs.declared.Answer
 use Rattle.protocol.specs.declared.Answer.{Answer}
-use Rattle.protocol.specs.State.{State, held}
-use Rattle.protocol.specs.Phases.{upWith}
-use Rattle.protocol.specs.Step.{Step}
 use Rattle.protocol.specs.Acked.{ackBorne}
-use Rattle.protocol.specs.Labels.{labelEffect, isProtected, effectLabels}
-use Rattle.protocol.specs.Receive.{securedBy, receivedState}
 use Rattle.protocol.specs.Cases.{wordsAfter}
+use Rattle.protocol.specs.Labels.{labelEffect, isProtected, effectLabels}
+use Rattle.protocol.specs.Phases.{upWith}
+use Rattle.protocol.specs.Receive.{securedBy, receivedState}
+use Rattle.protocol.specs.State.{State, held}
+use Rattle.protocol.specs.Step.{Step}
 
 -- a message taken in UpFT, whose ACK releases the oldest k held: "An ACK lowers that count by the messages it releases, not below 0."
 pub record ReceivedFrom (s : State) (sent : ℕ) (g : Message) (k : ℕ) (x : Step) : Type 0 where

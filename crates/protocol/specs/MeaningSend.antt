@@ -1,18 +1,16 @@
 -- What a message sent means for the state, clause by clause.
 use Prim.Native.Nat.{ℕ, _+_, _≤_, _<_}
-use mathlib.Core.Path.{_≡_}
 use mathlib.Core.Bool.{Bool}
+use mathlib.Core.Path.{_≡_}
 use Rattle.octets.specs.Pick.{pick}
 use Rattle.ft_number.specs.Circle.{next}
-use Rattle.tlv.specs.declared.FtField
 use Rattle.tlv.specs.declared.FtField.{FtField}
 use Rattle.message_writer.specs.Forms.{protectedBytes}
-use Rattle.protocol.specs.declared.Answer
 use Rattle.protocol.specs.declared.Answer.{Answer}
-use Rattle.protocol.specs.State.{State}
 use Rattle.protocol.specs.Phases.{issuedCount, upWith}
-use Rattle.protocol.specs.Step.{Step}
 use Rattle.protocol.specs.Send.{nextMessage, numberAt, sentState}
+use Rattle.protocol.specs.State.{State}
+use Rattle.protocol.specs.Step.{Step}
 
 -- "gives the oldest not sent on this connection .. and adds at its end FT Protection, then FT ACK if asked, raising its length"
 pub record SentFrom (s : State) (sent : ℕ) (ask : Bool) (x : Step) : Type 0 where

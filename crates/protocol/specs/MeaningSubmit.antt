@@ -1,17 +1,16 @@
 -- What a message queued means for the state, clause by clause: "Submit is open while kept is 1 and queues the message."
 use Prim.Native.Nat.{ℕ, _+_, _≤_, _<_}
-use mathlib.Core.Path.{_≡_}
 use mathlib.Core.List.{List, []}
+use mathlib.Core.Path.{_≡_}
 use lib.ListN.{getD}
-use Rattle.message.specs.Submission.{submissionOf}
 use Rattle.message.specs.declared.Kind.{Kind}
-use Rattle.message.specs.declared.Submission
 use Rattle.message.specs.declared.Submission.{Submission}
+use Rattle.message.specs.Submission.{submissionOf}
 use Rattle.protocol.specs.declared.Phase.{Phase}
-use Rattle.protocol.specs.State.{State, held}
-use Rattle.protocol.specs.Phases.{issuedCount}
-use Rattle.protocol.specs.Step.{Step}
 use Rattle.protocol.specs.Accepting.{acceptedAs}
+use Rattle.protocol.specs.Phases.{issuedCount}
+use Rattle.protocol.specs.State.{State, held}
+use Rattle.protocol.specs.Step.{Step}
 
 pub record QueuedFrom (s : State) (ph : Phase) (m : List ℕ) (x : Step) : Type 0 where
   pub phase : x .phase ≡ ph

@@ -2,20 +2,18 @@
 use Prim.Native.Nat.{ℕ, _<_, _^_}
 use mathlib.Core.Path.{_≡_}
 use lib.ListN.{length}
-use Rattle.ft_number.specs.Timeout.{proposedOf}
 use Rattle.ft_number.specs.declared.MessageId.{MessageId}
 use Rattle.ft_number.specs.declared.Proposal.{Proposal}
+use Rattle.ft_number.specs.Timeout.{proposedOf}
 use Rattle.tlv.specs.declared.FtField.{FtField}
-use Rattle.message.specs.Reading.{readingOf}
-use Rattle.message.specs.declared.Reading
 use Rattle.message.specs.declared.Reading.{Reading}
-use Rattle.message_writer.specs.ReadBack.{AckFits, InitFits, initMessage, keepaliveMessage}
+use Rattle.message.specs.Reading.{readingOf}
 use Rattle.message_writer.specs.declared.OwnParameters.{OwnParameters}
-use Rattle.protocol.specs.declared.Answer
+use Rattle.message_writer.specs.ReadBack.{AckFits, InitFits, initMessage, keepaliveMessage}
 use Rattle.protocol.specs.declared.Answer.{Answer}
 use Rattle.protocol.specs.declared.Phase.{Phase}
-use Rattle.protocol.specs.State.{State}
 use Rattle.protocol.specs.Phases.{waitingFor}
+use Rattle.protocol.specs.State.{State}
 use Rattle.protocol.specs.Step.{Step}
 
 -- "writes Init, R = kept, ACK = S": R is set exactly where the Init bears an ACK

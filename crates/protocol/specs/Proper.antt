@@ -2,8 +2,8 @@
 use Prim.Native.Nat.{_<_}
 use Rattle.octets.specs.Bytes.{Bytes}
 use Rattle.protocol.specs.declared.Phase.{Phase}
-use Rattle.protocol.specs.Phases.{proposalOf}
 use Rattle.protocol.specs.Calls.{Call, formats, restores, fails, opens, greets, passes, submits, sends, keeps-alive, receives}
+use Rattle.protocol.specs.Phases.{proposalOf}
 
 abbrev pub Proper : Call → Phase → Type 0
 Proper formats ph = Unit {0}

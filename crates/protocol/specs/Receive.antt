@@ -1,39 +1,31 @@
 -- Receive: the answer to a message in 01's order, 1, 22, 36, 31, 30, 34, 33, 32, 20, 21, and what it makes of the state.
 -- 01: "Receive (UpFT): the ACK acts first, then the message; a protected one must bear the successor of S, and S moves to it. In UpPlain messages are passed on."
 use Prim.Native.Nat.{ℕ, _-_}
-use mathlib.Core.List.{List, []}
-use Rattle.octets.specs.Pick.{pick}
-use Rattle.ft_number.specs.Ack.{ackOf}
-use Rattle.ft_number.specs.declared.Ack.{Ack}
-use Rattle.message.specs.Reading.{readingOf}
-use Rattle.message.specs.declared.Message.{Message}
-use Rattle.message.specs.declared.Reading.{Reading}
 use mathlib.Core.Bool.{Bool, true, false, not}
+use mathlib.Core.List.{List, []}
 use lib.Dec.{eqb}
-use Rattle.ft_number.specs.Circle.{next}
+use Rattle.octets.specs.Pick.{pick}
+use Rattle.ft_number.specs.declared.Ack.{Ack}
 use Rattle.ft_number.specs.declared.FtNumber.{FtNumber}
-use Rattle.message.specs.Kinds.{fatalOf}
-use Rattle.message.specs.Submission.{bearsFt}
-use Rattle.tlv.specs.declared.Field.{Field}
-use Rattle.tlv.specs.declared.FtField.{FtField}
+use Rattle.ft_number.specs.Ack.{ackOf}
+use Rattle.ft_number.specs.Circle.{next}
 use Rattle.label_list.specs.declared.Protection.{Protection}
 use Rattle.label_events.specs.declared.Reception.{Reception}
-use Rattle.ft_number.specs.declared.Ack
-use Rattle.message.specs.declared.Reading
-use Rattle.tlv.specs.declared.Field
-use Rattle.tlv.specs.declared.FtField
-use Rattle.label_list.specs.declared.Protection
-use Rattle.label_events.specs.declared.Reception
-use Rattle.protocol.specs.declared.Answer
+use Rattle.tlv.specs.declared.Field.{Field}
+use Rattle.tlv.specs.declared.FtField.{FtField}
+use Rattle.message.specs.declared.Message.{Message}
+use Rattle.message.specs.declared.Reading.{Reading}
+use Rattle.message.specs.Kinds.{fatalOf}
+use Rattle.message.specs.Reading.{readingOf}
+use Rattle.message.specs.Submission.{bearsFt}
 use Rattle.protocol.specs.declared.Answer.{Answer}
-use Rattle.protocol.specs.declared.Phase
 use Rattle.protocol.specs.declared.Phase.{Phase}
-use Rattle.protocol.specs.Phases.{upWith}
-use Rattle.protocol.specs.State.{State, withSecured, withTable}
-use Rattle.protocol.specs.Received.{isInit}
-use Rattle.protocol.specs.Step.{Step, admitted, settle, stepped, unchanged}
 use Rattle.protocol.specs.Acked.{ackBorne, acked}
 use Rattle.protocol.specs.Labels.{effectLabels, effectReception, isProtected, labelEffect, protectionRule}
+use Rattle.protocol.specs.Phases.{upWith}
+use Rattle.protocol.specs.Received.{isInit}
+use Rattle.protocol.specs.State.{State, withSecured, withTable}
+use Rattle.protocol.specs.Step.{Step, admitted, settle, stepped, unchanged}
 
 -- "36: Status with E set"
 abbrev pub isFatal : Field → Bool

@@ -1,7 +1,6 @@
 -- What every received message is asked first.
 use mathlib.Core.Bool.{Bool, true, false}
 use Rattle.message.specs.declared.MessageType.{MessageType}
-use Rattle.message.specs.declared.MessageType
 
 abbrev pub isInit : MessageType → Bool
 isInit MessageType.Notification = false

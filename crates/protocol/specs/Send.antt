@@ -6,17 +6,14 @@ use mathlib.Core.List.{List, []}
 use lib.Dec.{leb, ltb}
 use lib.ListN.{getD}
 use Rattle.octets.specs.Pick.{pick}
-use Rattle.ft_number.specs.Circle.{after as successors}
 use Rattle.ft_number.specs.declared.FtNumber.{FtNumber}
+use Rattle.ft_number.specs.Circle.{after as successors}
 use Rattle.tlv.specs.declared.FtField.{FtField}
 use Rattle.message_writer.specs.Forms.{protectedBytes}
-use Rattle.tlv.specs.declared.FtField
-use Rattle.protocol.specs.declared.Answer
 use Rattle.protocol.specs.declared.Answer.{Answer}
-use Rattle.protocol.specs.declared.Phase
 use Rattle.protocol.specs.declared.Phase.{Phase}
-use Rattle.protocol.specs.State.{State, held, withIssued}
 use Rattle.protocol.specs.Phases.{upWith, isUpFT, issuedCount, sentOf}
+use Rattle.protocol.specs.State.{State, held, withIssued}
 use Rattle.protocol.specs.Step.{Step, admitted, roomFor, settle, stepped}
 
 -- the oldest message not sent on this connection

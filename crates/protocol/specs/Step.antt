@@ -5,17 +5,14 @@ use mathlib.Core.List.{List, []}
 use lib.Dec.{ltb}
 use lib.ListN.{length}
 use Rattle.octets.specs.Pick.{pick}
-use Rattle.label_list.specs.Sweep.{sweptOf}
 use Rattle.label_list.specs.declared.SweepRule.the-variants.{AfterBreak}
-use Rattle.protocol.specs.declared.Answer
+use Rattle.label_list.specs.Sweep.{sweptOf}
 use Rattle.protocol.specs.declared.Answer.{Answer}
-use Rattle.protocol.specs.declared.Effect
 use Rattle.protocol.specs.declared.Effect.{Effect}
-use Rattle.protocol.specs.declared.Phase
 use Rattle.protocol.specs.declared.Phase.{Phase}
-use Rattle.protocol.specs.State.{State, releasedState, withTable}
 use Rattle.protocol.specs.Answers.{effectOf}
 use Rattle.protocol.specs.Phases.{phaseFits, restingPhase}
+use Rattle.protocol.specs.State.{State, releasedState, withTable}
 
 -- a call that writes nothing has the empty list as its output
 pub record Step : Type 0 where

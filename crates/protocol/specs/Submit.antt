@@ -5,19 +5,16 @@ use mathlib.Core.List.{List, [], _∷_, _++_}
 use lib.Dec.{leb, ltb}
 use lib.ListN.{length}
 use Rattle.octets.specs.Pick.{pick}
-use Rattle.message.specs.Submission.{submissionOf}
+use Rattle.label_events.specs.declared.Acceptance.{Acceptance}
 use Rattle.message.specs.declared.Kind.{Kind}
 use Rattle.message.specs.declared.Submission.{Submission}
-use Rattle.label_events.specs.declared.Acceptance.{Acceptance}
-use Rattle.message.specs.declared.Submission
-use Rattle.label_events.specs.declared.Acceptance
-use Rattle.protocol.specs.declared.Answer
+use Rattle.message.specs.Storable.{longest, shortest}
+use Rattle.message.specs.Submission.{submissionOf}
 use Rattle.protocol.specs.declared.Answer.{Answer}
 use Rattle.protocol.specs.declared.Phase.{Phase}
-use Rattle.protocol.specs.State.{State, Table, capacity, held, withQueue, withTable}
-use Rattle.message.specs.Storable.{longest, shortest}
-use Rattle.protocol.specs.Step.{Step, admitted, settle, stepped}
 use Rattle.protocol.specs.Accepting.{acceptedAs, isBarred}
+use Rattle.protocol.specs.State.{State, Table, capacity, held, withQueue, withTable}
+use Rattle.protocol.specs.Step.{Step, admitted, settle, stepped}
 
 -- "7: 64 held"
 abbrev pub roomRule : State → Answer

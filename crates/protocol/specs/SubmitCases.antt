@@ -1,23 +1,20 @@
 -- A submission case by case: what it is, and the answer. `submit-cases` in proofs/SubmitCases.antt says that the judgement is this list.
 -- 01: "Submit: 12, 1, 3, 4, 5, 6, 13, 7."
 use Prim.Native.Nat.{ℕ, _≤_, _<_}
-use mathlib.Core.Path.{_≡_}
 use mathlib.Core.Bool.{true, false}
 use mathlib.Core.List.{List}
+use mathlib.Core.Path.{_≡_}
 use lib.ListN.{length}
-use Rattle.message.specs.Submission.{submissionOf}
-use Rattle.message.specs.Storable.{shortest, longest, Storable}
-use Rattle.message.specs.declared.Kind.{Kind}
-use Rattle.message.specs.declared.Submission
-use Rattle.message.specs.declared.Submission.{Submission}
-use Rattle.label_events.specs.declared.Acceptance
 use Rattle.label_events.specs.declared.Acceptance.{Acceptance}
-use Rattle.protocol.specs.declared.Answer
+use Rattle.message.specs.declared.Kind.{Kind}
+use Rattle.message.specs.declared.Submission.{Submission}
+use Rattle.message.specs.Storable.{shortest, longest, Storable}
+use Rattle.message.specs.Submission.{submissionOf}
 use Rattle.protocol.specs.declared.Answer.{Answer}
 use Rattle.protocol.specs.declared.Phase.{Phase}
-use Rattle.protocol.specs.State.{State, capacity, held}
-use Rattle.protocol.specs.Phases.{phaseFits}
 use Rattle.protocol.specs.Accepting.{isBarred, acceptedAs}
+use Rattle.protocol.specs.Phases.{phaseFits}
+use Rattle.protocol.specs.State.{State, capacity, held}
 
 -- 1 and 3 are passed: kept is 1, and the length lies within 8 to 480
 pub record Fitting (s : State) (m : List ℕ) : Type 0 where

@@ -3,11 +3,10 @@ use Prim.Native.Nat.{ℕ}
 use mathlib.Core.Bool.{Bool, false, not}
 use lib.Dec.{eqb, leb}
 use Rattle.octets.specs.Pick.{pick}
-use Rattle.protocol.specs.declared.Answer
 use Rattle.protocol.specs.declared.Answer.{Answer}
 use Rattle.protocol.specs.declared.Phase.{Phase}
-use Rattle.protocol.specs.State.{State}
 use Rattle.protocol.specs.Phases.{waiting}
+use Rattle.protocol.specs.State.{State}
 use Rattle.protocol.specs.Step.{Step, admitted, releasedWith, settle, unchanged}
 
 -- the agreed timeout has passed; a timeout of zero never does

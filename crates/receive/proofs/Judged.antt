@@ -1,41 +1,36 @@
 -- The answer to a message, test by test; the premises are what the functions ensure and the tests of the code. Assumes nothing.
-use mathlib.Core.Path.{_≡_, refl, sym, ap, _∙_}
+use Prim.Native.Nat.{ℕ, _≤_}
 use mathlib.Core.Bool.{Bool, true, false, not, false≢true}
 use mathlib.Core.List.{List}
-use Prim.Native.Nat.{ℕ, _≤_}
+use mathlib.Core.Path.{_≡_, refl, sym, ap, _∙_}
 use native.Mathlib.Omega.{arith}
 use lib.ListN.{take}
 use Rattle.octets.specs.Pick.{pick, both}
 use Rattle.octets.proofs.Choice.{by-test, both-true}
-use Rattle.ft_number.specs.Ack.{ackOf}
-use Rattle.ft_number.specs.declared.Ack
 use Rattle.ft_number.specs.declared.Ack.{Ack}
 use Rattle.ft_number.specs.declared.FtNumber.{FtNumber}
-use Rattle.message.specs.Kinds.{kindOf}
-use Rattle.message.specs.Submission.{bearsFt}
-use Rattle.message.specs.declared.Message.{Message}
-use Rattle.label_events.specs.declared.Reception.{Reception}
-use Rattle.label_list.specs.declared.Protection
+use Rattle.ft_number.specs.Ack.{ackOf}
 use Rattle.label_list.specs.declared.Protection.{Protection}
 use Rattle.block0.specs.declared.Header.{Header}
-use Rattle.image.specs.State.{decode}
-use Rattle.tlv.specs.declared.FtField
+use Rattle.label_events.specs.declared.Reception.{Reception}
 use Rattle.tlv.specs.declared.FtField.{FtField}
-use Rattle.calls.specs.State.{numbersOf, stateOf}
-use Rattle.protocol.specs.State.{State}
+use Rattle.message.specs.declared.Message.{Message}
+use Rattle.message.specs.Kinds.{kindOf}
+use Rattle.message.specs.Submission.{bearsFt}
+use Rattle.image.specs.State.{decode}
 use Rattle.image.specs.Verdict.{IsSound}
 use Rattle.image.proofs.Sound.{sound-valid}
-use Rattle.protocol.specs.Receive.{isFatal, messageRule, plainRule, isZero, inTurn, receptionRule, protectedRule, labelsRule, ackRule, ackOn, ftRule, ackCount, messageLabels, taken, receivedState}
-use Rattle.protocol.specs.Labels.{labelEffect, isProtected, protectionRule, effectReception, effectLabels, alwaysProtected}
-use Rattle.protocol.specs.Received.{isInit}
-use Rattle.protocol.specs.Answers.{isDone}
-use Rattle.protocol.specs.Acked.{ackBorne, releasedLabels, acked}
-use Rattle.calls.specs.Freeing.{freesNone}
-use Rattle.call_meaning.proofs.Released.{ack-held}
-use Rattle.protocol.specs.declared.Answer
 use Rattle.protocol.specs.declared.Answer.{Answer}
-use Rattle.protocol.specs.declared.LabelEffect
 use Rattle.protocol.specs.declared.LabelEffect.{LabelEffect}
+use Rattle.protocol.specs.Acked.{ackBorne, releasedLabels, acked}
+use Rattle.protocol.specs.Answers.{isDone}
+use Rattle.protocol.specs.Labels.{labelEffect, isProtected, protectionRule, effectReception, effectLabels, alwaysProtected}
+use Rattle.protocol.specs.Receive.{isFatal, messageRule, plainRule, isZero, inTurn, receptionRule, protectedRule, labelsRule, ackRule, ackOn, ftRule, ackCount, messageLabels, taken, receivedState}
+use Rattle.protocol.specs.Received.{isInit}
+use Rattle.protocol.specs.State.{State}
+use Rattle.calls.specs.Freeing.{freesNone}
+use Rattle.calls.specs.State.{numbersOf, stateOf}
+use Rattle.call_meaning.proofs.Released.{ack-held}
 use Rattle.receive.specs.Speed.{touchesNone, labelsStay}
 
 -- an answer that is not Done tells nothing of the words

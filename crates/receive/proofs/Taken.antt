@@ -1,55 +1,50 @@
 -- What a message leaves, by its answer. Assumes nothing.
-use mathlib.Core.Path.{_≡_, refl, sym, ap, _∙_}
+use Prim.Native.Nat.{ℕ, _-_, _≤_}
 use mathlib.Core.Bool.{Bool, true, false, false≢true}
 use mathlib.Core.List.{List, []}
-use Prim.Native.Nat.{ℕ, _-_, _≤_}
+use mathlib.Core.Path.{_≡_, refl, sym, ap, _∙_}
 use native.Mathlib.Omega.{arith}
 use lib.ListN.{length, take, drop, length-drop}
+use Rattle.octets.specs.Bytes.{Bytes}
 use Rattle.octets.specs.Differ.{differ}
-use Rattle.ft_number.specs.declared.Ack
-use Rattle.ft_number.specs.declared.Ack.{Ack}
-use Rattle.message.specs.Reading.{readingOf}
-use Rattle.message.specs.declared.Message.{Message}
-use Rattle.message.specs.declared.Reading
-use Rattle.message.specs.declared.Reading.{Reading}
 use Rattle.octets.proofs.Choice.{by-test, both-true}
+use Rattle.octets.proofs.Differ.{differ-self}
+use Rattle.ft_number.specs.declared.Ack.{Ack}
 use Rattle.block0.specs.declared.Header.{Header}
+use Rattle.block0.specs.Updates.{headerReleased, headerSecured}
+use Rattle.message.specs.declared.Message.{Message}
+use Rattle.message.specs.declared.Reading.{Reading}
+use Rattle.message.specs.Reading.{readingOf}
 use Rattle.image.specs.Sizes.{block, slotAt}
 use Rattle.image.specs.State.{decode, store0}
 use Rattle.image.specs.Verdict.{IsSound}
-use Rattle.protocol.specs.declared.Answer
-use Rattle.protocol.specs.declared.Answer.{Answer}
-use Rattle.calls.specs.declared.Outcome.{Outcome}
-use Rattle.protocol.specs.declared.Phase
-use Rattle.protocol.specs.declared.Phase.{Phase}
-use Rattle.protocol.specs.Phases.{upWith}
-use Rattle.protocol.proofs.Cases.{wrong-by}
-use Rattle.protocol.specs.Cases.{mayReceive}
-use Rattle.protocol.specs.Receive.{ackOn, ackCount, securedBy, taken, receivedState, takenAs, readRule, ftRule, plainRule, receiveRule, receive}
-use Rattle.protocol.specs.Labels.{labelEffect, isProtected, effectLabels}
-use Rattle.protocol.specs.State.{State}
-use Rattle.protocol.specs.Acked.{ackBorne, acked}
-use Rattle.protocol.specs.Answers.{effectOf, isDone}
-use Rattle.calls.specs.Freeing.{freesNone}
-use Rattle.calls.specs.Outcomes.{After, after, refusal, untouched, admittedOn, settleOf}
-use Rattle.calls.proofs.Ends.{settle-other}
-use Rattle.calls.proofs.Freeing.{none-freed}
-use Rattle.protocol.proofs.Effects.{done-is}
-use Rattle.call_meaning.proofs.Calling.{call-refused, call-own, own-done, own-refused}
-use Rattle.protocol.specs.declared.LabelEffect
-use Rattle.protocol.specs.declared.LabelEffect.{LabelEffect}
-use Rattle.receive.specs.Speed.{touchesNone, labelsStay}
-use Rattle.receive.specs.Call.{takenFt, receiveOf, receivedSlots, takenOn}
-use Rattle.receive.proofs.Judged.{ack-read, ack-within, borne-read}
-use Rattle.calls.specs.State.{numbersOf, stateOf}
-use Rattle.calls.specs.Storing.{fewer, headerFor, stored}
-use Rattle.block0.specs.Updates.{headerReleased, headerSecured}
 use Rattle.image.proofs.Queue.{queue-length}
 use Rattle.image.proofs.Sound.{sound-valid}
-use Rattle.calls.proofs.Putting.{kept-is, put-same}
-use Rattle.octets.proofs.Differ.{differ-self}
-use Rattle.octets.specs.Bytes.{Bytes}
+use Rattle.protocol.specs.declared.Answer.{Answer}
+use Rattle.protocol.specs.declared.LabelEffect.{LabelEffect}
+use Rattle.protocol.specs.declared.Phase.{Phase}
+use Rattle.protocol.specs.Acked.{ackBorne, acked}
+use Rattle.protocol.specs.Answers.{effectOf, isDone}
+use Rattle.protocol.specs.Cases.{mayReceive}
+use Rattle.protocol.specs.Labels.{labelEffect, isProtected, effectLabels}
+use Rattle.protocol.specs.Phases.{upWith}
+use Rattle.protocol.specs.Receive.{ackOn, ackCount, securedBy, taken, receivedState, takenAs, readRule, ftRule, plainRule, receiveRule, receive}
+use Rattle.protocol.specs.State.{State}
+use Rattle.protocol.proofs.Cases.{wrong-by}
+use Rattle.protocol.proofs.Effects.{done-is}
+use Rattle.calls.specs.declared.Outcome.{Outcome}
+use Rattle.calls.specs.Freeing.{freesNone}
+use Rattle.calls.specs.Outcomes.{After, after, refusal, untouched, admittedOn, settleOf}
+use Rattle.calls.specs.State.{numbersOf, stateOf}
+use Rattle.calls.specs.Storing.{fewer, headerFor, stored}
 use Rattle.calls.proofs.Called.{call-is}
+use Rattle.calls.proofs.Ends.{settle-other}
+use Rattle.calls.proofs.Freeing.{none-freed}
+use Rattle.calls.proofs.Putting.{kept-is, put-same}
+use Rattle.call_meaning.proofs.Calling.{call-refused, call-own, own-done, own-refused}
+use Rattle.receive.specs.Call.{takenFt, receiveOf, receivedSlots, takenOn}
+use Rattle.receive.specs.Speed.{touchesNone, labelsStay}
+use Rattle.receive.proofs.Judged.{ack-read, ack-within, borne-read}
 
 -- where the label words stay they are those that the message leaves
 stay-labels : (s : State) (g : Message) (k : ℕ) → k ≡ ackCount (ackOn s g) → labelsStay s k g ≡ true → s .table .words ≡ receivedState s g .table .words

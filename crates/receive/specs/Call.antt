@@ -1,26 +1,23 @@
 -- Receive on an image: the protocol's step, and in UpFT the ACK frees the oldest slots.
 use Prim.Native.Nat.{ℕ, _≤_}
-use mathlib.Core.Path.{_≡_}
 use mathlib.Core.Bool.{false}
 use mathlib.Core.List.{List, []}
+use mathlib.Core.Path.{_≡_}
 use lib.ListN.{length}
-use Rattle.message.specs.Reading.{readingOf}
-use Rattle.message.specs.declared.Message.{Message}
-use Rattle.message.specs.declared.Reading
-use Rattle.message.specs.declared.Reading.{Reading}
 use Rattle.label_list.specs.Word.{wordCount}
-use Rattle.protocol.specs.declared.Answer
-use Rattle.protocol.specs.declared.Answer.{Answer}
-use Rattle.protocol.specs.declared.Phase
-use Rattle.protocol.specs.declared.Phase.{Phase}
-use Rattle.protocol.specs.State.{State}
-use Rattle.protocol.specs.Step.{stepped}
-use Rattle.protocol.specs.Receive.{ackCount, ackOn, receive, receivedPhase, receivedState, takenAs}
+use Rattle.message.specs.declared.Message.{Message}
+use Rattle.message.specs.declared.Reading.{Reading}
+use Rattle.message.specs.Reading.{readingOf}
 use Rattle.image.specs.State.{decode}
 use Rattle.image.specs.Verdict.{IsSound}
+use Rattle.protocol.specs.declared.Answer.{Answer}
+use Rattle.protocol.specs.declared.Phase.{Phase}
+use Rattle.protocol.specs.Receive.{ackCount, ackOn, receive, receivedPhase, receivedState, takenAs}
+use Rattle.protocol.specs.State.{State}
+use Rattle.protocol.specs.Step.{stepped}
+use Rattle.calls.specs.Outcomes.{After, callOf, stepStored}
 use Rattle.calls.specs.State.{stateOf}
 use Rattle.calls.specs.Storing.{Slots, stay, fewer}
-use Rattle.calls.specs.Outcomes.{After, callOf, stepStored}
 use Rattle.receive.specs.Speed.{labelsStay}
 
 abbrev pub receivedSlots : State → Phase → Reading → Slots

@@ -4,7 +4,6 @@ use mathlib.Core.Bool.{Bool, true, false}
 use lib.ListN.{take}
 use Rattle.octets.specs.Pick.{both}
 use Rattle.message.specs.declared.Message.{Message}
-use Rattle.protocol.specs.declared.LabelEffect
 use Rattle.protocol.specs.declared.LabelEffect.{LabelEffect}
 use Rattle.protocol.specs.Labels.{labelEffect}
 use Rattle.protocol.specs.State.{State}

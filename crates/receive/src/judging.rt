@@ -1,16 +1,15 @@
 // The answer to a message that was read, in 01's order.
-ghost use mathlib.Core.Path.{_≡_};
-ghost use mathlib.Core.Bool.{false};
 ghost use Prim.Native.Nat.{_≤_};
+ghost use mathlib.Core.Bool.{false};
+ghost use mathlib.Core.Path.{_≡_};
 ghost use lib.ListN.{length, take};
 ghost use Rattle.label_list.specs.Word.{wordCount};
 ghost use Rattle.image.specs.State.{decode};
 ghost use Rattle.image.specs.Verdict.{IsSound};
-ghost use Rattle.protocol.specs.declared.Answer;
-ghost use Rattle.protocol.specs.Receive.{plainRule, labelsRule, ackOn, ackCount, ackRule, ftRule, messageLabels, receivedState};
 ghost use Rattle.protocol.specs.Acked.{releasedLabels};
-ghost use Rattle.receive.specs.Speed.{labelsStay};
+ghost use Rattle.protocol.specs.Receive.{plainRule, labelsRule, ackOn, ackCount, ackRule, ftRule, messageLabels, receivedState};
 ghost use Rattle.calls.specs.State.{stateOf};
+ghost use Rattle.receive.specs.Speed.{labelsStay};
 use crate::labels::change_labels;
 use crate::labels::effect_place;
 use crate::labels::judge_protection;

@@ -1,14 +1,13 @@
 // What a received message does to the label words, and whether it is protected as they demand.
-ghost use mathlib.Core.Path.{_≡_};
-ghost use mathlib.Core.Bool.{not};
 ghost use Prim.Native.Nat.{_≤_};
+ghost use mathlib.Core.Bool.{not};
+ghost use mathlib.Core.Path.{_≡_};
 ghost use Rattle.octets.specs.Pick.{both};
 ghost use Rattle.image.specs.State.{decode};
 ghost use Rattle.image.specs.Verdict.{IsSound};
 ghost use Rattle.protocol.specs.Labels.{touchedBy, effectOn, labelEffect, effectPlace, alwaysProtected, effectProtection, protectionRule, effectReception, effectLabels};
-ghost use Rattle.receive.specs.Speed.{labelsStay};
 ghost use Rattle.calls.specs.State.{stateOf};
-use protocol::LabelEffect;
+ghost use Rattle.receive.specs.Speed.{labelsStay};
 use crate::reading::is_protected;
 use label_events::Reception;
 use label_events::Touched;
@@ -20,6 +19,7 @@ use message::Field;
 use message::Kind;
 use message::Message;
 use message::MessageType;
+use protocol::LabelEffect;
 
 // The labels that a message touches.
 fn touched_by(label: Field, fec: Fec) -> Touched

@@ -1,8 +1,8 @@
 // What a received message is asked, one question a function.
 ghost use mathlib.Core.Path.{_≡_};
-ghost use Rattle.protocol.specs.Receive.{isFatal, isZero, inTurn};
-ghost use Rattle.protocol.specs.Labels.{isProtected};
 ghost use Rattle.protocol.specs.Acked.{ackBorne};
+ghost use Rattle.protocol.specs.Labels.{isProtected};
+ghost use Rattle.protocol.specs.Receive.{isFatal, isZero, inTurn};
 ghost use Rattle.calls.specs.State.{numbersOf};
 use block0::Header;
 use ft_number::FtNumber;

@@ -1,45 +1,43 @@
 -- What Send next writes and stores; the premises are what the callees ensure. Assumes nothing.
-use mathlib.Core.Path.{_≡_, refl, sym, ap, _∙_}
+use Prim.Native.Nat.{ℕ, _+_, _≤_, _<_}
 use mathlib.Core.Bool.{Bool, true, false}
 use mathlib.Core.List.{List, []}
-use Prim.Native.Nat.{ℕ, _+_, _≤_, _<_}
-use borrow.Author.Tests.{lt-ltb, le-ltb}
+use mathlib.Core.Path.{_≡_, refl, sym, ap, _∙_}
 use lib.Dec.{ltb}
 use lib.ListN.{length, getD}
+use borrow.Author.Tests.{lt-ltb, le-ltb}
 use Rattle.octets.specs.Bytes.{Bytes}
 use Rattle.octets.specs.Differ.{differ}
 use Rattle.octets.specs.Part.{overlaid}
 use Rattle.octets.proofs.Differ.{differ-self}
-use Rattle.ft_number.specs.Circle.{after as successors}
 use Rattle.ft_number.specs.declared.FtNumber.{FtNumber}
-use Rattle.tlv.specs.declared.FtField.{FtField}
-use Rattle.message.specs.Storable.{shortest, longest, Storable}
-use Rattle.message_writer.specs.Forms.{protectedBytes}
-use Rattle.message_writer.specs.Written.{writtenOf}
-use Rattle.message_writer.specs.declared.Written
-use Rattle.message_writer.specs.declared.Written.{Written}
-use Rattle.message_writer.proofs.Room.{too-short, long-enough}
-use Rattle.protocol.specs.declared.Answer
-use Rattle.protocol.specs.declared.Answer.{Answer}
-use Rattle.protocol.specs.declared.Phase.{Phase}
-use Rattle.protocol.specs.Answers.{effectOf, isDone}
-use Rattle.protocol.specs.State.{State}
-use Rattle.protocol.specs.Phases.{issuedCount, sentOf, upWith}
-use Rattle.protocol.specs.Step.{Step, roomFor, stepped}
-use Rattle.protocol.specs.Send.{numberAt, ackAsked, sendBytes, sendRule, numbered, sentState, sendNext}
+use Rattle.ft_number.specs.Circle.{after as successors}
 use Rattle.block0.specs.declared.Header.{Header}
 use Rattle.block0.specs.Updates.{headerIssued}
+use Rattle.tlv.specs.declared.FtField.{FtField}
+use Rattle.message.specs.Storable.{shortest, longest, Storable}
+use Rattle.message_writer.specs.declared.Written.{Written}
+use Rattle.message_writer.specs.Forms.{protectedBytes}
+use Rattle.message_writer.specs.Written.{writtenOf}
+use Rattle.message_writer.proofs.Room.{too-short, long-enough}
 use Rattle.image.specs.Sizes.{block}
 use Rattle.image.specs.State.{decode, store0}
 use Rattle.image.specs.Verdict.{IsSound}
 use Rattle.image.proofs.Queue.{queue-storable}
+use Rattle.protocol.specs.declared.Answer.{Answer}
+use Rattle.protocol.specs.declared.Phase.{Phase}
+use Rattle.protocol.specs.Answers.{effectOf, isDone}
+use Rattle.protocol.specs.Phases.{issuedCount, sentOf, upWith}
+use Rattle.protocol.specs.Send.{numberAt, ackAsked, sendBytes, sendRule, numbered, sentState, sendNext}
+use Rattle.protocol.specs.State.{State}
+use Rattle.protocol.specs.Step.{Step, roomFor, stepped}
 use Rattle.calls.specs.declared.Outcome.{Outcome}
+use Rattle.calls.specs.Outcomes.{After, after, refusal, admittedOn, settleOf, stepStored}
 use Rattle.calls.specs.State.{stateOf, numbersOf}
 use Rattle.calls.specs.Storing.{stay, stored}
-use Rattle.calls.specs.Outcomes.{After, after, refusal, admittedOn, settleOf, stepStored}
+use Rattle.calls.proofs.Called.{call-is}
 use Rattle.calls.proofs.Ends.{settle-done}
 use Rattle.calls.proofs.Putting.{header-same, put-same}
-use Rattle.calls.proofs.Called.{call-is}
 use Rattle.call_meaning.proofs.Calling.{own-refused}
 use Rattle.send.specs.Send.{sendOf}
 use Rattle.send.proofs.Judged.{Sendable, judged-refused, sendable-rule}

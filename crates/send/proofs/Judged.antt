@@ -1,32 +1,31 @@
 -- The tests of Send next before that of the room, and what they tell. Assumes nothing.
-use mathlib.Core.Path.{_≡_, refl, sym, ap, _∙_}
+use Prim.Native.Nat.{ℕ, _≤_, _<_}
 use mathlib.Core.Bool.{Bool, true, false, not}
 use mathlib.Core.List.{List}
-use Prim.Native.Nat.{ℕ, _≤_, _<_}
+use mathlib.Core.Path.{_≡_, refl, sym, ap, _∙_}
 use native.Mathlib.Omega.{arith}
-use borrow.Author.Tests.{le-leb, lt-leb, leb-false, not-false}
 use lib.Dec.{leb}
+use borrow.Author.Tests.{le-leb, lt-leb, leb-false, not-false}
 use Rattle.octets.specs.Pick.{pick}
 use Rattle.octets.proofs.Choice.{no, pick-all}
-use Rattle.protocol.specs.declared.Answer
-use Rattle.protocol.specs.declared.Answer.{Answer}
-use Rattle.protocol.specs.declared.Phase.{Phase}
-use Rattle.protocol.specs.Answers.{effectOf, isDone}
-use Rattle.protocol.specs.State.{held}
-use Rattle.protocol.specs.Phases.{isUpFT, sentOf}
-use Rattle.protocol.specs.Send.{sendRule}
-use Rattle.protocol.proofs.Settling.{Harmless, done-harmless}
 use Rattle.block0.specs.declared.Header.{Header}
 use Rattle.image.specs.State.{decode}
 use Rattle.image.specs.Verdict.{IsSound}
 use Rattle.image.proofs.Queue.{queue-length}
 use Rattle.image.proofs.Sound.{sound-valid}
+use Rattle.protocol.specs.declared.Answer.{Answer}
+use Rattle.protocol.specs.declared.Phase.{Phase}
+use Rattle.protocol.specs.Answers.{effectOf, isDone}
+use Rattle.protocol.specs.Phases.{isUpFT, sentOf}
+use Rattle.protocol.specs.Send.{sendRule}
+use Rattle.protocol.specs.State.{held}
+use Rattle.protocol.proofs.Settling.{Harmless, done-harmless}
 use Rattle.calls.specs.declared.Outcome.{Outcome}
-use Rattle.calls.specs.State.{stateOf}
 use Rattle.calls.specs.Outcomes.{After, after, refusal, admittedOn, settleOf}
+use Rattle.calls.specs.State.{stateOf}
 use Rattle.calls.proofs.Settled.{Admitted, admitted-done, admitted-other, admit-refused, admit-passed, admitted-is, admitted-sound}
-use Rattle.call_meaning.proofs.Refusals.{admitted-harmless}
 use Rattle.call_meaning.proofs.Calling.{own-refused}
+use Rattle.call_meaning.proofs.Refusals.{admitted-harmless}
 
 -- ---- the tests; the premises are what the callees ensure
 module _ (im : List ℕ) (ph : Phase) (a : Answer) {r : Answer} (e : r ≡ admittedOn im ph Answer.Done) where

@@ -1,17 +1,16 @@
 // Send next: the oldest held message not sent on this connection, with its FT number.
-ghost use mathlib.Core.Path.{_≡_};
 ghost use Prim.Native.Nat.{_<_};
+ghost use mathlib.Core.Path.{_≡_};
 ghost use Rattle.octets.specs.Differ.{differ};
 ghost use Rattle.message_writer.specs.Written.{writtenOf};
-ghost use Rattle.protocol.specs.declared.Answer;
-ghost use Rattle.protocol.specs.Phases.{isUpFT, sentOf};
-ghost use Rattle.protocol.specs.Send.{numberAt, ackAsked, sendBytes, sendRule, sentState};
 ghost use Rattle.image.specs.Sizes.{block};
 ghost use Rattle.image.specs.State.{decode};
 ghost use Rattle.image.specs.Verdict.{IsSound};
+ghost use Rattle.protocol.specs.Phases.{isUpFT, sentOf};
+ghost use Rattle.protocol.specs.Send.{numberAt, ackAsked, sendBytes, sendRule, sentState};
+ghost use Rattle.calls.specs.Outcomes.{after, admittedOn};
 ghost use Rattle.calls.specs.State.{stateOf, numbersOf};
 ghost use Rattle.calls.specs.Storing.{stay, stored};
-ghost use Rattle.calls.specs.Outcomes.{after, admittedOn};
 ghost use Rattle.send.specs.Send.{sendOf};
 use block0::Header;
 use calls::Answer;

@@ -1,26 +1,25 @@
 -- What the answer says of every call: a refusal changes nothing, only Done writes output, and what the others leave. Assumes nothing.
 use Prim.Native.Nat.{ℕ, _≤_}
-use mathlib.Core.Path.{_≡_, refl, sym, ap, _∙_}
 use mathlib.Core.Bool.{Bool, true, false}
 use mathlib.Core.List.{List}
 use mathlib.Core.Logic.{_≢_}
+use mathlib.Core.Path.{_≡_, refl, sym, ap, _∙_}
 use native.Mathlib.Omega.{arith}
 use Rattle.octets.specs.Pick.{pick}
-use Rattle.protocol.specs.declared.Answer
 use Rattle.protocol.specs.declared.Answer.{Answer}
 use Rattle.protocol.specs.declared.Phase.{Phase}
 use Rattle.protocol.specs.Answers.{answerNumber}
 use Rattle.protocol.specs.Calls.{Call}
+use Rattle.protocol.specs.Judged.{done}
 use Rattle.protocol.proofs.Settles.{done-answer}
-use Rattle.calls.specs.State.{stateOf}
 use Rattle.calls.specs.Outcomes.{After, failedOn, releasedOn, untouched, stepStored}
+use Rattle.calls.specs.State.{stateOf}
 use Rattle.call_meaning.specs.Ended.{ReleasedIdle, Unapplied}
 use Rattle.call_meaning.specs.Standing.{Standing}
 use Rattle.call_meaning.proofs.Answered.{answered-failed, answered-nothing, answered-released, failed-unapplied, released-idle, settled-says}
+use Rattle.connect.specs.Start.{formatted}
 use Rattle.session.specs.Call.{given, leaves, lent, makesImage, slotsOf}
 use Rattle.session.proofs.Settles.{answerOn, doneOn, ends, settles-on}
-use Rattle.connect.specs.Start.{formatted}
-use Rattle.protocol.specs.Judged.{done}
 
 -- what is done is answered Done
 done-says : (c : Call) (im : List ℕ) (ph : Phase) (out : List ℕ) → doneOn c im ph out .outcome .answer ≡ Answer.Done

@@ -1,33 +1,29 @@
 -- A session just begun, with messages queued and sent one after the other: the images that the wrong keepers are tried on. Assumes nothing.
 use Prim.Native.Nat.{ℕ, _+_, _≤_, _<_}
-use mathlib.Core.Path.{_≡_, refl, sym, ap, _∙_}
 use mathlib.Core.Bool.{true, false}
 use mathlib.Core.List.{List, [], _∷_}
+use mathlib.Core.Path.{_≡_, refl, ap, _∙_}
 use native.Mathlib.Omega.{arith}
-use borrow.Author.Tests.{le-leb, le-ltb, lt-leb}
-use lib.Dec.{leb, ltb}
+use lib.Dec.{ltb}
 use lib.ListN.{length, length-append, take, length-take}
-use Rattle.octets.specs.Pick.{pick}
+use borrow.Author.Tests.{le-leb, le-ltb, lt-leb}
 use Rattle.octets.proofs.Choice.{pick-all}
 use Rattle.message.specs.Storable.{Storable}
 use Rattle.message_writer.specs.Forms.{ftTlvs}
-use Rattle.protocol.specs.declared.Answer
-use Rattle.protocol.specs.declared.Answer.{Answer}
-use Rattle.protocol.specs.declared.Phase
-use Rattle.protocol.specs.declared.Phase.{Phase}
+use Rattle.message_writer.proofs.Puts.{length-raised}
+use Rattle.image.specs.Events.{newImage}
+use Rattle.image.proofs.Changes.{new-sound}
+use Rattle.protocol.specs.Calls.{submits, sends, step}
 use Rattle.protocol.specs.Init.{fresh}
+use Rattle.protocol.specs.Judged.{judged, done}
 use Rattle.protocol.specs.Phases.{issuedCount, phaseFits, upWith}
 use Rattle.protocol.specs.Send.{ackAsked, nextMessage, numberAt, numbered, sendBytes, sendRule, sentState}
 use Rattle.protocol.specs.State.{State, capacity, held}
-use Rattle.protocol.specs.Step.{Step, admitted, roomFor}
+use Rattle.protocol.specs.Step.{Step}
 use Rattle.protocol.specs.Submit.{submitRule, submitted}
-use Rattle.protocol.specs.Calls.{submits, sends, step}
-use Rattle.protocol.specs.Judged.{judged, done}
 use Rattle.protocol.proofs.KeepingStates.{lawful-fresh}
 use Rattle.protocol.proofs.Settles.{step-does}
 use Rattle.protocol.proofs.Settling.{admitted-is}
-use Rattle.image.specs.Events.{newImage}
-use Rattle.image.proofs.Changes.{new-sound}
 use Rattle.calls.specs.State.{stateOf}
 use Rattle.calls.specs.Storing.{empty, stored}
 use Rattle.call_meaning.specs.Seen.{seen}
@@ -37,7 +33,6 @@ use Rattle.call_meaning.proofs.Stands.{puts-stands}
 use Rattle.session.specs.Call.{leaves}
 use Rattle.session.proofs.Refines.{refines, stands}
 use Rattle.session.proofs.Sample.{address, address-taken, terms}
-use Rattle.message_writer.proofs.Puts.{length-raised}
 
 -- ---- the session that a first Init leads to
 unfoldable pub begun : List ℕ

@@ -1,45 +1,37 @@
 -- No wrong keeper of 01's list meets the promises. Assumes nothing.
-use Prim.Native.Nat.{ℕ, _+_, _-_, _≤_}
-use mathlib.Core.Path.{_≡_, refl, sym, ap, _∙_}
+use Prim.Native.Nat.{ℕ, _+_, _≤_}
 use mathlib.Core.Bool.{Bool, true, false, true≢false}
 use mathlib.Core.List.{List, [], _∷_}
-use mathlib.Core.Logic.{_⊎_, inl, inr}
+use mathlib.Core.Logic.{inl, inr}
+use mathlib.Core.Path.{_≡_, refl, sym, ap, _∙_}
 use native.Mathlib.Omega.{arith}
 use lib.ListN.{length, length-append, length-drop}
+use Rattle.octets.specs.Bytes.{Bytes}
 use Rattle.message.specs.Reading.{readingOf}
-use Rattle.message.specs.Storable.{Storable}
-use Rattle.message_writer.specs.Forms.{ftTlvs}
-use Rattle.message_writer.proofs.Puts.{length-raised}
-use Rattle.protocol.specs.declared.Answer
 use Rattle.protocol.specs.declared.Answer.{Answer}
-use Rattle.protocol.specs.declared.Phase
 use Rattle.protocol.specs.declared.Phase.{Phase}
 use Rattle.protocol.specs.Answers.{effectOf, isDone}
-use Rattle.protocol.specs.Init.{fresh}
-use Rattle.protocol.specs.Phases.{phaseFits, upWith}
-use Rattle.protocol.specs.Receive.{ackCount, ackOn, receiveRule, receivedState}
-use Rattle.protocol.specs.Send.{ackAsked, nextMessage, numberAt}
-use Rattle.protocol.specs.State.{State, held}
-use Rattle.protocol.specs.Step.{Step, settle}
-use Rattle.protocol.specs.Submit.{submitRule, submitted}
 use Rattle.protocol.specs.Calls.{Call, formats, submits, sends, receives, step}
-use Rattle.protocol.specs.Judged.{done, judged}
+use Rattle.protocol.specs.Init.{fresh}
+use Rattle.protocol.specs.Judged.{judged}
+use Rattle.protocol.specs.Phases.{phaseFits, upWith}
+use Rattle.protocol.specs.Proper.{Proper}
+use Rattle.protocol.specs.Receive.{ackCount, ackOn, receiveRule}
+use Rattle.protocol.specs.State.{State, held}
+use Rattle.protocol.specs.Step.{Step}
+use Rattle.protocol.specs.Submit.{submitRule}
 use Rattle.protocol.proofs.Queues.{receive-queue, submit-queue}
 use Rattle.protocol.proofs.Settles.{step-answer}
 use Rattle.protocol.proofs.Settling.{admitted-is}
-use Rattle.calls.specs.State.{stateOf}
 use Rattle.calls.specs.Outcomes.{After, settleOf}
-use Rattle.call_meaning.specs.Seen.{seen}
+use Rattle.calls.specs.State.{stateOf}
 use Rattle.call_meaning.specs.Standing.{Standing}
-use Rattle.call_meaning.proofs.Putting.{lawful-image}
 use Rattle.connect.specs.Start.{formatOf}
 use Rattle.session.specs.Call.{leaves}
 use Rattle.session.specs.Keepers.{InventsHeld, InventsReleased, Is, Keeper, Meets, Wrong, always-refuses, one-answer, one-answer-to-messages, never-stores, only-nods, invents-counts}
+use Rattle.session.proofs.Fresh.{begun, begun-stands, begun-state, second-send}
 use Rattle.session.proofs.Refines.{refines}
 use Rattle.session.proofs.Sample.{address, address-taken, aliveWith, alive-right, alive-wrong, alive-bytes, terms}
-use Rattle.session.proofs.Fresh.{Holding, begun, begun-stands, begun-state, second-send}
-use Rattle.octets.specs.Bytes.{Bytes}
-use Rattle.protocol.specs.Proper.{Proper}
 
 -- ---- what the calls answer to a fresh session
 says : (c : Call) → Proper c (upWith 0) → leaves c begun (upWith 0) [] .outcome .answer ≡ judged c (fresh terms) (upWith 0) 0

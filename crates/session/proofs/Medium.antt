@@ -1,29 +1,25 @@
 -- An owner who stores what the outcome tells has the call's image on the medium; one whose power goes before has there an image
 -- that passes the same checks and stands for the same state as before the call. Assumes nothing.
 use Prim.Native.Nat.{ℕ, zero, suc, _≤_, _<_}
-use mathlib.Core.Path.{_≡_, refl, sym, ap, _∙_}
-use mathlib.Core.Bool.{Bool, true, false}
+use mathlib.Core.Bool.{false}
 use mathlib.Core.List.{List}
-use mathlib.Core.Logic.{_≢_}
+use mathlib.Core.Path.{_≡_, refl, sym, ap, _∙_}
 use native.Mathlib.Omega.{arith}
-use borrow.Author.Tests.{eqb-false}
 use lib.Dec.{eqb}
 use lib.ListN.{length}
-use Rattle.octets.specs.Bytes.{Bytes}
+use borrow.Author.Tests.{eqb-false}
 use Rattle.octets.proofs.Differ.{differ-false}
-use Rattle.protocol.specs.declared.Answer
+use Rattle.block0.specs.Layout.{slotCount}
+use Rattle.image.specs.Sizes.{block}
+use Rattle.image.proofs.Sound.{parts-sound, sound-parts}
 use Rattle.protocol.specs.declared.Answer.{Answer}
 use Rattle.protocol.specs.declared.Phase.{Phase}
+use Rattle.protocol.specs.Calls.{Call, restores, step}
 use Rattle.protocol.specs.Phases.{restingPhase}
 use Rattle.protocol.specs.Proper.{Proper}
 use Rattle.protocol.specs.Step.{broken, Step}
-use Rattle.protocol.specs.Calls.{Call, restores, step}
-use Rattle.block0.specs.Layout.{slotCount}
-use Rattle.image.specs.Sizes.{block}
-use Rattle.image.specs.State.{decode}
-use Rattle.image.proofs.Sound.{parts-sound, sound-parts}
-use Rattle.calls.specs.State.{stateOf}
 use Rattle.calls.specs.Outcomes.{After, stepStored}
+use Rattle.calls.specs.State.{stateOf}
 use Rattle.call_meaning.specs.Medium.{Same, allStored, committed, stores}
 use Rattle.call_meaning.specs.Seen.{seen}
 use Rattle.call_meaning.specs.Standing.{Standing}

@@ -1,58 +1,49 @@
 -- What a call does where it is done can be stored: the state is lawful, and its queue is what becomes of the ring of slots. Assumes nothing.
-use Prim.Native.Nat.{ℕ, _≤_, _<_}
-use mathlib.Core.Path.{_≡_, refl, sym, ap, _∙_}
+use Prim.Native.Nat.{ℕ, _≤_}
 use mathlib.Core.Bool.{Bool, true, false, true≢false}
-use mathlib.Core.List.{List, []}
+use mathlib.Core.List.{List}
+use mathlib.Core.Path.{_≡_, refl, sym, ap, _∙_}
 use native.Mathlib.Omega.{arith}
-use lib.ListN.{length}
+use lib.Dec.{ltb}
 use Rattle.octets.specs.Pick.{pick}
 use Rattle.octets.proofs.Choice.{pick-all}
-use Rattle.message.specs.Reading.{readingOf}
-use Rattle.message.specs.declared.Message.{Message}
-use Rattle.message.specs.declared.Reading
+use Rattle.block0.specs.declared.Header.{Header}
 use Rattle.message.specs.declared.Reading.{Reading}
-use Rattle.message.specs.Storable.{Storable}
-use Rattle.protocol.specs.declared.Answer
+use Rattle.message.specs.Reading.{readingOf}
+use Rattle.image.specs.State.{decode}
+use Rattle.image.proofs.Queue.{queue-length}
+use Rattle.image.proofs.Sound.{sound-valid}
 use Rattle.protocol.specs.declared.Answer.{Answer}
-use Rattle.protocol.specs.declared.Phase
 use Rattle.protocol.specs.declared.Phase.{Phase}
-use Rattle.protocol.specs.declared.Start
 use Rattle.protocol.specs.declared.Start.{Start}
-use Rattle.protocol.specs.State.{State, held, releasedState}
-use Rattle.protocol.specs.Lawful.{Lawful}
-use Rattle.protocol.specs.Proper.{Proper}
-use Rattle.protocol.specs.Phases.{phaseFits, issuedCount, sentOf, proposalOf}
-use Rattle.protocol.specs.Step.{Step, admitted, unchanged, releasedWith}
 use Rattle.protocol.specs.Acked.{acked}
+use Rattle.protocol.specs.Calls.{Call, formats, restores, fails, opens, greets, passes, submits, sends, keeps-alive, receives}
 use Rattle.protocol.specs.Init.{fresh, initStart, resumed, startState}
-use Rattle.protocol.specs.Receive.{ackCount, ackOn, receivedState, taken, takenAs}
+use Rattle.protocol.specs.Judged.{judged, done}
+use Rattle.protocol.specs.Lawful.{Lawful}
+use Rattle.protocol.specs.Phases.{issuedCount, sentOf, proposalOf}
+use Rattle.protocol.specs.Proper.{Proper}
+use Rattle.protocol.specs.Receive.{receivedState, taken, takenAs}
 use Rattle.protocol.specs.Send.{numbered, sentState}
+use Rattle.protocol.specs.State.{State, held}
+use Rattle.protocol.specs.Step.{admitted, unchanged, releasedWith}
 use Rattle.protocol.specs.Submit.{submitRule, submitted}
 use Rattle.protocol.specs.TimePassed.{expired}
-use Rattle.protocol.specs.Calls.{Call, formats, restores, fails, opens, greets, passes, submits, sends, keeps-alive, receives, step}
-use Rattle.protocol.specs.Judged.{judged, done}
 use Rattle.protocol.proofs.Effects.{done-is}
 use Rattle.protocol.proofs.KeepingCalls.{lawful-step}
 use Rattle.protocol.proofs.Queues.{count-held, sent-stays, start-within, StartWithin}
 use Rattle.protocol.proofs.Settles.{step-does}
 use Rattle.protocol.proofs.Settling.{admitted-done}
 use Rattle.protocol.proofs.Submits.{done-accepted}
-use Rattle.block0.specs.declared.Header.{Header}
-use Rattle.block0.specs.Layout.{slotCount}
-use Rattle.image.specs.Sizes.{slotAt}
-use Rattle.image.specs.State.{decode}
-use Rattle.image.proofs.Queue.{queue-length}
-use Rattle.image.proofs.Sound.{sound-valid}
 use Rattle.calls.specs.State.{stateOf}
 use Rattle.calls.specs.Storing.{Slots, stay, empty, one-more, fewer, firstAfter}
 use Rattle.call_meaning.specs.Standing.{Standing}
-use Rattle.call_meaning.proofs.Putting.{Puts, QueueAfter, lawful-image, not-kept}
+use Rattle.call_meaning.proofs.Putting.{QueueAfter, lawful-image, not-kept}
 use Rattle.call_meaning.proofs.Refining.{Kept}
 use Rattle.call_meaning.proofs.Slots.{SlotFits}
 use Rattle.init.specs.Received.{startSlots}
 use Rattle.receive.specs.Call.{receivedSlots}
 use Rattle.session.specs.Call.{makesImage, slotsOf}
-use lib.Dec.{ltb}
 
 -- kept stays as it was, unless the ring is empty
 abbrev KeptAs : State → Slots → State → Type 0

@@ -1,42 +1,40 @@
 -- Every call on an image that stands is the protocol's step on the state that the image stands for, and what it leaves stands. Assumes nothing.
 use Prim.Native.Nat.{ℕ, _≤_}
-use mathlib.Core.Path.{_≡_, refl, sym, ap, _∙_}
-use mathlib.Core.Bool.{Bool, true, false, true≢false}
+use mathlib.Core.Bool.{true, false}
 use mathlib.Core.List.{List, []}
+use mathlib.Core.Path.{_≡_, refl, sym, ap, _∙_}
 use lib.ListN.{length}
-use Rattle.protocol.specs.declared.Answer
-use Rattle.protocol.specs.declared.Answer.{Answer}
-use Rattle.protocol.specs.declared.Phase
-use Rattle.protocol.specs.declared.Phase.{Phase}
-use Rattle.protocol.specs.Answers.{isDone, effectOf}
-use Rattle.protocol.specs.Phases.{phaseFits}
-use Rattle.protocol.specs.Proper.{Proper}
-use Rattle.protocol.specs.Lawful.{Lawful, Window}
-use Rattle.protocol.specs.State.{State, held, capacity}
-use Rattle.protocol.specs.Step.{Step, settle}
-use Rattle.protocol.specs.Calls.{Call, formats, restores, fails, opens, greets, passes, submits, sends, keeps-alive, receives, step}
-use Rattle.protocol.specs.Judged.{judged, done}
-use Rattle.protocol.proofs.Effects.{done-is}
-use Rattle.protocol.proofs.Settles.{done-answer, settles}
+use borrow.Author.Tests.{eq-eqb}
+use Rattle.image.specs.declared.Verdict.{Verdict}
+use Rattle.image.specs.Sizes.{imageSize}
 use Rattle.image.specs.State.{InRange, decode}
 use Rattle.image.specs.Verdict.{IsSound}
+use Rattle.image.proofs.Changes.{new-sound, new-decodes, in-range-released}
+use Rattle.image.proofs.Sound.{parts-sound}
+use Rattle.protocol.specs.declared.Answer.{Answer}
+use Rattle.protocol.specs.declared.Phase.{Phase}
+use Rattle.protocol.specs.Answers.{isDone, effectOf}
+use Rattle.protocol.specs.Begin.{restore}
+use Rattle.protocol.specs.Calls.{Call, formats, restores, fails, opens, greets, passes, submits, sends, keeps-alive, receives, step}
+use Rattle.protocol.specs.Judged.{judged, done}
+use Rattle.protocol.specs.Lawful.{Window}
+use Rattle.protocol.specs.Phases.{phaseFits}
+use Rattle.protocol.specs.Proper.{Proper}
+use Rattle.protocol.specs.State.{held, capacity}
+use Rattle.protocol.specs.Step.{settle}
+use Rattle.protocol.proofs.Effects.{done-is}
+use Rattle.protocol.proofs.Settles.{done-answer, settles}
+use Rattle.calls.specs.Outcomes.{callOf, checked, settleOf, stepStored}
 use Rattle.calls.specs.State.{stateOf}
-use Rattle.calls.specs.Outcomes.{After, callOf, checked, settleOf, stepStored}
+use Rattle.calls.specs.Storing.{stay}
 use Rattle.call_meaning.specs.Seen.{seen}
 use Rattle.call_meaning.specs.Standing.{Standing, Stands}
 use Rattle.call_meaning.proofs.Putting.{lawful-image}
 use Rattle.call_meaning.proofs.Refining.{Kept, call-seen, call-stands}
-use Rattle.session.specs.Call.{given, leaves, lent, makesImage, slotsOf}
-use Rattle.session.proofs.Settles.{called}
-use Rattle.session.proofs.Puts.{done-keeps}
-use Rattle.calls.specs.Storing.{stay}
-use Rattle.protocol.specs.Begin.{restore}
-use Rattle.image.proofs.Sound.{parts-sound}
-use Rattle.image.specs.declared.Verdict.{Verdict}
 use Rattle.connect.specs.Start.{formatOf, formatted}
-use Rattle.image.specs.Sizes.{imageSize}
-use borrow.Author.Tests.{eq-eqb}
-use Rattle.image.proofs.Changes.{new-sound, new-decodes, in-range-released}
+use Rattle.session.specs.Call.{given, leaves, lent, makesImage, slotsOf}
+use Rattle.session.proofs.Puts.{done-keeps}
+use Rattle.session.proofs.Settles.{called}
 
 module _ (im : List ℕ) (ph : Phase) (st : Standing im ph) (out : List ℕ) where
   -- ---- a call that is given a phase

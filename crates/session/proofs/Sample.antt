@@ -1,23 +1,22 @@
 -- A fresh session and an Address message: what the wrong keepers are tried on. Assumes nothing.
 use Prim.Native.Nat.{ℕ, zero, suc, _<_}
-use mathlib.Core.Path.{_≡_, refl}
 use mathlib.Core.Bool.{true}
 use mathlib.Core.List.{List, [], _∷_}
+use mathlib.Core.Path.{_≡_, refl}
 use native.Mathlib.Omega.{arith}
+use borrow.Author.Tests.{lt-leb}
+use Rattle.octets.specs.Bytes.{Bytes}
 use Rattle.octets.specs.Fix.{fix, steps}
 use Rattle.ft_number.specs.Ack.{ackOf}
 use Rattle.ft_number.specs.Circle.{stepsOf}
 use Rattle.tlv.specs.Tlv.{tlvOf}
 use Rattle.tlv.specs.Value.{fieldAt, numberAt}
 use Rattle.tlv.specs.Walk.{tlvsOf, walkOf, turnOf, notedOf}
+use Rattle.message.specs.declared.Kind.{Kind}
+use Rattle.message.specs.declared.Submission.{Submission}
 use Rattle.message.specs.Kinds.{kindOf}
 use Rattle.message.specs.Reading.{typeOf, messageOf, placesOf, readingOf}
 use Rattle.message.specs.Submission.{noLabel, bearsFt, submissionOf}
-use Rattle.message.specs.declared.Kind
-use Rattle.message.specs.declared.Kind.{Kind}
-use Rattle.message.specs.declared.Submission
-use Rattle.message.specs.declared.Submission.{Submission}
-use Rattle.protocol.specs.declared.Answer
 use Rattle.protocol.specs.declared.Answer.{Answer}
 use Rattle.protocol.specs.declared.Terms.{Terms}
 use Rattle.protocol.specs.Accepting.{acceptedAs, isBarred}
@@ -27,8 +26,6 @@ use Rattle.protocol.specs.Phases.{upWith}
 use Rattle.protocol.specs.Receive.{ackOn, ftRule, labelsRule, messageRule, receiveRule}
 use Rattle.protocol.specs.State.{State, capacity, held}
 use Rattle.protocol.specs.Submit.{kindRule, submitRule}
-use borrow.Author.Tests.{lt-leb}
-use Rattle.octets.specs.Bytes.{Bytes}
 
 -- the session that a first Init leads to, with 01's 5 seconds
 abbrev pub terms : Terms

@@ -1,37 +1,33 @@
 -- Every call is its tests' answer, settled: so what holds of the four ways to end holds of every call. Assumes nothing.
 use Prim.Native.Nat.{ℕ}
-use mathlib.Core.Path.{_≡_, refl, sym, ap, _∙_}
-use mathlib.Core.Bool.{Bool, true, false, not, true≢false}
-use mathlib.Core.List.{List, []}
+use mathlib.Core.Bool.{false, not, true≢false}
+use mathlib.Core.List.{List}
+use mathlib.Core.Path.{_≡_, refl, ap, _∙_}
 use lib.Dec.{eqb}
 use lib.ListN.{length}
 use Rattle.octets.specs.Pick.{pick}
 use Rattle.octets.proofs.Choice.{by-test}
-use Rattle.protocol.specs.declared.Answer
-use Rattle.protocol.specs.declared.Answer.{Answer}
-use Rattle.protocol.specs.declared.Effect
-use Rattle.protocol.specs.declared.Effect.{Effect}
-use Rattle.protocol.specs.declared.Phase
-use Rattle.protocol.specs.declared.Phase.{Phase}
-use Rattle.protocol.specs.Answers.{effectOf, isDone}
-use Rattle.protocol.specs.State.{State}
-use Rattle.protocol.specs.Step.{Step, settle}
-use Rattle.protocol.specs.Calls.{Call, formats, restores, fails, opens, greets, passes, submits, sends, keeps-alive, receives, step}
-use Rattle.protocol.specs.Judged.{judged, done}
-use Rattle.protocol.proofs.Effects.{act-done, done-is}
-use Rattle.protocol.proofs.Settles.{settles, done-answer}
 use Rattle.image.specs.Sizes.{imageSize}
 use Rattle.image.specs.Verdict.{verdict}
-use Rattle.calls.specs.State.{stateOf}
+use Rattle.protocol.specs.declared.Answer.{Answer}
+use Rattle.protocol.specs.declared.Effect.{Effect}
+use Rattle.protocol.specs.declared.Phase.{Phase}
+use Rattle.protocol.specs.Answers.{effectOf, isDone}
+use Rattle.protocol.specs.Calls.{Call, formats, restores, fails, opens, greets, passes, submits, sends, keeps-alive, receives, step}
+use Rattle.protocol.specs.Judged.{judged, done}
+use Rattle.protocol.specs.Step.{settle}
+use Rattle.protocol.proofs.Effects.{act-done, done-is}
+use Rattle.protocol.proofs.Settles.{settles, done-answer}
 use Rattle.calls.specs.Outcomes.{After, callOf, checked, failedOn, leftBy, releasedOn, settleOf, stepStored, untouched}
+use Rattle.calls.specs.State.{stateOf}
 use Rattle.calls.proofs.Called.{call-settles}
 use Rattle.connect.specs.Start.{formatOf, formatted, restoreOf}
 use Rattle.connect.specs.Writers.{openOf, keepaliveOf}
-use Rattle.timers.specs.Events.{connectionFailedOf, timePassedOf}
 use Rattle.init.specs.Received.{initReceivedOf}
-use Rattle.submit.specs.Call.{submitOf}
-use Rattle.send.specs.Send.{sendOf}
 use Rattle.receive.specs.Call.{receiveOf}
+use Rattle.send.specs.Send.{sendOf}
+use Rattle.submit.specs.Call.{submitOf}
+use Rattle.timers.specs.Events.{connectionFailedOf, timePassedOf}
 use Rattle.session.specs.Call.{given, leaves, lent, makesImage, slotsOf}
 
 -- ---- nine calls are the protocol's step on what the image stands for; Format makes an image

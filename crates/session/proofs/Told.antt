@@ -1,51 +1,43 @@
 -- What a call tells its owner: whether block 0 changed, and the slot, which is not live; every other block keeps its bytes. Assumes nothing.
 use Prim.Native.Nat.{ℕ, _<_}
-use mathlib.Core.Path.{_≡_, refl, sym, ap, _∙_}
-use mathlib.Core.Bool.{Bool, true, false, true≢false}
-use mathlib.Core.List.{List, []}
+use mathlib.Core.Bool.{Bool, true, false}
+use mathlib.Core.List.{List}
 use mathlib.Core.Logic.{_≢_}
+use mathlib.Core.Path.{_≡_, refl, sym, ap, _∙_}
 use native.Mathlib.Omega.{arith}
 use lib.ListN.{length}
 use Rattle.octets.specs.Differ.{differ}
 use Rattle.octets.specs.Pick.{pick}
 use Rattle.octets.proofs.Choice.{no}
 use Rattle.octets.proofs.Differ.{differ-self}
-use Rattle.message.specs.Reading.{readingOf}
-use Rattle.message.specs.declared.Reading
-use Rattle.message.specs.declared.Reading.{Reading}
-use Rattle.protocol.specs.declared.Answer
-use Rattle.protocol.specs.declared.Answer.{Answer}
-use Rattle.protocol.specs.declared.Effect
-use Rattle.protocol.specs.declared.Effect.{Effect}
-use Rattle.protocol.specs.declared.Phase
-use Rattle.protocol.specs.declared.Phase.{Phase}
-use Rattle.protocol.specs.declared.Start
-use Rattle.protocol.specs.declared.Start.{Start}
-use Rattle.protocol.specs.Answers.{answerNumber, effectOf, isDone}
-use Rattle.protocol.specs.State.{State}
-use Rattle.protocol.specs.Step.{Step, admitted, failedWith, releasedWith}
-use Rattle.protocol.specs.Init.{initStart}
-use Rattle.protocol.specs.Submit.{submitRule}
-use Rattle.protocol.specs.TimePassed.{expired}
-use Rattle.protocol.specs.Calls.{Call, formats, restores, fails, opens, greets, passes, submits, sends, keeps-alive, receives}
-use Rattle.protocol.specs.Judged.{judged, done}
-use Rattle.protocol.proofs.Effects.{done-is, effect-nothing}
-use Rattle.protocol.proofs.Settling.{admitted-done}
-use Rattle.protocol.proofs.Submits.{done-accepted}
 use Rattle.block0.specs.Layout.{slotCount}
-use Rattle.image.specs.Sizes.{block, blockOf, imageSize}
-use Rattle.image.specs.State.{decode}
-use Rattle.image.specs.Verdict.{IsSound, verdict}
-use Rattle.image.specs.declared.Verdict
+use Rattle.message.specs.declared.Reading.{Reading}
+use Rattle.message.specs.Reading.{readingOf}
 use Rattle.image.specs.declared.Verdict.{Verdict}
+use Rattle.image.specs.Sizes.{block, blockOf}
+use Rattle.image.specs.Verdict.{IsSound, verdict}
 use Rattle.image.proofs.Queue.{queue-length}
 use Rattle.image.proofs.Sound.{sound-parts}
 use Rattle.image.proofs.Stored.{Idle}
-use Rattle.calls.specs.State.{stateOf}
-use Rattle.calls.specs.Storing.{Slots, stay, empty, one-more, fewer, slotNamed, stored}
+use Rattle.protocol.specs.declared.Answer.{Answer}
+use Rattle.protocol.specs.declared.Effect.{Effect}
+use Rattle.protocol.specs.declared.Phase.{Phase}
+use Rattle.protocol.specs.declared.Start.{Start}
+use Rattle.protocol.specs.Answers.{effectOf}
+use Rattle.protocol.specs.Calls.{Call, formats, restores, fails, opens, greets, passes, submits, sends, keeps-alive, receives}
+use Rattle.protocol.specs.Init.{initStart}
+use Rattle.protocol.specs.Judged.{judged, done}
+use Rattle.protocol.specs.State.{State}
+use Rattle.protocol.specs.Step.{Step, failedWith, releasedWith}
+use Rattle.protocol.specs.Submit.{submitRule}
+use Rattle.protocol.specs.TimePassed.{expired}
+use Rattle.protocol.proofs.Effects.{done-is}
+use Rattle.protocol.proofs.Settling.{admitted-done}
+use Rattle.protocol.proofs.Submits.{done-accepted}
 use Rattle.calls.specs.Outcomes.{After, checked, failedOn, releasedOn, stepStored, untouched}
-use Rattle.calls.proofs.Settled.{checked-all}
-use Rattle.call_meaning.proofs.Slots.{SlotFits, slot-alone, slot-idle, slot-same, stored-other}
+use Rattle.calls.specs.State.{stateOf}
+use Rattle.calls.specs.Storing.{Slots, stay, empty}
+use Rattle.call_meaning.proofs.Slots.{SlotFits, slot-idle, stored-other}
 use Rattle.init.specs.Received.{startSlots}
 use Rattle.receive.specs.Call.{receivedSlots}
 use Rattle.session.specs.Call.{leaves, lent, makesImage, slotsOf}

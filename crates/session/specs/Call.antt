@@ -4,21 +4,20 @@ use mathlib.Core.Bool.{Bool, true, false}
 use mathlib.Core.List.{List, []}
 use Rattle.octets.specs.Pick.{pick}
 use Rattle.message.specs.Reading.{readingOf}
-use Rattle.protocol.specs.declared.Phase
 use Rattle.protocol.specs.declared.Phase.{Phase}
-use Rattle.protocol.specs.State.{State}
-use Rattle.protocol.specs.Init.{initStart}
-use Rattle.protocol.specs.TimePassed.{expired}
 use Rattle.protocol.specs.Calls.{Call, formats, restores, fails, opens, greets, passes, submits, sends, keeps-alive, receives}
-use Rattle.calls.specs.Storing.{Slots, stay, empty, one-more}
+use Rattle.protocol.specs.Init.{initStart}
+use Rattle.protocol.specs.State.{State}
+use Rattle.protocol.specs.TimePassed.{expired}
 use Rattle.calls.specs.Outcomes.{After}
+use Rattle.calls.specs.Storing.{Slots, stay, empty, one-more}
 use Rattle.connect.specs.Start.{formatOf, restoreOf}
 use Rattle.connect.specs.Writers.{openOf, keepaliveOf}
-use Rattle.timers.specs.Events.{connectionFailedOf, timePassedOf}
 use Rattle.init.specs.Received.{initReceivedOf, startSlots}
-use Rattle.submit.specs.Call.{submitOf}
-use Rattle.send.specs.Send.{sendOf}
 use Rattle.receive.specs.Call.{receiveOf, receivedSlots}
+use Rattle.send.specs.Send.{sendOf}
+use Rattle.submit.specs.Call.{submitOf}
+use Rattle.timers.specs.Events.{connectionFailedOf, timePassedOf}
 
 -- what a call leaves of an image and a phase: outcome, image and output; `out` are the bytes lent for its output
 unfoldable pub leaves : Call → List ℕ → Phase → List ℕ → After

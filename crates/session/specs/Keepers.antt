@@ -1,27 +1,24 @@
 -- 01, "Strength of the promises": "Show these fail: a keeper that always refuses ..; one constant answer ..; one that queues and never stores ..;
 -- one that re-issues everything at the first send and later only nods ..; one that invents held or released counts".
 use Prim.Native.Nat.{ℕ, _+_, _-_, _≤_}
-use mathlib.Core.Path.{_≡_}
 use mathlib.Core.Bool.{Bool, false}
 use mathlib.Core.List.{List, []}
 use mathlib.Core.Logic.{_≢_, _⊎_}
+use mathlib.Core.Path.{_≡_}
 use Rattle.octets.specs.Bytes.{Bytes}
-use Rattle.message.specs.Reading.{readingOf}
 use Rattle.message.specs.declared.Message.{Message}
-use Rattle.message.specs.declared.Reading
 use Rattle.message.specs.declared.Reading.{Reading}
-use Rattle.protocol.specs.declared.Answer
+use Rattle.message.specs.Reading.{readingOf}
 use Rattle.protocol.specs.declared.Answer.{Answer}
-use Rattle.protocol.specs.declared.Phase
 use Rattle.protocol.specs.declared.Phase.{Phase}
 use Rattle.protocol.specs.declared.Progress.{Progress}
-use Rattle.protocol.specs.State.{held}
-use Rattle.protocol.specs.Phases.{upWith}
 use Rattle.protocol.specs.Answers.{isDone}
-use Rattle.protocol.specs.Receive.{ackCount, ackOn}
 use Rattle.protocol.specs.Calls.{Call, submits, sends, receives}
-use Rattle.calls.specs.State.{stateOf}
+use Rattle.protocol.specs.Phases.{upWith}
+use Rattle.protocol.specs.Receive.{ackCount, ackOn}
+use Rattle.protocol.specs.State.{held}
 use Rattle.calls.specs.Outcomes.{After}
+use Rattle.calls.specs.State.{stateOf}
 use Rattle.call_meaning.specs.Standing.{Standing}
 use Rattle.session.specs.Call.{leaves}
 

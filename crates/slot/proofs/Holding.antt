@@ -1,29 +1,29 @@
 -- A slot with right fields, clause by clause. Assumes nothing.
-use mathlib.Core.Path.{_≡_, refl, sym, _∙_}
+use Prim.Native.Nat.{ℕ, _+_, _≤_, _<_}
 use mathlib.Core.Bool.{true}
 use mathlib.Core.List.{List}
 use mathlib.Core.Logic.{⊎-elim}
-use Prim.Native.Nat.{ℕ, _+_, _≤_, _<_}
+use mathlib.Core.Path.{_≡_, refl, sym, _∙_}
 use native.Mathlib.Omega.{arith}
-use borrow.Author.Tests.{leb-true, eqb-true, le-leb, eq-eqb}
 use lib.Dec.{leb, eqb}
 use lib.ListN.{length}
+use borrow.Author.Tests.{leb-true, eqb-true, le-leb, eq-eqb}
 use Rattle.octets.specs.Be.{beAt}
-use Rattle.octets.proofs.Part.{length-part}
 use Rattle.octets.proofs.Choice.{no, both-true, below-or-not}
-use Rattle.message.specs.Kinds.{kindNumber}
+use Rattle.octets.proofs.Part.{length-part}
+use Rattle.block.specs.Check.{blockSize, sound}
+use Rattle.block.specs.Zeros.{allZero}
+use Rattle.tlv.specs.Tlv.{largestLabel}
 use Rattle.message.specs.declared.Kind.{Kind}
 use Rattle.message.specs.declared.Submission.{Submission}
 use Rattle.message.specs.declared.Submission.the-variants.{Malformed, Refused, Accepted}
+use Rattle.message.specs.Kinds.{kindNumber}
+use Rattle.message.specs.Storable.{shortest, longest, bears, Storable, kindIn, labelIn}
 use Rattle.message.specs.Submission.{noLabel, submissionOf}
 use Rattle.message.proofs.Laws.{accepted, whole-label}
-use Rattle.tlv.specs.Tlv.{largestLabel}
-use Rattle.block.specs.Check.{blockSize, sound}
-use Rattle.block.specs.Zeros.{allZero}
-use Rattle.slot.specs.Layout.{lengthOf, kindOf, labelOf, messageOf, paddingOf, slotBlock}
 use Rattle.slot.specs.Fields.{slotOk}
-use Rattle.message.specs.Storable.{shortest, longest, bears, Storable, kindIn, labelIn}
 use Rattle.slot.specs.Held.{slotFor}
+use Rattle.slot.specs.Layout.{lengthOf, kindOf, labelOf, messageOf, paddingOf, slotBlock}
 use Rattle.slot.proofs.Written.{length-slot, slot-sound, slot-length, slot-kind, slot-spare, slot-label, message-slot, padding-slot}
 
 -- the length lies within its range

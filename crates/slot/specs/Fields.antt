@@ -1,15 +1,15 @@
 -- A slot's fields: "length 8 to 480 (0-1), kind 1 to 6 (2), zero (3), .. zeros"; "a slot's message passes Submit's 4 and 5 and has the slot's kind and label".
 use Prim.Native.Nat.{ℕ, _+_, _≤_}
-use mathlib.Core.Path.{_≡_}
 use mathlib.Core.Bool.{Bool, true}
 use mathlib.Core.List.{List}
+use mathlib.Core.Path.{_≡_}
 use lib.Dec.{leb, eqb}
 use Rattle.octets.specs.Be.{beAt}
 use Rattle.octets.specs.Pick.{pick, both}
-use Rattle.message.specs.Submission.{submissionOf}
-use Rattle.message.specs.Storable.{bears, longest, shortest}
 use Rattle.block.specs.Check.{sound}
 use Rattle.block.specs.Zeros.{allZero}
+use Rattle.message.specs.Storable.{bears, longest, shortest}
+use Rattle.message.specs.Submission.{submissionOf}
 use Rattle.slot.specs.declared.SlotVerdict.{SlotVerdict}
 use Rattle.slot.specs.declared.SlotVerdict.the-variants.{Good, BadCheck, BadFields}
 use Rattle.slot.specs.Layout.{lengthOf, kindOf, labelOf, messageAt, messageOf, paddingOf}

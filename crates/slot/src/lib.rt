@@ -1,15 +1,15 @@
 // A slot of the stored image: one held message with its length, kind and label.
-ghost use mathlib.Core.Path.{_≡_};
+ghost use Prim.Native.Nat.{_+_, _≤_, _<_};
 ghost use mathlib.Core.Bool.{true, false};
 ghost use mathlib.Core.List.{[], _∷_};
-ghost use Prim.Native.Nat.{_+_, _≤_, _<_};
+ghost use mathlib.Core.Path.{_≡_};
 ghost use lib.ListN.{length};
-ghost use Rattle.message.specs.Kinds.{kindNumber};
 ghost use Rattle.block.specs.Check.{blockSize};
 ghost use Rattle.block.specs.Run.{putRun};
-ghost use Rattle.slot.specs.Layout.{headWidths, lengthOf, kindOf, labelOf, messageAt, messageOf, slotBlock};
+ghost use Rattle.message.specs.Kinds.{kindNumber};
 ghost use Rattle.message.specs.Storable.{longest, bears};
 ghost use Rattle.slot.specs.Fields.{slotOk, Padded, slotVerdict};
+ghost use Rattle.slot.specs.Layout.{headWidths, lengthOf, kindOf, labelOf, messageAt, messageOf, slotBlock};
 use message::Kind;
 use message::Submission;
 

@@ -1,29 +1,29 @@
 -- Every run of the two cabinets, with power cut anywhere, is a run of the rules' world, as long as it lasts. Assumes nothing.
 use Prim.Native.Nat.{ℕ}
-use mathlib.Core.Path.{_≡_, refl, sym, ap, _∙_}
 use mathlib.Core.Bool.{Bool, true, false, not}
 use mathlib.Core.List.{List, [], _∷_, _++_, map}
-use Rattle.octets.specs.Pick.{pick, both}
+use mathlib.Core.Path.{_≡_, refl, sym, ap, _∙_}
+use lib.Dec.{ltb}
+use lib.ListN.{length}
+use Rattle.octets.specs.Pick.{both}
 use Rattle.octets.proofs.Choice.{both-true, pick-all}
+use Rattle.protocol.specs.Answers.{isDone}
 use Rattle.protocol.specs.Init.{initStart}
 use Rattle.protocol.specs.Phases.{awaits, connected}
 use Rattle.protocol.specs.State.{State}
 use Rattle.protocol.specs.Step.{Step}
 use Rattle.calls.specs.State.{stateOf}
-use Rattle.call_meaning.specs.Medium.{committed, stores}
-use Rattle.call_meaning.specs.Seen.{seen}
-use Rattle.two_ends.specs.World.{End, Lasts, World, swap as swapped}
-use Rattle.two_ends.specs.Calls.{accepts, anew, beginning, broken, called, counts, greeted, keeps, on, plainly, put, replaced, took, wrote}
+use Rattle.two_ends.specs.Calls.{accepts, beginning, broken, called, counts, greeted, keeps, on, put, replaced, took}
 use Rattle.two_ends.specs.Runs.{AllProper as Propers, Event, Proper, act as happens, breaks, delivers, keepalives, notices, opens, passes, restarts, sends, submits, step as worldStep, run as worldRun}
+use Rattle.two_ends.specs.World.{End, Lasts, World, swap as swapped}
 use Rattle.two_ends.proofs.Invariant.{Good}
 use Rattle.two_ends.proofs.Packets.{Fines, Packet, bytesOf, fine-bytes}
 use Rattle.two_ends.proofs.Theorem.{at-run}
 use Rattle.two_ends.proofs.Worlds.{at-swap}
+use Rattle.call_meaning.specs.Medium.{committed, stores}
+use Rattle.call_meaning.specs.Seen.{seen}
 use Rattle.stored_ends.specs.Pair.{AllProper, Happening, Pair, ProperHappening, act, cut, cutShort, left, made, restarted, run, shown, shownDelivery, step, swap, whole}
 use Rattle.stored_ends.proofs.Tracks.{Arrives, Both, Cut, Tracks, before, behind, cut-tracks, made-tracks}
-use Rattle.protocol.specs.Answers.{isDone}
-use lib.Dec.{ltb}
-use lib.ListN.{length}
 
 -- ---- what lasts after a happening lasted before it
 module _ (w : World) where

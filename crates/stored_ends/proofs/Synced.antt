@@ -1,22 +1,19 @@
 -- An end and its cabinet: the image stands for the end's state, and an owner who stores what the calls tell has that image on the medium. Assumes nothing.
 use Prim.Native.Nat.{ℕ, _<_}
-use mathlib.Core.Path.{_≡_, refl, sym, ap, _∙_}
 use mathlib.Core.Bool.{Bool, true, false, not}
-use mathlib.Core.List.{List, []}
+use mathlib.Core.List.{List}
+use mathlib.Core.Path.{_≡_, ap, _∙_}
 use native.Mathlib.Omega.{arith}
 use lib.ListN.{length}
 use Rattle.octets.specs.Pick.{pick, both}
 use Rattle.octets.proofs.Choice.{pick-all}
 use Rattle.ft_number.specs.Timeout.{proposedOf}
-use Rattle.message.specs.Reading.{readingOf}
-use Rattle.message.specs.declared.Reading
 use Rattle.message.specs.declared.Reading.{Reading}
-use Rattle.protocol.specs.declared.Answer
+use Rattle.message.specs.Reading.{readingOf}
 use Rattle.protocol.specs.declared.Answer.{Answer}
-use Rattle.protocol.specs.declared.Phase
 use Rattle.protocol.specs.declared.Phase.{Phase}
-use Rattle.protocol.specs.declared.Start
 use Rattle.protocol.specs.declared.Start.{Start}
+use Rattle.protocol.specs.Calls.{Call, formats, restores, fails, opens, greets, passes, submits, sends, keeps-alive, receives, step}
 use Rattle.protocol.specs.Init.{initStart, startPhase}
 use Rattle.protocol.specs.Judged.{done}
 use Rattle.protocol.specs.Phases.{connected, proposalOf, restingPhase}
@@ -25,19 +22,17 @@ use Rattle.protocol.specs.Receive.{takenAs}
 use Rattle.protocol.specs.State.{State}
 use Rattle.protocol.specs.Step.{Step, releasedWith, unchanged}
 use Rattle.protocol.specs.TimePassed.{expired}
-use Rattle.protocol.specs.Calls.{Call, formats, restores, fails, opens, greets, passes, submits, sends, keeps-alive, receives, step}
 use Rattle.protocol.proofs.Settles.{ends}
-use Rattle.calls.specs.State.{stateOf}
 use Rattle.calls.specs.Outcomes.{After}
+use Rattle.calls.specs.State.{stateOf}
+use Rattle.two_ends.specs.Calls.{broken, keeps, off, replaced}
+use Rattle.two_ends.specs.World.{End, World}
 use Rattle.call_meaning.specs.Medium.{allStored}
-use Rattle.call_meaning.specs.Seen.{seen}
 use Rattle.call_meaning.specs.Standing.{Standing}
 use Rattle.session.specs.Call.{leaves, makesImage}
 use Rattle.session.proofs.Medium.{all-stored}
 use Rattle.session.proofs.Refines.{refines, stands}
-use Rattle.two_ends.specs.World.{End, World}
-use Rattle.two_ends.specs.Calls.{broken, keeps, off, replaced}
-use Rattle.stored_ends.specs.Pair.{Cabinet, Pair}
+use Rattle.stored_ends.specs.Pair.{Cabinet}
 
 -- ---- the proposed timeout of the phase has 16 bits, as the code's types say
 abbrev pub Timed : Phase → Type 0

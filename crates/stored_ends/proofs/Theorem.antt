@@ -1,28 +1,22 @@
 -- Demand 3 on the media: over any run of two cabinets, with power cut after any store of any call. Assumes nothing.
-use Prim.Native.Nat.{ℕ}
-use mathlib.Core.Path.{_≡_, refl, sym, ap, _∙_}
-use mathlib.Core.Bool.{Bool, true}
+use mathlib.Core.Bool.{Bool}
 use mathlib.Core.List.{List, []}
-use native.Mathlib.Omega.{arith}
-use Rattle.ft_number.specs.Timeout.{proposedOf}
+use mathlib.Core.Path.{_≡_, refl, sym, ap, _∙_}
 use Rattle.protocol.specs.Phases.{phaseFits}
-use Rattle.protocol.specs.State.{State}
-use Rattle.image.specs.Verdict.{IsSound}
 use Rattle.calls.specs.State.{stateOf}
-use Rattle.call_meaning.specs.Standing.{Standing}
-use Rattle.call_meaning.proofs.Putting.{lawful-image}
-use Rattle.two_ends.specs.World.{End, Lasts, World}
 use Rattle.two_ends.specs.Demand.{Demand}
-use Rattle.two_ends.specs.Runs.{Event, AllProper as Propers, run as worldRun}
+use Rattle.two_ends.specs.Runs.{run as worldRun}
 use Rattle.two_ends.specs.Start.{Afresh, Fit, opener as openedEnd, start}
+use Rattle.two_ends.specs.World.{Lasts, World}
 use Rattle.two_ends.proofs.Begun.{at-start}
 use Rattle.two_ends.proofs.Theorem.{nothing-lost as rules-lose-nothing}
-use Rattle.stored_ends.specs.Pair.{AllProper, Cabinet, Happening, Pair, run}
+use Rattle.call_meaning.proofs.Putting.{lawful-image}
+use Rattle.stored_ends.specs.Demand.{StoredDemand, storedWorld}
+use Rattle.stored_ends.specs.Pair.{AllProper, Happening, Pair, run}
 use Rattle.stored_ends.specs.Start.{Holder, Sound, begins, cabinet, opener}
-use Rattle.stored_ends.specs.Demand.{StoredDemand, stored, storedWorld}
+use Rattle.stored_ends.proofs.Follows.{Followed, run-follows}
 use Rattle.stored_ends.proofs.Synced.{Synced}
 use Rattle.stored_ends.proofs.Tracks.{Both, seconds-low}
-use Rattle.stored_ends.proofs.Follows.{Followed, Follows, run-follows}
 
 -- ---- the start
 fit : (o : Holder) → Sound o → Fit (opener o)

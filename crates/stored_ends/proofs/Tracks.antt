@@ -1,24 +1,27 @@
 -- Each happening at one end is one event of the rules' world, or two. Assumes nothing.
 use Prim.Native.Nat.{ℕ, _<_}
-use mathlib.Core.Path.{_≡_, refl, sym, ap, _∙_}
 use mathlib.Core.Bool.{Bool, true, false}
 use mathlib.Core.List.{List, [], _∷_}
+use mathlib.Core.Path.{_≡_, refl, sym, ap, _∙_}
 use native.Mathlib.Omega.{arith}
-use borrow.Author.Tests.{ltb-true}
 use lib.Dec.{ltb}
 use lib.ListN.{length}
+use borrow.Author.Tests.{ltb-true}
 use Rattle.octets.specs.Bytes.{Bytes}
 use Rattle.octets.specs.Pick.{pick}
-use Rattle.ft_number.specs.Timeout.{proposedOf}
 use Rattle.ft_number.specs.declared.MessageId.{MessageId}
-use Rattle.ft_number.specs.declared.Proposal
 use Rattle.ft_number.specs.declared.Proposal.{Proposal}
+use Rattle.ft_number.specs.Timeout.{proposedOf}
 use Rattle.message_writer.specs.declared.OwnParameters.{OwnParameters}
-use Rattle.protocol.specs.declared.Answer
+use Rattle.image.specs.State.{decode}
+use Rattle.image.specs.Verdict.{verdict}
+use Rattle.image.proofs.Sound.{parts-sound, sound-parts}
 use Rattle.protocol.specs.declared.Answer.{Answer}
 use Rattle.protocol.specs.declared.Phase.{Phase}
 use Rattle.protocol.specs.Answers.{isDone}
 use Rattle.protocol.specs.Begin.{restore}
+use Rattle.protocol.specs.Calls
+use Rattle.protocol.specs.Calls.{Call, step as ruled}
 use Rattle.protocol.specs.ConnectionFailed.{connectionFailed}
 use Rattle.protocol.specs.Init.{initReceived, initStart}
 use Rattle.protocol.specs.KeepAlive.{keepalive}
@@ -31,23 +34,18 @@ use Rattle.protocol.specs.State.{State}
 use Rattle.protocol.specs.Step.{Step}
 use Rattle.protocol.specs.Submit.{submit}
 use Rattle.protocol.specs.TimePassed.{timePassed}
-use Rattle.protocol.specs.Calls
-use Rattle.protocol.specs.Calls.{Call, step as ruled}
-use Rattle.image.specs.State.{decode}
-use Rattle.image.specs.Verdict.{verdict}
-use Rattle.image.proofs.Sound.{parts-sound, sound-parts}
-use Rattle.calls.specs.State.{stateBy, stateOf}
 use Rattle.calls.specs.Outcomes.{After, untouched}
+use Rattle.calls.specs.State.{stateOf}
+use Rattle.two_ends.specs.Calls.{accepts, beginning, broken, called, counts, delivery, greeted, greets, on, opened, plainly, put, receives, replaced, submitted, took, wrote}
+use Rattle.two_ends.specs.Runs.{Event, Proper, Seconds, act as happens, breaks, delivers, keepalives, notices, opens, passes, restarts, sends, submits}
+use Rattle.two_ends.specs.World.{End, World}
 use Rattle.call_meaning.specs.Medium.{Same, committed, stores}
 use Rattle.call_meaning.specs.Seen.{seen}
 use Rattle.call_meaning.specs.Standing.{Standing}
 use Rattle.session.specs.Call.{leaves, makesImage}
 use Rattle.session.proofs.Medium.{fewer-same}
 use Rattle.session.proofs.Refines.{refines}
-use Rattle.two_ends.specs.World.{End, World}
-use Rattle.two_ends.specs.Calls.{accepts, anew, beginning, broken, called, counts, delivery, greeted, greets, on, opened, plainly, put, receives, replaced, submitted, took, wrote}
-use Rattle.two_ends.specs.Runs.{Event, Proper, Seconds, act as happens, breaks, delivers, keepalives, notices, opens, passes, restarts, sends, submits}
-use Rattle.stored_ends.specs.Pair.{Cabinet, Lent, Pair, cutShort, left, made, received, restarted, shown, shownDelivery}
+use Rattle.stored_ends.specs.Pair.{Cabinet, Lent, Pair, cutShort, left, made, received, restarted, shownDelivery}
 use Rattle.stored_ends.proofs.Synced.{Proposes, Synced, after, synced-called, synced-off, synced-replaced}
 
 -- the bytes under way to an end

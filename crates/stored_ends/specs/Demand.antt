@@ -1,10 +1,8 @@
 -- The demand, of what is on the media.
-use mathlib.Core.List.{List}
-use Prim.Native.Nat.{ℕ}
 use Rattle.image.specs.Verdict.{IsSound}
 use Rattle.calls.specs.State.{stateOf}
-use Rattle.two_ends.specs.World.{End, World}
 use Rattle.two_ends.specs.Demand.{Demand}
+use Rattle.two_ends.specs.World.{End, World}
 use Rattle.stored_ends.specs.Pair.{Cabinet, Pair}
 
 -- an end whose state is the one that its medium stands for

@@ -1,28 +1,27 @@
 -- Two cabinets, each with an image in memory and one on the medium, and what a run with power cuts makes of them.
 -- The owner stores exactly what each outcome tells, in the order told; output leaves only when all of it is stored; a restart reads the medium and nothing else.
 use Prim.Native.Nat.{ℕ}
-use mathlib.Core.Path.{_≡_}
 use mathlib.Core.Bool.{Bool, true, false}
 use mathlib.Core.List.{List, [], _∷_}
+use mathlib.Core.Path.{_≡_}
 use lib.Dec.{ltb}
 use lib.ListN.{length}
 use Rattle.octets.specs.Pick.{pick}
-use Rattle.protocol.specs.declared.Answer
 use Rattle.protocol.specs.declared.Answer.{Answer}
 use Rattle.protocol.specs.declared.Phase.{Phase}
+use Rattle.protocol.specs.Calls
 use Rattle.protocol.specs.Init.{initStart}
 use Rattle.protocol.specs.Phases.{awaits}
 use Rattle.protocol.specs.State.{State}
 use Rattle.protocol.specs.Step.{Step}
-use Rattle.protocol.specs.Calls
-use Rattle.calls.specs.State.{stateOf}
 use Rattle.calls.specs.Outcomes.{After, untouched}
+use Rattle.calls.specs.State.{stateOf}
+use Rattle.two_ends.specs.Calls.{broken, greets, opened, plainly, receives, submitted, wrote}
+use Rattle.two_ends.specs.Runs.{Event, submits, sends, keepalives, opens, passes, delivers, breaks, notices, restarts, Proper}
+use Rattle.two_ends.specs.World.{World, swap as swapped}
 use Rattle.call_meaning.specs.Medium.{allStored, committed, stores}
 use Rattle.call_meaning.specs.Seen.{seen}
 use Rattle.session.specs.Call.{leaves}
-use Rattle.two_ends.specs.World.{World, swap as swapped}
-use Rattle.two_ends.specs.Calls.{broken, greets, opened, plainly, receives, submitted, wrote}
-use Rattle.two_ends.specs.Runs.{Event, submits, sends, keepalives, opens, passes, delivers, breaks, notices, restarts, Proper}
 
 -- the image in the owner's memory, lost with power, and the one that is stored
 pub record Cabinet : Type 0 where

@@ -1,25 +1,22 @@
 -- The label words once a message is accepted for sending: as many, valid again, each of 32 bits. Assumes nothing.
-use mathlib.Core.Path.{_≡_, refl, _∙_}
+use Prim.Native.Nat.{ℕ}
 use mathlib.Core.Bool.{true}
 use mathlib.Core.List.{List}
-use Prim.Native.Nat.{ℕ}
+use mathlib.Core.Path.{_≡_, refl, _∙_}
 use lib.ListN.{length}
-use Rattle.message.specs.declared.Kind
-use Rattle.message.specs.declared.Kind.{Kind}
-use Rattle.message.specs.declared.Submission
-use Rattle.message.specs.declared.Submission.{Submission}
-use Rattle.label_list.specs.Word.{wordCount}
-use Rattle.label_list.specs.Valid.{validOf}
-use Rattle.label_list.specs.declared.LabelMessage
+use Rattle.block.specs.Run.{Words}
 use Rattle.label_list.specs.declared.LabelMessage.{LabelMessage}
-use Rattle.label_events.specs.Change.{ChangeIn, changed}
+use Rattle.label_list.specs.Valid.{validOf}
+use Rattle.label_list.specs.Word.{wordCount}
 use Rattle.label_events.specs.declared.Acceptance.{Acceptance}
 use Rattle.label_events.specs.declared.Accepted.{Accepted}
 use Rattle.label_events.specs.declared.Change.the-variants.{Keep}
+use Rattle.label_events.specs.Change.{ChangeIn, changed}
 use Rattle.label_meaning.specs.Event.{Accepted as Offered, step}
 use Rattle.label_meaning.proofs.Kept.{step-length}
 use Rattle.label_meaning.proofs.Step.{step-valid}
-use Rattle.block.specs.Run.{Words}
+use Rattle.message.specs.declared.Kind.{Kind}
+use Rattle.message.specs.declared.Submission.{Submission}
 use Rattle.image.proofs.Ranges.{valid-words}
 use Rattle.protocol.specs.Accepting.{acceptedAs}
 use Rattle.protocol.specs.Submit.{acceptedLabels}

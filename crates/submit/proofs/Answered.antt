@@ -1,24 +1,22 @@
 -- Submit's answers in their order, each from the tests that lead to it. Assumes nothing.
-use mathlib.Core.Path.{_≡_, sym, _∙_}
+use Prim.Native.Nat.{ℕ, _≤_, _<_}
 use mathlib.Core.Bool.{Bool, true, false}
 use mathlib.Core.List.{List}
-use Prim.Native.Nat.{ℕ, _≤_, _<_}
-use borrow.Author.Tests.{eq-eqb, ne-eqb, lt-ltb, le-ltb, lt-leb, le-leb}
+use mathlib.Core.Path.{_≡_, sym, _∙_}
 use lib.ListN.{length}
-use Rattle.message.specs.Submission.{submissionOf}
-use Rattle.message.specs.declared.Kind.{Kind}
-use Rattle.message.specs.declared.Submission.{Submission}
-use Rattle.label_events.specs.declared.Acceptance
-use Rattle.label_events.specs.declared.Acceptance.{Acceptance}
+use borrow.Author.Tests.{eq-eqb, ne-eqb, lt-ltb, le-ltb, lt-leb, le-leb}
 use Rattle.block0.specs.declared.Header.{Header}
 use Rattle.block0.specs.Layout.{slotCount}
+use Rattle.label_events.specs.declared.Acceptance.{Acceptance}
+use Rattle.message.specs.declared.Kind.{Kind}
+use Rattle.message.specs.declared.Submission.{Submission}
 use Rattle.message.specs.Storable.{shortest, longest}
+use Rattle.message.specs.Submission.{submissionOf}
 use Rattle.image.specs.State.{decode}
 use Rattle.image.proofs.Queue.{queue-length}
-use Rattle.protocol.specs.State.{State}
-use Rattle.protocol.specs.declared.Answer
 use Rattle.protocol.specs.declared.Answer.{Answer}
 use Rattle.protocol.specs.Accepting.{isBarred, acceptedAs}
+use Rattle.protocol.specs.State.{State}
 use Rattle.protocol.specs.Submit.{acceptanceRule, submissionRule, kindRule, submitRule}
 use Rattle.calls.specs.State.{stateOf}
 

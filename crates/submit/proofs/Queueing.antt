@@ -1,30 +1,30 @@
 -- The image with one more message held: what is written, and that block 0 is another. Assumes nothing.
-use mathlib.Core.Path.{_≡_, refl, ap, _∙_}
+use Prim.Native.Nat.{ℕ, _+_, _<_}
 use mathlib.Core.Bool.{true}
 use mathlib.Core.List.{List, [], _∷_, _++_}
-use Prim.Native.Nat.{ℕ, _+_, _≤_, _<_}
+use mathlib.Core.Path.{_≡_, refl, ap, _∙_}
 use native.Mathlib.Omega.{arith}
 use lib.ListN.{length, length-append}
 use Rattle.octets.specs.Differ.{differ}
-use Rattle.message.specs.Submission.{submissionOf}
 use Rattle.label_list.specs.Word.{wordCount}
-use Rattle.label_events.specs.Change.{ChangeIn, changed}
+use Rattle.block0.specs.declared.Header.{Header}
+use Rattle.block0.specs.Fields.{Fits}
+use Rattle.block0.specs.Layout.{slotCount, labelsOf}
+use Rattle.block0.specs.Updates.{headerHeld}
 use Rattle.label_events.specs.declared.Change.{Change}
 use Rattle.label_events.specs.declared.Change.the-variants.{Put}
+use Rattle.label_events.specs.Change.{ChangeIn, changed}
 use Rattle.label_events.proofs.Written.{change-place}
-use Rattle.block0.specs.declared.Header.{Header}
-use Rattle.block0.specs.Layout.{slotCount, labelsOf}
-use Rattle.block0.specs.Fields.{Fits}
 use Rattle.message.specs.Storable.{Storable}
+use Rattle.message.specs.Submission.{submissionOf}
 use Rattle.image.specs.Sizes.{imageSize, block, blockOf}
 use Rattle.image.specs.State.{State, decode, storeSlot, store0, InRange}
 use Rattle.image.specs.Verdict.{IsSound}
-use Rattle.image.proofs.Stored.{slot-other, decode-accept}
-use Rattle.image.proofs.Sound.{sound-valid}
-use Rattle.image.proofs.Same.{said-changed}
-use Rattle.image.proofs.Ranges.{labels-count}
-use Rattle.block0.specs.Updates.{headerHeld}
 use Rattle.image.proofs.Queue.{queue-length}
+use Rattle.image.proofs.Ranges.{labels-count}
+use Rattle.image.proofs.Same.{said-changed}
+use Rattle.image.proofs.Sound.{sound-valid}
+use Rattle.image.proofs.Stored.{slot-other, decode-accept}
 use Rattle.protocol.specs.Submit.{acceptedLabels, submitted}
 use Rattle.calls.specs.State.{stateOf}
 use Rattle.calls.specs.Storing.{headerFor, nextSlot, one-more, stored}

@@ -1,42 +1,39 @@
 -- What each return of Submit leaves is what its answer leaves. Assumes nothing.
-use mathlib.Core.Path.{_≡_, refl, sym, ap, _∙_}
+use Prim.Native.Nat.{ℕ, _+_, _≤_, _<_}
 use mathlib.Core.Bool.{true, false}
 use mathlib.Core.List.{List, []}
-use Prim.Native.Nat.{ℕ, _+_, _≤_, _<_}
+use mathlib.Core.Path.{_≡_, refl, sym, ap, _∙_}
 use lib.ListN.{length}
 use Rattle.octets.specs.Bytes.{Bytes}
-use Rattle.message.specs.Submission.{submissionOf}
-use Rattle.message.specs.declared.Kind.{Kind}
-use Rattle.message.specs.declared.Submission
-use Rattle.message.specs.declared.Submission.{Submission}
-use Rattle.label_events.specs.Change.{changed}
-use Rattle.label_events.specs.declared.Change.{Change}
 use Rattle.block0.specs.declared.Header.{Header}
 use Rattle.block0.specs.Layout.{slotCount}
+use Rattle.block0.specs.Updates.{headerHeld}
+use Rattle.label_events.specs.declared.Change.{Change}
+use Rattle.label_events.specs.Change.{changed}
+use Rattle.message.specs.declared.Kind.{Kind}
+use Rattle.message.specs.declared.Submission.{Submission}
 use Rattle.message.specs.Storable.{Storable, shortest, longest}
+use Rattle.message.specs.Submission.{submissionOf}
 use Rattle.image.specs.Sizes.{blockOf}
 use Rattle.image.specs.State.{decode, storeSlot, store0}
 use Rattle.image.specs.Verdict.{IsSound}
 use Rattle.image.proofs.Ranges.{bytes-in-range}
-use Rattle.protocol.specs.declared.Answer
 use Rattle.protocol.specs.declared.Answer.{Answer}
-use Rattle.protocol.specs.declared.Effect
 use Rattle.protocol.specs.declared.Effect.{Effect}
-use Rattle.calls.specs.declared.Outcome.{Outcome}
 use Rattle.protocol.specs.declared.Phase.{Phase}
-use Rattle.protocol.specs.Answers.{answerNumber, effectBy, isDone}
-use Rattle.calls.specs.Outcomes.{After, after, refusal, admittedOn, settleOf}
-use Rattle.calls.proofs.Settled.{Admitted, admitted-is}
-use Rattle.calls.proofs.Ends.{settle-done}
-use Rattle.call_meaning.proofs.Calling.{call-refused, found-refused}
 use Rattle.protocol.specs.Accepting.{acceptedAs}
+use Rattle.protocol.specs.Answers.{answerNumber, effectBy, isDone}
+use Rattle.protocol.specs.Step.{stepped}
 use Rattle.protocol.specs.Submit.{acceptedLabels, submit, submitRule, submitted}
-use Rattle.submit.specs.Call.{queued, submitOf}
-use Rattle.block0.specs.Updates.{headerHeld}
+use Rattle.calls.specs.declared.Outcome.{Outcome}
+use Rattle.calls.specs.Outcomes.{After, after, refusal, admittedOn, settleOf}
 use Rattle.calls.specs.State.{stateOf}
 use Rattle.calls.specs.Storing.{nextSlot, one-more}
 use Rattle.calls.proofs.Called.{call-is}
-use Rattle.protocol.specs.Step.{stepped}
+use Rattle.calls.proofs.Ends.{settle-done}
+use Rattle.calls.proofs.Settled.{Admitted, admitted-is}
+use Rattle.call_meaning.proofs.Calling.{call-refused, found-refused}
+use Rattle.submit.specs.Call.{queued, submitOf}
 use Rattle.submit.proofs.Queueing.{image-changed, queued-puts}
 
 -- ---- the message is queued; the premises are what the callees ensure

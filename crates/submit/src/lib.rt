@@ -1,14 +1,14 @@
 // Submit: the message is judged, and queued as the newest one held. It gets its number when it is first sent.
-ghost use mathlib.Core.Path.{_≡_};
-ghost use mathlib.Core.List.{[]};
 ghost use Prim.Native.Nat.{_≤_};
+ghost use mathlib.Core.List.{[]};
+ghost use mathlib.Core.Path.{_≡_};
 ghost use lib.ListN.{length};
-ghost use Rattle.message.specs.Submission.{submissionOf};
 ghost use Rattle.message.specs.declared.Submission.the-variants.{Accepted};
 ghost use Rattle.message.specs.Storable.{shortest, longest};
+ghost use Rattle.message.specs.Submission.{submissionOf};
 ghost use Rattle.image.specs.Verdict.{IsSound};
-ghost use Rattle.calls.specs.Outcomes.{after, settleOf};
 ghost use Rattle.protocol.specs.Submit.{kindRule};
+ghost use Rattle.calls.specs.Outcomes.{after, settleOf};
 ghost use Rattle.calls.specs.State.{stateOf};
 ghost use Rattle.submit.specs.Call.{queued, submitOf};
 use calls::Answer;

@@ -1,15 +1,15 @@
 // The two stores of Submit: the message's slot, then block 0.
-ghost use mathlib.Core.Path.{_≡_};
 ghost use Prim.Native.Nat.{_+_, _≤_, _<_};
+ghost use mathlib.Core.Path.{_≡_};
 ghost use lib.ListN.{length};
-ghost use Rattle.message.specs.Submission.{submissionOf};
-ghost use Rattle.message.specs.declared.Submission.the-variants.{Accepted};
-ghost use Rattle.label_events.specs.Change.{ChangeIn, changed};
 ghost use Rattle.block0.specs.Layout.{slotCount};
+ghost use Rattle.block0.specs.Updates.{headerHeld};
+ghost use Rattle.label_events.specs.Change.{ChangeIn, changed};
+ghost use Rattle.message.specs.declared.Submission.the-variants.{Accepted};
 ghost use Rattle.message.specs.Storable.{shortest, longest};
+ghost use Rattle.message.specs.Submission.{submissionOf};
 ghost use Rattle.image.specs.Sizes.{imageSize, blockOf};
 ghost use Rattle.image.specs.State.{decode, storeSlot, store0};
-ghost use Rattle.block0.specs.Updates.{headerHeld};
 ghost use Rattle.calls.specs.Storing.{nextSlot};
 use block0::Header;
 use label_events::Change;

@@ -1,12 +1,12 @@
 -- Texts put one after the other are their join. Assumes nothing.
 use Prim.Native.Nat.{ℕ, _+_, _≤_}
-use mathlib.Core.Path.{_≡_, sym, ap, _∙_}
 use mathlib.Core.List.{List, [], _++_}
+use mathlib.Core.Path.{_≡_, sym, ap, _∙_}
 use native.Mathlib.Omega.{arith}
 use lib.ListN.{length, take, length-append}
 use Rattle.octets.specs.Fill.{copied}
-use Rattle.octets.proofs.Fill.{filled-none}
 use Rattle.octets.proofs.Copied.{copied-append, length-copied, take-copied}
+use Rattle.octets.proofs.Fill.{filled-none}
 use Rattle.text.specs.Text.{Put}
 
 pub put-none : (s : List ℕ) (at : ℕ) → Put s at [] s at

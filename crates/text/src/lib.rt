@@ -1,6 +1,6 @@
 // Text put into lent bytes, one piece after the other: words, decimal numbers, bytes in hexadecimal.
-ghost use mathlib.Core.Path.{_≡_};
 ghost use Prim.Native.Nat.{_+_, _*_, _≤_, _<_};
+ghost use mathlib.Core.Path.{_≡_};
 ghost use lib.ListN.{length};
 ghost use Rattle.io.specs.Digits.{glyph};
 ghost use Rattle.text.specs.Text.{decimal, hex, Put};

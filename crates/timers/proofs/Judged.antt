@@ -1,36 +1,35 @@
 -- The answer to an event, and what it leaves; the premises are what the callees ensure. Assumes nothing.
-use mathlib.Core.Path.{_≡_, refl, sym, ap, _∙_}
+use Prim.Native.Nat.{ℕ}
 use mathlib.Core.Bool.{Bool, true, false, not}
 use mathlib.Core.List.{List, []}
-use Prim.Native.Nat.{ℕ}
+use mathlib.Core.Path.{_≡_, refl, sym, ap, _∙_}
 use lib.Dec.{leb}
 use borrow.Author.Tests.{eq-eqb, ne-eqb}
-use Rattle.octets.specs.Pick.{pick}
 use Rattle.octets.specs.Bytes.{Bytes}
+use Rattle.octets.specs.Pick.{pick}
 use Rattle.octets.proofs.Choice.{pick-all}
 use Rattle.octets.proofs.Differ.{differ-self}
-use Rattle.protocol.specs.declared.Answer
-use Rattle.protocol.specs.declared.Answer.{Answer}
-use Rattle.protocol.specs.declared.Phase.{Phase}
-use Rattle.protocol.specs.Answers.{effectOf, isDone}
-use Rattle.protocol.specs.Phases.{connected, waiting}
-use Rattle.protocol.specs.State.{State}
-use Rattle.protocol.specs.Step.{Step, failedWith, releasedWith, unchanged}
-use Rattle.protocol.specs.ConnectionFailed.{connectionFailed}
-use Rattle.protocol.specs.TimePassed.{expired, timePassed}
-use Rattle.protocol.proofs.Settling.{Harmless, done-harmless}
 use Rattle.block0.specs.declared.Header.{Header}
 use Rattle.image.specs.State.{decode}
 use Rattle.image.specs.Verdict.{IsSound}
+use Rattle.protocol.specs.declared.Answer.{Answer}
+use Rattle.protocol.specs.declared.Phase.{Phase}
+use Rattle.protocol.specs.Answers.{effectOf, isDone}
+use Rattle.protocol.specs.ConnectionFailed.{connectionFailed}
+use Rattle.protocol.specs.Phases.{connected, waiting}
+use Rattle.protocol.specs.State.{State}
+use Rattle.protocol.specs.Step.{Step, failedWith, releasedWith, unchanged}
+use Rattle.protocol.specs.TimePassed.{expired, timePassed}
+use Rattle.protocol.proofs.Settling.{Harmless, done-harmless}
 use Rattle.calls.specs.declared.Outcome.{Outcome}
+use Rattle.calls.specs.Outcomes.{After, after, refusal, releasedOn, failedOn, admittedOn, settleOf, stepStored}
 use Rattle.calls.specs.State.{stateOf, numbersOf}
 use Rattle.calls.specs.Storing.{stay, empty}
-use Rattle.calls.specs.Outcomes.{After, after, refusal, releasedOn, failedOn, admittedOn, settleOf, stepStored}
-use Rattle.calls.proofs.Settled.{admitted-done, admit-refused, admit-passed, admitted-is, admitted-sound}
-use Rattle.calls.proofs.Putting.{put-same}
 use Rattle.calls.proofs.Called.{call-is}
-use Rattle.call_meaning.proofs.Refusals.{admitted-harmless, settle-does}
+use Rattle.calls.proofs.Putting.{put-same}
+use Rattle.calls.proofs.Settled.{admitted-done, admit-refused, admit-passed, admitted-is, admitted-sound}
 use Rattle.call_meaning.proofs.Calling.{own-refused}
+use Rattle.call_meaning.proofs.Refusals.{admitted-harmless, settle-does}
 use Rattle.timers.specs.Events.{connectionFailedOf, timePassedOf, eventRule}
 
 -- ---- the tests

@@ -3,14 +3,13 @@ use Prim.Native.Nat.{ℕ}
 use mathlib.Core.Bool.{Bool, not}
 use mathlib.Core.List.{List, []}
 use Rattle.octets.specs.Pick.{pick}
-use Rattle.protocol.specs.declared.Answer
 use Rattle.protocol.specs.declared.Answer.{Answer}
 use Rattle.protocol.specs.declared.Phase.{Phase}
 use Rattle.protocol.specs.ConnectionFailed.{connectionFailed}
 use Rattle.protocol.specs.TimePassed.{expired, timePassed}
+use Rattle.calls.specs.Outcomes.{After, callOf}
 use Rattle.calls.specs.State.{stateOf}
 use Rattle.calls.specs.Storing.{stay, empty}
-use Rattle.calls.specs.Outcomes.{After, callOf}
 
 -- "Connection failed (InitWait, UpFT, UpPlain): code 6 words are freed; Failed if kept, else Idle."
 unfoldable pub connectionFailedOf : List ℕ → Phase → After

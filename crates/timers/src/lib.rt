@@ -1,10 +1,10 @@
 // Connection failed and Time passed: the events that come without a message.
-ghost use mathlib.Core.Path.{_≡_};
 ghost use mathlib.Core.List.{[]};
+ghost use mathlib.Core.Path.{_≡_};
 ghost use Rattle.protocol.specs.Phases.{connected, waiting};
 ghost use Rattle.protocol.specs.TimePassed.{expired};
-ghost use Rattle.calls.specs.State.{numbersOf};
 ghost use Rattle.calls.specs.Outcomes.{after, admittedOn};
+ghost use Rattle.calls.specs.State.{numbersOf};
 ghost use Rattle.timers.specs.Events.{connectionFailedOf, timePassedOf, eventRule};
 use block0::Header;
 use calls::Answer;

@@ -1,28 +1,25 @@
 -- Where the TLVs lie that a walk has found: each place bears its TLV, whole, with its length, and behind the head. Assumes nothing.
 use Prim.Native.Nat.{ℕ, _+_, _-_, _%_, _≤_, _<_}
-use mathlib.Core.Path.{_≡_, refl, sym, _∙_, ap}
 use mathlib.Core.Bool.{Bool, true, false}
 use mathlib.Core.List.{List}
+use mathlib.Core.Path.{_≡_, refl, sym, _∙_, ap}
 use native.Mathlib.Nat.{add-zero}
 use native.Mathlib.Omega.{arith}
-use borrow.Author.Tests.{eqb-true, ltb-false}
+use lib.Dec.{eqb, ltb}
 use lib.ListN.{length, drop, length-drop}
 use lib.Seq.{drop-drop}
-use lib.Dec.{eqb, ltb}
+use borrow.Author.Tests.{eqb-true, ltb-false}
 use Rattle.octets.specs.Be.{beAt}
 use Rattle.octets.specs.Pick.{pick}
-use Rattle.octets.proofs.Fix.{size-ind}
-use Rattle.tlv.specs.Tlv.{tlvOf, lengthFits, headOf, labelIn, largestLabel}
-use Rattle.tlv.specs.Walk.{noneFound, placeOf, placedOf, notedOf, turnOf, Rest, leftOf, onTurn, walkOf, headSize, tlvsOf}
-use Rattle.tlv.specs.Value.{Within, Places}
-use Rattle.tlv.specs.declared.Found.{Found}
-use Rattle.tlv.specs.declared.walk.Tlv
-use Rattle.tlv.specs.declared.walk.Tlv.{Tlv}
-use Rattle.tlv.specs.declared.walk.Turn
-use Rattle.tlv.specs.declared.walk.Turn.{Turn}
-use Rattle.tlv.specs.declared.walk.Walk
-use Rattle.tlv.specs.declared.walk.Walk.{Walk}
 use Rattle.octets.proofs.Bytes.{beAt-drop}
+use Rattle.octets.proofs.Fix.{size-ind}
+use Rattle.tlv.specs.declared.Found.{Found}
+use Rattle.tlv.specs.declared.walk.Tlv.{Tlv}
+use Rattle.tlv.specs.declared.walk.Turn.{Turn}
+use Rattle.tlv.specs.declared.walk.Walk.{Walk}
+use Rattle.tlv.specs.Tlv.{tlvOf, lengthFits, headOf, labelIn, largestLabel}
+use Rattle.tlv.specs.Value.{Within, Places}
+use Rattle.tlv.specs.Walk.{noneFound, placeOf, placedOf, notedOf, turnOf, Rest, leftOf, onTurn, walkOf, headSize, tlvsOf}
 use Rattle.tlv.proofs.Turns.{Goes, goes, walkRest, walk-step}
 
 -- a TLV that was noted: its length was right, it had not stood before, its label was no higher than the largest

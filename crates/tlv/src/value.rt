@@ -1,4 +1,8 @@
 // What a TLV that was found says: its place is 0 where it does not stand, and its value lies within the message.
+ghost use Prim.Native.Nat.{_+_};
+ghost use mathlib.Core.Path.{_≡_};
+ghost use Rattle.octets.specs.Be.{beAt};
+ghost use Rattle.tlv.specs.Value.{Within, partAt, fecAt, fieldAt, numberAt, parametersAt, sessionAt};
 use crate::Fec;
 use crate::Field;
 use crate::FtField;
@@ -6,10 +10,6 @@ use crate::Parameters;
 use crate::Part;
 use crate::Session;
 use ft_number::FtNumber;
-ghost use mathlib.Core.Path.{_≡_};
-ghost use Rattle.octets.specs.Be.{beAt};
-ghost use Prim.Native.Nat.{_+_};
-ghost use Rattle.tlv.specs.Value.{Within, partAt, fecAt, fieldAt, numberAt, parametersAt, sessionAt};
 
 // The value's part of the message.
 pub fn part_at(m: &[u8], place: usize) -> Part

@@ -1,11 +1,11 @@
 // The walk over the TLVs of a message, left at the first fault.
-use crate::Found;
-ghost use mathlib.Core.Path.{_≡_};
-ghost use mathlib.Core.Bool.{true};
 ghost use Prim.Native.Nat.{_+_, _-_, _≤_};
+ghost use mathlib.Core.Bool.{true};
+ghost use mathlib.Core.Path.{_≡_};
 ghost use lib.ListN.{length, drop};
 ghost use Rattle.tlv.specs.Tlv.{tlvOf, lengthFits, labelIn};
 ghost use Rattle.tlv.specs.Walk.{placeOf, placedOf, notedOf, turnOf, walkOf, noneFound, tlvsOf};
+use crate::Found;
 
 // The listed TLVs, and any other.
 pub enum Tlv {

@@ -1,18 +1,18 @@
 -- What holds of the world that a call makes, and what a break keeps, holds of the world after the event. Assumes nothing.
 use Prim.Native.Nat.{ℕ}
-use mathlib.Core.Path.{_≡_, refl}
-use mathlib.Core.List.{[], List, _∷_}
 use mathlib.Core.Bool.{Bool, false, true, not}
+use mathlib.Core.List.{[], List, _∷_}
+use mathlib.Core.Path.{_≡_, refl}
 use Rattle.octets.specs.Pick.{pick, both}
 use Rattle.octets.proofs.Choice.{pick-all, both-true}
-use Rattle.protocol.specs.Step.{Step}
-use Rattle.protocol.specs.Phases.{awaits}
-use Rattle.protocol.specs.Init.{initReceived, initStart}
-use Rattle.protocol.specs.Answers.{isDone}
-use Rattle.protocol.specs.Receive.{receive}
 use Rattle.protocol.specs.declared.Start.{Start}
-use Rattle.two_ends.specs.World.{End, World, Lasts}
+use Rattle.protocol.specs.Answers.{isDone}
+use Rattle.protocol.specs.Init.{initReceived, initStart}
+use Rattle.protocol.specs.Phases.{awaits}
+use Rattle.protocol.specs.Receive.{receive}
+use Rattle.protocol.specs.Step.{Step}
 use Rattle.two_ends.specs.Calls.{accepts, beginning, broken, called, counts, delivery, greeted, greets, on, opened, plainly, put, receives, replaced, submitted, took, wrote, anew, keeps}
+use Rattle.two_ends.specs.World.{End, World, Lasts}
 use Rattle.two_ends.proofs.Worlds.{closes, next}
 
 -- ---- the end after the message m is delivered to it, as the peer's Init or as any other

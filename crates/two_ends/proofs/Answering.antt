@@ -1,53 +1,47 @@
 -- Between the two ends no answer comes but 0, 21, 35 and 36. Assumes nothing.
 use Prim.Native.Nat.{ℕ}
-use mathlib.Core.Path.{_≡_, refl, sym, _∙_}
 use mathlib.Core.Bool.{Bool}
 use mathlib.Core.List.{List}
 use mathlib.Core.Logic.{⊎-elim}
+use mathlib.Core.Path.{_≡_, refl, sym, _∙_}
 use Rattle.octets.proofs.Choice.{no}
 use Rattle.ft_number.specs.declared.FtNumber.{FtNumber}
-use Rattle.tlv.specs.declared.FtField
+use Rattle.label_list.specs.declared.Protection.{Protection}
 use Rattle.tlv.specs.declared.FtField.{FtField}
 use Rattle.message.specs.declared.Message.{Message}
-use Rattle.message.specs.declared.Reading
 use Rattle.message.specs.declared.Reading.{Reading}
-use Rattle.label_list.specs.declared.Protection
-use Rattle.label_list.specs.declared.Protection.{Protection}
-use Rattle.protocol.specs.Cases.{Case, wordsAfter, missing, wrong}
-use Rattle.protocol.specs.declared.Answer
 use Rattle.protocol.specs.declared.Answer.{Answer}
-use Rattle.protocol.specs.declared.Phase
 use Rattle.protocol.specs.declared.Phase.{Phase}
 use Rattle.protocol.specs.declared.Progress.{Progress}
-use Rattle.protocol.specs.declared.Start
 use Rattle.protocol.specs.declared.Start.{Start}
-use Rattle.protocol.specs.State.{State}
 use Rattle.protocol.specs.Acked.{acked}
+use Rattle.protocol.specs.Cases.{Case, wordsAfter, missing, wrong}
 use Rattle.protocol.specs.Init.{initStart}
 use Rattle.protocol.specs.Labels.{labelEffect, protectionRule}
 use Rattle.protocol.specs.Phases.{waitingFor}
+use Rattle.protocol.specs.State.{State}
 use Rattle.protocol.proofs.Begins.{changed as changed-init}
 use Rattle.two_ends.specs.Answers.{Comes, taken, no-word, changed, fatal, answerTo, AllCome}
-use Rattle.two_ends.specs.Start.{Afresh, Fit, Opener, start}
-use Rattle.two_ends.specs.Runs.{AllProper, Event, run}
-use Rattle.two_ends.specs.World.{End, Lasts, World, swap}
 use Rattle.two_ends.specs.Calls.{on}
-use Rattle.two_ends.proofs.Judging.{Fair, fair-done, fair-fatal, fair-full, fair-missing, fair-wrong}
-use Rattle.two_ends.proofs.Invariant.{Good}
+use Rattle.two_ends.specs.Runs.{AllProper, Event, run}
+use Rattle.two_ends.specs.Start.{Afresh, Fit, Opener, start}
+use Rattle.two_ends.specs.World.{End, Lasts, World, swap}
+use Rattle.two_ends.proofs.Arriving.{alive-done, alive-read, carried-fair, carried-read, f, g₁, g₂}
+use Rattle.two_ends.proofs.Begun.{at-start}
+use Rattle.two_ends.proofs.Greeted.{first-begins}
 use Rattle.two_ends.proofs.Hearing.{Labelled}
+use Rattle.two_ends.proofs.Invariant.{Good}
+use Rattle.two_ends.proofs.Judging.{Fair, fair-done, fair-fatal, fair-full, fair-missing, fair-wrong}
 use Rattle.two_ends.proofs.Labelled.{Lists, lists, swap-lists}
 use Rattle.two_ends.proofs.Oldest.{Oldests, by-oldest}
-use Rattle.two_ends.proofs.Tidy.{Tidy, tidy-acked}
 use Rattle.two_ends.proofs.Packets.{again, alive, bytesOf, carried}
-use Rattle.two_ends.proofs.Resuming.{again-begins, again-start}
-use Rattle.two_ends.proofs.Arriving.{alive-done, alive-read, carried-fair, carried-read, f, g₁, g₂}
-use Rattle.two_ends.proofs.Theorem.{at-run}
-use Rattle.two_ends.proofs.Begun.{at-start}
-use Rattle.two_ends.proofs.Worlds.{at-swap}
-use Rattle.two_ends.proofs.Greeted.{first-begins}
 use Rattle.two_ends.proofs.Receiving.{judged, rule-answers}
+use Rattle.two_ends.proofs.Resuming.{again-begins, again-start}
 use Rattle.two_ends.proofs.Sixless.{protected-right}
 use Rattle.two_ends.proofs.Starting.{terms}
+use Rattle.two_ends.proofs.Theorem.{at-run}
+use Rattle.two_ends.proofs.Tidy.{Tidy, tidy-acked}
+use Rattle.two_ends.proofs.Worlds.{at-swap}
 
 -- protection is neither missing nor wrong, as an ACK leaves the labels
 pub rightly : (s : State) (g : Message) (n : FtNumber) → Tidy s → g .protection ≡ FtField.Number n → (k : ℕ) → protectionRule (wordsAfter s k) g ≡ Protection.Right

@@ -1,42 +1,38 @@
 -- A KeepAlive, or a message with its number, is delivered in UpFT. Assumes nothing.
 use Prim.Native.Nat.{ℕ, _+_, _^_, _<_}
-use native.Mathlib.Omega.{arith}
-use mathlib.Core.Path.{_≡_, refl, ap}
 use mathlib.Core.Bool.{true, false}
 use mathlib.Core.List.{List, [], _∷_, map}
+use mathlib.Core.Path.{_≡_, refl, ap}
+use native.Mathlib.Omega.{arith}
 use lib.ListN.{length}
-use Rattle.ft_number.specs.declared.Ack
 use Rattle.ft_number.specs.declared.Ack.{Ack}
 use Rattle.ft_number.specs.declared.FtNumber.{FtNumber}
 use Rattle.ft_number.specs.declared.MessageId.{MessageId}
-use Rattle.tlv.specs.declared.FtField
 use Rattle.tlv.specs.declared.FtField.{FtField}
+use Rattle.message.specs.declared.Message.{Message}
+use Rattle.message.specs.declared.Reading.{Reading}
 use Rattle.message.specs.Kinds.{kindOf}
 use Rattle.message.specs.Reading.{readingOf}
-use Rattle.message.specs.declared.Message.{Message}
-use Rattle.message.specs.declared.Reading
-use Rattle.message.specs.declared.Reading.{Reading}
 use Rattle.message.proofs.Laws.{accepted}
 use Rattle.message_writer.specs.ReadBack.{keepaliveMessage, protectedMessage}
 use Rattle.message_writer.proofs.Own.{keepalive-reads}
 use Rattle.message_writer.proofs.RoundTrip.{submitted, sent-reads, sent-kind, sent-payload}
-use Rattle.protocol.specs.Labels.{labelEffect, protectionRule}
-use Rattle.protocol.specs.Received.{isInit}
-use Rattle.protocol.specs.declared.Answer
 use Rattle.protocol.specs.declared.Answer.{Answer}
-use Rattle.protocol.specs.Receive.{ackOn, ftRule, receive}
-use Rattle.protocol.specs.State.{State}
+use Rattle.protocol.specs.Labels.{labelEffect, protectionRule}
 use Rattle.protocol.specs.Phases.{upWith}
-use Rattle.two_ends.specs.World.{History, End}
+use Rattle.protocol.specs.Receive.{ackOn, ftRule, receive}
+use Rattle.protocol.specs.Received.{isInit}
+use Rattle.protocol.specs.State.{State}
 use Rattle.two_ends.specs.Calls.{keeps, took, securing}
+use Rattle.two_ends.specs.World.{History, End}
 use Rattle.two_ends.proofs.Direction.{half-turn}
 use Rattle.two_ends.proofs.Freeing.{half-ack}
-use Rattle.two_ends.proofs.Packets.{Packet, alive, carried, bytesOf, Fine}
 use Rattle.two_ends.proofs.Invariant.{sideOf, Inv}
+use Rattle.two_ends.proofs.Judging.{Fair, fair-done, fair-full, fair-fatal, fair-missing, fair-wrong, InOrder, order-fair, Plain, plain-done, not-init}
+use Rattle.two_ends.proofs.Packets.{Packet, alive, carried, bytesOf, Fine}
+use Rattle.two_ends.proofs.Receiving.{judged, takes-none, takes-end, takes-it}
 use Rattle.two_ends.proofs.Takes.{arrives, dir-took-alive, dir-took-carried}
 use Rattle.two_ends.proofs.Worlds.{ended, Settled}
-use Rattle.two_ends.proofs.Judging.{Fair, fair-done, fair-full, fair-fatal, fair-missing, fair-wrong, InOrder, order-fair, Plain, plain-done, not-init}
-use Rattle.two_ends.proofs.Receiving.{judged, takes-none, takes-end, takes-it}
 
 -- ---- a KeepAlive
 module _ (now : State) (sent : ℕ) (h : History) (id : MessageId) (n : FtNumber) where

@@ -1,32 +1,31 @@
 -- The start of a run. Assumes nothing.
 use Prim.Native.Nat.{_<_, _≤_, ℕ}
-use native.Mathlib.Omega.{arith}
-use mathlib.Core.Path.{refl, sym, _≡_}
 use mathlib.Core.Bool.{false, not, true}
 use mathlib.Core.List.{[], _∷_}
 use mathlib.Core.Logic.{inl, inr, ⊎-elim}
-use borrow.Author.Tests.{le-ltb}
+use mathlib.Core.Path.{refl, sym, _≡_}
+use native.Mathlib.Omega.{arith}
 use lib.ListN.{length}
+use borrow.Author.Tests.{le-ltb}
 use Rattle.octets.specs.Pick.{pick}
 use Rattle.octets.proofs.Choice.{pick-all}
 use Rattle.ft_number.specs.Timeout.{proposedOf}
 use Rattle.ft_number.proofs.Circle.{after-none}
 use Rattle.message_writer.specs.ReadBack.{AckFits}
-use Rattle.protocol.specs.State.{releasedState, State}
-use Rattle.protocol.specs.Open.{keptAck, openSession}
+use Rattle.protocol.specs.declared.Answer.{Answer}
 use Rattle.protocol.specs.declared.Phase.{Phase}
+use Rattle.protocol.specs.Open.{keptAck, openSession}
 use Rattle.protocol.specs.Phases.{mayOpen, phaseFits}
+use Rattle.protocol.specs.State.{releasedState, State}
 use Rattle.protocol.specs.Step.{roomFor, stepped}
 use Rattle.protocol.specs.Writer.{writer}
-use Rattle.protocol.specs.declared.Answer
-use Rattle.protocol.specs.declared.Answer.{Answer}
 use Rattle.protocol.proofs.Settling.{admitted-is, settle-does}
-use Rattle.two_ends.specs.World.{none}
 use Rattle.two_ends.specs.Start.{Opener, opener, start, Fit, RZero, Afresh, firstInit}
+use Rattle.two_ends.specs.World.{none}
 use Rattle.two_ends.proofs.Half.{Half}
-use Rattle.two_ends.proofs.Packets.{Packet, first, Fine}
 use Rattle.two_ends.proofs.Invariant.{sideOf, sndOf, rcvOf, Leads, Ready, Dir, Good}
 use Rattle.two_ends.proofs.Opening.{seconds-small}
+use Rattle.two_ends.proofs.Packets.{Packet, first, Fine}
 
 -- the first Init of an end
 abbrev packet : Opener → Packet

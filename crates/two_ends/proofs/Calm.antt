@@ -1,57 +1,52 @@
 -- A message of a steady owner is delivered: it is answered 0 or 21, and the end knows what it knew. Assumes nothing.
 use Prim.Native.Nat.{_≤_, ℕ}
-use native.Mathlib.Omega.{arith}
-use mathlib.Core.Path.{_≡_, refl, sym, _∙_}
-use mathlib.Core.List.{[], List, map, _∷_}
 use mathlib.Core.Bool.{false, true, true≢false}
+use mathlib.Core.List.{[], List, map, _∷_}
+use mathlib.Core.Path.{_≡_, refl, sym, _∙_}
+use native.Mathlib.Omega.{arith}
 use Rattle.octets.proofs.Choice.{no}
 use Rattle.ft_number.specs.declared.FtNumber.{FtNumber}
 use Rattle.ft_number.specs.declared.MessageId.{MessageId}
-use Rattle.tlv.specs.declared.FtField
+use Rattle.label_list.specs.declared.Protection.{Protection}
 use Rattle.tlv.specs.declared.FtField.{FtField}
-use Rattle.tlv.specs.declared.Parameters
 use Rattle.tlv.specs.declared.Parameters.{Parameters}
 use Rattle.message.specs.declared.Message.{Message}
-use Rattle.message.specs.declared.Reading
 use Rattle.message.specs.declared.Reading.{Reading}
 use Rattle.message_writer.specs.declared.OwnParameters.{OwnParameters}
 use Rattle.message_writer.specs.ReadBack.{initMessage}
 use Rattle.message_writer.proofs.Own.{init-reads}
-use Rattle.label_list.specs.declared.Protection
-use Rattle.label_list.specs.declared.Protection.{Protection}
-use Rattle.protocol.specs.Cases.{Case, fatal, missing, wrong, wordsAfter}
 use Rattle.protocol.specs.declared.Answer.{Answer}
-use Rattle.protocol.specs.declared.Phase
 use Rattle.protocol.specs.declared.Phase.{Phase}
 use Rattle.protocol.specs.declared.Progress.{Progress}
-use Rattle.protocol.specs.State.{State}
 use Rattle.protocol.specs.Acked.{acked}
 use Rattle.protocol.specs.Answers.{answerNumber}
+use Rattle.protocol.specs.Cases.{Case, fatal, missing, wrong, wordsAfter}
 use Rattle.protocol.specs.Init.{fresh, resumed}
-use Rattle.protocol.specs.Receive.{isFatal, receive}
 use Rattle.protocol.specs.Labels.{protectionRule}
 use Rattle.protocol.specs.Phases.{upWith, waitingFor}
+use Rattle.protocol.specs.Receive.{isFatal, receive}
+use Rattle.protocol.specs.State.{State}
 use Rattle.protocol.proofs.Moves.{receive-frees}
-use Rattle.two_ends.specs.Steady.{Mild, Calm, taken, no-word, AllCalm}
-use Rattle.two_ends.specs.World.{End, History, Lasts, World}
 use Rattle.two_ends.specs.Answers.{answerTo}
 use Rattle.two_ends.specs.Calls.{delivery}
-use Rattle.two_ends.proofs.Starting.{starts-same}
-use Rattle.two_ends.proofs.Saying.{All, Says, all-drop}
-use Rattle.two_ends.proofs.Judging.{Fair, fair-done, fair-fatal, fair-full, fair-missing, fair-wrong}
-use Rattle.two_ends.proofs.Invariant.{Good, Inv, Leads}
-use Rattle.two_ends.proofs.Steady.{Knows, Steadies, broken-steady, knows-moved}
+use Rattle.two_ends.specs.Steady.{Mild, Calm, taken, no-word, AllCalm}
+use Rattle.two_ends.specs.World.{End, History, Lasts, World}
+use Rattle.two_ends.proofs.Acts.{by-delivery, hearer}
+use Rattle.two_ends.proofs.Answering.{rightly}
+use Rattle.two_ends.proofs.Arriving.{alive-done, alive-read, carried-another, carried-fair, carried-read, g₁, g₂}
+use Rattle.two_ends.proofs.Greeted.{first-begins}
 use Rattle.two_ends.proofs.Hearing.{Labelled}
+use Rattle.two_ends.proofs.Invariant.{Good, Inv, Leads}
+use Rattle.two_ends.proofs.Judging.{Fair, fair-done, fair-fatal, fair-full, fair-missing, fair-wrong}
 use Rattle.two_ends.proofs.Labelled.{Lists}
 use Rattle.two_ends.proofs.Oldest.{Oldests, by-oldest}
 use Rattle.two_ends.proofs.Packets.{Packet, again, alive, bytesOf, carried, first}
-use Rattle.two_ends.proofs.Resuming.{again-begins, again-start}
-use Rattle.two_ends.proofs.Arriving.{alive-done, alive-read, carried-another, carried-fair, carried-read, g₁, g₂}
-use Rattle.two_ends.proofs.Acts.{by-delivery, hearer}
-use Rattle.two_ends.proofs.Worlds.{ended, kept-one}
-use Rattle.two_ends.proofs.Greeted.{first-begins}
 use Rattle.two_ends.proofs.Receiving.{judged, rule-answers}
-use Rattle.two_ends.proofs.Answering.{rightly}
+use Rattle.two_ends.proofs.Resuming.{again-begins, again-start}
+use Rattle.two_ends.proofs.Saying.{All, Says, all-drop}
+use Rattle.two_ends.proofs.Starting.{starts-same}
+use Rattle.two_ends.proofs.Steady.{Knows, Steadies, broken-steady, knows-moved}
+use Rattle.two_ends.proofs.Worlds.{ended, kept-one}
 
 given-same : {a b c d : ℕ} → Parameters.Given a b ≡ Parameters.Given c d → (a ≡ c) × (b ≡ d)
 given-same e = (cc, cc)

@@ -1,24 +1,24 @@
 -- The oldest message of a line is delivered. Assumes nothing.
 use Prim.Native.Nat.{ℕ}
-use mathlib.Core.Path.{_≡_, refl}
-use mathlib.Core.List.{[], List, _∷_}
 use mathlib.Core.Bool.{Bool, false, not, true}
+use mathlib.Core.List.{[], List, _∷_}
+use mathlib.Core.Path.{_≡_, refl}
 use Rattle.octets.specs.Pick.{both, pick}
 use Rattle.octets.proofs.Choice.{both-true}
 use Rattle.protocol.specs.declared.Start.{Start}
-use Rattle.protocol.specs.Step.{Step}
-use Rattle.protocol.specs.Phases.{awaits}
 use Rattle.protocol.specs.Init.{initReceived, initStart}
+use Rattle.protocol.specs.Phases.{awaits}
 use Rattle.protocol.specs.Receive.{receive}
-use Rattle.two_ends.specs.World.{End, Lasts, World}
+use Rattle.protocol.specs.Step.{Step}
 use Rattle.two_ends.specs.Calls.{anew, beginning, delivery, greeted, greets, keeps, receives, took}
+use Rattle.two_ends.specs.World.{End, Lasts, World}
+use Rattle.two_ends.proofs.Acts.{hearer}
+use Rattle.two_ends.proofs.Arriving.{alive-arrives, carried-arrives}
+use Rattle.two_ends.proofs.Greeted.{greet-first}
 use Rattle.two_ends.proofs.Invariant.{Good}
 use Rattle.two_ends.proofs.Oldest.{Oldests, by-oldest}
-use Rattle.two_ends.proofs.Worlds.{Settled, at-replaced}
-use Rattle.two_ends.proofs.Arriving.{alive-arrives, carried-arrives}
 use Rattle.two_ends.proofs.Resuming.{greet-again}
-use Rattle.two_ends.proofs.Greeted.{greet-first}
-use Rattle.two_ends.proofs.Acts.{hearer}
+use Rattle.two_ends.proofs.Worlds.{Settled, at-replaced}
 
 module _ (w : World) (g : Good w) where
   -- ---- what it leaves of the end, whichever it is

@@ -1,11 +1,11 @@
 -- The oldest message of a line, and what it lets go. Assumes nothing.
 use Prim.Native.Nat.{ℕ, _-_, _≤_}
-use native.Mathlib.Omega.{arith}
-use mathlib.Core.Path.{_≡_, refl, ap}
 use mathlib.Core.List.{List, [], _∷_, map}
+use mathlib.Core.Path.{_≡_, refl, ap}
+use native.Mathlib.Omega.{arith}
 use lib.ListN.{length, take, drop, length-drop}
-use Rattle.protocol.specs.Step.{Step}
 use Rattle.protocol.specs.State.{State}
+use Rattle.protocol.specs.Step.{Step}
 use Rattle.two_ends.specs.Calls.{letGo}
 use Rattle.two_ends.proofs.Packets.{Packet, bytesOf}
 

@@ -1,18 +1,17 @@
 -- One direction, event by event. Assumes nothing.
 use Prim.Native.Nat.{ℕ, suc, _+_, _-_, _≤_, _<_}
-use native.Mathlib.Omega.{arith}
-use mathlib.Core.Path.{_≡_, refl, sym, ap, _∙_}
 use mathlib.Core.Bool.{Bool, true, false}
 use mathlib.Core.List.{List, [], _∷_, _++_}
+use mathlib.Core.Path.{_≡_, refl, sym, ap, _∙_}
+use native.Mathlib.Omega.{arith}
 use lib.ListN.{length, drop, length-append}
-use Rattle.ft_number.specs.Circle.{circle, next, after}
-use Rattle.ft_number.specs.Ack.{ackOf}
-use Rattle.ft_number.specs.declared.Ack
 use Rattle.ft_number.specs.declared.Ack.{Ack}
-use Rattle.two_ends.proofs.Positions.{num, num-next, num-le}
+use Rattle.ft_number.specs.Ack.{ackOf}
+use Rattle.ft_number.specs.Circle.{circle, next, after}
+use Rattle.two_ends.proofs.Books.{accepts, issues, secures, numbered, unsent, place, issued, ack-right, books-accept, books-issue, books-secure}
 use Rattle.two_ends.proofs.Half.{Snd, Rcv, Half}
 use Rattle.two_ends.proofs.Lines.{line-snoc, line-secure, line-end, flow-grow, flow-snoc}
-use Rattle.two_ends.proofs.Books.{accepts, issues, secures, numbered, unsent, place, issued, ack-right, books-accept, books-issue, books-secure}
+use Rattle.two_ends.proofs.Positions.{num, num-next, num-le}
 
 module _ {A : Type 0} where
   module _ {x : Snd A} {sent : ℕ} {up : Bool} {y : Rcv A} {dat : List (ℕ × A)} {acks : List ℕ} (p : Half x sent up y dat acks) where

@@ -1,32 +1,32 @@
 -- Over every run: with steady owners what is delivered is answered 0 or 21, and neither end ever releases its state. Assumes nothing.
-use mathlib.Core.Path.{_≡_, refl, sym, _∙_}
-use mathlib.Core.List.{[], List, _∷_}
 use mathlib.Core.Bool.{Bool, false, true, true≢false}
+use mathlib.Core.List.{[], List, _∷_}
+use mathlib.Core.Path.{_≡_, refl, sym, _∙_}
 use Rattle.ft_number.specs.Timeout.{proposedOf}
 use Rattle.message_writer.specs.declared.OwnParameters.{OwnParameters}
 use Rattle.protocol.specs.declared.Phase.{Phase}
-use Rattle.protocol.specs.State.{State}
+use Rattle.protocol.specs.Begin.{restore}
 use Rattle.protocol.specs.ConnectionFailed.{connectionFailed}
 use Rattle.protocol.specs.Open.{keptAck}
-use Rattle.protocol.specs.Begin.{restore}
+use Rattle.protocol.specs.State.{State}
 use Rattle.protocol.specs.TimePassed.{timePassed}
 use Rattle.protocol.proofs.Moves.{notice-moves, restore-moves, time-moves}
-use Rattle.two_ends.specs.Start.{Afresh, Fit, Opener, start}
-use Rattle.two_ends.specs.Steady.{AllCalm, AllSteady, Steadily, SteadilyAt}
 use Rattle.two_ends.specs.Runs.{AllProper, Event, Proper, act, breaks, delivers, keepalives, notices, opens, passes, restarts, run, sends, step, submits}
-use Rattle.two_ends.specs.World.{End, Lasts, World, swap}
+use Rattle.two_ends.specs.Start.{Afresh, Fit, Opener, start}
 use Rattle.two_ends.specs.Staying.{Releasing, ReleasingAt, Stays}
-use Rattle.two_ends.proofs.Invariant.{Good}
-use Rattle.two_ends.proofs.Steady.{Knows, Steadies, alive-steady, broken-steady, open-steady, plain-steady, send-steady, submit-steady}
-use Rattle.two_ends.proofs.Labelled.{Lists, lists, step-lists, swap-lists}
-use Rattle.two_ends.proofs.Calm.{all-calm, calm-low, delivers-steady}
-use Rattle.two_ends.proofs.Theorem.{at-run, at-step}
+use Rattle.two_ends.specs.Steady.{AllCalm, AllSteady, Steadily, SteadilyAt}
+use Rattle.two_ends.specs.World.{End, Lasts, World, swap}
 use Rattle.two_ends.proofs.Begun.{at-start, fine}
-use Rattle.two_ends.proofs.Worlds.{at-swap}
-use Rattle.two_ends.proofs.Saying.{init-says}
+use Rattle.two_ends.proofs.Calm.{all-calm, calm-low, delivers-steady}
+use Rattle.two_ends.proofs.Invariant.{Good}
+use Rattle.two_ends.proofs.Labelled.{Lists, lists, step-lists, swap-lists}
 use Rattle.two_ends.proofs.Labels.{labels-none}
 use Rattle.two_ends.proofs.Monotone.{step-lasted}
+use Rattle.two_ends.proofs.Saying.{init-says}
 use Rattle.two_ends.proofs.Staying.{step-stays}
+use Rattle.two_ends.proofs.Steady.{Knows, Steadies, alive-steady, broken-steady, open-steady, plain-steady, send-steady, submit-steady}
+use Rattle.two_ends.proofs.Theorem.{at-run, at-step}
+use Rattle.two_ends.proofs.Worlds.{at-swap}
 
 -- ---- every event
 module _ (oa ob : OwnParameters) (w : World) (g : Good w) (l : Lists w) (k : Lasts w) (s : Steadies oa ob w) where

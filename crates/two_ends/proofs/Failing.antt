@@ -1,15 +1,14 @@
 -- An end whose connection has failed. Assumes nothing.
 use Prim.Native.Nat.{ℕ}
-use mathlib.Core.Path.{_≡_, refl, sym}
 use mathlib.Core.Bool.{Bool, true, false, true≢false}
 use mathlib.Core.List.{List, []}
 use mathlib.Core.Logic.{inl, inr}
+use mathlib.Core.Path.{_≡_, refl, sym}
 use Rattle.octets.specs.Pick.{pick}
-use Rattle.protocol.specs.declared.Phase
 use Rattle.protocol.specs.declared.Phase.{Phase}
 use Rattle.protocol.specs.Phases.{restingPhase, connected}
-use Rattle.protocol.specs.Step.{broken}
 use Rattle.protocol.specs.State.{State}
+use Rattle.protocol.specs.Step.{broken}
 use Rattle.two_ends.specs.World.{History, End}
 use Rattle.two_ends.proofs.Invariant.{Ready, Some}
 use Rattle.two_ends.proofs.Sides.{dir-failed, dir-failed-peer, dir-rest, dir-rest-peer}

@@ -1,20 +1,20 @@
 -- Over every run: once both stores are empty, what one end has given is in use or asked back at the other. Assumes nothing.
 use Prim.Native.Nat.{ℕ}
-use native.Mathlib.Omega.{arith}
-use mathlib.Core.Path.{_≡_, refl, sym, _∙_, ap}
-use mathlib.Core.List.{[], _++_, List, append-assoc, _∷_}
 use mathlib.Core.Bool.{Bool, true}
+use mathlib.Core.List.{[], _++_, List, append-assoc, _∷_}
+use mathlib.Core.Path.{_≡_, refl, sym, _∙_, ap}
+use native.Mathlib.Omega.{arith}
 use Rattle.protocol.specs.Held.{isHeld}
-use Rattle.two_ends.specs.Start.{Afresh, Fit, Opener, start}
-use Rattle.two_ends.specs.Runs.{AllProper, Event, run}
-use Rattle.two_ends.specs.World.{End, Lasts, none}
 use Rattle.two_ends.specs.Agree.{InUse}
 use Rattle.two_ends.specs.Demand.{Safe, store}
-use Rattle.two_ends.proofs.Sharing.{Shared, cancel}
+use Rattle.two_ends.specs.Runs.{AllProper, Event, run}
+use Rattle.two_ends.specs.Start.{Afresh, Fit, Opener, start}
+use Rattle.two_ends.specs.World.{End, Lasts, none}
 use Rattle.two_ends.proofs.Arriving.{f}
-use Rattle.two_ends.proofs.Labelled.{lists}
-use Rattle.two_ends.proofs.Theorem.{nothing-lost}
 use Rattle.two_ends.proofs.Invariant.{sideOf}
+use Rattle.two_ends.proofs.Labelled.{lists}
+use Rattle.two_ends.proofs.Sharing.{Shared, cancel}
+use Rattle.two_ends.proofs.Theorem.{nothing-lost}
 
 -- ---- with an empty store everything accepted was secured
 last-none : (xs ys : List (List ℕ)) → xs ++ ys ≡ [] → ys ≡ []

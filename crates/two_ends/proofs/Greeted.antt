@@ -1,30 +1,28 @@
 -- The Init of the start is delivered. Assumes nothing.
 use Prim.Native.Nat.{ℕ}
-use native.Mathlib.Omega.{arith}
-use mathlib.Core.Path.{_≡_, refl}
 use mathlib.Core.Bool.{Bool, true, false, true≢false}
 use mathlib.Core.List.{List, _∷_, map, []}
 use mathlib.Core.Logic.{inl}
+use mathlib.Core.Path.{_≡_, refl}
+use native.Mathlib.Omega.{arith}
 use Rattle.ft_number.specs.declared.MessageId.{MessageId}
 use Rattle.tlv.specs.declared.FtField.{FtField}
 use Rattle.message_writer.specs.declared.OwnParameters.{OwnParameters}
-use Rattle.protocol.specs.declared.Start
+use Rattle.protocol.specs.declared.Answer.{Answer}
 use Rattle.protocol.specs.declared.Start.{Start}
 use Rattle.protocol.specs.declared.Terms.{Terms}
 use Rattle.protocol.specs.Init.{fresh, initStart, initReceived}
-use Rattle.protocol.specs.State.{State}
 use Rattle.protocol.specs.Phases.{upWith, waitingFor}
-use Rattle.protocol.specs.declared.Answer
-use Rattle.protocol.specs.declared.Answer.{Answer}
+use Rattle.protocol.specs.State.{State}
 use Rattle.protocol.specs.Step.{stepped}
 use Rattle.protocol.proofs.Begins.{begins}
-use Rattle.two_ends.specs.World.{History, End, none}
 use Rattle.two_ends.specs.Calls.{greeted}
-use Rattle.two_ends.proofs.Packets.{Packet, first, bytesOf, Fine}
+use Rattle.two_ends.specs.World.{History, End, none}
 use Rattle.two_ends.proofs.Invariant.{Leads, Ready, Inv}
+use Rattle.two_ends.proofs.Packets.{Packet, first, bytesOf, Fine}
+use Rattle.two_ends.proofs.Starting.{terms, starts-fresh}
 use Rattle.two_ends.proofs.Takes.{dir-fresh, dir-fresh-peer}
 use Rattle.two_ends.proofs.Worlds.{ended, Settled}
-use Rattle.two_ends.proofs.Starting.{terms, starts-fresh}
 
 -- the end after it
 abbrev pub greetedBy : State → ℕ → Bool → History → Packet → End

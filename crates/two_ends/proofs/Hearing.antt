@@ -1,46 +1,43 @@
 -- What the oldest message of a line leaves of the labels. Assumes nothing.
 use Prim.Native.Nat.{ℕ}
-use mathlib.Core.Path.{_≡_, refl, sym, _∙_, ap}
-use mathlib.Core.List.{List, [], _∷_, map}
 use mathlib.Core.Bool.{false, true}
+use mathlib.Core.List.{List, [], _∷_, map}
 use mathlib.Core.Logic.{⊎-elim}
-use Rattle.ft_number.specs.declared.MessageId.{MessageId}
+use mathlib.Core.Path.{_≡_, refl, sym, _∙_, ap}
 use Rattle.ft_number.specs.declared.FtNumber.{FtNumber}
+use Rattle.ft_number.specs.declared.MessageId.{MessageId}
 use Rattle.tlv.specs.declared.FtField.{FtField}
 use Rattle.message_writer.specs.declared.OwnParameters.{OwnParameters}
-use Rattle.protocol.specs.declared.Answer
 use Rattle.protocol.specs.declared.Answer.{Answer}
-use Rattle.protocol.specs.declared.Phase
 use Rattle.protocol.specs.declared.Phase.{Phase}
+use Rattle.protocol.specs.declared.Start.{Start}
+use Rattle.protocol.specs.Acked.{ackBorne, acked}
+use Rattle.protocol.specs.Init.{fresh, initStart, resumed}
+use Rattle.protocol.specs.Phases.{waitingFor, upWith}
+use Rattle.protocol.specs.Receive.{taken, ackOn, receivedState}
 use Rattle.protocol.specs.State.{State}
 use Rattle.protocol.specs.Step.{Step, stepped}
-use Rattle.protocol.specs.Phases.{waitingFor, upWith}
-use Rattle.protocol.specs.Acked.{ackBorne, acked}
-use Rattle.protocol.specs.Receive.{taken, ackOn, receivedState}
-use Rattle.protocol.specs.declared.Start
-use Rattle.protocol.specs.declared.Start.{Start}
-use Rattle.protocol.specs.Init.{fresh, initStart, resumed}
 use Rattle.protocol.proofs.Begins.{changed}
-use Rattle.two_ends.specs.World.{End, History}
 use Rattle.two_ends.specs.Calls.{keeps}
-use Rattle.two_ends.proofs.Invariant.{sideOf, Inv, Leads}
-use Rattle.two_ends.proofs.Labels.{Labels, labels-same, labels-acked, labels-taken}
-use Rattle.two_ends.proofs.Packets.{Packet, again, alive, bytesOf, carried, first}
-use Rattle.two_ends.proofs.Arriving.{alive-read, carried-read, g₁, g₂, plain, f, secures}
-use Rattle.two_ends.proofs.Takes.{arrives}
-use Rattle.two_ends.proofs.Getting.{carried-says}
-use Rattle.two_ends.proofs.Worlds.{ended}
-use Rattle.two_ends.proofs.Freeing.{half-ack}
-use Rattle.two_ends.proofs.Judging.{has-room}
-use Rattle.two_ends.proofs.Receiving.{judged}
-use Rattle.two_ends.proofs.Delivering.{let-go}
-use Rattle.two_ends.proofs.Oldest.{Oldests}
-use Rattle.two_ends.proofs.Resuming.{again-begins, again-start}
+use Rattle.two_ends.specs.World.{End, History}
 use Rattle.two_ends.proofs.Acts.{hearer}
+use Rattle.two_ends.proofs.Arriving.{alive-read, carried-read, g₁, g₂, plain, f, secures}
+use Rattle.two_ends.proofs.Delivering.{let-go}
+use Rattle.two_ends.proofs.Freeing.{half-ack}
+use Rattle.two_ends.proofs.Getting.{carried-says}
 use Rattle.two_ends.proofs.Greeted.{first-begins, fresh-start}
-use Rattle.two_ends.proofs.Resting.{released-ends}
-use Rattle.two_ends.proofs.Starting.{terms}
+use Rattle.two_ends.proofs.Invariant.{sideOf, Inv, Leads}
+use Rattle.two_ends.proofs.Judging.{has-room}
+use Rattle.two_ends.proofs.Labels.{Labels, labels-same, labels-acked, labels-taken}
 use Rattle.two_ends.proofs.Leaving.{taking}
+use Rattle.two_ends.proofs.Oldest.{Oldests}
+use Rattle.two_ends.proofs.Packets.{Packet, again, alive, bytesOf, carried, first}
+use Rattle.two_ends.proofs.Receiving.{judged}
+use Rattle.two_ends.proofs.Resting.{released-ends}
+use Rattle.two_ends.proofs.Resuming.{again-begins, again-start}
+use Rattle.two_ends.proofs.Starting.{terms}
+use Rattle.two_ends.proofs.Takes.{arrives}
+use Rattle.two_ends.proofs.Worlds.{ended}
 
 -- the two ends of a world; an end that has not come to its fresh UpFT counts as released
 abbrev pub Labelled : End → End → Type 0

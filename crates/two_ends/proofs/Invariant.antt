@@ -1,18 +1,16 @@
 -- What holds of the two ends and their lines as long as neither has released its state. Assumes nothing.
 use Prim.Native.Nat.{ℕ, _≤_}
-use mathlib.Core.Path.{_≡_}
 use mathlib.Core.Bool.{Bool, true, false}
 use mathlib.Core.List.{List, [], _∷_, map}
 use mathlib.Core.Logic.{_⊎_}
+use mathlib.Core.Path.{_≡_}
 use Rattle.octets.specs.Pick.{pick, both}
-use Rattle.tlv.specs.declared.FtField
 use Rattle.tlv.specs.declared.FtField.{FtField}
-use Rattle.protocol.specs.declared.Phase
 use Rattle.protocol.specs.declared.Phase.{Phase}
 use Rattle.protocol.specs.Phases.{isUpFT, sentOf, awaits}
 use Rattle.protocol.specs.State.{State, releasedState, held, capacity}
-use Rattle.two_ends.specs.World.{History, End, World, none, Lasts}
 use Rattle.two_ends.specs.Calls.{keeps}
+use Rattle.two_ends.specs.World.{History, End, World, none, Lasts}
 use Rattle.two_ends.proofs.Half.{Snd, Rcv, Half}
 use Rattle.two_ends.proofs.Packets.{Packet, first, again, alive, carried, bytesOf, Okays, Fines, NoInit, datas, acksOf}
 

@@ -1,37 +1,29 @@
 -- How the messages of the two ends are judged in UpFT. Assumes nothing.
 use Prim.Native.Nat.{ℕ, _≤_}
-use native.Mathlib.Omega.{arith}
-use mathlib.Core.Path.{_≡_, refl, sym, _∙_}
 use mathlib.Core.Bool.{true, false, true≢false}
 use mathlib.Core.List.{List}
+use mathlib.Core.Path.{_≡_, refl, sym, _∙_}
+use native.Mathlib.Omega.{arith}
 use borrow.Author.Tests.{eq-eqb, ne-eqb}
-use Rattle.ft_number.specs.Circle.{next}
-use Rattle.ft_number.specs.declared.Ack
 use Rattle.ft_number.specs.declared.Ack.{Ack}
 use Rattle.ft_number.specs.declared.FtNumber.{FtNumber}
-use Rattle.tlv.specs.declared.Field.{Field}
-use Rattle.tlv.specs.declared.FtField
-use Rattle.tlv.specs.declared.FtField.{FtField}
-use Rattle.message.specs.Kinds.{kindNumber, kindFor, kindOf}
-use Rattle.message.specs.declared.Message.{Message}
-use Rattle.message.specs.declared.MessageType
-use Rattle.message.specs.declared.MessageType.{MessageType}
-use Rattle.message.specs.declared.Reading
-use Rattle.message.specs.declared.Reading.{Reading}
-use Rattle.label_list.specs.declared.Protection
+use Rattle.ft_number.specs.Circle.{next}
 use Rattle.label_list.specs.declared.Protection.{Protection}
-use Rattle.label_events.specs.declared.Reception
 use Rattle.label_events.specs.declared.Reception.{Reception}
-use Rattle.protocol.specs.declared.Answer
+use Rattle.tlv.specs.declared.Field.{Field}
+use Rattle.tlv.specs.declared.FtField.{FtField}
+use Rattle.message.specs.declared.Message.{Message}
+use Rattle.message.specs.declared.MessageType.{MessageType}
+use Rattle.message.specs.declared.Reading.{Reading}
+use Rattle.message.specs.Kinds.{kindNumber, kindFor, kindOf}
 use Rattle.protocol.specs.declared.Answer.{Answer}
-use Rattle.protocol.specs.Labels.{labelEffect, isProtected, protectionRule, effectReception}
-use Rattle.protocol.specs.Received.{isInit}
-use Rattle.protocol.specs.declared.LabelEffect
 use Rattle.protocol.specs.declared.LabelEffect.{LabelEffect}
-use Rattle.protocol.specs.State.{State}
-use Rattle.protocol.specs.Receive.{ackOn, isFatal, isZero, inTurn}
 use Rattle.protocol.specs.Cases.{wordsAfter, Case, wrong-phase, an-init, fatal, zero-number, wrong-ack, missing, wrong, out-of-turn, no-word, taken}
+use Rattle.protocol.specs.Labels.{labelEffect, isProtected, protectionRule, effectReception}
 use Rattle.protocol.specs.Phases.{upWith}
+use Rattle.protocol.specs.Receive.{ackOn, isFatal, isZero, inTurn}
+use Rattle.protocol.specs.Received.{isInit}
+use Rattle.protocol.specs.State.{State}
 
 never : {P : Type 0} → true ≡ false → P
 never e = absurd (true≢false e)

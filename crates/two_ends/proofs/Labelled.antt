@@ -1,33 +1,33 @@
 -- Every event leaves the labels of both ends in order. Assumes nothing.
 use Prim.Native.Nat.{ℕ}
-use mathlib.Core.Path.{_≡_, refl, sym}
-use mathlib.Core.List.{_++_, List, [], _∷_}
 use mathlib.Core.Bool.{Bool, false, true}
+use mathlib.Core.List.{_++_, List, [], _∷_}
+use mathlib.Core.Path.{_≡_, refl, sym}
 use Rattle.octets.specs.Pick.{pick, both}
 use Rattle.octets.proofs.Choice.{both-true}
 use Rattle.protocol.specs.declared.Phase.{Phase}
+use Rattle.protocol.specs.Begin.{restore}
+use Rattle.protocol.specs.ConnectionFailed.{connectionFailed}
+use Rattle.protocol.specs.KeepAlive.{keepalive}
+use Rattle.protocol.specs.Open.{openSession}
+use Rattle.protocol.specs.Send.{sendNext}
 use Rattle.protocol.specs.State.{State, releasedState}
 use Rattle.protocol.specs.Step.{Step}
-use Rattle.protocol.specs.KeepAlive.{keepalive}
-use Rattle.protocol.specs.ConnectionFailed.{connectionFailed}
-use Rattle.protocol.specs.TimePassed.{timePassed}
-use Rattle.protocol.specs.Send.{sendNext}
-use Rattle.protocol.specs.Open.{openSession}
 use Rattle.protocol.specs.Submit.{submit}
-use Rattle.protocol.specs.Begin.{restore}
-use Rattle.two_ends.specs.World.{History, Lasts, World, none, swap}
+use Rattle.protocol.specs.TimePassed.{timePassed}
 use Rattle.two_ends.specs.Calls.{accepts, broken, called, counts, keeps}
-use Rattle.two_ends.specs.Start.{Afresh, Fit, Opener, start}
 use Rattle.two_ends.specs.Runs.{AllProper, Event, act, breaks, delivers, keepalives, notices, opens, passes, restarts, run, sends, step, submits}
+use Rattle.two_ends.specs.Start.{Afresh, Fit, Opener, start}
+use Rattle.two_ends.specs.World.{History, Lasts, World, none, swap}
+use Rattle.two_ends.proofs.Acts.{by-delivery, by-open, by-plain, by-submit, by-write, lasted}
+use Rattle.two_ends.proofs.Begun.{at-start}
+use Rattle.two_ends.proofs.Hearing.{Heard, Labelled, hears}
 use Rattle.two_ends.proofs.Invariant.{sideOf, Good}
 use Rattle.two_ends.proofs.Labels.{Labels, labels-broken, labels-none, labels-swap}
-use Rattle.two_ends.proofs.Worlds.{at-swap, next}
-use Rattle.two_ends.proofs.Oldest.{by-oldest}
-use Rattle.two_ends.proofs.Begun.{at-start}
-use Rattle.two_ends.proofs.Theorem.{at-step, safe}
-use Rattle.two_ends.proofs.Acts.{by-delivery, by-open, by-plain, by-submit, by-write, lasted}
-use Rattle.two_ends.proofs.Hearing.{Heard, Labelled, hears}
 use Rattle.two_ends.proofs.Leaving.{alive-leaves, notice-leaves, open-leaves, send-leaves, submit-leaves, time-leaves}
+use Rattle.two_ends.proofs.Oldest.{by-oldest}
+use Rattle.two_ends.proofs.Theorem.{at-step, safe}
+use Rattle.two_ends.proofs.Worlds.{at-swap, next}
 
 abbrev pub Lists : World → Type 0
 Lists w = Lasts w → Labelled (w .a) (w .b)

@@ -1,24 +1,22 @@
 -- The labels of the two ends, after each change of the state of one. Assumes nothing.
 use Prim.Native.Nat.{ℕ}
-use mathlib.Core.Path.{_≡_}
-use mathlib.Core.List.{[], _++_, List, _∷_}
 use mathlib.Core.Bool.{true}
+use mathlib.Core.List.{[], _++_, List, _∷_}
+use mathlib.Core.Path.{_≡_}
 use lib.ListN.{take}
+use Rattle.label_events.specs.declared.Reception.{Reception}
 use Rattle.message.specs.declared.Kind.{Kind}
 use Rattle.message.specs.declared.Message.{Message}
-use Rattle.message.specs.declared.Submission
 use Rattle.message.specs.declared.Submission.{Submission}
 use Rattle.message.specs.Submission.{submissionOf}
-use Rattle.label_events.specs.declared.Reception
-use Rattle.label_events.specs.declared.Reception.{Reception}
-use Rattle.protocol.specs.State.{State, noTable, releasedState}
 use Rattle.protocol.specs.Acked.{acked}
 use Rattle.protocol.specs.Labels.{effectReception, isProtected, labelEffect}
+use Rattle.protocol.specs.Receive.{taken}
+use Rattle.protocol.specs.State.{State, noTable, releasedState}
 use Rattle.protocol.specs.Step.{broken}
 use Rattle.protocol.specs.Submit.{submitted}
-use Rattle.protocol.specs.Receive.{taken}
-use Rattle.two_ends.specs.World.{History, none}
 use Rattle.two_ends.specs.Calls.{accepts, takes}
+use Rattle.two_ends.specs.World.{History, none}
 use Rattle.two_ends.proofs.Getting.{Says}
 use Rattle.two_ends.proofs.Sharing.{Shared, shared-accepted, shared-accepted-peer, shared-broken, shared-broken-peer, shared-freed, shared-freed-peer, shared-none, shared-taken, shared-taken-peer}
 use Rattle.two_ends.proofs.Tidy.{Tidy, tidy-acked, tidy-broken, tidy-none, tidy-submitted, tidy-taken}

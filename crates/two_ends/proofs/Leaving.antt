@@ -1,45 +1,42 @@
 -- What a call at an end that has begun leaves of the labels, as long as the state is kept. Assumes nothing.
 use Prim.Native.Nat.{ℕ, _≤_}
-use mathlib.Core.Path.{_≡_, refl, sym}
-use mathlib.Core.List.{_++_, List, []}
 use mathlib.Core.Bool.{Bool, false, true, true≢false}
+use mathlib.Core.List.{_++_, List, []}
+use mathlib.Core.Path.{_≡_, refl, sym}
 use lib.Dec.{ltb}
 use lib.ListN.{length, take}
 use Rattle.octets.specs.Pick.{pick}
 use Rattle.octets.proofs.Choice.{pick-all}
+use Rattle.ft_number.specs.declared.Ack.{Ack}
 use Rattle.ft_number.specs.declared.MessageId.{MessageId}
 use Rattle.ft_number.specs.declared.Proposal.{Proposal}
 use Rattle.ft_number.specs.Timeout.{proposedOf}
-use Rattle.ft_number.specs.declared.Ack
-use Rattle.ft_number.specs.declared.Ack.{Ack}
 use Rattle.message.specs.declared.Message.{Message}
-use Rattle.message.specs.declared.Reading
 use Rattle.message.specs.declared.Reading.{Reading}
 use Rattle.message.specs.Reading.{readingOf}
 use Rattle.message_writer.specs.declared.OwnParameters.{OwnParameters}
-use Rattle.protocol.specs.declared.Answer
 use Rattle.protocol.specs.declared.Answer.{Answer}
 use Rattle.protocol.specs.declared.Phase.{Phase}
+use Rattle.protocol.specs.Acked.{acked}
+use Rattle.protocol.specs.Answers.{isDone}
+use Rattle.protocol.specs.ConnectionFailed.{connectionFailed}
+use Rattle.protocol.specs.KeepAlive.{aliveBytes, keepalive}
+use Rattle.protocol.specs.Open.{openBytes, openSession}
+use Rattle.protocol.specs.Phases.{isUp, issuedCount, mayOpen, sentOf, waitingFor, upWith}
+use Rattle.protocol.specs.Receive.{taken, ackOn, ftRule, receive, receivedPhase, receivedState}
+use Rattle.protocol.specs.Send.{numbered, numberAt, sendNext, sentState}
 use Rattle.protocol.specs.State.{State, withIssued}
 use Rattle.protocol.specs.Step.{Step, settle, stepped, admitted}
-use Rattle.protocol.specs.KeepAlive.{aliveBytes, keepalive}
-use Rattle.protocol.specs.ConnectionFailed.{connectionFailed}
-use Rattle.protocol.specs.TimePassed.{expired, timePassed}
-use Rattle.protocol.specs.Answers.{isDone}
-use Rattle.protocol.specs.Phases.{isUp, issuedCount, mayOpen, sentOf, waitingFor, upWith}
-use Rattle.protocol.specs.Send.{numbered, numberAt, sendNext, sentState}
-use Rattle.protocol.specs.Open.{openBytes, openSession}
 use Rattle.protocol.specs.Submit.{submit}
+use Rattle.protocol.specs.TimePassed.{expired, timePassed}
 use Rattle.protocol.specs.Writer.{writer}
-use Rattle.protocol.specs.Acked.{acked}
-use Rattle.protocol.specs.Receive.{taken, ackOn, ftRule, receive, receivedPhase, receivedState}
+use Rattle.protocol.proofs.Effects.{done-is}
 use Rattle.protocol.proofs.Leaving.{settle-cases, settle-leaves}
 use Rattle.protocol.proofs.Settling.{admitted-done}
-use Rattle.protocol.proofs.Effects.{done-is}
-use Rattle.two_ends.specs.World.{History}
 use Rattle.two_ends.specs.Calls.{accepts, letGo, securing, takes}
-use Rattle.two_ends.proofs.Labels.{Labels, labels-broken, labels-same, labels-submitted}
+use Rattle.two_ends.specs.World.{History}
 use Rattle.two_ends.proofs.Delivering.{let-go}
+use Rattle.two_ends.proofs.Labels.{Labels, labels-broken, labels-same, labels-submitted}
 
 never : {P : Type 0} → false ≡ true → P
 never e = absurd (true≢false (sym e))

@@ -1,16 +1,16 @@
 -- Over every run: a label is withdrawing or releasing only as long as its message is held. Assumes nothing.
-use mathlib.Core.Path.{_≡_, sym, _∙_, ap}
 use mathlib.Core.Bool.{Bool, true, true≢false}
 use mathlib.Core.List.{List}
+use mathlib.Core.Path.{_≡_, sym, _∙_, ap}
 use Rattle.protocol.specs.Held.{isHeld}
-use Rattle.two_ends.specs.Start.{Afresh, Fit, Opener, start}
-use Rattle.two_ends.specs.Runs.{AllProper, Event, run}
-use Rattle.two_ends.specs.World.{End, Lasts}
 use Rattle.two_ends.specs.Labels.{Listed, kindOf}
-use Rattle.two_ends.proofs.Tidy.{Tidy}
+use Rattle.two_ends.specs.Runs.{AllProper, Event, run}
+use Rattle.two_ends.specs.Start.{Afresh, Fit, Opener, start}
+use Rattle.two_ends.specs.World.{End, Lasts}
 use Rattle.two_ends.proofs.Arriving.{f}
-use Rattle.two_ends.proofs.Labelled.{lists}
 use Rattle.two_ends.proofs.Invariant.{sideOf}
+use Rattle.two_ends.proofs.Labelled.{lists}
+use Rattle.two_ends.proofs.Tidy.{Tidy}
 
 listed : (e : End) → Tidy (e .state) → Listed e
 unfolding isHeld

@@ -1,20 +1,20 @@
 -- A world that has not lasted does not last again: what lasts after an event lasted before it. Assumes nothing.
 use Prim.Native.Nat.{ℕ}
-use mathlib.Core.List.{[], List, _∷_}
 use mathlib.Core.Bool.{Bool, false, true}
+use mathlib.Core.List.{[], List, _∷_}
 use Rattle.octets.specs.Pick.{both}
 use Rattle.octets.proofs.Choice.{both-true}
-use Rattle.protocol.specs.Step.{Step}
+use Rattle.protocol.specs.Begin.{restore}
 use Rattle.protocol.specs.ConnectionFailed.{connectionFailed}
 use Rattle.protocol.specs.KeepAlive.{keepalive}
 use Rattle.protocol.specs.Open.{openSession}
-use Rattle.protocol.specs.Begin.{restore}
 use Rattle.protocol.specs.Send.{sendNext}
+use Rattle.protocol.specs.Step.{Step}
 use Rattle.protocol.specs.Submit.{submit}
 use Rattle.protocol.specs.TimePassed.{timePassed}
-use Rattle.two_ends.specs.World.{End, Lasts, World, swap}
-use Rattle.two_ends.specs.Runs.{Event, act, breaks, delivers, keepalives, notices, opens, passes, restarts, run, sends, step, submits}
 use Rattle.two_ends.specs.Calls.{accepts, broken, called, counts, keeps, plainly, put, wrote}
+use Rattle.two_ends.specs.Runs.{Event, act, breaks, delivers, keepalives, notices, opens, passes, restarts, run, sends, step, submits}
+use Rattle.two_ends.specs.World.{End, Lasts, World, swap}
 use Rattle.two_ends.proofs.Acts.{by-delivery, by-open, by-plain, by-submit, by-write, lasted}
 use Rattle.two_ends.proofs.Worlds.{next}
 

@@ -1,22 +1,21 @@
 -- The oldest message of a line, and the four that it may be. Assumes nothing.
 use Prim.Native.Nat.{ℕ}
-use mathlib.Core.Path.{_≡_, refl, sym}
 use mathlib.Core.Bool.{Bool, false, true, true≢false}
 use mathlib.Core.List.{List, map, _∷_}
+use mathlib.Core.Path.{_≡_, refl, sym}
 use Rattle.ft_number.specs.declared.FtNumber.{FtNumber}
 use Rattle.ft_number.specs.declared.MessageId.{MessageId}
 use Rattle.tlv.specs.declared.FtField.{FtField}
 use Rattle.message_writer.specs.declared.OwnParameters.{OwnParameters}
-use Rattle.protocol.specs.declared.Phase
 use Rattle.protocol.specs.declared.Phase.{Phase}
-use Rattle.protocol.specs.State.{State}
 use Rattle.protocol.specs.Phases.{upWith, waitingFor}
+use Rattle.protocol.specs.State.{State}
 use Rattle.two_ends.specs.World.{End, History}
+use Rattle.two_ends.proofs.Delivering.{oldest, Oldest}
 use Rattle.two_ends.proofs.Invariant.{Headed, Inv, Leads, Shape, Some}
 use Rattle.two_ends.proofs.Packets.{NoInit, Packet, again, alive, bytesOf, carried, first}
-use Rattle.two_ends.proofs.Worlds.{ended}
 use Rattle.two_ends.proofs.Takes.{headed, nil-cons}
-use Rattle.two_ends.proofs.Delivering.{oldest, Oldest}
+use Rattle.two_ends.proofs.Worlds.{ended}
 
 never : {P : Type 0} → true ≡ false → P
 never e = absurd (true≢false e)

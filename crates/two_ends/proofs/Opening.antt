@@ -1,40 +1,36 @@
 -- An end opens a new connection. Assumes nothing.
 use Prim.Native.Nat.{ℕ, _<_}
-use native.Mathlib.Omega.{arith}
-use mathlib.Core.Path.{_≡_, refl, sym, ap, _∙_}
 use mathlib.Core.Bool.{Bool, true, false, true≢false}
 use mathlib.Core.List.{List, [], _∷_, map}
 use mathlib.Core.Logic.{_⊎_, inl, ⊎-elim}
+use mathlib.Core.Path.{_≡_, refl, sym, ap, _∙_}
+use native.Mathlib.Omega.{arith}
 use Rattle.octets.specs.Pick.{pick}
-use Rattle.ft_number.specs.Timeout.{proposedOf}
 use Rattle.ft_number.specs.declared.MessageId.{MessageId}
-use Rattle.ft_number.specs.declared.Proposal
 use Rattle.ft_number.specs.declared.Proposal.{Proposal}
-use Rattle.tlv.specs.declared.FtField
+use Rattle.ft_number.specs.Timeout.{proposedOf}
 use Rattle.tlv.specs.declared.FtField.{FtField}
-use Rattle.message_writer.specs.ReadBack.{InitFits}
 use Rattle.message_writer.specs.declared.OwnParameters.{OwnParameters}
-use Rattle.protocol.specs.declared.Answer
+use Rattle.message_writer.specs.ReadBack.{InitFits}
 use Rattle.protocol.specs.declared.Answer.{Answer}
-use Rattle.protocol.specs.declared.Phase
 use Rattle.protocol.specs.declared.Phase.{Phase}
 use Rattle.protocol.specs.Answers.{isDone}
-use Rattle.protocol.specs.Step.{Step, stepped}
-use Rattle.protocol.specs.Phases.{mayOpen, waitingFor}
 use Rattle.protocol.specs.Open.{openBytes, openSession, keptAck}
+use Rattle.protocol.specs.Phases.{mayOpen, waitingFor}
 use Rattle.protocol.specs.State.{State}
+use Rattle.protocol.specs.Step.{Step, stepped}
 use Rattle.protocol.proofs.Quiet.{Quiet}
 use Rattle.protocol.proofs.Writers.{Wrote, writer-says}
-use Rattle.two_ends.specs.World.{History, End, World}
 use Rattle.two_ends.specs.Calls.{called, put, on, opened, replaced, plainly}
 use Rattle.two_ends.specs.Runs.{Widths, Seconds}
-use Rattle.two_ends.proofs.Packets.{Packet, again, bytesOf}
+use Rattle.two_ends.specs.World.{History, End, World}
+use Rattle.two_ends.proofs.Direction.{half-secured}
 use Rattle.two_ends.proofs.Invariant.{Ready, Inv, Some, Good}
-use Rattle.two_ends.proofs.Sides.{dir-open, dir-open-peer}
-use Rattle.two_ends.proofs.Worlds.{ended, kept-one, at-replaced, Settled}
+use Rattle.two_ends.proofs.Packets.{Packet, again, bytesOf}
 use Rattle.two_ends.proofs.Quiet.{quietly}
 use Rattle.two_ends.proofs.Resting.{at-plain}
-use Rattle.two_ends.proofs.Direction.{half-secured}
+use Rattle.two_ends.proofs.Sides.{dir-open, dir-open-peer}
+use Rattle.two_ends.proofs.Worlds.{ended, kept-one, at-replaced, Settled}
 
 -- the proposed seconds have their width
 pub seconds-small : (t : Proposal) → Seconds t → proposedOf t < 65536

@@ -1,36 +1,33 @@
 -- A label that is withdrawing or releasing has its message in the store. Assumes nothing.
 use Prim.Native.Nat.{ℕ}
-use native.Mathlib.Omega.{arith}
-use mathlib.Core.Path.{_≡_, refl, sym, _∙_}
 use mathlib.Core.Bool.{Bool, true, false, true≢false}
 use mathlib.Core.List.{List, [], _∷_, _++_}
 use mathlib.Core.Logic.{_⊎_, inl, inr, ⊎-elim}
+use mathlib.Core.Path.{_≡_, refl, sym, _∙_}
+use native.Mathlib.Omega.{arith}
 use borrow.Author.Tests.{eq-eqb}
 use Rattle.octets.specs.Pick.{pick}
 use Rattle.octets.proofs.Choice.{pick-all}
-use Rattle.message.specs.Kinds.{kindNumber}
-use Rattle.message.specs.Submission.{submissionOf}
-use Rattle.message.specs.declared.Kind
-use Rattle.message.specs.declared.Kind.{Kind}
-use Rattle.message.specs.declared.Submission
-use Rattle.message.specs.declared.Submission.{Submission}
-use Rattle.label_list.specs.Sweep.{sweptOf}
-use Rattle.label_list.specs.Valid.{validOf}
 use Rattle.label_list.specs.declared.LabelMessage.{LabelMessage}
 use Rattle.label_list.specs.declared.LabelMessage.the-variants.{Mapping, Withdraw, Release}
 use Rattle.label_list.specs.declared.SweepRule.the-variants.{AfterBreak}
+use Rattle.label_list.specs.Sweep.{sweptOf}
+use Rattle.label_list.specs.Valid.{validOf}
 use Rattle.label_events.specs.Change.{codeAt}
 use Rattle.label_meaning.specs.Event.{Event, Accepted, Received, Broken, step, Moves, given, withdrawn, released, returned, withdraw-acked, release-acked, taken, taken-again, taken-bare, asked-back, bare-withdrawn, given-back, withdrawn-back, bare-lost}
 use Rattle.label_meaning.proofs.Meaning.{valid-means}
 use Rattle.label_meaning.proofs.Moved.{every-move}
-use Rattle.protocol.specs.Labels.{effectLabels}
-use Rattle.protocol.specs.Accepting.{acceptedAs}
-use Rattle.protocol.specs.Submit.{acceptedLabels}
+use Rattle.message.specs.declared.Kind.{Kind}
+use Rattle.message.specs.declared.Submission.{Submission}
+use Rattle.message.specs.Kinds.{kindNumber}
 use Rattle.message.specs.Storable.{bears}
-use Rattle.protocol.specs.Held.{isHeld}
-use Rattle.protocol.specs.declared.LabelEffect
+use Rattle.message.specs.Submission.{submissionOf}
 use Rattle.protocol.specs.declared.LabelEffect.{LabelEffect}
+use Rattle.protocol.specs.Accepting.{acceptedAs}
+use Rattle.protocol.specs.Held.{isHeld}
+use Rattle.protocol.specs.Labels.{effectLabels}
 use Rattle.protocol.specs.State.{noTable}
+use Rattle.protocol.specs.Submit.{acceptedLabels}
 use Rattle.two_ends.specs.Labels.{Due, withdrawal, release, sideOf, codeOf, messageOf, kindOf, Owed}
 use Rattle.two_ends.proofs.Sixless.{none-code}
 

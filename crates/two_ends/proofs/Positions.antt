@@ -1,13 +1,12 @@
 -- Positions in a history and their numbers on the circle. Assumes nothing.
 use Prim.Native.Nat.{ℕ, zero, suc, _+_, _-_, _≤_}
-use native.Mathlib.Omega.{arith}
 use mathlib.Core.Path.{_≡_, sym, ap, _∙_}
+use native.Mathlib.Omega.{arith}
 use borrow.Author.Tests.{le-leb}
-use Rattle.ft_number.specs.Circle.{circle, next, after, stepsOf}
-use Rattle.ft_number.specs.Ack.{ackOf}
-use Rattle.ft_number.specs.declared.Ack
 use Rattle.ft_number.specs.declared.Ack.{Ack}
 use Rattle.ft_number.specs.declared.Steps.the-variants.{Count}
+use Rattle.ft_number.specs.Ack.{ackOf}
+use Rattle.ft_number.specs.Circle.{circle, next, after, stepsOf}
 use Rattle.ft_number.proofs.Circle.{after-add, after-none, after-suc, steps-after}
 use Rattle.protocol.specs.Phases.{countOf}
 

@@ -1,14 +1,14 @@
 -- A call that changes nothing leaves the end as it was, and both lines. Assumes nothing.
 use Prim.Native.Nat.{ℕ}
-use mathlib.Core.Path.{_≡_, refl}
 use mathlib.Core.Bool.{Bool, true, false}
 use mathlib.Core.List.{List}
+use mathlib.Core.Path.{_≡_, refl}
 use Rattle.octets.specs.Pick.{pick, both}
 use Rattle.protocol.specs.Answers.{isDone}
 use Rattle.protocol.specs.Step.{Step}
 use Rattle.protocol.proofs.Quiet.{Quiet}
-use Rattle.two_ends.specs.World.{History, End}
 use Rattle.two_ends.specs.Calls.{called, put, counts}
+use Rattle.two_ends.specs.World.{History, End}
 use Rattle.two_ends.proofs.Invariant.{Some}
 use Rattle.two_ends.proofs.Worlds.{same-end, settled-same, Settled}
 

@@ -1,45 +1,41 @@
 -- A message in UpFT is delivered. Assumes nothing.
 use Prim.Native.Nat.{ℕ, _-_, _≤_}
-use native.Mathlib.Omega.{arith}
-use mathlib.Core.Path.{_≡_, refl, ap, _∙_, sym}
 use mathlib.Core.Bool.{true, true≢false, Bool}
 use mathlib.Core.List.{List, [], _∷_, map}
 use mathlib.Core.Logic.{inl}
-use borrow.Author.Tests.{le-leb}
+use mathlib.Core.Path.{_≡_, refl, ap, _∙_, sym}
+use native.Mathlib.Omega.{arith}
 use lib.ListN.{take, drop, length, length-drop}
-use Rattle.ft_number.specs.declared.Ack
+use borrow.Author.Tests.{le-leb}
 use Rattle.ft_number.specs.declared.Ack.{Ack}
 use Rattle.ft_number.specs.Circle.{stepsOf}
-use Rattle.message.specs.Reading.{readingOf}
 use Rattle.message.specs.declared.Message.{Message}
-use Rattle.message.specs.declared.Reading
 use Rattle.message.specs.declared.Reading.{Reading}
-use Rattle.protocol.specs.declared.Answer
+use Rattle.message.specs.Reading.{readingOf}
 use Rattle.protocol.specs.declared.Answer.{Answer}
-use Rattle.protocol.specs.declared.Phase
 use Rattle.protocol.specs.declared.Phase.{Phase}
-use Rattle.protocol.specs.Answers.{answerNumber}
-use Rattle.protocol.specs.State.{State}
 use Rattle.protocol.specs.Acked.{ackBorne, acked}
-use Rattle.protocol.specs.Step.{Step, releasedWith, stepped, settle}
-use Rattle.protocol.specs.Receive.{ackOn, taken, receivedState, receive, ftRule, receivedPhase}
+use Rattle.protocol.specs.Answers.{answerNumber}
 use Rattle.protocol.specs.Cases.{Case}
 use Rattle.protocol.specs.Phases.{phaseFits, issuedCount, countOf, upWith}
-use Rattle.protocol.proofs.Settling.{answered-failed, answered-released, admitted-is, settle-does, settle-answer}
+use Rattle.protocol.specs.Receive.{ackOn, taken, receivedState, receive, ftRule, receivedPhase}
+use Rattle.protocol.specs.State.{State}
+use Rattle.protocol.specs.Step.{Step, releasedWith, stepped, settle}
 use Rattle.protocol.proofs.Cases.{cases}
-use Rattle.two_ends.specs.World.{History, End}
+use Rattle.protocol.proofs.Settling.{answered-failed, answered-released, admitted-is, settle-does, settle-answer}
 use Rattle.two_ends.specs.Calls.{keeps, took, takes, securing}
-use Rattle.two_ends.proofs.Half.{Rcv, Half}
-use Rattle.two_ends.proofs.Freeing.{Freed}
-use Rattle.two_ends.proofs.Packets.{Packet, bytesOf, datas, acksOf}
+use Rattle.two_ends.specs.World.{History, End}
 use Rattle.two_ends.proofs.Books.{window}
+use Rattle.two_ends.proofs.Delivering.{let-go}
+use Rattle.two_ends.proofs.Failing.{failing-on}
+use Rattle.two_ends.proofs.Freeing.{Freed}
+use Rattle.two_ends.proofs.Half.{Rcv, Half}
 use Rattle.two_ends.proofs.Invariant.{sideOf, sndOf, rcvOf, Ready, Inv, Dir}
+use Rattle.two_ends.proofs.Packets.{Packet, bytesOf, datas, acksOf}
+use Rattle.two_ends.proofs.Resting.{released-ends}
 use Rattle.two_ends.proofs.Sides.{side}
 use Rattle.two_ends.proofs.Takes.{dir-took}
 use Rattle.two_ends.proofs.Worlds.{ended, Settled, kept-one}
-use Rattle.two_ends.proofs.Failing.{failing-on}
-use Rattle.two_ends.proofs.Resting.{released-ends}
-use Rattle.two_ends.proofs.Delivering.{let-go}
 
 -- an end that is up and keeps its state is in a phase that the state allows
 pub fits-up : (now : State) (h : History) (sent : ℕ) {up : Bool} {y : Rcv (List ℕ)} {dat : List (ℕ × List ℕ)} {acks : List ℕ} → now .kept ≡ true

@@ -1,31 +1,29 @@
 -- The events that end a connection or a session: a connection noticed to have failed, passed time, a restart. Assumes nothing.
 use Prim.Native.Nat.{ℕ}
-use mathlib.Core.Path.{_≡_, refl, sym}
 use mathlib.Core.Bool.{Bool, true, false, true≢false, not}
 use mathlib.Core.List.{List}
+use mathlib.Core.Path.{_≡_, refl, sym}
 use Rattle.octets.specs.Pick.{pick}
 use Rattle.octets.proofs.Choice.{by-test}
-use Rattle.protocol.specs.declared.Answer
 use Rattle.protocol.specs.declared.Answer.{Answer}
-use Rattle.protocol.specs.declared.Phase
 use Rattle.protocol.specs.declared.Phase.{Phase}
-use Rattle.protocol.specs.Phases.{connected, waiting}
 use Rattle.protocol.specs.Answers.{isDone}
-use Rattle.protocol.specs.Step.{Step, failedWith, releasedWith, admitted, unchanged}
-use Rattle.protocol.specs.ConnectionFailed.{connectionFailed}
-use Rattle.protocol.specs.TimePassed.{expired, timePassed}
-use Rattle.protocol.specs.State.{releasedState, State}
 use Rattle.protocol.specs.Begin.{restore}
-use Rattle.protocol.proofs.Settling.{done-harmless, settle-does, admitted-done}
-use Rattle.protocol.proofs.Refusals.{may-harmless}
+use Rattle.protocol.specs.ConnectionFailed.{connectionFailed}
+use Rattle.protocol.specs.Phases.{connected, waiting}
+use Rattle.protocol.specs.State.{releasedState, State}
+use Rattle.protocol.specs.Step.{Step, failedWith, releasedWith, admitted, unchanged}
+use Rattle.protocol.specs.TimePassed.{expired, timePassed}
 use Rattle.protocol.proofs.Quiet.{refused-quiet}
-use Rattle.two_ends.specs.World.{History, End, World}
+use Rattle.protocol.proofs.Refusals.{may-harmless}
+use Rattle.protocol.proofs.Settling.{done-harmless, settle-does, admitted-done}
 use Rattle.two_ends.specs.Calls.{keeps, called, plainly}
 use Rattle.two_ends.specs.Runs.{act, restarts}
-use Rattle.two_ends.proofs.Invariant.{Waiting, Some, Good}
-use Rattle.two_ends.proofs.Worlds.{ended, begun-else, at-replaced, settled-same, Settled}
+use Rattle.two_ends.specs.World.{History, End, World}
 use Rattle.two_ends.proofs.Failing.{failing}
+use Rattle.two_ends.proofs.Invariant.{Waiting, Some, Good}
 use Rattle.two_ends.proofs.Quiet.{quietly}
+use Rattle.two_ends.proofs.Worlds.{ended, begun-else, at-replaced, settled-same, Settled}
 
 -- a call that touches no line
 pub at-plain : (w : World) (x : Step) → Good w

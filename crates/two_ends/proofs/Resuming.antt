@@ -1,38 +1,35 @@
 -- A later Init is delivered. Assumes nothing.
 use Prim.Native.Nat.{ℕ}
-use native.Mathlib.Omega.{arith}
-use mathlib.Core.Path.{_≡_, refl, ap, _∙_, sym}
 use mathlib.Core.Bool.{true, true≢false}
 use mathlib.Core.List.{List, [], _∷_, map}
 use mathlib.Core.Logic.{_⊎_, inl, ⊎-elim}
+use mathlib.Core.Path.{_≡_, refl, ap, _∙_, sym}
+use native.Mathlib.Omega.{arith}
 use lib.ListN.{take, length-drop}
 use Rattle.ft_number.specs.declared.FtNumber.{FtNumber}
 use Rattle.ft_number.specs.declared.MessageId.{MessageId}
 use Rattle.message_writer.specs.declared.OwnParameters.{OwnParameters}
-use Rattle.protocol.specs.declared.Answer
 use Rattle.protocol.specs.declared.Answer.{Answer}
-use Rattle.protocol.specs.declared.Phase
 use Rattle.protocol.specs.declared.Phase.{Phase}
-use Rattle.protocol.specs.declared.Start
 use Rattle.protocol.specs.declared.Start.{Start}
 use Rattle.protocol.specs.declared.Terms.{Terms}
+use Rattle.protocol.specs.Acked.{acked}
+use Rattle.protocol.specs.Init.{resumed, initStart, initReceived}
+use Rattle.protocol.specs.Phases.{upWith, waitingFor}
 use Rattle.protocol.specs.State.{State}
 use Rattle.protocol.specs.Step.{Step, stepped}
-use Rattle.protocol.specs.Init.{resumed, initStart, initReceived}
-use Rattle.protocol.specs.Acked.{acked}
-use Rattle.protocol.specs.Phases.{upWith, waitingFor}
 use Rattle.protocol.proofs.Begins.{begins, changed}
-use Rattle.two_ends.specs.World.{History, End}
 use Rattle.two_ends.specs.Calls.{keeps, takes}
+use Rattle.two_ends.specs.World.{History, End}
+use Rattle.two_ends.proofs.Delivering.{let-go}
 use Rattle.two_ends.proofs.Freeing.{Freed, half-init}
-use Rattle.two_ends.proofs.Packets.{Packet, again, bytesOf, datas, acksOf}
+use Rattle.two_ends.proofs.Greeted.{greetedBy}
 use Rattle.two_ends.proofs.Invariant.{sideOf, sndOf, rcvOf, Ready, Inv}
+use Rattle.two_ends.proofs.Packets.{Packet, again, bytesOf, datas, acksOf}
+use Rattle.two_ends.proofs.Resting.{released-ends}
+use Rattle.two_ends.proofs.Starting.{terms, starts-again}
 use Rattle.two_ends.proofs.Takes.{dir-resume, dir-resume-peer}
 use Rattle.two_ends.proofs.Worlds.{ended, kept-one, Settled}
-use Rattle.two_ends.proofs.Resting.{released-ends}
-use Rattle.two_ends.proofs.Delivering.{let-go}
-use Rattle.two_ends.proofs.Starting.{terms, starts-again}
-use Rattle.two_ends.proofs.Greeted.{greetedBy}
 
 -- ---- a later Init
 module _ (now : State) (t : ℕ) (h : History) (id : MessageId) (p : OwnParameters) (seconds : ℕ) (a : FtNumber) where

@@ -1,32 +1,31 @@
 -- Only at 64 held is a message refused for room in the store: in every world of a run, whether it lasts or not. Assumes nothing.
 use Prim.Native.Nat.{_≤_, ℕ}
-use native.Mathlib.Omega.{arith}
-use mathlib.Core.Path.{_≡_, refl, _∙_}
 use mathlib.Core.Bool.{Bool, false, true}
 use mathlib.Core.List.{List, _∷_, []}
+use mathlib.Core.Path.{_≡_, refl, _∙_}
+use native.Mathlib.Omega.{arith}
 use Rattle.octets.proofs.Choice.{pick-all}
-use Rattle.protocol.specs.Calls.{Call, fails, restores, keeps-alive, greets as says-init, receives as reads, submits as gives, sends as writes, opens as begins, passes as waits, step as rule}
-use Rattle.protocol.specs.declared.Phase.{Phase}
-use Rattle.protocol.specs.State.{State, capacity, held}
-use Rattle.protocol.specs.Open.{openSession}
-use Rattle.protocol.specs.Submit.{submit}
-use Rattle.protocol.specs.declared.Answer
 use Rattle.protocol.specs.declared.Answer.{Answer}
+use Rattle.protocol.specs.declared.Phase.{Phase}
+use Rattle.protocol.specs.Begin.{restore}
+use Rattle.protocol.specs.Calls.{Call, fails, restores, keeps-alive, greets as says-init, receives as reads, submits as gives, sends as writes, opens as begins, passes as waits, step as rule}
 use Rattle.protocol.specs.ConnectionFailed.{connectionFailed}
 use Rattle.protocol.specs.KeepAlive.{keepalive}
-use Rattle.protocol.specs.Begin.{restore}
-use Rattle.protocol.specs.Send.{sendNext}
-use Rattle.protocol.specs.TimePassed.{timePassed}
+use Rattle.protocol.specs.Open.{openSession}
 use Rattle.protocol.specs.Phases.{awaits}
+use Rattle.protocol.specs.Send.{sendNext}
+use Rattle.protocol.specs.State.{State, capacity, held}
+use Rattle.protocol.specs.Submit.{submit}
+use Rattle.protocol.specs.TimePassed.{timePassed}
 use Rattle.protocol.proofs.Few.{few-held}
 use Rattle.protocol.proofs.Passing.{full-passes, passes-done, passes-full}
-use Rattle.two_ends.specs.Runs.{Event, submits, sends, keepalives, opens, passes, delivers, breaks, notices, restarts, act, step, run}
-use Rattle.two_ends.specs.World.{End, World, swap, none}
-use Rattle.two_ends.specs.Start.{Fit, Opener, start}
-use Rattle.two_ends.specs.Demand.{RefusedAt64}
 use Rattle.two_ends.specs.Calls.{accepts, broken, called, counts}
-use Rattle.two_ends.proofs.Worlds.{replaced-a, ended}
+use Rattle.two_ends.specs.Demand.{RefusedAt64}
+use Rattle.two_ends.specs.Runs.{Event, submits, sends, keepalives, opens, passes, delivers, breaks, notices, restarts, act, step, run}
+use Rattle.two_ends.specs.Start.{Fit, Opener, start}
+use Rattle.two_ends.specs.World.{End, World, swap, none}
 use Rattle.two_ends.proofs.Acts.{by-delivery, by-open, by-plain, by-submit, by-write}
+use Rattle.two_ends.proofs.Worlds.{replaced-a, ended}
 
 -- ---- at most 64 are held at either end
 abbrev pub Few : End → Type 0

@@ -1,28 +1,26 @@
 -- What the messages of a steady owner say. Assumes nothing.
 use Prim.Native.Nat.{ℕ, zero, suc, _+_, _^_, _<_}
-use native.Mathlib.Omega.{arith}
-use mathlib.Core.Path.{_≡_, refl, sym, _∙_}
 use mathlib.Core.Bool.{true, false, true≢false}
 use mathlib.Core.List.{List, [], _∷_, _++_}
+use mathlib.Core.Path.{_≡_, refl, sym, _∙_}
+use native.Mathlib.Omega.{arith}
 use lib.ListN.{length, getD, drop}
 use Rattle.ft_number.specs.declared.FtNumber.{FtNumber}
 use Rattle.ft_number.specs.declared.MessageId.{MessageId}
 use Rattle.tlv.specs.declared.FtField.{FtField}
-use Rattle.tlv.specs.declared.Parameters
 use Rattle.tlv.specs.declared.Parameters.{Parameters}
-use Rattle.message.specs.Reading.{readingOf}
 use Rattle.message.specs.declared.Message.{Message}
-use Rattle.message.specs.declared.Reading
 use Rattle.message.specs.declared.Reading.{Reading}
+use Rattle.message.specs.Reading.{readingOf}
+use Rattle.message.specs.Storable.{Storable}
 use Rattle.message.proofs.Laws.{accepted}
+use Rattle.message_writer.specs.declared.OwnParameters.{OwnParameters}
 use Rattle.message_writer.specs.Forms.{initBytes, keepaliveBytes, protectedBytes}
 use Rattle.message_writer.specs.ReadBack.{AckFits, InitFits, initMessage, keepaliveMessage, protectedMessage}
-use Rattle.message_writer.specs.declared.OwnParameters.{OwnParameters}
 use Rattle.message_writer.proofs.Own.{init-reads, keepalive-reads}
 use Rattle.message_writer.proofs.RoundTrip.{submitted, sent-reads, sent-kind}
 use Rattle.protocol.specs.Receive.{isFatal}
 use Rattle.protocol.specs.Received.{isInit}
-use Rattle.message.specs.Storable.{Storable}
 use Rattle.two_ends.specs.Steady.{Mild}
 use Rattle.two_ends.proofs.Judging.{not-init}
 

@@ -1,36 +1,34 @@
 -- A message is sent. Assumes nothing.
 use Prim.Native.Nat.{ℕ, suc, _+_, _<_, _^_, zero}
-use native.Mathlib.Omega.{arith}
-use mathlib.Core.Path.{_≡_, refl, sym, _∙_}
 use mathlib.Core.Bool.{Bool, true, false, true≢false}
 use mathlib.Core.List.{List, [], _∷_, _++_}
 use mathlib.Core.Logic.{inl}
+use mathlib.Core.Path.{_≡_, refl, sym, _∙_}
+use native.Mathlib.Omega.{arith}
 use lib.ListN.{drop}
 use lib.Seq.{drop-cons}
 use Rattle.octets.proofs.Choice.{by-test}
 use Rattle.ft_number.proofs.Circle.{after-small}
 use Rattle.message_writer.specs.ReadBack.{AckFits}
-use Rattle.protocol.specs.declared.Answer
 use Rattle.protocol.specs.declared.Answer.{Answer}
-use Rattle.protocol.specs.declared.Phase
 use Rattle.protocol.specs.declared.Phase.{Phase}
 use Rattle.protocol.specs.Answers.{isDone}
-use Rattle.protocol.specs.State.{State, held}
-use Rattle.protocol.specs.Send.{nextMessage, numberAt, ackAsked, sendBytes, sendRule, sentState, sendNext}
-use Rattle.protocol.specs.Step.{stepped, Step, roomFor, admitted}
 use Rattle.protocol.specs.Phases.{upWith, sentOf}
-use Rattle.protocol.proofs.Settling.{settle-does, admitted-done}
+use Rattle.protocol.specs.Send.{nextMessage, numberAt, ackAsked, sendBytes, sendRule, sentState, sendNext}
+use Rattle.protocol.specs.State.{State, held}
+use Rattle.protocol.specs.Step.{stepped, Step, roomFor, admitted}
+use Rattle.protocol.proofs.Quiet.{refused-quiet}
 use Rattle.protocol.proofs.Refusals.{send-harmless}
 use Rattle.protocol.proofs.Sends.{Sendable, sendable, sent-kept, sent-queue}
-use Rattle.protocol.proofs.Quiet.{refused-quiet}
-use Rattle.two_ends.specs.World.{History, End, World}
+use Rattle.protocol.proofs.Settling.{settle-does, admitted-done}
 use Rattle.two_ends.specs.Calls.{called, put, wrote as writes}
+use Rattle.two_ends.specs.World.{History, End, World}
 use Rattle.two_ends.proofs.Direction.{half-secured, half-place}
-use Rattle.two_ends.proofs.Packets.{Packet, carried, Fine, Okay, Okays}
 use Rattle.two_ends.proofs.Invariant.{Ready, Some, Good, Inv}
+use Rattle.two_ends.proofs.Packets.{Packet, carried, Fine, Okay, Okays}
+use Rattle.two_ends.proofs.Quiet.{quietly-puts}
 use Rattle.two_ends.proofs.Sends.{dir-send, dir-send-lost, dir-send-peer, dir-send-lost-peer}
 use Rattle.two_ends.proofs.Worlds.{ended, ready-open, at-replaced, Settled}
-use Rattle.two_ends.proofs.Quiet.{quietly-puts}
 use Rattle.two_ends.proofs.Writing.{line-more}
 
 -- ---- a message accepted stands at its place

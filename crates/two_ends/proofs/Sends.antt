@@ -1,24 +1,23 @@
 -- The two directions after a message is sent. Assumes nothing.
 use Prim.Native.Nat.{ℕ, _+_}
-use mathlib.Core.Path.{_≡_, refl}
 use mathlib.Core.Bool.{Bool, true, false}
 use mathlib.Core.List.{List, [], _∷_, _++_, append-nil}
+use mathlib.Core.Path.{_≡_, refl}
 use lib.Dec.{ltb}
 use lib.ListN.{drop}
 use Rattle.octets.specs.Pick.{pick}
-use Rattle.ft_number.specs.Circle.{after}
 use Rattle.ft_number.specs.declared.FtNumber.{FtNumber}
-use Rattle.tlv.specs.declared.FtField
+use Rattle.ft_number.specs.Circle.{after}
 use Rattle.tlv.specs.declared.FtField.{FtField}
-use Rattle.protocol.specs.State.{State}
 use Rattle.protocol.specs.Phases.{issuedCount, upWith}
 use Rattle.protocol.specs.Send.{numberAt, ackAsked, numbered, sentState}
+use Rattle.protocol.specs.State.{State}
 use Rattle.protocol.proofs.Sends.{sent-kept}
 use Rattle.two_ends.specs.World.{History}
 use Rattle.two_ends.proofs.Books.{issues}
 use Rattle.two_ends.proofs.Direction.{half-ack-out, half-send, half-send-lost}
-use Rattle.two_ends.proofs.Packets.{Packet, carried, Fine, acksOf, datas-append, acks-append, fines-snoc}
 use Rattle.two_ends.proofs.Invariant.{Side, sndOf, rcvOf, live, Dir}
+use Rattle.two_ends.proofs.Packets.{Packet, carried, Fine, acksOf, datas-append, acks-append, fines-snoc}
 use Rattle.two_ends.proofs.Sides.{side, shape-snoc}
 
 -- ---- what is sent, as the sender and its peer see it

@@ -1,23 +1,22 @@
 -- The two directions after each event at one end. Assumes nothing.
 use Prim.Native.Nat.{ℕ, _<_}
-use native.Mathlib.Omega.{arith}
-use mathlib.Core.Path.{_≡_, refl}
 use mathlib.Core.Bool.{Bool, true, false}
 use mathlib.Core.List.{List, [], _∷_, _++_, append-nil}
+use mathlib.Core.Path.{_≡_, refl}
+use native.Mathlib.Omega.{arith}
 use lib.ListN.{length}
 use Rattle.ft_number.specs.declared.MessageId.{MessageId}
 use Rattle.message_writer.specs.declared.OwnParameters.{OwnParameters}
-use Rattle.protocol.specs.declared.Phase
 use Rattle.protocol.specs.declared.Phase.{Phase}
+use Rattle.protocol.specs.Phases.{upWith, waitingFor}
 use Rattle.protocol.specs.State.{State}
 use Rattle.protocol.specs.Step.{broken}
 use Rattle.protocol.specs.Submit.{submitted}
-use Rattle.protocol.specs.Phases.{upWith, waitingFor}
-use Rattle.two_ends.specs.World.{History}
 use Rattle.two_ends.specs.Calls.{accepts}
+use Rattle.two_ends.specs.World.{History}
 use Rattle.two_ends.proofs.Direction.{half-accept, half-ack-out, half-lost, half-again, half-rest}
-use Rattle.two_ends.proofs.Packets.{Packet, first, again, alive, carried, Fine, NoInit, datas, datas-append, acks-append, fines-snoc, noinit-snoc}
 use Rattle.two_ends.proofs.Invariant.{Side, live, Headed, Shape, Dir}
+use Rattle.two_ends.proofs.Packets.{Packet, first, again, alive, carried, Fine, NoInit, datas, datas-append, acks-append, fines-snoc, noinit-snoc}
 
 -- an end by its parts
 abbrev pub side : State → Bool → Phase → Bool → Bool → History → Side

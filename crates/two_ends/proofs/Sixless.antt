@@ -1,44 +1,41 @@
 -- Between the two ends no label is used without protection: no word has code 6. Assumes nothing.
 use Prim.Native.Nat.{ℕ, zero, suc}
-use native.Mathlib.Omega.{arith}
-use mathlib.Core.Path.{_≡_, refl, sym, ap, _∙_}
 use mathlib.Core.Bool.{true, false}
 use mathlib.Core.List.{List}
 use mathlib.Core.Logic.{⊎-elim}
-use borrow.Author.Tests.{eqb-true}
+use mathlib.Core.Path.{_≡_, refl, sym, ap, _∙_}
+use native.Mathlib.Omega.{arith}
 use lib.Dec.{eqb}
 use lib.ListN.{getD, replicate}
+use borrow.Author.Tests.{eqb-true}
 use Rattle.octets.proofs.Choice.{by-test}
-use Rattle.message.specs.declared.Submission.{Submission}
-use Rattle.label_list.specs.Word.{wordCount, standsFor}
-use Rattle.label_list.specs.Valid.{validOf}
-use Rattle.label_list.specs.Sweep.{sweptOf}
-use Rattle.label_list.specs.Rules.{receivedSide}
-use Rattle.label_list.specs.Protection.{barsProtection, codeProtection}
 use Rattle.label_list.specs.declared.LabelMessage.{LabelMessage}
 use Rattle.label_list.specs.declared.LabelMessage.the-variants.{Mapping, Withdraw, Release}
-use Rattle.label_list.specs.declared.Protection
 use Rattle.label_list.specs.declared.Protection.{Protection}
 use Rattle.label_list.specs.declared.Side.{Side}
 use Rattle.label_list.specs.declared.Side.the-variants.{Used}
 use Rattle.label_list.specs.declared.SweepRule.the-variants.{AfterBreak}
+use Rattle.label_list.specs.Protection.{barsProtection, codeProtection}
+use Rattle.label_list.specs.Rules.{receivedSide}
+use Rattle.label_list.specs.Sweep.{sweptOf}
+use Rattle.label_list.specs.Valid.{validOf}
+use Rattle.label_list.specs.Word.{wordCount, standsFor}
 use Rattle.label_list.proofs.Standing.{free-stands}
+use Rattle.label_events.specs.declared.Touched.{Touched}
 use Rattle.label_events.specs.Change.{codeAt}
 use Rattle.label_events.specs.Protect.{protectionOf}
-use Rattle.label_events.specs.declared.Touched
-use Rattle.label_events.specs.declared.Touched.{Touched}
 use Rattle.label_meaning.specs.Event.{Event, Accepted, Acked, Received, Broken, step, Moves, released, returned, release-acked, taken, taken-again, taken-bare, asked-back, bare-withdrawn, bare-lost}
 use Rattle.label_meaning.specs.View.{absent}
 use Rattle.label_meaning.proofs.Meaning.{valid-means}
-use Rattle.label_meaning.proofs.View.{is-code}
 use Rattle.label_meaning.proofs.Moved.{every-move}
 use Rattle.label_meaning.proofs.Step.{step-valid}
-use Rattle.protocol.specs.State.{noTable}
-use Rattle.protocol.specs.Labels.{effectProtection, effectLabels}
-use Rattle.protocol.specs.Submit.{acceptedLabels}
-use Rattle.protocol.specs.Acked.{releasedLabels}
-use Rattle.protocol.specs.declared.LabelEffect
+use Rattle.label_meaning.proofs.View.{is-code}
+use Rattle.message.specs.declared.Submission.{Submission}
 use Rattle.protocol.specs.declared.LabelEffect.{LabelEffect}
+use Rattle.protocol.specs.Acked.{releasedLabels}
+use Rattle.protocol.specs.Labels.{effectProtection, effectLabels}
+use Rattle.protocol.specs.State.{noTable}
+use Rattle.protocol.specs.Submit.{acceptedLabels}
 use Rattle.protocol.proofs.Words.{none-valid, accepted-keeps, released-keeps}
 
 abbrev pub NoSix : List ℕ → Type 0

@@ -1,28 +1,23 @@
 -- How the Inits of the two ends are judged. Assumes nothing.
 use Prim.Native.Nat.{ℕ}
-use native.Mathlib.Omega.{arith}
-use mathlib.Core.Path.{_≡_, refl}
 use mathlib.Core.Bool.{Bool, true, false, not}
 use mathlib.Core.Logic.{_⊎_, inl, inr, ⊎-elim}
+use mathlib.Core.Path.{_≡_, refl}
+use native.Mathlib.Omega.{arith}
 use borrow.Author.Tests.{eq-eqb}
 use Rattle.octets.specs.Pick.{pick}
-use Rattle.ft_number.specs.Ack.{ackOf}
-use Rattle.ft_number.specs.declared.Ack
 use Rattle.ft_number.specs.declared.Ack.{Ack}
 use Rattle.ft_number.specs.declared.FtNumber.{FtNumber}
 use Rattle.ft_number.specs.declared.MessageId.{MessageId}
-use Rattle.tlv.specs.declared.FtField
+use Rattle.ft_number.specs.Ack.{ackOf}
 use Rattle.tlv.specs.declared.FtField.{FtField}
-use Rattle.message.specs.Reading.{readingOf}
-use Rattle.message.specs.declared.Reading
 use Rattle.message.specs.declared.Reading.{Reading}
+use Rattle.message.specs.Reading.{readingOf}
+use Rattle.message_writer.specs.declared.OwnParameters.{OwnParameters}
 use Rattle.message_writer.specs.Forms.{initBytes}
 use Rattle.message_writer.specs.ReadBack.{InitFits, initMessage}
-use Rattle.message_writer.specs.declared.OwnParameters.{OwnParameters}
 use Rattle.message_writer.proofs.Own.{init-reads}
-use Rattle.protocol.specs.declared.Answer
 use Rattle.protocol.specs.declared.Answer.{Answer}
-use Rattle.protocol.specs.declared.Start
 use Rattle.protocol.specs.declared.Start.{Start}
 use Rattle.protocol.specs.declared.Terms.{Terms}
 use Rattle.protocol.specs.Init.{bothSet, startOf, termsOf, equalParameters}

@@ -1,51 +1,49 @@
 -- Over every run: with no event that releases, neither end releases its state. Assumes nothing.
 use Prim.Native.Nat.{_≤_, ℕ}
-use native.Mathlib.Omega.{arith}
-use mathlib.Core.Path.{_≡_, refl, sym, _∙_}
-use mathlib.Core.List.{[], List, map, _∷_}
 use mathlib.Core.Bool.{Bool, false, true, true≢false}
+use mathlib.Core.List.{[], List, map, _∷_}
 use mathlib.Core.Logic.{⊎-elim}
+use mathlib.Core.Path.{_≡_, refl, sym, _∙_}
+use native.Mathlib.Omega.{arith}
 use Rattle.octets.specs.Pick.{both}
 use Rattle.octets.proofs.Choice.{pick-all}
 use Rattle.ft_number.specs.declared.FtNumber.{FtNumber}
 use Rattle.ft_number.specs.declared.MessageId.{MessageId}
 use Rattle.message_writer.specs.declared.OwnParameters.{OwnParameters}
-use Rattle.protocol.specs.declared.Answer
 use Rattle.protocol.specs.declared.Answer.{Answer}
 use Rattle.protocol.specs.declared.Phase.{Phase}
-use Rattle.protocol.specs.declared.Start
 use Rattle.protocol.specs.declared.Start.{Start}
-use Rattle.protocol.specs.State.{State}
-use Rattle.protocol.specs.Step.{Step}
 use Rattle.protocol.specs.Acked.{acked}
 use Rattle.protocol.specs.Answers.{answerNumber}
+use Rattle.protocol.specs.Begin.{restore}
 use Rattle.protocol.specs.ConnectionFailed.{connectionFailed}
 use Rattle.protocol.specs.Init.{initStart, resumed}
 use Rattle.protocol.specs.KeepAlive.{keepalive}
 use Rattle.protocol.specs.Open.{openSession}
+use Rattle.protocol.specs.Phases.{upWith, waitingFor}
 use Rattle.protocol.specs.Receive.{receive}
-use Rattle.protocol.specs.Begin.{restore}
 use Rattle.protocol.specs.Send.{sendNext}
+use Rattle.protocol.specs.State.{State}
+use Rattle.protocol.specs.Step.{Step}
 use Rattle.protocol.specs.Submit.{submit}
 use Rattle.protocol.specs.TimePassed.{timePassed}
-use Rattle.protocol.specs.Phases.{upWith, waitingFor}
-use Rattle.protocol.proofs.Moves.{Moves, alive-moves, notice-moves, open-moves, receive-frees, restore-moves, send-moves, submit-moves, time-moves}
 use Rattle.protocol.proofs.Begins.{changed as changed-init}
-use Rattle.two_ends.specs.Start.{Afresh, Fit, Opener, start}
-use Rattle.two_ends.specs.Runs.{AllProper, Event, act, breaks, delivers, keepalives, notices, opens, passes, restarts, run, sends, step, submits}
-use Rattle.two_ends.specs.World.{End, History, Lasts, World, swap}
-use Rattle.two_ends.specs.Calls.{accepts, broken, called, counts, keeps, plainly, put, wrote, on}
+use Rattle.protocol.proofs.Moves.{Moves, alive-moves, notice-moves, open-moves, receive-frees, restore-moves, send-moves, submit-moves, time-moves}
 use Rattle.two_ends.specs.Answers.{answerTo}
+use Rattle.two_ends.specs.Calls.{accepts, broken, called, counts, keeps, plainly, put, wrote, on}
+use Rattle.two_ends.specs.Runs.{AllProper, Event, act, breaks, delivers, keepalives, notices, opens, passes, restarts, run, sends, step, submits}
+use Rattle.two_ends.specs.Start.{Afresh, Fit, Opener, start}
 use Rattle.two_ends.specs.Staying.{Stays, Releasing, ReleasingAt, NoneReleases}
+use Rattle.two_ends.specs.World.{End, History, Lasts, World, swap}
+use Rattle.two_ends.proofs.Acts.{by-delivery, by-open, by-plain, by-submit, by-write, hearer, still}
+use Rattle.two_ends.proofs.Begun.{at-start}
 use Rattle.two_ends.proofs.Invariant.{Good, Inv}
 use Rattle.two_ends.proofs.Oldest.{Oldests, by-oldest}
 use Rattle.two_ends.proofs.Packets.{Packet, again, alive, bytesOf, carried}
 use Rattle.two_ends.proofs.Resuming.{again-begins, again-start}
-use Rattle.two_ends.proofs.Theorem.{at-run, at-step}
-use Rattle.two_ends.proofs.Begun.{at-start}
-use Rattle.two_ends.proofs.Worlds.{at-swap, ended, kept-one, next}
-use Rattle.two_ends.proofs.Acts.{by-delivery, by-open, by-plain, by-submit, by-write, hearer, still}
 use Rattle.two_ends.proofs.Starting.{terms}
+use Rattle.two_ends.proofs.Theorem.{at-run, at-step}
+use Rattle.two_ends.proofs.Worlds.{at-swap, ended, kept-one, next}
 
 both-are : {a b : Bool} → a ≡ true → b ≡ true → both a b ≡ true
 both-are p q = rw (p, q)

@@ -1,45 +1,44 @@
 -- Steady owners: what holds of both ends and both lines, and every call of an owner. Assumes nothing.
 use Prim.Native.Nat.{_<_, ℕ}
-use native.Mathlib.Omega.{arith}
-use mathlib.Core.Path.{_≡_, refl, sym, _∙_}
-use mathlib.Core.List.{[], List, _∷_}
 use mathlib.Core.Bool.{Bool, false, true, true≢false}
+use mathlib.Core.List.{[], List, _∷_}
 use mathlib.Core.Logic.{_⊎_, ⊎-elim}
+use mathlib.Core.Path.{_≡_, refl, sym, _∙_}
+use native.Mathlib.Omega.{arith}
 use lib.ListN.{drop}
 use Rattle.octets.proofs.Choice.{by-test}
 use Rattle.ft_number.specs.declared.MessageId.{MessageId}
 use Rattle.ft_number.specs.declared.Proposal.{Proposal}
 use Rattle.ft_number.specs.Timeout.{proposedOf}
-use Rattle.message_writer.specs.ReadBack.{AckFits}
 use Rattle.message_writer.specs.declared.OwnParameters.{OwnParameters}
-use Rattle.protocol.specs.declared.Phase
+use Rattle.message_writer.specs.ReadBack.{AckFits}
 use Rattle.protocol.specs.declared.Phase.{Phase}
+use Rattle.protocol.specs.Answers.{isDone}
+use Rattle.protocol.specs.KeepAlive.{aliveAck, aliveBytes, keepalive}
+use Rattle.protocol.specs.Open.{keptAck, openBytes, openSession}
+use Rattle.protocol.specs.Phases.{awaits, isUp, isUpFT, mayOpen, sentOf, waitingFor}
+use Rattle.protocol.specs.Send.{ackAsked, nextMessage, numberAt, sendBytes, sendNext, sendRule}
 use Rattle.protocol.specs.State.{State}
 use Rattle.protocol.specs.Step.{Step, admitted, roomFor}
-use Rattle.protocol.specs.Send.{ackAsked, nextMessage, numberAt, sendBytes, sendNext, sendRule}
-use Rattle.protocol.specs.KeepAlive.{aliveAck, aliveBytes, keepalive}
-use Rattle.protocol.specs.Phases.{awaits, isUp, isUpFT, mayOpen, sentOf, waitingFor}
-use Rattle.protocol.specs.Answers.{isDone}
-use Rattle.protocol.specs.Open.{keptAck, openBytes, openSession}
 use Rattle.protocol.specs.Submit.{submit}
-use Rattle.protocol.proofs.Moves.{Moves, alive-moves, open-moves, send-moves, submit-moves}
-use Rattle.protocol.proofs.Settling.{admitted-done}
 use Rattle.protocol.proofs.Leaving.{settle-cases}
-use Rattle.protocol.proofs.Sends.{Sendable, sendable}
+use Rattle.protocol.proofs.Moves.{Moves, alive-moves, open-moves, send-moves, submit-moves}
 use Rattle.protocol.proofs.Quiet.{Quiet}
+use Rattle.protocol.proofs.Sends.{Sendable, sendable}
+use Rattle.protocol.proofs.Settling.{admitted-done}
 use Rattle.protocol.proofs.Writers.{Wrote, writer-says}
-use Rattle.two_ends.specs.World.{End, History, Lasts, World}
-use Rattle.two_ends.specs.Runs.{Seconds, Widths}
 use Rattle.two_ends.specs.Calls.{accepts, broken, called, counts, on, opened, plainly, put, submitted, wrote}
+use Rattle.two_ends.specs.Runs.{Seconds, Widths}
 use Rattle.two_ends.specs.Steady.{Mild}
-use Rattle.two_ends.proofs.Saying.{All, alive-says, all-append, all-at, all-drop, init-says, Says, carried-says}
-use Rattle.two_ends.proofs.Invariant.{Good, Some, Waiting}
-use Rattle.two_ends.proofs.Worlds.{begun-else, ended, next}
+use Rattle.two_ends.specs.World.{End, History, Lasts, World}
 use Rattle.two_ends.proofs.Acts.{by-open, by-plain, by-submit, by-write}
-use Rattle.two_ends.proofs.Sending.{does, sends-fine}
-use Rattle.two_ends.proofs.Direction.{half-secured}
 use Rattle.two_ends.proofs.Begun.{kept-fits}
+use Rattle.two_ends.proofs.Direction.{half-secured}
+use Rattle.two_ends.proofs.Invariant.{Good, Some, Waiting}
 use Rattle.two_ends.proofs.Opening.{seconds-small}
+use Rattle.two_ends.proofs.Saying.{All, alive-says, all-append, all-at, all-drop, init-says, Says, carried-says}
+use Rattle.two_ends.proofs.Sending.{does, sends-fine}
+use Rattle.two_ends.proofs.Worlds.{begun-else, ended, next}
 
 -- ---- an end whose peer's owner has these parameters: they are stored, and no message of the store bears a Status with E set
 pub record Knows (o : OwnParameters) (e : End) : Type 0 where

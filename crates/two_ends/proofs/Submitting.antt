@@ -1,32 +1,31 @@
 -- A message submitted. Assumes nothing.
 use Prim.Native.Nat.{ℕ, _≤_}
-use native.Mathlib.Omega.{arith}
-use mathlib.Core.Path.{_≡_, refl}
 use mathlib.Core.Bool.{Bool, true, false, true≢false}
 use mathlib.Core.List.{List, [], _∷_}
 use mathlib.Core.Logic.{inl}
+use mathlib.Core.Path.{_≡_, refl}
+use native.Mathlib.Omega.{arith}
 use lib.ListN.{length-append}
-use Rattle.octets.specs.Pick.{pick, both}
 use Rattle.octets.specs.Bytes.{Bytes}
+use Rattle.octets.specs.Pick.{pick, both}
 use Rattle.octets.proofs.Choice.{by-test}
-use Rattle.protocol.specs.declared.Answer
 use Rattle.protocol.specs.declared.Answer.{Answer}
 use Rattle.protocol.specs.declared.Phase.{Phase}
-use Rattle.protocol.specs.State.{capacity, State, held}
-use Rattle.protocol.specs.Submit.{submitRule, submitted, submit}
-use Rattle.protocol.specs.Step.{admitted, stepped}
 use Rattle.protocol.specs.Answers.{isDone}
-use Rattle.protocol.proofs.Submits.{Accepted, done-accepted, submit-harmless}
+use Rattle.protocol.specs.State.{capacity, State, held}
+use Rattle.protocol.specs.Step.{admitted, stepped}
+use Rattle.protocol.specs.Submit.{submitRule, submitted, submit}
 use Rattle.protocol.proofs.Effects.{done-is}
-use Rattle.protocol.proofs.Settling.{settle-does, admitted-done}
 use Rattle.protocol.proofs.Quiet.{refused-quiet}
-use Rattle.two_ends.specs.World.{History, End, World}
+use Rattle.protocol.proofs.Settling.{settle-does, admitted-done}
+use Rattle.protocol.proofs.Submits.{Accepted, done-accepted, submit-harmless}
 use Rattle.two_ends.specs.Calls.{called, counts, accepts, submitted as submits}
-use Rattle.two_ends.proofs.Packets.{okays-snoc}
+use Rattle.two_ends.specs.World.{History, End, World}
 use Rattle.two_ends.proofs.Invariant.{Ready, Some, Good}
+use Rattle.two_ends.proofs.Packets.{okays-snoc}
+use Rattle.two_ends.proofs.Quiet.{quietly-counts}
 use Rattle.two_ends.proofs.Sides.{dir-accept, dir-accept-peer}
 use Rattle.two_ends.proofs.Worlds.{ended, ready-open, at-replaced, Settled}
-use Rattle.two_ends.proofs.Quiet.{quietly-counts}
 
 both-same : (b : Bool) → both b true ≡ b
 both-same true = refl

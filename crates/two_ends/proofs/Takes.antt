@@ -1,33 +1,31 @@
 -- The two directions after the oldest message of a line is taken. Assumes nothing.
 use Prim.Native.Nat.{ℕ, _-_}
-use native.Mathlib.Omega.{arith}
-use mathlib.Core.Path.{_≡_}
 use mathlib.Core.Bool.{Bool, true, false}
 use mathlib.Core.List.{List, [], _∷_, append-nil}
+use mathlib.Core.Path.{_≡_}
+use native.Mathlib.Omega.{arith}
 use lib.ListN.{take}
-use Rattle.ft_number.specs.Circle.{stepsOf}
-use Rattle.ft_number.specs.Ack.{ackOf}
-use Rattle.ft_number.specs.declared.Ack
 use Rattle.ft_number.specs.declared.Ack.{Ack}
 use Rattle.ft_number.specs.declared.FtNumber.{FtNumber}
 use Rattle.ft_number.specs.declared.MessageId.{MessageId}
-use Rattle.tlv.specs.declared.FtField
+use Rattle.ft_number.specs.Ack.{ackOf}
+use Rattle.ft_number.specs.Circle.{stepsOf}
 use Rattle.tlv.specs.declared.FtField.{FtField}
 use Rattle.message.specs.declared.Message.{Message}
 use Rattle.message_writer.specs.declared.OwnParameters.{OwnParameters}
 use Rattle.protocol.specs.declared.Terms.{Terms}
-use Rattle.protocol.specs.State.{State, releasedState}
 use Rattle.protocol.specs.Acked.{ackBorne, acked}
 use Rattle.protocol.specs.Init.{fresh, resumed}
-use Rattle.protocol.specs.Receive.{ackOn, taken, receivedState}
 use Rattle.protocol.specs.Phases.{upWith, waitingFor}
-use Rattle.two_ends.specs.World.{History, none}
+use Rattle.protocol.specs.Receive.{ackOn, taken, receivedState}
+use Rattle.protocol.specs.State.{State, releasedState}
 use Rattle.two_ends.specs.Calls.{takes}
-use Rattle.two_ends.proofs.Half.{Half}
+use Rattle.two_ends.specs.World.{History, none}
 use Rattle.two_ends.proofs.Direction.{half-secure}
 use Rattle.two_ends.proofs.Freeing.{Freed, half-none, half-ack, half-init}
-use Rattle.two_ends.proofs.Packets.{Packet, first, again, alive, carried, datas, acksOf}
+use Rattle.two_ends.proofs.Half.{Half}
 use Rattle.two_ends.proofs.Invariant.{Side, sndOf, rcvOf, Headed, Shape, Dir}
+use Rattle.two_ends.proofs.Packets.{Packet, first, again, alive, carried, datas, acksOf}
 use Rattle.two_ends.proofs.Sides.{side}
 
 pub nil-cons : {P : Type 0} {p : Packet} {ps : List Packet} → p ∷ ps ≡ [] → P

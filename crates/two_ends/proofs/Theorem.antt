@@ -1,29 +1,29 @@
 -- Over any run: nothing lost, nothing twice. Assumes nothing.
 use Prim.Native.Nat.{ℕ, _≤_}
-use native.Mathlib.Omega.{arith}
-use mathlib.Core.Path.{_≡_, sym, ap, _∙_}
 use mathlib.Core.Bool.{Bool, true, false}
 use mathlib.Core.List.{List, [], _∷_, _++_}
+use mathlib.Core.Path.{_≡_, sym, ap, _∙_}
+use native.Mathlib.Omega.{arith}
 use lib.ListN.{length, take, drop, length-append, take-append-drop}
 use lib.Seq.{take-take, length-take-le}
 use Rattle.protocol.specs.State.{State}
-use Rattle.two_ends.specs.World.{End, World, swap, Lasts}
+use Rattle.two_ends.specs.Demand.{Opens, store, Safe, Demand}
 use Rattle.two_ends.specs.Runs.{Event, submits, sends, keepalives, opens, passes, delivers, breaks, notices, restarts, Proper, act, step, run, AllProper}
 use Rattle.two_ends.specs.Start.{Opener, start, Fit, Afresh}
-use Rattle.two_ends.specs.Demand.{Opens, store, Safe, Demand}
-use Rattle.two_ends.proofs.Packets.{Packet}
-use Rattle.two_ends.proofs.Invariant.{sideOf, Ready, Dir, Good}
-use Rattle.two_ends.proofs.Worlds.{at-broken, at-swap}
-use Rattle.two_ends.proofs.Resting.{at-notices, at-restarts, at-passes}
-use Rattle.two_ends.proofs.Submitting.{at-submits}
-use Rattle.two_ends.proofs.Writing.{at-keepalives}
-use Rattle.two_ends.proofs.Opening.{at-opens}
-use Rattle.two_ends.proofs.Sending.{at-sends}
-use Rattle.two_ends.proofs.Delivered.{at-delivers}
-use Rattle.two_ends.proofs.Begun.{at-start}
+use Rattle.two_ends.specs.World.{End, World, swap, Lasts}
 use Rattle.two_ends.proofs.Arriving.{f}
+use Rattle.two_ends.proofs.Begun.{at-start}
+use Rattle.two_ends.proofs.Delivered.{at-delivers}
+use Rattle.two_ends.proofs.Invariant.{sideOf, Ready, Dir, Good}
+use Rattle.two_ends.proofs.Opening.{at-opens}
+use Rattle.two_ends.proofs.Packets.{Packet}
 use Rattle.two_ends.proofs.Positions.{num}
+use Rattle.two_ends.proofs.Resting.{at-notices, at-restarts, at-passes}
 use Rattle.two_ends.proofs.Room.{refused-at-64}
+use Rattle.two_ends.proofs.Sending.{at-sends}
+use Rattle.two_ends.proofs.Submitting.{at-submits}
+use Rattle.two_ends.proofs.Worlds.{at-broken, at-swap}
+use Rattle.two_ends.proofs.Writing.{at-keepalives}
 
 -- ---- every event keeps the invariant
 at-act : (w : World) (v : Event) → Proper v → Good w → Good (act w v)

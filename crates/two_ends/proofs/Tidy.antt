@@ -1,23 +1,23 @@
 -- The labels of an end that has begun, after each change of its state. Assumes nothing.
 use Prim.Native.Nat.{ℕ}
-use mathlib.Core.Path.{_≡_, refl}
 use mathlib.Core.Bool.{true}
 use mathlib.Core.List.{List}
+use mathlib.Core.Path.{_≡_, refl}
 use lib.ListN.{take}
-use Rattle.message.specs.Submission.{submissionOf}
-use Rattle.message.specs.declared.Message.{Message}
 use Rattle.label_list.specs.Valid.{validOf}
+use Rattle.message.specs.declared.Message.{Message}
+use Rattle.message.specs.Submission.{submissionOf}
+use Rattle.protocol.specs.Acked.{acked}
 use Rattle.protocol.specs.Labels.{labelEffect, isProtected}
+use Rattle.protocol.specs.Receive.{taken}
 use Rattle.protocol.specs.State.{State, releasedState}
 use Rattle.protocol.specs.Step.{broken}
-use Rattle.protocol.specs.Acked.{acked}
 use Rattle.protocol.specs.Submit.{submitted}
-use Rattle.protocol.specs.Receive.{taken}
 use Rattle.protocol.proofs.Words.{released-valid, accepted-valid, broken-valid, none-valid, received-valid}
 use Rattle.two_ends.specs.Labels.{Owed}
-use Rattle.two_ends.proofs.Sixless.{NoSix, none-sixless, broken-sixless, accepted-sixless, released-sixless, received-sixless}
 use Rattle.two_ends.proofs.Owed.{none-owed, broken-owed, accepted-owed, received-owed}
 use Rattle.two_ends.proofs.Paid.{released-owed}
+use Rattle.two_ends.proofs.Sixless.{NoSix, none-sixless, broken-sixless, accepted-sixless, released-sixless, received-sixless}
 
 -- the words are valid; no label is in use without protection; one that is withdrawing or releasing has its message in the store
 pub record Tidy (s : State) : Type 0 where

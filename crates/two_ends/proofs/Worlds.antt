@@ -1,18 +1,17 @@
 -- A world after a call at the end a, whatever the call is. Assumes nothing.
 use Prim.Native.Nat.{ℕ}
-use mathlib.Core.Path.{_≡_, refl, sym, _∙_}
 use mathlib.Core.Bool.{Bool, true, false, not, true≢false}
 use mathlib.Core.List.{List, []}
 use mathlib.Core.Logic.{_⊎_, inl, ⊎-elim}
+use mathlib.Core.Path.{_≡_, refl, sym, _∙_}
 use Rattle.octets.specs.Pick.{pick, both}
 use Rattle.octets.proofs.Choice.{both-true}
-use Rattle.protocol.specs.declared.Phase
 use Rattle.protocol.specs.declared.Phase.{Phase}
 use Rattle.protocol.specs.Phases.{connected}
 use Rattle.protocol.specs.State.{State}
 use Rattle.protocol.specs.Step.{Step}
-use Rattle.two_ends.specs.World.{History, End, World, swap, Lasts}
 use Rattle.two_ends.specs.Calls.{off, broken, keeps, called, replaced}
+use Rattle.two_ends.specs.World.{History, End, World, swap, Lasts}
 use Rattle.two_ends.proofs.Invariant.{Waiting, linkable, Ready, Some, Good}
 use Rattle.two_ends.proofs.Sides.{dir-lost}
 

@@ -1,29 +1,27 @@
 -- What a writer puts on its line, and a KeepAlive. Assumes nothing.
 use Prim.Native.Nat.{ℕ, _<_}
-use native.Mathlib.Omega.{arith}
-use mathlib.Core.Path.{_≡_, refl, sym, ap, _∙_}
 use mathlib.Core.Bool.{Bool, true, false, true≢false}
 use mathlib.Core.List.{List, [], _∷_, _++_, map}
 use mathlib.Core.Logic.{inl, ⊎-elim}
+use mathlib.Core.Path.{_≡_, refl, sym, ap, _∙_}
+use native.Mathlib.Omega.{arith}
 use Rattle.ft_number.specs.declared.MessageId.{MessageId}
-use Rattle.protocol.specs.declared.Answer
 use Rattle.protocol.specs.declared.Answer.{Answer}
-use Rattle.protocol.specs.declared.Phase
 use Rattle.protocol.specs.declared.Phase.{Phase}
-use Rattle.protocol.specs.Phases.{isUp}
-use Rattle.protocol.specs.Step.{stepped}
 use Rattle.protocol.specs.KeepAlive.{aliveBytes, keepalive}
+use Rattle.protocol.specs.Phases.{isUp}
 use Rattle.protocol.specs.State.{State}
+use Rattle.protocol.specs.Step.{stepped}
 use Rattle.protocol.proofs.Quiet.{Quiet}
 use Rattle.protocol.proofs.Writers.{Wrote, writer-says}
-use Rattle.two_ends.specs.World.{History, End, World}
 use Rattle.two_ends.specs.Calls.{called, put, wrote as writes}
-use Rattle.two_ends.proofs.Packets.{Packet, alive, Fine, bytesOf}
-use Rattle.two_ends.proofs.Invariant.{Some, Good}
-use Rattle.two_ends.proofs.Sides.{dir-alive, dir-alive-peer}
+use Rattle.two_ends.specs.World.{History, End, World}
 use Rattle.two_ends.proofs.Direction.{half-secured}
-use Rattle.two_ends.proofs.Worlds.{ended, ready-open, at-replaced, Settled}
+use Rattle.two_ends.proofs.Invariant.{Some, Good}
+use Rattle.two_ends.proofs.Packets.{Packet, alive, Fine, bytesOf}
 use Rattle.two_ends.proofs.Quiet.{quietly-puts}
+use Rattle.two_ends.proofs.Sides.{dir-alive, dir-alive-peer}
+use Rattle.two_ends.proofs.Worlds.{ended, ready-open, at-replaced, Settled}
 
 -- ---- what it puts on the line
 map-snoc : (ps : List Packet) (p : Packet) → map bytesOf (ps ++ (p ∷ [])) ≡ map bytesOf ps ++ (bytesOf p ∷ [])

@@ -1,14 +1,13 @@
 -- The answers to what is delivered between the two ends.
 use Prim.Native.Nat.{ℕ}
-use mathlib.Core.Path.{_≡_}
 use mathlib.Core.Bool.{true}
 use mathlib.Core.List.{List, _∷_}
+use mathlib.Core.Path.{_≡_}
 use Rattle.octets.specs.Pick.{pick}
-use Rattle.protocol.specs.declared.Answer
 use Rattle.protocol.specs.declared.Answer.{Answer}
-use Rattle.protocol.specs.Receive.{receive}
 use Rattle.protocol.specs.Init.{initReceived}
 use Rattle.protocol.specs.Phases.{awaits}
+use Rattle.protocol.specs.Receive.{receive}
 use Rattle.two_ends.specs.World.{End, World}
 
 -- what the end answers to the message m, through the call that its phase asks for

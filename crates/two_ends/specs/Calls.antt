@@ -4,19 +4,17 @@ use mathlib.Core.Bool.{Bool, true, false, not}
 use mathlib.Core.List.{List, [], _∷_, _++_}
 use lib.ListN.{length, take}
 use Rattle.octets.specs.Pick.{pick, both}
-use Rattle.message.specs.Reading.{readingOf}
-use Rattle.message.specs.declared.Reading
 use Rattle.message.specs.declared.Reading.{Reading}
+use Rattle.message.specs.Reading.{readingOf}
 use Rattle.message_writer.specs.Payload.{payloadOf}
+use Rattle.protocol.specs.declared.Start.{Start}
+use Rattle.protocol.specs.Answers.{isDone}
+use Rattle.protocol.specs.Init.{initStart, initReceived}
 use Rattle.protocol.specs.Labels.{isProtected}
 use Rattle.protocol.specs.Phases.{awaits, connected}
-use Rattle.protocol.specs.Answers.{isDone}
-use Rattle.protocol.specs.declared.Start
-use Rattle.protocol.specs.declared.Start.{Start}
+use Rattle.protocol.specs.Receive.{receive}
 use Rattle.protocol.specs.State.{State}
 use Rattle.protocol.specs.Step.{Step}
-use Rattle.protocol.specs.Init.{initStart, initReceived}
-use Rattle.protocol.specs.Receive.{receive}
 use Rattle.two_ends.specs.World.{History, End, World}
 
 -- ---- the connection

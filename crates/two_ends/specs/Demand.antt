@@ -1,17 +1,16 @@
 -- The demand, in the user's words.
 use Prim.Native.Nat.{ℕ, _+_, _≤_, _<_}
-use mathlib.Core.Path.{_≡_}
 use mathlib.Core.Bool.{true}
 use mathlib.Core.List.{List, [], _∷_, _++_}
+use mathlib.Core.Path.{_≡_}
 use lib.ListN.{length}
 use Rattle.ft_number.specs.Circle.{after}
-use Rattle.protocol.specs.declared.Answer
 use Rattle.protocol.specs.declared.Answer.{Answer}
 use Rattle.protocol.specs.State.{held, capacity}
 use Rattle.protocol.specs.Submit.{submit}
 use Rattle.protocol.specs.SubmitCases.{Passes}
-use Rattle.two_ends.specs.World.{End, World, swap}
 use Rattle.two_ends.specs.Runs.{submits, act}
+use Rattle.two_ends.specs.World.{End, World, swap}
 
 -- xs is an opening part of ys
 pub record Opens (xs ys : List (List ℕ)) : Type 0 where

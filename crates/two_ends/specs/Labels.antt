@@ -1,19 +1,16 @@
 -- What holds of the labels at one end of a run.
 use Prim.Native.Nat.{ℕ}
-use mathlib.Core.Path.{_≡_}
 use mathlib.Core.Bool.{true}
 use mathlib.Core.List.{List, []}
-use Rattle.message.specs.Kinds.{kindNumber}
-use Rattle.message.specs.declared.Kind
-use Rattle.message.specs.declared.Kind.{Kind}
-use Rattle.label_list.specs.declared.LabelMessage
+use mathlib.Core.Path.{_≡_}
 use Rattle.label_list.specs.declared.LabelMessage.{LabelMessage}
-use Rattle.label_list.specs.declared.Side
 use Rattle.label_list.specs.declared.Side.{Side}
 use Rattle.label_events.specs.Change.{codeAt}
+use Rattle.message.specs.declared.Kind.{Kind}
+use Rattle.message.specs.Kinds.{kindNumber}
 use Rattle.protocol.specs.Held.{isHeld}
-use Rattle.two_ends.specs.World.{End}
 use Rattle.two_ends.specs.Demand.{store}
+use Rattle.two_ends.specs.World.{End}
 
 -- a label of code 2, withdrawing, waits for its Withdraw to be acknowledged; one of code 5, releasing, for its Release
 pub data Due : Type 0 where

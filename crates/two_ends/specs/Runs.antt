@@ -4,18 +4,17 @@ use mathlib.Core.Bool.{Bool, true, false}
 use mathlib.Core.List.{List, [], _∷_}
 use Rattle.octets.specs.Bytes.{Bytes}
 use Rattle.ft_number.specs.declared.MessageId.{MessageId}
-use Rattle.ft_number.specs.declared.Proposal
 use Rattle.ft_number.specs.declared.Proposal.{Proposal}
 use Rattle.message_writer.specs.declared.OwnParameters.{OwnParameters}
-use Rattle.protocol.specs.Submit.{submit}
-use Rattle.protocol.specs.Send.{sendNext}
-use Rattle.protocol.specs.Open.{openSession}
-use Rattle.protocol.specs.KeepAlive.{keepalive}
-use Rattle.protocol.specs.ConnectionFailed.{connectionFailed}
-use Rattle.protocol.specs.TimePassed.{timePassed}
 use Rattle.protocol.specs.Begin.{restore}
-use Rattle.two_ends.specs.World.{World, swap}
+use Rattle.protocol.specs.ConnectionFailed.{connectionFailed}
+use Rattle.protocol.specs.KeepAlive.{keepalive}
+use Rattle.protocol.specs.Open.{openSession}
+use Rattle.protocol.specs.Send.{sendNext}
+use Rattle.protocol.specs.Submit.{submit}
+use Rattle.protocol.specs.TimePassed.{timePassed}
 use Rattle.two_ends.specs.Calls.{broken, plainly, submitted, wrote, opened, delivery}
+use Rattle.two_ends.specs.World.{World, swap}
 
 -- at one end: every public call with whatever its owner gives, the oldest message delivered, the connection broken, and power lost
 pub data Event : Type 0 where

@@ -2,19 +2,19 @@
 -- Both have opened, and their Inits are under way. Whatever their states held, R is zero in one of the Inits, so both come to a fresh UpFT on this
 -- connection; the first of them may send before the other has read its Init. Each end is counted from its own fresh UpFT.
 use Prim.Native.Nat.{ℕ, _≤_, _<_}
-use mathlib.Core.Path.{_≡_}
 use mathlib.Core.Bool.{true, false}
 use mathlib.Core.List.{List, [], _∷_}
 use mathlib.Core.Logic.{_⊎_}
-use Rattle.ft_number.specs.Timeout.{proposedOf}
+use mathlib.Core.Path.{_≡_}
 use Rattle.ft_number.specs.declared.MessageId.{MessageId}
 use Rattle.ft_number.specs.declared.Proposal.{Proposal}
+use Rattle.ft_number.specs.Timeout.{proposedOf}
 use Rattle.message_writer.specs.declared.OwnParameters.{OwnParameters}
-use Rattle.protocol.specs.State.{State, held, capacity}
 use Rattle.protocol.specs.Open.{openBytes}
 use Rattle.protocol.specs.Phases.{waitingFor}
-use Rattle.two_ends.specs.World.{End, World, none}
+use Rattle.protocol.specs.State.{State, held, capacity}
 use Rattle.two_ends.specs.Runs.{Widths, Seconds}
+use Rattle.two_ends.specs.World.{End, World, none}
 
 -- a cabinet that opens: its state, and what its owner gives
 pub record Opener : Type 0 where

@@ -1,14 +1,14 @@
 -- When an end releases its state.
 use Prim.Native.Nat.{ℕ, _≤_}
-use mathlib.Core.Path.{_≡_}
 use mathlib.Core.Bool.{Bool, true, false}
 use mathlib.Core.List.{List, [], _∷_}
-use Rattle.protocol.specs.TimePassed.{expired}
-use Rattle.protocol.specs.Phases.{waiting}
+use mathlib.Core.Path.{_≡_}
 use Rattle.protocol.specs.Answers.{answerNumber}
-use Rattle.two_ends.specs.World.{World, swap, Lasts}
-use Rattle.two_ends.specs.Runs.{Event, submits, sends, keepalives, opens, passes, delivers, breaks, notices, restarts, step}
+use Rattle.protocol.specs.Phases.{waiting}
+use Rattle.protocol.specs.TimePassed.{expired}
 use Rattle.two_ends.specs.Answers.{answerTo}
+use Rattle.two_ends.specs.Runs.{Event, submits, sends, keepalives, opens, passes, delivers, breaks, notices, restarts, step}
+use Rattle.two_ends.specs.World.{World, swap, Lasts}
 
 -- a message on the line is answered 30 or above: by `Comes` that is 35 or 36
 pub record Fatal (w : World) : Type 0 where

@@ -1,21 +1,19 @@
 -- Owners that open as at the start, submit nothing that bears a Status with E set, and let no timeout pass.
 use Prim.Native.Nat.{ℕ}
-use mathlib.Core.Path.{_≡_}
 use mathlib.Core.Bool.{Bool, true, false}
 use mathlib.Core.List.{List, [], _∷_}
-use Rattle.message.specs.Reading.{readingOf}
+use mathlib.Core.Path.{_≡_}
 use Rattle.message.specs.declared.Message.{Message}
-use Rattle.message.specs.declared.Reading
 use Rattle.message.specs.declared.Reading.{Reading}
+use Rattle.message.specs.Reading.{readingOf}
 use Rattle.message_writer.specs.declared.OwnParameters.{OwnParameters}
-use Rattle.protocol.specs.declared.Answer
 use Rattle.protocol.specs.declared.Answer.{Answer}
+use Rattle.protocol.specs.Phases.{waiting}
 use Rattle.protocol.specs.Receive.{isFatal}
 use Rattle.protocol.specs.TimePassed.{expired}
-use Rattle.protocol.specs.Phases.{waiting}
-use Rattle.two_ends.specs.World.{World, swap}
 use Rattle.two_ends.specs.Answers.{answerTo}
 use Rattle.two_ends.specs.Runs.{Event, submits, sends, keepalives, opens, passes, delivers, breaks, notices, restarts, step}
+use Rattle.two_ends.specs.World.{World, swap}
 
 -- "36: Status with E set" does not come of it
 abbrev pub Mild : List ℕ → Type 0

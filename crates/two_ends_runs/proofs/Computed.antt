@@ -1,14 +1,13 @@
 -- The runs, computed. Assumes nothing.
-use mathlib.Core.Path.{_≡_, refl}
 use mathlib.Core.List.{[]}
-use Rattle.protocol.specs.State.{held}
-use Rattle.protocol.specs.declared.Answer
+use mathlib.Core.Path.{_≡_, refl}
 use Rattle.protocol.specs.declared.Answer.{Answer}
+use Rattle.protocol.specs.State.{held}
 use Rattle.protocol.specs.Submit.{submit}
 use Rattle.two_ends.specs.Staying.{Stays}
 use Rattle.two_ends_runs.specs.Cabinets.{address}
-use Rattle.two_ends_runs.specs.Tales.{ending, begin, again, again-ends, cut, cut-ends, early, early-ends, wrap, wrap-ends, full, full-ends}
 use Rattle.two_ends_runs.specs.Race.{race, labels, race-ends}
+use Rattle.two_ends_runs.specs.Tales.{ending, begin, again, again-ends, cut, cut-ends, early, early-ends, wrap, wrap-ends, full, full-ends}
 use Rattle.two_ends_runs.proofs.Opened.{everything}
 
 -- both are up, and nothing is held

@@ -5,14 +5,6 @@ use Rattle.octets.specs.Fix.{fix, steps}
 use Rattle.ft_number.specs.Ack.{ackOf}
 use Rattle.ft_number.specs.Circle.{after, stepsOf}
 use Rattle.ft_number.specs.Timeout.{lesserOf}
-use Rattle.tlv.specs.Tlv.{tlvOf}
-use Rattle.tlv.specs.Value.{fecAt, fieldAt, numberAt as numberAt-tlv, parametersAt, partAt, sessionAt}
-use Rattle.tlv.specs.Walk.{notedOf, tlvsOf, turnOf, walkOf}
-use Rattle.message.specs.Kinds.{kindOf}
-use Rattle.message.specs.Reading.{messageOf, placesOf, readingOf, typeOf}
-use Rattle.message.specs.Submission.{bearsFt, submissionOf}
-use Rattle.message_writer.specs.Forms.{raised}
-use Rattle.message_writer.specs.Payload.{keptOf, payloadOf}
 use Rattle.label_list.specs.Find.{any, findOf}
 use Rattle.label_list.specs.Protection.{barsProtection, codeProtection, needsProtection}
 use Rattle.label_list.specs.Rules.{codeAccepted, codeAcked, codeReceived, codeSwept, receivedSide, sentSide}
@@ -24,21 +16,29 @@ use Rattle.label_events.specs.Ack.{ackedAt}
 use Rattle.label_events.specs.Change.{changeAt, changed, codeIn}
 use Rattle.label_events.specs.Protect.{protectionOf}
 use Rattle.label_events.specs.Receive.{receivedChange, receivedOf}
-use Rattle.protocol.specs.Answers.{effectOf}
-use Rattle.protocol.specs.Phases.{issuedCount, phaseFits}
-use Rattle.protocol.specs.Held.{isHeld}
-use Rattle.protocol.specs.Step.{settle, admitted}
+use Rattle.tlv.specs.Tlv.{tlvOf}
+use Rattle.tlv.specs.Value.{fecAt, fieldAt, numberAt as numberAt-tlv, parametersAt, partAt, sessionAt}
+use Rattle.tlv.specs.Walk.{notedOf, tlvsOf, turnOf, walkOf}
+use Rattle.message.specs.Kinds.{kindOf}
+use Rattle.message.specs.Reading.{messageOf, placesOf, readingOf, typeOf}
+use Rattle.message.specs.Submission.{bearsFt, submissionOf}
+use Rattle.message_writer.specs.Forms.{raised}
+use Rattle.message_writer.specs.Payload.{keptOf, payloadOf}
 use Rattle.protocol.specs.Accepting.{acceptedAs, isBarred}
 use Rattle.protocol.specs.Acked.{acked, releasedKind, releasedLabels}
-use Rattle.protocol.specs.Submit.{kindRule, submitRule, submitted, submit}
-use Rattle.protocol.specs.Send.{numberAt, ackAsked, sendBytes, sendRule, numbered, sentState, sendNext}
-use Rattle.protocol.specs.Labels.{labelEffect, protectionRule}
-use Rattle.protocol.specs.Init.{bothSet, startOf, fresh, resumed, initReceived}
-use Rattle.protocol.specs.Receive.{ackOn, ftRule, labelsRule, messageRule, taken, receivedState, receive}
+use Rattle.protocol.specs.Answers.{effectOf}
 use Rattle.protocol.specs.ConnectionFailed.{connectionFailed}
-use Rattle.protocol.specs.Writer.{writer}
+use Rattle.protocol.specs.Held.{isHeld}
+use Rattle.protocol.specs.Init.{bothSet, startOf, fresh, resumed, initReceived}
 use Rattle.protocol.specs.KeepAlive.{keepalive}
+use Rattle.protocol.specs.Labels.{labelEffect, protectionRule}
 use Rattle.protocol.specs.Open.{keptAck, openSession}
+use Rattle.protocol.specs.Phases.{issuedCount, phaseFits}
+use Rattle.protocol.specs.Receive.{ackOn, ftRule, labelsRule, messageRule, taken, receivedState, receive}
+use Rattle.protocol.specs.Send.{numberAt, ackAsked, sendBytes, sendRule, numbered, sentState, sendNext}
+use Rattle.protocol.specs.Step.{settle, admitted}
+use Rattle.protocol.specs.Submit.{kindRule, submitRule, submitted, submit}
+use Rattle.protocol.specs.Writer.{writer}
 
 -- to unfold this is to unfold all of them
 unfoldable pub everything : ℕ

@@ -3,12 +3,11 @@ use Prim.Native.Nat.{ℕ, zero, suc}
 use mathlib.Core.Bool.{Bool, true}
 use mathlib.Core.List.{List, [], _∷_}
 use Rattle.ft_number.specs.declared.MessageId.{MessageId}
-use Rattle.ft_number.specs.declared.Proposal
 use Rattle.ft_number.specs.declared.Proposal.{Proposal}
 use Rattle.message_writer.specs.declared.OwnParameters.{OwnParameters}
 use Rattle.protocol.specs.State.{State, noTable}
-use Rattle.two_ends.specs.Start.{Opener}
 use Rattle.two_ends.specs.Runs.{Event, submits, sends, keepalives, opens, delivers}
+use Rattle.two_ends.specs.Start.{Opener}
 
 -- an Address message with that message ID
 abbrev pub address : ℕ → List ℕ

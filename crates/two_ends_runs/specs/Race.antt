@@ -4,9 +4,9 @@ use mathlib.Core.Bool.{Bool, true, false}
 use mathlib.Core.List.{List, [], _∷_}
 use Rattle.label_list.specs.declared.Side.the-variants.{Given, Used}
 use Rattle.label_events.specs.Change.{codeAt}
-use Rattle.two_ends.specs.World.{World}
 use Rattle.two_ends.specs.Demand.{store}
 use Rattle.two_ends.specs.Runs.{submits}
+use Rattle.two_ends.specs.World.{World}
 use Rattle.two_ends_runs.specs.Cabinets.{mapping, release, send, alive, deliver}
 use Rattle.two_ends_runs.specs.Tales.{begin}
 

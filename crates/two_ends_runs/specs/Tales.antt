@@ -3,12 +3,12 @@ use Prim.Native.Nat.{ℕ}
 use mathlib.Core.Bool.{Bool, true, false}
 use mathlib.Core.List.{List, [], _∷_}
 use lib.ListN.{replicate}
-use Rattle.protocol.specs.State.{releasedState}
 use Rattle.protocol.specs.Phases.{upWith}
-use Rattle.two_ends.specs.World.{End, World, none}
-use Rattle.two_ends.specs.Start.{start}
+use Rattle.protocol.specs.State.{releasedState}
 use Rattle.two_ends.specs.Demand.{store}
 use Rattle.two_ends.specs.Runs.{Event, breaks, notices, restarts, run}
+use Rattle.two_ends.specs.Start.{start}
+use Rattle.two_ends.specs.World.{End, World, none}
 use Rattle.two_ends_runs.specs.Cabinets.{address, cabinet, keptWith, submit, send, alive, reopen, deliver, many}
 
 -- ---- what is looked at: the messages of the sender a, those that b secured, R and I of a, S of b, and the two flags of the world

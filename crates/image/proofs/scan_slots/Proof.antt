@@ -1,10 +1,10 @@
 -- `image::scan_slots` meets its contract: the slots passed are right, so the rest decides. Assumes nothing.
-use mathlib.Core.Path.{_≡_}
 use Prim.Native.Nat.{_≤_, _+_, _-_}
+use mathlib.Core.Path.{_≡_}
 use native.Mathlib.Omega.{arith}
 use borrow.Author.Needs.{needs}
-use Rattle.image.specs.Sizes.{blockOf}
 use Rattle.image.specs.Ring.{ring}
+use Rattle.image.specs.Sizes.{blockOf}
 use Rattle.image.specs.Verdict.{bytesJudged, firstFault}
 use Rattle.image.proofs.Scans.{scans}
 use Rattle.image.proofs.scan_slots.Statement.{statement}

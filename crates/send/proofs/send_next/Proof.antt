@@ -1,8 +1,8 @@
-use Rattle.octets.proofs.Choice.{denied, granted}
 use native.Mathlib.Omega.{arith}
 use borrow.Author.Needs.{needs}
-use Rattle.send.proofs.Judged.{Sendable, sendable-sound, sendable-held, sendable-few, judged-sendable}
+use Rattle.octets.proofs.Choice.{denied, granted}
 use Rattle.send.proofs.Acts.{send-refused, send-short, send-acts}
+use Rattle.send.proofs.Judged.{Sendable, sendable-sound, sendable-held, sendable-few, judged-sendable}
 use Rattle.send.proofs.send_next.Statement.{statement}
 use Rattle.send.proofs.send_next.Tie as tie
 

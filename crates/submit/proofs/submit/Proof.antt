@@ -1,15 +1,13 @@
-use borrow.Author.Needs.{needs}
 use mathlib.Core.Path.{refl, sym, _∙_}
+use borrow.Author.Needs.{needs}
 use borrow.Author.Tests.{not-true, not-false}
 use denote.Ref.{now}
-use Rattle.image.specs.State.{decode}
+use Rattle.calls.specs.State.{stateOf}
 use Rattle.calls.proofs.Settled.{Admitted, admit-passed, admitted-sound}
-use Rattle.submit.proofs.Answered.{Fitting}
-use Rattle.submit.proofs.Answered.{not-kept, too-short, too-long, fitting-is, submission-is}
+use Rattle.submit.proofs.Answered.{Fitting, not-kept, too-short, too-long, fitting-is, submission-is}
 use Rattle.submit.proofs.Settling.{admit-is, submit-refused, submit-judged}
 use Rattle.submit.proofs.submit.Statement.{statement}
 use Rattle.submit.proofs.submit.Tie as tie
-use Rattle.calls.specs.State.{stateOf}
 
 -- past the first test the image is sound and allows the phase
 admitted : (c : tie.Else1) → Admitted (now (c .before .before .before .before .before .before .args .image)) (c .before .before .before .before .before .before .args .phase)

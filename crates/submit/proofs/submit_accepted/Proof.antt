@@ -1,14 +1,12 @@
-use borrow.Author.Needs.{needs}
 use mathlib.Core.Path.{refl}
+use borrow.Author.Needs.{needs}
 use denote.Ref.{now}
-use Rattle.image.specs.State.{decode}
+use Rattle.calls.specs.State.{stateOf}
 use Rattle.call_meaning.proofs.Calling.{found-refused}
-use Rattle.submit.proofs.Answered.{Judged}
-use Rattle.submit.proofs.Answered.{barred-is, judged-is, acceptance-is, full-is, done-is}
+use Rattle.submit.proofs.Answered.{Judged, barred-is, judged-is, acceptance-is, full-is, done-is}
 use Rattle.submit.proofs.Settling.{queued-is}
 use Rattle.submit.proofs.submit_accepted.Statement.{statement}
 use Rattle.submit.proofs.submit_accepted.Tie as tie
-use Rattle.calls.specs.State.{stateOf}
 
 -- nothing held bars the message, and the label's code was asked
 judged : (c : tie.After-accept-as) → Judged (stateOf (now (c .before .before .before .before .before .before .before .before .before .before .before .args .image))) (c .before .before .before .before .before .before .before .before .before .before .before .args .kind) (c .before .before .before .before .before .before .before .before .before .before .before .args .label) (c .accept-as .result .acceptance)

@@ -1,6 +1,6 @@
 use mathlib.Core.Path.{_∙_}
-use Rattle.octets.proofs.Choice.{denied, granted}
 use borrow.Author.Needs.{needs}
+use Rattle.octets.proofs.Choice.{denied, granted}
 use Rattle.timers.proofs.Judged.{event-refused, event-done, event-sound, failed-settles}
 use Rattle.timers.proofs.connection_failed.Statement.{statement}
 use Rattle.timers.proofs.connection_failed.Tie as tie

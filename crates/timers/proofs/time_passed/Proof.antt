@@ -1,7 +1,7 @@
 use mathlib.Core.Path.{_∙_}
-use Rattle.octets.proofs.Choice.{denied, granted}
 use borrow.Author.Needs.{needs}
 use borrow.Author.Tests.{not-true, not-false}
+use Rattle.octets.proofs.Choice.{denied, granted}
 use Rattle.timers.proofs.Judged.{event-refused, event-done, event-sound, too-early, late, passed-settles}
 use Rattle.timers.proofs.time_passed.Statement.{statement}
 use Rattle.timers.proofs.time_passed.Tie as tie

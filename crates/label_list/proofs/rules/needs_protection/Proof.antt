@@ -1,14 +1,14 @@
-use mathlib.Core.Path.{_≡_}
+use Prim.Native.Nat.{ℕ, _<_}
 use mathlib.Core.Bool.{false}
 use mathlib.Core.Logic.{_≢_}
-use Prim.Native.Nat.{ℕ, _<_}
+use mathlib.Core.Path.{_≡_}
 use native.Mathlib.Omega.{arith}
 use lib.Dec.{eqb}
 use borrow.Author.Tests.{eqb-false, ne-eqb}
 use Rattle.octets.proofs.Choice.{by-test}
-use Rattle.label_list.specs.Word.{withoutProtection}
-use Rattle.label_list.specs.Protection.{needsProtection}
 use Rattle.label_list.specs.declared.Side.{Side}
+use Rattle.label_list.specs.Protection.{needsProtection}
+use Rattle.label_list.specs.Word.{withoutProtection}
 use Rattle.label_list.proofs.Standing.{off-high}
 use Rattle.label_list.proofs.rules.needs_protection.Statement.{statement}
 use Rattle.label_list.proofs.rules.needs_protection.Tie as tie

@@ -1,9 +1,9 @@
+use mathlib.Core.Path.{ap}
 use borrow.Author.Needs.{needs}
+use Rattle.block0.specs.declared.Header.{Header}
 use Rattle.receive.proofs.Judged.{ack-told, ack-within, ack-error, ack-right}
 use Rattle.receive.proofs.judging.judge_ack.Statement.{statement}
 use Rattle.receive.proofs.judging.judge_ack.Tie as tie
-use mathlib.Core.Path.{ap}
-use Rattle.block0.specs.declared.Header.{Header}
 
 pub judge-ack-spec : {M : Type 1} → statement M
 judge-ack-spec =

@@ -1,5 +1,5 @@
-use borrow.Author.Needs.{needs}
 use mathlib.Core.Path.{refl}
+use borrow.Author.Needs.{needs}
 use Rattle.receive.proofs.Judged.{ft-refused, ft-is, message-init, message-fatal, ft-zero, ft-rest}
 use Rattle.receive.proofs.judging.judge_ft.Statement.{statement}
 use Rattle.receive.proofs.judging.judge_ft.Tie as tie

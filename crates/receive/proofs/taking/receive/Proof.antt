@@ -1,8 +1,8 @@
-use borrow.Author.Needs.{needs}
 use mathlib.Core.Path.{ap}
-use Rattle.calls.proofs.Settled.{admit-passed, admitted-sound}
+use borrow.Author.Needs.{needs}
 use Rattle.octets.proofs.Choice.{denied, granted}
 use Rattle.protocol.specs.Cases.{mayReceive}
+use Rattle.calls.proofs.Settled.{admit-passed, admitted-sound}
 use Rattle.receive.proofs.Taken.{receive-refused, receive-barred, receive-judges}
 use Rattle.receive.proofs.taking.receive.Statement.{statement}
 use Rattle.receive.proofs.taking.receive.Tie as tie
