@@ -1,7 +1,6 @@
 pub mod Refusals
 pub mod Calling
 pub mod Stands
-pub mod Released
 pub mod Putting
 pub mod Answered
 pub mod Refining

@@ -27,7 +27,7 @@ use Rattle.image.proofs.Queue.{queue-length, queue-storable}
 use Rattle.image.proofs.Ranges.{labels-count, valid-words}
 use Rattle.image.proofs.Sound.{sound-accept, sound-keep, sound-release, sound-store0, sound-valid}
 use Rattle.image.proofs.Stored.{decode-accept, decode-keep, decode-release, decode-store0, state-eq}
-use Rattle.protocol.specs.Lawful.{Lawful}
+use Rattle.protocol.specs.Lawful.{Lawful, Window}
 use Rattle.protocol.specs.State.{State, held, releasedState}
 use Rattle.calls.specs.State.{stateOf}
 use Rattle.calls.specs.Storing.{Slots, stay, empty, one-more, fewer, firstAfter, headerFor, stored}
@@ -36,6 +36,11 @@ use Rattle.calls.specs.Storing.{Slots, stay, empty, one-more, fewer, firstAfter
 window-of : (n : ℕ) (x : Steps) → atMost n x ≡ true → record { steps : ℕ; reaches : x ≡ Count steps; within : steps ≤ n }
 window-of n (Count k) e = record { steps = k; reaches = refl; within = leb-true k n e }
 window-of n Unreachable e = absurd (false≢true e)
+
+pub image-window : (im : List ℕ) → IsSound im → Window (stateOf im)
+image-window im s =
+    let w = window-of (decode im .header .held) (stepsOf (decode im .header .released .0) (decode im .header .issued .0)) (sound-valid im s .window) in
+    record { steps = w .steps; reaches = w .reaches; within = rw (queue-length im) (w .within) }
 
 module _ (im : List ℕ) (s : IsSound im) (r : InRange (decode im)) where
   -- kept is 0 or 1
@@ -49,14 +54,13 @@ module _ (im : List ℕ) (s : IsSound im) (r : InRange (decode im)) where
   pub lawful-image : Lawful (stateOf im)
   lawful-image =
       let v = sound-valid im s in
-      let w = window-of (decode im .header .held) (stepsOf (decode im .header .released .0) (decode im .header .issued .0)) (v .window) in
       record {
         released = r .header .released;
         issued = r .header .issued;
         secured = r .header .secured;
         terms = record { timeout = r .header .timeout; keepalive = r .header .keepalive; maxpdu = r .header .maxpdu };
         few = rw (queue-length im) (v .held);
-        window = record { steps = w .steps; reaches = w .reaches; within = rw (queue-length im) (w .within) };
+        window = image-window im s;
         words = labels-count im;
         labels = v .labels;
         storable = λ i l. queue-storable im s i (rw (queue-length im) at l);

@@ -1,9 +1,8 @@
 -- However a call ends, it leaves a sound image in range and a phase that the image allows. Assumes nothing.
 use Prim.Native.Nat.{ℕ}
-use mathlib.Core.Bool.{true, Bool, false}
+use mathlib.Core.Bool.{true}
 use mathlib.Core.List.{List}
-use mathlib.Core.Path.{_≡_, refl}
-use Rattle.octets.specs.Pick.{pick}
+use mathlib.Core.Path.{_≡_}
 use Rattle.octets.proofs.Choice.{by-test}
 use Rattle.image.specs.State.{decode, InRange}
 use Rattle.image.specs.Verdict.{IsSound}
@@ -13,9 +12,9 @@ use Rattle.protocol.specs.declared.Answer.{Answer}
 use Rattle.protocol.specs.declared.Effect.{Effect}
 use Rattle.protocol.specs.declared.Phase.{Phase}
 use Rattle.protocol.specs.Answers.{effectOf, isDone}
-use Rattle.protocol.specs.Phases.{phaseFits, restingPhase}
+use Rattle.protocol.specs.Phases.{phaseFits}
 use Rattle.protocol.specs.State.{State}
-use Rattle.protocol.specs.Step.{broken}
+use Rattle.protocol.proofs.KeepingPhases.{resting-fits}
 use Rattle.calls.specs.Outcomes.{After, untouched, failedOn, releasedOn, leftBy, settleOf}
 use Rattle.calls.specs.State.{stateOf}
 use Rattle.calls.specs.Storing.{Slots, stored}
@@ -29,15 +28,6 @@ use Rattle.call_meaning.proofs.Refusals.{settle-does}
 -- a call that comes to what stands is admittedOn
 pub standing-admitted : {im : List ℕ} {ph : Phase} → Standing im ph → Admitted im ph
 standing-admitted {im} st = record { passes = parts-sound im (st .sound); fits = st .fits }
-
--- the phase at rest is one that the state allows
-pub resting-fits : (s : State) → phaseFits (restingPhase s) s ≡ true
-unfolding phaseFits
-resting-fits s = by (s .kept) refl
-  where
-    by : (b : Bool) → s .kept ≡ b → phaseFits (pick b Phase.Failed Phase.Idle) s ≡ true
-    by true e = e
-    by false e = rw e
 
 -- a state that is stored stands
 pub puts-stands : {im : List ℕ} → IsSound im → {slots : Slots} {s : State} {ph : Phase} → Puts im slots s → phaseFits ph s ≡ true → Standing (stored im slots s) ph
@@ -54,7 +44,7 @@ unfolding failedOn
 failure-stands im s r a o = record {
   sound = rw (break-puts im s) (break-sound im s r);
   range = rw (break-puts im s, break-decodes im s r) (in-range-broken im s r);
-  fits = rw (break-puts im s, break-decodes im s r) (resting-fits (broken (stateOf im)));
+  fits = rw (break-puts im s, break-decodes im s r) (resting-fits (stateOf im));
 }
 
 module _ (im : List ℕ) (ph : Phase) (st : Standing im ph) (a : Answer) (o : List ℕ) where

@@ -1,11 +1,14 @@
 -- A start releases no more messages than are held. Assumes nothing.
-use Prim.Native.Nat.{ℕ}
+use Prim.Native.Nat.{ℕ, _≤_}
 use mathlib.Core.Bool.{true, false, not}
 use mathlib.Core.Path.{_≡_, refl}
+use native.Mathlib.Omega.{arith}
+use borrow.Author.Tests.{leb-true}
 use Rattle.octets.proofs.Choice.{pick-all}
 use Rattle.ft_number.specs.declared.Ack.{Ack}
 use Rattle.ft_number.specs.Ack.{ackOf}
 use Rattle.ft_number.specs.Circle.{stepsOf}
+use Rattle.ft_number.proofs.Circle.{Acknowledged, ack-releases}
 use Rattle.block0.specs.declared.Header.{Header}
 use Rattle.block0.specs.Fields.{atMost}
 use Rattle.tlv.specs.declared.FtField.{FtField}
@@ -16,8 +19,14 @@ use Rattle.protocol.specs.declared.Terms.{Terms}
 use Rattle.protocol.specs.Init.{termsOf, resumedBy, equalParameters, bothSet, peerSet, sessionStart, parametersStart, startOf}
 use Rattle.protocol.specs.Received.{isInit}
 use Rattle.calls.specs.State.{numbersOf}
-use Rattle.call_meaning.proofs.Released.{ack-held}
 use Rattle.init.specs.Fitting.{StartFits}
+
+-- an ACK that releases names no more than are held
+ack-held : (h : Header) (a k : ℕ) → atMost (h .held) (stepsOf (h .released .0) (h .issued .0)) ≡ true
+    → ackOf (h .released .0) (h .issued .0) a ≡ Ack.Releases k → k ≤ h .held
+ack-held h a k window e =
+    let c : Acknowledged (h .released .0) (h .issued .0) a k = ack-releases (h .released .0) (h .issued .0) a k e in
+    omega (arith, c .few, leb-true (c .issued) (h .held) (rw (c .window) at window))
 
 module _ (h : Header) (window : atMost (h .held) (stepsOf (h .released .0) (h .issued .0)) ≡ true) where
   ack-fits : (t : Terms) (a : ℕ) (x : Ack) → ackOf (h .released .0) (h .issued .0) a ≡ x → StartFits (h .held) (resumedBy t a x)

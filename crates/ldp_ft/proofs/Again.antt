@@ -8,7 +8,7 @@ use Rattle.ldp_ft.specs.Session.{sessionOf, awaitingOf, givenOf, Fits16}
 pub phase-again : (ph : Phase) → Fits16 ph → givenOf (sessionOf ph) ≡ Given.Known ph
 unfolding givenOf awaitingOf
 phase-again Phase.Idle f = refl
-phase-again (Phase.InitWait seconds) f = rw (le-ltb 65535 seconds f)
-phase-again (Phase.UpFT sent) f = refl
+phase-again (Phase.InitWait v) f = rw (le-ltb 65535 (v .timeout) f)
+phase-again (Phase.UpFT u) f = refl
 phase-again Phase.UpPlain f = refl
 phase-again Phase.Failed f = refl

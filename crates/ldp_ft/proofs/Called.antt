@@ -8,8 +8,9 @@ use Rattle.image.specs.declared.Verdict.{Verdict}
 use Rattle.image.specs.Verdict.{verdict}
 use Rattle.protocol.specs.declared.Answer.{Answer}
 use Rattle.protocol.specs.declared.Phase.{Phase}
+use Rattle.protocol.specs.Answers.{isDone}
 use Rattle.calls.specs.declared.Outcome.{Outcome}
-use Rattle.calls.specs.Outcomes.{After, after, isDone, refusal, checked}
+use Rattle.calls.specs.Outcomes.{After, after, refusal, checked}
 use Rattle.calls.proofs.Settled.{checks-sound}
 use Rattle.ldp_ft.specs.declared.Given.{Given}
 use Rattle.ldp_ft.specs.declared.OutcomeNumbers.{OutcomeNumbers}

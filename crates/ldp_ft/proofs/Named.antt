@@ -1,18 +1,19 @@
--- The block that restore's checks name is a block of the image. Assumes nothing.
+-- The block that an answer names is a block of the image: restore's checks name one, the phase none. Assumes nothing.
 use Prim.Native.Nat.{ℕ, _≤_}
+use mathlib.Core.Bool.{not}
 use mathlib.Core.List.{List}
 use native.Mathlib.Omega.{arith}
-use Rattle.octets.specs.Pick.{pick}
 use Rattle.octets.proofs.Choice.{pick-all}
 use Rattle.image.specs.declared.Verdict.{Verdict}
-use Rattle.image.specs.State.{decode}
 use Rattle.image.specs.Verdict.{verdict, verdictBlock}
 use Rattle.image.proofs.Scans.{verdict-below}
 use Rattle.protocol.specs.declared.Answer.{Answer}
 use Rattle.protocol.specs.declared.Phase.{Phase}
-use Rattle.calls.specs.Answers.{answerBlock}
-use Rattle.calls.specs.Outcomes.{checked, admittedOn}
-use Rattle.calls.specs.Phases.{phaseFits}
+use Rattle.protocol.specs.Answers.{answerBlock}
+use Rattle.protocol.specs.Phases.{phaseFits}
+use Rattle.protocol.specs.State.{State}
+use Rattle.protocol.specs.Step.{admitted}
+use Rattle.calls.specs.Outcomes.{checked}
 
 -- an image has the blocks 0 to 64
 abbrev pub Named : Answer → Type 0
@@ -32,6 +33,6 @@ checked-by (Verdict.BadField b) a l n = l
 pub checked-named : (im : List ℕ) (a : Answer) → Named a → Named (checked (verdict im) a)
 checked-named im a n = checked-by (verdict im) a (omega (arith, verdict-below im)) n
 
-pub admitted-named : (im : List ℕ) (ph : Phase) (a : Answer) → Named a → Named (admittedOn im ph a)
-unfolding admittedOn
-admitted-named im ph a n = checked-named im (pick (phaseFits ph (decode im .header)) a Answer.WrongPhase) (pick-all Named (phaseFits ph (decode im .header)) n none)
+pub admitted-named : (s : State) (ph : Phase) (a : Answer) → Named a → Named (admitted s ph a)
+unfolding admitted
+admitted-named s ph a n = pick-all Named (not (phaseFits ph s)) none n

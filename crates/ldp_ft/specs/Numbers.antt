@@ -12,7 +12,7 @@ use Rattle.image.specs.declared.Verdict.{Verdict}
 use Rattle.image.specs.State.{decode}
 use Rattle.image.specs.Verdict.{verdict}
 use Rattle.protocol.specs.declared.Answer.{Answer}
-use Rattle.calls.specs.Answers.{answerNumber}
+use Rattle.protocol.specs.Answers.{answerNumber}
 use Rattle.ldp_ft.specs.declared.DistanceNumbers.{DistanceNumbers}
 
 -- "answer 0 or 2; steps 0 with 2"

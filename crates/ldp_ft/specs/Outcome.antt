@@ -5,8 +5,8 @@ use mathlib.Core.List.{List}
 use Rattle.image.specs.Verdict.{verdict}
 use Rattle.protocol.specs.declared.Answer.{Answer}
 use Rattle.protocol.specs.declared.Phase.{Phase}
+use Rattle.protocol.specs.Answers.{answerNumber, answerBlock, effectOf}
 use Rattle.calls.specs.declared.Outcome.{Outcome}
-use Rattle.calls.specs.Answers.{answerNumber, answerBlock, effectOf}
 use Rattle.calls.specs.Outcomes.{After, after, refusal, checked}
 use Rattle.ldp_ft.specs.declared.Given.{Given}
 use Rattle.ldp_ft.specs.declared.OutcomeNumbers.{OutcomeNumbers}

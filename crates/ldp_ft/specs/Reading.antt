@@ -14,7 +14,7 @@ use Rattle.message.specs.declared.Message.{Message}
 use Rattle.message.specs.declared.Reading.{Reading}
 use Rattle.message.specs.Kinds.{kindOf, kindNumber}
 use Rattle.protocol.specs.declared.Answer.{Answer}
-use Rattle.calls.specs.Answers.{answerNumber}
+use Rattle.protocol.specs.Answers.{answerNumber}
 use Rattle.ldp_ft.specs.declared.MessageNumbers.{MessageNumbers}
 use Rattle.ldp_ft.specs.declared.PartNumbers.{PartNumbers}
 use Rattle.ldp_ft.specs.declared.PduNumbers.{PduNumbers}

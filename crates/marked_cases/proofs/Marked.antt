@@ -6,9 +6,10 @@ use Rattle.ft_number.specs.Circle.{stepsOf}
 use Rattle.ft_number.specs.Distance.{distanceOf}
 use Rattle.ft_number.specs.Timeout.{lesserOf}
 use Rattle.message.specs.declared.Message.{Message}
-use Rattle.image.specs.State.{State}
+use Rattle.protocol.specs.Receive.{ackOn}
+use Rattle.protocol.specs.State.{State}
 use Rattle.marked_cases.specs.Marked.{cases, defined, paper}
 
 pub marked-cases : (s : State) (g : Message) → defined (cases s g) ≡ paper (cases s g)
-unfolding lesserOf ackOf stepsOf distanceOf sums checkOf
+unfolding lesserOf ackOn ackOf stepsOf distanceOf sums checkOf
 marked-cases s g = refl

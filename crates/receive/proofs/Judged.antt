@@ -2,7 +2,7 @@
 use Prim.Native.Nat.{ℕ, _≤_}
 use mathlib.Core.Bool.{Bool, true, false, not, false≢true}
 use mathlib.Core.List.{List}
-use mathlib.Core.Path.{_≡_, refl, sym, ap, _∙_}
+use mathlib.Core.Path.{_≡_, refl, ap, _∙_}
 use native.Mathlib.Omega.{arith}
 use lib.ListN.{take}
 use Rattle.octets.specs.Pick.{pick, both}
@@ -19,7 +19,7 @@ use Rattle.message.specs.Kinds.{kindOf}
 use Rattle.message.specs.Submission.{bearsFt}
 use Rattle.image.specs.State.{decode}
 use Rattle.image.specs.Verdict.{IsSound}
-use Rattle.image.proofs.Sound.{sound-valid}
+use Rattle.image.proofs.Queue.{queue-length}
 use Rattle.protocol.specs.declared.Answer.{Answer}
 use Rattle.protocol.specs.declared.LabelEffect.{LabelEffect}
 use Rattle.protocol.specs.Acked.{ackBorne, releasedLabels, acked}
@@ -28,9 +28,10 @@ use Rattle.protocol.specs.Labels.{labelEffect, isProtected, protectionRule, eff
 use Rattle.protocol.specs.Receive.{isFatal, messageRule, plainRule, isZero, inTurn, receptionRule, protectedRule, labelsRule, ackRule, ackOn, ftRule, ackCount, messageLabels, taken, receivedState}
 use Rattle.protocol.specs.Received.{isInit}
 use Rattle.protocol.specs.State.{State}
+use Rattle.protocol.proofs.Queues.{count-held}
 use Rattle.calls.specs.Freeing.{freesNone}
 use Rattle.calls.specs.State.{numbersOf, stateOf}
-use Rattle.call_meaning.proofs.Released.{ack-held}
+use Rattle.call_meaning.proofs.Putting.{image-window}
 use Rattle.receive.specs.Speed.{touchesNone, labelsStay}
 
 -- an answer that is not Done tells nothing of the words
@@ -100,9 +101,12 @@ pub ack-told : (im : List ℕ) (g : Message) {h : Header} {x : Ack} {n : FtNumbe
     → n .0 ≡ ackBorne (numbersOf h) (g .ack) → x ≡ ackOn (stateOf im) g
 ack-told im g {h} eh e q = ack-on (numbersOf h) g e q ∙ ack-read im g eh
 
--- it releases no more than is held
-pub ack-within : (im : List ℕ) (h : Header) (a k : ℕ) {x : Ack} → IsSound im → h ≡ decode im .header → x ≡ ackOf (h .released .0) (h .issued .0) a → x ≡ Ack.Releases k → k ≤ decode im .header .held
-ack-within im h a k s eh e t = ack-held (decode im .header) a k (sound-valid im s .window) (rw (← eh) (sym e ∙ t))
+-- it releases no more than is held, whatever it is
+pub count-within : (im : List ℕ) (g : Message) → IsSound im → ackCount (ackOn (stateOf im) g) ≤ decode im .header .held
+count-within im g s = rw (queue-length im) at (count-held (stateOf im) (image-window im s) g)
+
+pub ack-within : (im : List ℕ) (g : Message) {x : Ack} {k : ℕ} → IsSound im → x ≡ ackOn (stateOf im) g → x ≡ Ack.Releases k → k ≤ decode im .header .held
+ack-within im g s e t = rw (← e, t) at (count-within im g s)
 
 module _ (s : State) (g : Message) {x : Ack} (e : x ≡ ackOn s g) where
   pub ack-error : {ws : List ℕ} → x ≡ Ack.SequenceError → (Answer.AckSequenceError ≡ ackRule s g (ackOn s g))

@@ -1,15 +1,13 @@
 -- What a message leaves, by its answer. Assumes nothing.
-use Prim.Native.Nat.{ℕ, _-_, _≤_}
+use Prim.Native.Nat.{ℕ, _-_}
 use mathlib.Core.Bool.{Bool, true, false, false≢true}
 use mathlib.Core.List.{List, []}
 use mathlib.Core.Path.{_≡_, refl, sym, ap, _∙_}
-use native.Mathlib.Omega.{arith}
 use lib.ListN.{length, take, drop, length-drop}
 use Rattle.octets.specs.Bytes.{Bytes}
 use Rattle.octets.specs.Differ.{differ}
 use Rattle.octets.proofs.Choice.{by-test, both-true}
 use Rattle.octets.proofs.Differ.{differ-self}
-use Rattle.ft_number.specs.declared.Ack.{Ack}
 use Rattle.block0.specs.declared.Header.{Header}
 use Rattle.block0.specs.Updates.{headerReleased, headerSecured}
 use Rattle.message.specs.declared.Message.{Message}
@@ -32,6 +30,7 @@ use Rattle.protocol.specs.Receive.{ackOn, ackCount, securedBy, taken, receivedS
 use Rattle.protocol.specs.State.{State}
 use Rattle.protocol.proofs.Cases.{wrong-by}
 use Rattle.protocol.proofs.Effects.{done-is}
+use Rattle.protocol.proofs.Settles.{taken-done}
 use Rattle.calls.specs.declared.Outcome.{Outcome}
 use Rattle.calls.specs.Freeing.{freesNone}
 use Rattle.calls.specs.Outcomes.{After, after, refusal, untouched, admittedOn, settleOf}
@@ -44,7 +43,7 @@ use Rattle.calls.proofs.Putting.{kept-is, put-same}
 use Rattle.call_meaning.proofs.Calling.{call-refused, call-own, own-done, own-refused}
 use Rattle.receive.specs.Call.{takenFt, receiveOf, receivedSlots, takenOn}
 use Rattle.receive.specs.Speed.{touchesNone, labelsStay}
-use Rattle.receive.proofs.Judged.{ack-read, ack-within, borne-read}
+use Rattle.receive.proofs.Judged.{ack-read, borne-read}
 
 -- where the label words stay they are those that the message leaves
 stay-labels : (s : State) (g : Message) (k : ℕ) → k ≡ ackCount (ackOn s g) → labelsStay s k g ≡ true → s .table .words ≡ receivedState s g .table .words
@@ -85,15 +84,6 @@ pub take-is : (im : List ℕ) (sent : ℕ) (g : Message) {im′ : List ℕ} {h :
     → after (record { answer = Answer.Done; phase = upWith n; written = 0; slot = 0; block0 = b }) im′ [] ≡ takenFt im sent g
 take-is im sent g eh ek e en = rw (e .1, e .0, en, ek, ack-read im g eh)
 
--- the ACK releases no more than is held, whatever it is
-pub count-within : (im : List ℕ) (g : Message) → IsSound im → ackCount (ackOn (stateOf im) g) ≤ decode im .header .held
-unfolding ackOn
-count-within im g s = by (ackOn (stateOf im) g) refl
-  where
-    by : (x : Ack) → ackOn (stateOf im) g ≡ x → ackCount x ≤ decode im .header .held
-    by (Ack.Releases k) e = ack-within im (decode im .header) (ackBorne (stateOf im) (g .ack)) k s refl refl e
-    by Ack.SequenceError e = omega arith
-
 -- ---- how the answer settles
 module _ (im : List ℕ) (sent : ℕ) (g : Message) {a : Answer} (e : a ≡ ftRule (stateOf im) g) {x : After} where
   pub ft-settled : isDone a ≡ false → x ≡ settleOf a (upWith sent) im [] (untouched a (upWith sent) im [])
@@ -126,14 +116,6 @@ module _ (im : List ℕ) (ph : Phase) (rule : Message → Answer) (m : List ℕ)
   read-whole t p = rw (← e, t) p
 
 -- ---- the call
-taken-done : (s : State) (ph : Phase) (r : Reading) → takenAs s ph r .answer ≡ Answer.Done
-taken-done s Phase.Idle r = refl
-taken-done s (Phase.InitWait v) r = refl
-taken-done s (Phase.UpFT u) Reading.Malformed = refl
-taken-done s (Phase.UpFT u) (Reading.Whole g) = refl
-taken-done s Phase.UpPlain r = refl
-taken-done s Phase.Failed r = refl
-
 module _ (im : List ℕ) (ph : Phase) (m : List ℕ) where
   call : receiveOf im ph m ≡ settleOf (admittedOn im ph (receiveRule (stateOf im) ph (readingOf m))) ph im [] (takenOn im ph (readingOf m))
   unfolding receiveOf receive

@@ -2,7 +2,8 @@ use mathlib.Core.Path.{refl}
 use borrow.Author.Needs.{needs}
 use Rattle.octets.proofs.Choice.{denied, granted}
 use Rattle.protocol.proofs.Effects.{done-is}
-use Rattle.receive.proofs.Taken.{ft-settled, ft-taken, count-within}
+use Rattle.receive.proofs.Judged.{count-within}
+use Rattle.receive.proofs.Taken.{ft-settled, ft-taken}
 use Rattle.receive.proofs.taking.receive_ft.Statement.{statement}
 use Rattle.receive.proofs.taking.receive_ft.Tie as tie
 
