@@ -7,3 +7,4 @@ pub mod Ends
 pub mod Saying
 pub mod Called
 pub mod Acknowledged
+pub mod Slots

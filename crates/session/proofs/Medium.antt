@@ -20,10 +20,11 @@ use Rattle.protocol.specs.Proper.{Proper}
 use Rattle.protocol.specs.Step.{broken, Step}
 use Rattle.calls.specs.Outcomes.{After, stepStored}
 use Rattle.calls.specs.State.{stateOf}
+use Rattle.calls.proofs.Slots.{slot-alone}
 use Rattle.call_meaning.specs.Medium.{Same, allStored, committed, stores}
 use Rattle.call_meaning.specs.Seen.{seen}
 use Rattle.call_meaning.specs.Standing.{Standing}
-use Rattle.call_meaning.proofs.Slots.{slot-alone, slot-same}
+use Rattle.call_meaning.proofs.Slots.{slot-same}
 use Rattle.call_meaning.proofs.Written.{Without, fewer-told, not-slot, not-zeroth, told-within, written-all}
 use Rattle.session.specs.Call.{leaves, makesImage}
 use Rattle.session.proofs.Refines.{refines, stands}

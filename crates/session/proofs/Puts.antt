@@ -37,10 +37,10 @@ use Rattle.protocol.proofs.Settling.{admitted-done}
 use Rattle.protocol.proofs.Submits.{done-accepted}
 use Rattle.calls.specs.State.{stateOf}
 use Rattle.calls.specs.Storing.{Slots, stay, empty, one-more, fewer, firstAfter}
+use Rattle.calls.proofs.Slots.{SlotFits}
 use Rattle.call_meaning.specs.Standing.{Standing}
 use Rattle.call_meaning.proofs.Putting.{QueueAfter, lawful-image, not-kept}
 use Rattle.call_meaning.proofs.Refining.{Kept}
-use Rattle.call_meaning.proofs.Slots.{SlotFits}
 use Rattle.init.specs.Received.{startSlots}
 use Rattle.receive.specs.Call.{receivedSlots}
 use Rattle.session.specs.Call.{makesImage, slotsOf}

@@ -37,7 +37,7 @@ use Rattle.protocol.proofs.Submits.{done-accepted}
 use Rattle.calls.specs.Outcomes.{After, checked, failedOn, releasedOn, stepStored, untouched}
 use Rattle.calls.specs.State.{stateOf}
 use Rattle.calls.specs.Storing.{Slots, stay, empty}
-use Rattle.call_meaning.proofs.Slots.{SlotFits, slot-idle, stored-other}
+use Rattle.calls.proofs.Slots.{SlotFits, slot-idle, other-blocks}
 use Rattle.init.specs.Received.{startSlots}
 use Rattle.receive.specs.Call.{receivedSlots}
 use Rattle.session.specs.Call.{leaves, lent, makesImage, slotsOf}
@@ -130,7 +130,7 @@ module _ (c : Call) (im : List ℕ) (ph : Phase) (out : List ℕ) (other : makes
 
   -- "A call stores at most one slot": every block but that and block 0 keeps its bytes
   pub others-kept : Leaves im (leaves c im ph out)
-  others-kept = every (Leaves im) (λ a q o k zero slot. refl) (λ slots x o s f. stored-other im (s .size) (x .state) slots f)
+  others-kept = every (Leaves im) (λ a q o k zero slot. refl) (λ slots x o s f. other-blocks im (s .size) (x .state) slots f)
 
   -- ".. one that isn't live"
   pub slot-not-live : (j : ℕ) → leaves c im ph out .outcome .slot ≡ blockOf j → (j < slotCount) × Idle im j
