@@ -139,9 +139,15 @@ def cell(answers, own):
 def callers(function, sources):
     """The crates that call a function, its own included, by their sources."""
     own, name = function.crate.name, function.name
-    inside = len(re.findall(rf"(?<!fn )\b{name}\(", sources[own])) > 0
-    others = [crate for crate, text in sources.items() if crate != own and re.search(rf"\b{own}::(?:\w+::)*{name}\b", text)]
-    return [own] * inside + others
+    module = function.module.rstrip("/")
+    inside = re.search(rf"(?<!fn )\b{name}\(", sources[own])
+    whole = re.compile(rf"\b{own}::(?:\w+::)*{name}\b")
+    others = [
+        crate
+        for crate, text in sources.items()
+        if crate != own and (whole.search(text) or (f"use {own}::{module};" in text and f"{module}::{name}(" in text))
+    ]
+    return ([own] if inside else []) + others
 
 
 def needs(function, sources):
