@@ -150,7 +150,7 @@ int main(void) {
     expect(flush(&ours, &peer), 1, "sent");
     expect_code(&peer, 3, "in use at the peer");
 
-    /* The peer has stored the Mapping, its acknowledgement is lost, and our power is cut: the message goes out once more and is not taken twice. */
+    /* The peer has stored the Mapping, its acknowledgement is lost, and our power is cut: the peer's Init acknowledges it, and it goes out no more. */
     power_cut(&ours);
     settle(&peer, ldp_ft_connection_failed(peer.image, sizeof peer.image, peer.session), 0, "connection failed");
     connect_both(42);

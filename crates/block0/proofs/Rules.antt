@@ -82,6 +82,7 @@ header-parts h e =
     let r = both-true _ _ (q .1) in
     (ltb-true _ _ (p .0), leb-true _ _ (q .0), leb-true _ _ (r .0), r .1)
 
+-- right fields are the rules, clause by clause
 pub fields-valid : (b : List ℕ) → fieldsOk b ≡ true → Valid (headerOf b) (labelsOf b)
 unfolding fieldsOk
 fields-valid b e =

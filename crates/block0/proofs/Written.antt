@@ -44,6 +44,7 @@ module _ (b : List ℕ) (h : Header) (ls : List ℕ) (long : length b ≡ 512) w
   pub length-block0 : length (block0 b h ls) ≡ 512
   length-block0 = rw is-sealed (length-sealed filled ∙ long-filled)
 
+  -- a block 0 that was written has its check
   pub block0-sound : sound (block0 b h ls) ≡ true
   block0-sound = rw is-sealed (sealed-sound filled long-filled)
 
@@ -59,10 +60,12 @@ module _ (b : List ℕ) (h : Header) (ls : List ℕ) (long : length b ≡ 512) w
         ∙ getD-withWords wordCount ls numbered labelsAt (0 + k) (λ i m. omega arith))
         ∙ getRun-putRun widths (values h) b 0 (omega arith) (fits h fh)
 
+    -- the numbers that were written are read back, where each has its width
     pub header-block0 : headerOf (block0 b h ls) ≡ h
     unfolding headerOf
     header-block0 = ap fromValues run-block0
 
+    -- so are the label words
     pub labels-block0 : labelsOf (block0 b h ls) ≡ ls
     unfolding labelsOf filled
     labels-block0 =

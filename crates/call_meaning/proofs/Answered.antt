@@ -45,6 +45,7 @@ module _ (a : Answer) (ph : Phase) (im o : List ℕ) (done : After) where
 
 -- what these two are
 module _ (im : List ℕ) (ph : Phase) (st : Standing im ph) (a : Answer) (o : List ℕ) where
+  -- as connection failed is `breakOf` of the image before the call
   pub failed-unapplied : Unapplied im (failedOn a im o)
   unfolding failedOn
   failed-unapplied = record {
@@ -53,6 +54,7 @@ module _ (im : List ℕ) (ph : Phase) (st : Standing im ph) (a : Answer) (o : Li
     phase = refl;
   }
 
+  -- released is `releaseOf` of it, and Idle
   pub released-idle : ReleasedIdle im (releasedOn a im o)
   unfolding releasedOn
   released-idle = record { image = release-puts im; state = rw (release-puts im, release-decodes im (st .sound .size)); phase = refl }

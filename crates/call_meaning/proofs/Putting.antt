@@ -51,6 +51,7 @@ module _ (im : List ℕ) (s : IsSound im) (r : InRange (decode im)) where
       (λ (z : decode im .header .kept < 1). omega arith)
       (eq-or-lt-of-le (sound-valid im s .kept))
 
+  -- the state of a sound image in range is lawful
   pub lawful-image : Lawful (stateOf im)
   lawful-image =
       let v = sound-valid im s in
@@ -170,6 +171,7 @@ module _ (im : List ℕ) (sound : IsSound im) (slots : Slots) (s : State) (p : P
           let n : held s ≡ decode im .header .held - k = ap length (q .0) ∙ length-drop k (decode im .queue) ∙ ap (λ (j : ℕ). j - k) (queue-length im) in
           decode-release im (headerFor (slotAt (decode im .header .first) k) s) (s .table .words) k (sound .size) f words-fit (q .1) refl n ∙ state-eq refl refl (sym (q .0))
 
+  -- a lawful state whose queue is what becomes of the ring, stored: the image is sound
   pub put-sound : IsSound (stored im slots s)
   unfolding h first
   put-sound = by slots (p .queue) numbers-fit numbers-valid
@@ -189,9 +191,11 @@ module _ (im : List ℕ) (sound : IsSound im) (slots : Slots) (s : State) (p : P
           let n : held s ≡ decode im .header .held - k = ap length (q .0) ∙ length-drop k (decode im .queue) ∙ ap (λ (j : ℕ). j - k) (queue-length im) in
           sound-release im (headerFor (slotAt (decode im .header .first) k) s) (s .table .words) k sound f words-fit v (q .1) refl n
 
+  -- the image stands for exactly that state
   pub put-state : stateOf (stored im slots s) ≡ s
   put-state = rw put-decodes (ap (λ (b : Bool). record { released = s .released; issued = s .issued; secured = s .secured; kept = b; terms = s .terms; table = s .table; queue = s .queue }) (kept-read (s .kept)))
 
+  -- and is in range
   pub put-range : InRange (decode (stored im slots s))
   unfolding h first
   put-range = rw put-decodes (record { header = numbers-fit; labels = words-fit })

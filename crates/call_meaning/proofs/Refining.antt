@@ -43,6 +43,7 @@ module _ (im : List ℕ) (ph : Phase) (st : Standing im ph) (o : List ℕ) (slot
       call-settles im ph o slots a (stateOf im) d e
       ∙ ap (λ (v : Verdict). settleOf (checked v a) ph im o (stepStored im slots d o)) (parts-sound im (st .sound))
 
+  -- and what it leaves stands
   pub call-stands : Stands (callOf im ph o slots (settle a (stateOf im) ph d))
   call-stands = rw settles (settled-stands im ph st a o (stepStored im slots d o) (λ t. puts-stands (st .sound) (k t .puts) (k t .fits)))
 
@@ -57,6 +58,7 @@ module _ (im : List ℕ) (ph : Phase) (st : Standing im ph) (o : List ℕ) (slot
   unfolding settleOf settle
   others n = other-seen (effectOf a) refl n
 
+  -- on an image that stands, what is seen of a call is the protocol's step on its state
   pub call-seen : seen (callOf im ph o slots (settle a (stateOf im) ph d)) ≡ settle a (stateOf im) ph d
   call-seen =
       rw settles

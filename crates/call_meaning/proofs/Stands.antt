@@ -48,9 +48,11 @@ failure-stands im s r a o = record {
 }
 
 module _ (im : List ℕ) (ph : Phase) (st : Standing im ph) (a : Answer) (o : List ℕ) where
+  -- as connection failed
   pub failed-stands : Stands (failedOn a im o)
   failed-stands = failure-stands im (st .sound) (st .range) a o
 
+  -- released
   pub released-stands : Stands (releasedOn a im o)
   unfolding releasedOn phaseFits
   released-stands = record {

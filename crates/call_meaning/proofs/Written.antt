@@ -39,6 +39,7 @@ abbrev pub Within : List ℕ → Type 0
 Within [] = Unit {0}
 Within (b ∷ bs) = (b ≤ slotCount) × Within bs
 
+-- blocks written one after the other: where they are all that differs, the medium becomes the image
 pub written-all : (medium next bs : List ℕ) → length medium ≡ imageSize → length next ≡ imageSize → Within bs
     → ((k : ℕ) → Without k bs → block next k ≡ block medium k) → written medium next bs ≡ next
 written-all medium next [] lm ln within same = same-blocks medium next lm ln (λ k. sym (same k tt))

@@ -33,6 +33,7 @@ module _ (im : List ℕ) (s : IsSound im) where
   pub header-same : headerFor (decode im .header .first) (stateOf im) ≡ decode im .header
   header-same = rw (kept-is (decode im .header .kept) (sound-valid im s .kept), queue-length im)
 
+  -- a broken state stored is the image as after a break
   pub break-puts : stored im stay (broken (stateOf im)) ≡ breakOf im
   unfolding breakOf
   break-puts = rw header-same
@@ -41,6 +42,7 @@ module _ (im : List ℕ) (s : IsSound im) where
   pub put-same : Bytes im → stored im stay (stateOf im) ≡ im
   put-same byte = rw header-same (store-same im s byte)
 
+-- a released state stored is the released image
 pub release-puts : (im : List ℕ) → stored im empty releasedState ≡ releaseOf im
 unfolding releaseOf
 release-puts im = refl

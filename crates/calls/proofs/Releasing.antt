@@ -35,6 +35,7 @@ module _ (kind label : ℕ) (ls : List ℕ) {w : ℕ} (ew : w ≡ kindNumber Kin
     unfolding releasedKind
     released-other m = rw (other, ne-eqb kind (kindNumber Kind.Release) (λ k. m (k ∙ sym er)))
 
+-- to release one run of messages and then another is to release both
 pub released-append : (ms ns : List (List ℕ)) (ls : List ℕ) → releasedLabels (ms ++ ns) ls ≡ releasedLabels ns (releasedLabels ms ls)
 unfolding releasedLabels
 released-append [] ns ls = refl

@@ -25,12 +25,14 @@ pub record Admitted (im : List ℕ) (ph : Phase) : Type 0 where
 -- ---- the first tests, and then an answer
 -- what holds of the refusals by the first tests, and of the answer that comes where they are passed, holds of the answer
 module _ (P : Answer → Type 0) (refused : (x : Answer) → 0 < answerNumber x → answerNumber x < 20 → P x) where
+  -- restore's checks
   pub checked-all : (v : Verdict) {a : Answer} → (v ≡ Verdict.Sound → P a) → P (checked v a)
   checked-all Verdict.Sound p = p refl
   checked-all Verdict.WrongSize p = refused Answer.WrongSize (omega arith) (omega arith)
   checked-all (Verdict.BadBlock b) p = refused (Answer.BadBlock b) (omega arith) (omega arith)
   checked-all (Verdict.BadField b) p = refused (Answer.BadField b) (omega arith) (omega arith)
 
+  -- restore's checks, and then the phase
   pub admitted-all : (im : List ℕ) (ph : Phase) {a : Answer} → (Admitted im ph → P a) → P (admittedOn im ph a)
   unfolding admittedOn admitted
   admitted-all im ph {a} p = checked-all (verdict im) (λ s. by (phaseFits ph (stateOf im)) refl s)
@@ -93,5 +95,6 @@ module _ (im : List ℕ) (ph : Phase) {r : Answer} (e : r ≡ admittedOn im ph A
 pub admitted-is : {im : List ℕ} {ph : Phase} → Admitted im ph → (a : Answer) → admittedOn im ph a ≡ a
 admitted-is {im} {ph} d a = sym (admit-rest im ph a (d .passes) (d .fits))
 
+-- a call that is admitted has a sound image
 pub admitted-sound : {im : List ℕ} {ph : Phase} → Admitted im ph → IsSound im
 admitted-sound {im} d = sound-parts im (d .passes)

@@ -27,7 +27,7 @@ fn release_label(words: &mut [u32], kind: u8, label: u32)
     }
 }
 
-// The label words after the oldest `count` held messages were released.
+// The label words after the oldest `count` held messages were released: of a Withdraw 2 and of a Release 5 become free, all else stays.
 pub fn release_labels(image: &[u8], count: usize, words: &mut [u32])
     requires { ⌜ IsSound (now image) × (count ≤ decode (now image) .header .held) ⌝ }
     ensures { λ _. ⌜ now (words .exit) ≡ releasedLabels (take count (decode (now (image .entry)) .queue)) (now (words .entry)) ⌝ }
@@ -70,7 +70,7 @@ pub fn frees_none(image: &[u8], count: usize) -> bool
     true
 }
 
-// The header after an ACK: R is the number acknowledged, and the oldest `count` slots are free.
+// The header after an ACK: R is the number acknowledged, and the oldest `count` slots are free; all else stays.
 pub fn released_header(h: Header, count: u32, ack: FtNumber) -> Header
     requires { ⌜ count ≤ h .held ⌝ }
     ensures { λ r. ⌜ r ≡ headerReleased h ack (slotAt (h .first) count) (h .held - count) ⌝ }

@@ -35,7 +35,7 @@ pub fn admit(image: &[u8], phase: Phase) -> Answer
     Answer::Done
 }
 
-// A refusal: nothing changed.
+// A refusal: that answer, the phase as given, nothing written and nothing to store.
 pub fn refuse(answer: Answer, phase: Phase) -> Outcome
     ensures { λ r. ⌜ r ≡ refusal answer phase ⌝ }
 {

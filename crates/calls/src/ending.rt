@@ -30,7 +30,7 @@ pub fn fail(image: &mut [u8], answer: Answer) -> Outcome
     }
 }
 
-// The state is released, and the session is idle. With kept 0 the image says so already, and nothing is stored.
+// The state is released, and the session is idle; the slots keep their bytes. With kept 0 the image says so already, and nothing is stored.
 pub fn release(image: &mut [u8], answer: Answer) -> Outcome
     requires { ⌜ IsSound (now image) ⌝ }
     ensures { λ r. ⌜ after r (now (image .exit)) [] ≡ releasedOn answer (now (image .entry)) [] ⌝ }

@@ -6,7 +6,7 @@ use crate::Phase;
 use block0::Header;
 use ft_number::Steps;
 
-// How many of the held messages have a number.
+// How many of the held messages have a number: the steps from R to I.
 pub fn issued_count(h: Header) -> u32
     ensures { λ r. ⌜ r ≡ issuedCount (numbersOf h) ⌝ }
 {
@@ -16,7 +16,8 @@ pub fn issued_count(h: Header) -> u32
     }
 }
 
-// Whether the image allows the phase.
+// Whether the image allows the phase: Idle and UpPlain with kept 0, Failed and UpFT with kept 1, UpFT's count sent at most the issued count,
+// InitWait always.
 pub fn phase_fits(phase: Phase, h: Header) -> bool
     ensures { λ r. ⌜ r ≡ phaseFits phase (numbersOf h) ⌝ }
 {
@@ -34,7 +35,7 @@ pub fn phase_fits(phase: Phase, h: Header) -> bool
     }
 }
 
-// The phase of a session with no connection.
+// The phase of a session with no connection: Failed if its state is kept, else Idle.
 pub fn resting_phase(h: Header) -> Phase
     ensures { λ r. ⌜ r ≡ restingPhase (numbersOf h) ⌝ }
 {

@@ -35,7 +35,7 @@ fn put_lines(out: &mut [u8], number: u64, pdu: &[u8], count: u32) -> usize
     end
 }
 
-// The text of a PDU with its number: the lines of its messages, or that it is malformed.
+// The text of a PDU with its number: the lines of its messages, numbered from 0, or that it is malformed; and whether it was whole.
 pub fn dump_pdu(out: &mut [u8], number: u64, pdu: &[u8]) -> Dumped
     requires { ⌜ (length (now pdu) ≤ largestPdu) × (textRoom ≤ length (now out)) ⌝ }
     ensures { λ r. ⌜ Put (now (out .entry)) 0 (pduText number (now (pdu .entry))) (now (out .exit)) (r .end) ⌝ }

@@ -97,7 +97,8 @@ fn put_reading(out: &mut [u8], at: usize, m: &[u8]) -> usize
     }
 }
 
-// The line of the message m, the k-th of the PDU with the number.
+// The line of the message m, the k-th of the PDU with the number: both numbers, its type, its ID and the listed TLVs in their order, or
+// that it is malformed, and a newline.
 pub fn put_line(out: &mut [u8], at: usize, number: u64, k: u64, m: &[u8]) -> usize
     requires { ⌜ (8 ≤ length (now m)) × (at + lineRoom (length (now m)) ≤ length (now out)) ⌝ }
     ensures { λ r. ⌜ Put (now (out .entry)) at (lineOf number k (now (m .entry))) (now (out .exit)) r ⌝ }

@@ -33,7 +33,7 @@ fn dump_next(fd: i32, number: u64, buffer: &mut [u8], out: &mut [u8]) -> bool
     io::write_all(STDOUT_FILENO, &out[..end]) && text.whole
 }
 
-// Writes the text of every PDU of the stream.
+// Writes the text of every PDU of the stream. Proved safe and ending; what is read and written is tested (docs/LDP_DUMP.md).
 pub fn dump_stream(fd: i32) {
     let mut buffer = [0u8; 65539];
     let mut out = [0u8; 2400000];

@@ -1,5 +1,5 @@
 // One TLV as a field of a line of ldp_dump's text: each function puts it from `at` on and answers where it ends.
-// Each asks for the room that its field may need; only `dump` calls them.
+// Each asks for the room that its field may need, and puts nothing for a TLV that does not stand; only `dump` calls them.
 ghost use Prim.Native.Nat.{_+_, _*_, _≤_};
 ghost use mathlib.Core.List.{_++_};
 ghost use mathlib.Core.Path.{_≡_};
@@ -59,6 +59,7 @@ pub fn put_fec(out: &mut [u8], at: usize, fec: Fec, value: &[u8]) -> usize
     }
 }
 
+// The label.
 pub fn put_label(out: &mut [u8], at: usize, label: Field) -> usize
     requires { ⌜ at + 27 ≤ length (now out) ⌝ }
     ensures { λ r. ⌜ Put (now (out .entry)) at (labelText label) (now (out .exit)) r ⌝ }

@@ -32,6 +32,7 @@ module _ (a b : ℕ) (la : 0 < a) (ha : a ≤ circle) (lb : 0 < b) (hb : b ≤ c
   ahead zero e h = (after-none a ∙ omega arith, h, e)
   ahead (suc k) e h = (after-is (suc k) a ha (omega arith) ∙ omega arith, h, e)
 
+  -- k: k successors lead there, and k is the forward count; -k: k successors lead back, and both counts add up to the circle
   pub distance-leads : Leads a b (shorter (forward a b))
   distance-leads = by (leb (forward a b) half) refl
     where
@@ -65,6 +66,7 @@ shorter-back (suc d) h = by (leb (suc d) half) refl
         let l : half < suc d = leb-false _ _ e in
         rw (rest, neg-neg) (simp (le-leb (circle - suc d) half (omega arith)))
 
+-- the distance back is the distance negated
 pub distance-antisymmetric : (a b : ℕ) → a ≤ circle → b ≤ circle → distanceOf b a ≡ negated (distanceOf a b)
 unfolding distanceOf
 distance-antisymmetric zero zero ha hb = refl

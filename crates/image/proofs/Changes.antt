@@ -63,10 +63,12 @@ valid-released = record {
 }
 
 module _ (image : List ℕ) (size : length image ≡ imageSize) where
+  -- a released image stands for the released state
   pub release-decodes : decode (releaseOf image) ≡ released
   unfolding releaseOf ring
   release-decodes = decode-store0 image size releasedHeader noLabels fits-released words-none
 
+  -- and is sound
   pub release-sound : IsSound (releaseOf image)
   unfolding releaseOf
   release-sound = sound-store0 image releasedHeader noLabels size fits-released words-none valid-released (λ i l. absurd (omega arith))
@@ -81,9 +83,11 @@ is-released : newImage ≡ releaseOf (replicate imageSize 0)
 unfolding newImage releaseOf
 is-released = refl
 
+-- a new image stands for the released state
 pub new-decodes : decode newImage ≡ released
 new-decodes = rw is-released (release-decodes (replicate imageSize 0) (length-zeros imageSize))
 
+-- and is sound
 pub new-sound : IsSound newImage
 new-sound = rw is-released (release-sound (replicate imageSize 0) (length-zeros imageSize))
 
@@ -123,14 +127,17 @@ module _ (image : List ℕ) (s : IsSound image) (range : InRange (decode image))
         idle = λ k. (v .idle k .0, ap (λ (ls : List ℕ). sweptOf ls AfterBreak) (v .idle k .1) ∙ swept-none);
       }
 
+  -- as after a break only the label words change
   pub break-decodes : decode (breakOf image) ≡ broken (decode image)
   unfolding breakOf freed
   break-decodes = decode-keep image (decode image .header) freed (s .size) (range .header) freed-words refl refl
 
+  -- and a sound image is sound
   pub break-sound : IsSound (breakOf image)
   unfolding breakOf freed
   break-sound = sound-keep image (decode image .header) freed s (range .header) freed-words freed-fields refl refl
 
+  -- its numbers keep their widths
   pub in-range-broken : InRange (broken (decode image))
   unfolding freed
   in-range-broken = record { header = range .header; labels = freed-words }

@@ -19,6 +19,7 @@ use Rattle.image.proofs.Blocks.{length-block}
 use Rattle.image.proofs.Rings.{ring-at, ring-length}
 use Rattle.image.proofs.Sound.{sound-valid, sound-live}
 
+-- the queue has as many messages as are held
 pub queue-length : (image : List ℕ) → length (decode image .queue) ≡ decode image .header .held
 unfolding decode
 queue-length image = ring-length (slotsOf image) (headerOf (block image 0) .first) (headerOf (block image 0) .held)

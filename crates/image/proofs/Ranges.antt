@@ -53,6 +53,7 @@ words-bytes n s at byte = record {
       (below-or-not i n);
 }
 
+-- the numbers in an image of bytes have their widths
 pub bytes-in-range : (image : List ℕ) → Bytes image → InRange (decode image)
 unfolding decode labelsOf
 bytes-in-range image byte = record {
@@ -60,6 +61,7 @@ bytes-in-range image byte = record {
   labels = words-bytes wordCount (block image 0) labelsAt (bytes-block image 0 byte);
 }
 
+-- the label words of any image are 120
 pub labels-count : (image : List ℕ) → length (decode image .labels) ≡ wordCount
 unfolding decode labelsOf
 labels-count image = length-wordsAt wordCount (block image 0) labelsAt

@@ -49,6 +49,7 @@ pub store-same : (image : List ℕ) → IsSound image → Bytes image → store0
 unfolding store0 decode
 store-same image s byte = rw (block0-same (block image 0) (bytes-block image 0 byte) (s .check) (s .fields)) (take-append-drop 512 image)
 
+-- anything else changes the bytes
 pub store-changed : (image : List ℕ) (h : Header) (ls : List ℕ) → length image ≡ imageSize → Fits h → Words wordCount ls
     → (h ≡ decode image .header → ls ≡ decode image .labels → ⊥) → true ≡ differ (block image 0) (block (store0 image h ls) 0)
 store-changed image h ls size fh fl other =
@@ -62,6 +63,7 @@ release-same image s byte idle =
     let v = sound-valid image s .idle idle in
     ap₂ (λ (h : Header) (ls : List ℕ). store0 image h ls) (sym (v .0)) (sym (v .1)) ∙ store-same image s byte
 
+-- with kept 1 the bytes of block 0 are others
 pub release-changed : (image : List ℕ) → length image ≡ imageSize → (decode image .header .kept ≡ 0 → ⊥) → true ≡ differ (block image 0) (block (releaseOf image) 0)
 release-changed image size kept =
     said-changed image (releaseOf image) (λ p q. kept (ap (λ (h : Header). h .kept) (p ∙ ap (λ (t : State). t .header) (release-decodes image size))))
@@ -84,6 +86,7 @@ words-kept ls v none =
     ext-getD 0 (sweptOf ls AfterBreak) ls (length-map ls (wordSwept AfterBreak)) (λ i h.
     List·getD-map (wordSwept AfterBreak) ls i 0 ∙ word-kept (getD ls i 0) (v .each i) (eqb-false _ 6 (any-none isUnprotected ls none refl i)))
 
+-- a break: with no word of code 6 nothing changes,
 pub break-same : (image : List ℕ) → IsSound image → Bytes image → unprotected (decode image .labels) ≡ false → breakOf image ≡ image
 unfolding breakOf
 break-same image s byte none =
@@ -98,6 +101,7 @@ swept-other (w ∷ ws) some same =
     (λ t. let e : w ≡ 0 = ap (λ (l : List ℕ). getD l 0 0) same ∙ rw t in omega (arith, eqb-true (codeOf w) 6 t))
     (λ f. swept-other ws (rw f at some) (ap (λ (l : List ℕ). drop 1 l) same))
 
+-- with one the bytes of block 0 are others
 pub break-changed : (image : List ℕ) → IsSound image → Bytes image → unprotected (decode image .labels) ≡ true → true ≡ differ (block image 0) (block (breakOf image) 0)
 break-changed image s byte some =
     said-changed image (breakOf image) (λ p q.

@@ -45,6 +45,7 @@ good-bytes : (image : List ℕ) (b : ℕ) → sound (block image b) ≡ true →
 unfolding bytesJudged
 good-bytes image b c f = rw (c, f) tt
 
+-- a sound verdict is its clauses
 pub sound-parts : (image : List ℕ) → verdict image ≡ Sound → IsSound image
 unfolding verdict
 sound-parts image h =
@@ -62,6 +63,7 @@ sound-parts image h =
           record { check = g .0; fields = sym (slot-fields image k) ∙ g .1 };
     }
 
+-- and back
 pub parts-sound : (image : List ℕ) → IsSound image → verdict image ≡ Sound
 unfolding verdict
 parts-sound image s = simp (eq-eqb _ _ (s .size)) (looked-judged image ∙ each-faultless (bytesJudged image) (looked (headerOf (block image 0))) each)
@@ -125,6 +127,7 @@ sound-store0 image h ls size fh fl v live =
 pub idle-last : (image : List ℕ) → decode image .header .held < slotCount → Idle image (slotAt (decode image .header .first) (decode image .header .held))
 idle-last image room i l = omega arith
 
+-- one more held, where the new fields keep the rules
 pub sound-accept : (image : List ℕ) (h : Header) (ls m : List ℕ) → IsSound image → Fits h → Words wordCount ls → Valid h ls → Storable m
     → h .first ≡ decode image .header .first → h .held ≡ decode image .header .held + 1 → decode image .header .held < slotCount
     → IsSound (store0 (storeSlot image (slotAt (decode image .header .first) (decode image .header .held)) m) h ls)
@@ -142,6 +145,7 @@ sound-accept image h ls m s fh fl v fits ef eh room =
     rw (slot-other image (s .size) k low m fits (blockOf (slotAt f i)) (omega arith)) (sound-live image s i before))
     (eq-or-lt-of-le (omega arith))))
 
+-- the oldest let go
 pub sound-release : (image : List ℕ) (h : Header) (ls : List ℕ) (n : ℕ) → IsSound image → Fits h → Words wordCount ls → Valid h ls
     → n ≤ decode image .header .held → h .first ≡ slotAt (decode image .header .first) n → h .held ≡ decode image .header .held - n
     → IsSound (store0 image h ls)
@@ -150,6 +154,7 @@ sound-release image h ls n s fh fl v low ef eh =
     let there : slotAt (h .first) i ≡ slotAt (decode image .header .first) (n + i) = omega arith in
     rw there (sound-live image s (n + i) (omega arith)))
 
+-- block 0 alone
 pub sound-keep : (image : List ℕ) (h : Header) (ls : List ℕ) → IsSound image → Fits h → Words wordCount ls → Valid h ls
     → h .first ≡ decode image .header .first → h .held ≡ decode image .header .held → IsSound (store0 image h ls)
 sound-keep image h ls s fh fl v ef eh =

@@ -113,7 +113,8 @@ fn scan_slots(image: &[u8], first: usize, held: usize) -> Verdict
     Verdict::Sound
 }
 
-// Restore's checks, in the paper's order. Slots that are not live are not looked at.
+// Restore's checks of any bytes, in the paper's order: size (12), block 0's check (10), its fields (11), then each live slot in ring order,
+// check before fields. Slots that are not live are not looked at; each block is summed once, and after a fault none is read.
 pub fn check_image(image: &[u8]) -> Verdict
     ensures { λ r. ⌜ r ≡ verdict (now (image .entry)) ⌝ }
 {
@@ -155,7 +156,7 @@ pub fn label_at(image: &[u8], place: usize) -> u32
     block0::read_label(block_at(image, 0), place)
 }
 
-// First stage: stores a message that Submit takes in slot k, with its kind and label.
+// First stage: stores a message that Submit takes in slot k, with its kind and label; every other block stays.
 pub fn store_slot(image: &mut [u8], k: usize, m: &[u8], kind: Kind, label: u32)
     requires { ⌜ (length (now image) ≡ imageSize) × (k < slotCount) × (length (now m) ≤ longest) × (submissionOf (now m) ≡ Accepted kind label) ⌝ }
     ensures { λ _. ⌜ now (image .exit) ≡ storeSlot (now (image .entry)) k (now (m .entry)) ⌝ }
@@ -164,7 +165,7 @@ pub fn store_slot(image: &mut [u8], k: usize, m: &[u8], kind: Kind, label: u32)
     slot::write_slot(&mut image[start..start + block::BLOCK_SIZE], m, kind, label);
 }
 
-// Second stage: stores block 0.
+// Second stage: stores block 0; every slot stays.
 pub fn store_block0(image: &mut [u8], h: Header, labels: &[u32])
     requires { ⌜ (length (now image) ≡ imageSize) × (length (now labels) ≡ wordCount) ⌝ }
     ensures { λ _. ⌜ now (image .exit) ≡ store0 (now (image .entry)) h (now (labels .entry)) ⌝ }

@@ -59,7 +59,7 @@ fn counts_of(image: &[u8]) -> Counts
     }
 }
 
-// What any bytes say that may be an image.
+// What any bytes say that may be an image: released, issued, secured, held, pended, label words in use; or a refusal's number and block.
 pub fn report_of(image: &[u8]) -> Report
     ensures { λ r. ⌜ r ≡ reportOf (now (image .entry)) ⌝ }
 {

@@ -25,7 +25,8 @@ fn protection_of_every(words: &[u32], message: LabelMessage, protected: bool) ->
     }
 }
 
-// The verdict on the protection of a received message, whose label was found at that place, as the list stands before it acts.
+// The verdict on the protection of a received message, whose label was found at that place, as the list stands before it acts: right,
+// missing (33) or wrong (32), for a named label, for every label, or for none.
 pub fn judge_protection(
     words: &[u32],
     place: Found,

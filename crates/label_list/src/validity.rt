@@ -70,7 +70,8 @@ fn mark_word(word: u32, later: &[u32], marks: &mut [u8]) -> bool
     false
 }
 
-// Restore's rule for the label words.
+// Restore's rule for the label words: each is 0 or has a label from 16 up and a code from 1 to 6; no label stands twice among
+// codes 1-2 nor twice among 3-6.
 pub fn valid(words: &[u32]) -> bool
     ensures { λ r. ⌜ r ≡ validOf (now (words .entry)) ⌝ }
 {

@@ -127,6 +127,7 @@ module _ (w : ℕ) (ws : List ℕ) where
       let on : onSide Used (codeOf w) ≡ true = unless-given (range .side) (codeOf w) (range .on) off in
       later-absent v Used on ∙ word-used w ws listed (range .label) off on))
 
+-- every word but 0 has a label from 16 up and a code of a side, and two indices that list one label on one side are one
 pub valid-means : (words : List ℕ) → validOf words ≡ true → IsValid words
 unfolding validOf
 valid-means [] e = record { each = λ i h. absurd (h refl); once = λ side label i j p q. absurd (true≢false (sym p ∙ free-stands side label)) }
@@ -135,6 +136,7 @@ valid-means (w ∷ ws) e =
     let rest : IsValid ws = valid-means ws (parts .1) in
     record { each = cons-each w ws (parts .0) rest; once = cons-once w ws (parts .0) rest }
 
+-- and exactly then it is valid
 pub means-valid : (words : List ℕ) → IsValid words → validOf words ≡ true
 unfolding validOf
 means-valid [] v = refl

@@ -84,6 +84,7 @@ missing-if : (b : Bool) → pick b Missing Right ≡ Missing → b ≡ true
 missing-if true e = refl
 missing-if false e = absurd (right-missing refl e)
 
+-- In a valid list protection is missing only so.
 pub missing-touches : (words : List ℕ) → IsValid words → (m : LabelMessage) (t : Touched) → protectionOf words m false t ≡ Missing → TouchesProtected words m t
 unfolding protectionOf codeProtection
 missing-touches words v m (Label l) e = record { label = l; touches = named; needs = missing-if (needsProtection (receivedSide m) (codeAt words (receivedSide m) l)) e }
@@ -101,6 +102,7 @@ right-if : (b : Bool) → pick b Wrong Right ≡ Right → b ≡ false
 right-if true e = let z : _≡_ {A = ℕ} 0 1 = cc in absurd (omega arith)
 right-if false e = refl
 
+-- A protected Mapping or Withdraw whose protection is right names no label of code 6.
 pub protected-names : (words : List ℕ) (m : LabelMessage) (l : ℕ) → receivedSide m ≡ Used → protectionOf words m true (Label l) ≡ Right → codeAt words Used l ≢ withoutProtection
 unfolding protectionOf codeProtection barsProtection receivedSide
 protected-names words Mapping l u e = eqb-false (codeAt words Used l) withoutProtection (right-if (eqb (codeAt words Used l) withoutProtection) e)

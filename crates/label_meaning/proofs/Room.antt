@@ -163,6 +163,7 @@ module _ (words : List ℕ) where
   mapping-new true z = omega arith
   mapping-new false z = omega arith
 
+  -- and always so
   pub lacks-no-room : (e : Event) → LacksRoom words e → NoRoomAnswered words e
   unfolding acceptedOf planOf codeAccepted sentSide receivedOf receivedChange receivedSide
   lacks-no-room (Accepted m k) (sent needs none) = rw (needs .may, needs .lacking, lacks-full words Given k 1 needs (omega arith) none)
@@ -206,5 +207,6 @@ module _ (words : List ℕ) where
   from-absent z (withdrawn-back touches) needs = absurd (omega arith)
   from-absent z bare-lost needs = absurd (omega arith)
 
+  -- each move from absent (to 1, 3, 6) takes place in the first free word, all others as they were, or is answered 13 or 21
   pub absent-takes : {e : Event} {s : Side} {k d : ℕ} → Moves e s k 0 d → NeedsWord words s k → NoRoomAnswered words e ⊎ FirstTaken words (step words e) k d
   absent-takes = from-absent refl

@@ -79,6 +79,7 @@ module _ (words : List ℕ) (v : IsValid words) (r : SweepRule) where
       (λ (new : Lists (range .side) (labelOf (getD words i 0)) (codeSwept r (codeOf (getD words i 0))) (wordSwept r (getD words i 0))). new .range)
       (swept-written r (range .side) (getD words i 0) range (range .on)))
 
+  -- A sweep leaves a valid list valid,
   pub sweep-valid : IsValid (sweptOf words r)
   sweep-valid = record { each = swept-each; once = λ s l i j p q. v .once s l i j (back s l i p) (back s l j q) }
 
@@ -101,6 +102,7 @@ module _ (words : List ℕ) (v : IsValid words) (r : SweepRule) where
       rw (at i, new .code) at found)
       (swept-written r s (getD words i 0) (v .each i listed-i) (parts .0))
 
+  -- and takes the code of each label on each side through the rule.
   pub sweep-code : (s : Side) (k c : ℕ) → CodeIs words s k c → CodeIs (sweptOf words r) s k (codeSwept r c)
   sweep-code s k c (listed i p) = swept-listed s k i p
   sweep-code s k c (absent p) =

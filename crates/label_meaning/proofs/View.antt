@@ -27,6 +27,7 @@ module _ (words : List ℕ) (s : Side) (l : ℕ) where
   code-found (At i) e = listed i (found-passes (standsFor s l) words i e refl)
   code-found Nowhere e = absent (found-none (sym e))
 
+  -- In any list this is a code of the label on the side,
   pub code-is : CodeIs words s l (codeAt words s l)
   code-is = code-found (findOf (standsFor s l) words) refl
 
@@ -36,5 +37,6 @@ module _ (words : List ℕ) (s : Side) (l : ℕ) where
   code-unique v (absent p) (listed j q) = absurd (true≢false (sym q ∙ p j))
   code-unique v (absent p) (absent q) = refl
 
+  -- and in a valid one the only one.
   pub is-code : {c : ℕ} → IsValid words → CodeIs words s l c → codeAt words s l ≡ c
   is-code v d = code-unique v code-is d

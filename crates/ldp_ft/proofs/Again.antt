@@ -5,6 +5,7 @@ use Rattle.protocol.specs.declared.Phase.{Phase}
 use Rattle.ldp_ft.specs.declared.Given.{Given}
 use Rattle.ldp_ft.specs.Session.{sessionOf, awaitingOf, givenOf, Fits16}
 
+-- a phase that goes out as two numbers comes in as itself
 pub phase-again : (ph : Phase) → Fits16 ph → givenOf (sessionOf ph) ≡ Given.Known ph
 unfolding givenOf awaitingOf
 phase-again Phase.Idle f = refl

@@ -10,6 +10,7 @@ use Rattle.protocol.specs.Receive.{ackOn}
 use Rattle.protocol.specs.State.{State}
 use Rattle.marked_cases.specs.Marked.{cases, defined, paper}
 
+-- what the definitions say of P1 to P12 is what the paper says
 pub marked-cases : (s : State) (g : Message) → defined (cases s g) ≡ paper (cases s g)
 unfolding lesserOf ackOn ackOf stepsOf distanceOf sums checkOf
 marked-cases s g = refl

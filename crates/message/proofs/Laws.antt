@@ -52,6 +52,7 @@ module _ (m : List ℕ) (g : Message) (e : readingOf m ≡ Reading.Whole g) wher
   pub whole-head : headSize ≤ length m
   whole-head = whole-tlvs m (g .found) (whole m g e .tlvs) .head
 
+  -- its length is that of the bytes after it
   pub whole-length : beAt 2 m 2 + 4 ≡ length m
   whole-length = whole-tlvs m (g .found) (whole m g e .tlvs) .adds
 
@@ -59,10 +60,12 @@ module _ (m : List ℕ) (g : Message) (e : readingOf m ≡ Reading.Whole g) wher
   pub whole-places : Places m (g .found)
   whole-places = places m (g .found) (whole m g e .tlvs)
 
+  -- its message ID is that of the head
   pub whole-id : g .id ≡ idIn m
   unfolding messageOf
   whole-id = ap (λ (x : Message). x .id) (whole m g e .is)
 
+  -- and so is its type number
   pub whole-number : g .typenumber ≡ numberIn m
   unfolding messageOf
   whole-number = ap (λ (x : Message). x .typenumber) (whole m g e .is)
@@ -72,6 +75,7 @@ module _ (m : List ℕ) (g : Message) (e : readingOf m ≡ Reading.Whole g) wher
   unfolding messageOf
   whole-fec = rw (ap (λ (x : Message). x .fecvalue) (whole m g e .is)) (part-in m (g .found .fec) (whole-places .fec))
 
+  -- so do the parameters
   pub whole-parameters : InMessage m (g .parametersvalue)
   unfolding messageOf
   whole-parameters = rw (ap (λ (x : Message). x .parametersvalue) (whole m g e .is)) (part-in m (g .found .parameters) (whole-places .parametersvalue))
@@ -141,6 +145,7 @@ pub record Accepted (m : List ℕ) (k : Kind) (l : ℕ) : Type 0 where
   pub kind : kindOf message ≡ k
   pub labelled : Labelled message k l
 
+-- a submission that is accepted: the message was read, bears no FT TLV, has that kind, and the label by the kind's number
 pub accepted : (m : List ℕ) (k : Kind) (l : ℕ) → submissionOf m ≡ Submission.Accepted k l → Accepted m k l
 unfolding submissionOf
 accepted m k l e = by-reading (readingOf m) refl e

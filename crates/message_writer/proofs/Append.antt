@@ -105,5 +105,6 @@ walk-rest-append us = size-ind leftOf (Appends us) step
             ∙ ih (record { at = r .at + n; bytes = drop n (r .bytes); found = f }) (omega arith) g h
             ∙ ap (λ (x : ℕ). walkOf x us g) a
 
+-- the walk over two runs of TLVs is that over the first, then over the second with what the first found
 pub walk-append : (at : ℕ) (ts us : List ℕ) (f g : Found) → walkOf at ts f ≡ Walk.Whole g → walkOf at (ts ++ us) f ≡ walkOf (at + length ts) us g
 walk-append at ts us f g e = walk-rest-append us (record { at = at; bytes = ts; found = f }) g e

@@ -174,6 +174,7 @@ pub record Next (pdu : List ℕ) (at k : ℕ) (m : List ℕ) : Type 0 where
   pub handed : handedOut pdu (suc k) at ≡ m ∷ handedOut pdu k (at + length m)
   pub rest : Reach pdu (at + length m) k
 
+-- what a caller knows that hands the messages out one by one
 pub reach-next : (pdu : List ℕ) (at k : ℕ) → Reach pdu at (suc k) → Next pdu at k (messageOf pdu (placeOf pdu at))
 unfolding flatten
 reach-next pdu at k r = go (placeOf pdu at) refl (r .whole) (r .count) (r .joined)

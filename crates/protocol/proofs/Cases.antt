@@ -109,6 +109,7 @@ acked-rule : (s : State) (u : Progress) (g : Message) (k : ℕ) → AckRight s g
 unfolding ftRule messageRule labelsRule acked
 acked-rule s u g k a = rw (a .heard .another, a .heard .mild, a .nonzero, a .acks)
 
+-- and each case has its answer
 pub case-answer : {s : State} {ph : Phase} {rd : Reading} {a : Answer} → Case s ph rd a → receiveRule s ph rd ≡ a
 unfolding ftRule messageRule
 case-answer {s} {ph} {rd} (wrong-phase e) = wrong-by s ph rd e

@@ -78,6 +78,7 @@ module _ (s : State) (few : Few s) where
     unfolding writer
     writer-few may next bytes room = settled-few _ _ (λ t. few)
 
+    -- where at most 64 were held, at most 64 are held after any call, whatever the phase
     pub few-held : (c : Call) (room : ℕ) → Left (step c s ph room)
     unfolding step openSession initReceived connectionFailed timePassed submit sendNext keepalive receive
     few-held formats room = omega arith

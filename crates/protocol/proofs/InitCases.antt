@@ -72,6 +72,7 @@ module _ (s : State) (p : ℕ) (g : Message) where
   parameters-case i Parameters.Absent e = without-parameters i e
   parameters-case i (Parameters.Given ka mp) e = session-case (record { init = i; parameters = e }) (g .session) refl
 
+-- every start is a case of the list,
 pub start-cases : (s : State) (p : ℕ) (rd : Reading) → StartCase s p rd (startOf s p rd)
 unfolding startOf
 start-cases s p Reading.Malformed = unread
@@ -103,6 +104,7 @@ module _ (s : State) (p : ℕ) where
       (λ u. rw (t, u)))
       (λ f. rw f)
 
+  -- and each case is its start: 22, 23, 35, 34, and the three ways to begin
   pub case-start : {rd : Reading} {st : Start} → StartCase s p rd st → startOf s p rd ≡ st
   unfolding startOf bothSet
   case-start unread = refl

@@ -47,6 +47,7 @@ module _ (s : State) (w : Window s) (a k : ℕ) (e : ackOf (s .released .0) (s .
         steps-rest (s .released .0) (s .issued .0) a k (w .steps) (omega arith) (omega arith) (omega arith) (omega (arith, w .within)) (acks .names) (w .reaches)
         (omega (arith, acks .few, same))
 
+    -- and then R to I stays within held
     pub ack-window : Window (acked s k a)
     unfolding acked
     ack-window = record { steps = w .steps - k; reaches = rest; within = rw (length-drop k (s .queue)) (omega (arith, w .within)) }

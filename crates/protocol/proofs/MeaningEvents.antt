@@ -32,10 +32,12 @@ accepted-bare ls label resources = refl
 
 -- ---- "Released by ACK: Withdraw 2 becomes free; Release 5 becomes free; other codes stay."
 module _ (ls : List ℕ) (v : IsValid ls) (label : ℕ) where
+  -- the ACK of a Withdraw frees its label of code 2
   pub withdraw-released : codeAt ls Side.Given label ≡ 2 → codeAt (releasedKind 2 label ls) Side.Given label ≡ 0
   unfolding releasedKind event
   withdraw-released two = move-happens ls v withdraw-acked (omega arith) two
 
+  -- that of a Release frees its label of code 5
   pub release-released : codeAt ls Side.Used label ≡ 5 → codeAt (releasedKind 3 label ls) Side.Used label ≡ 0
   unfolding releasedKind event
   release-released five = move-happens ls v release-acked (omega arith) five

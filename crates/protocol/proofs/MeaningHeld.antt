@@ -44,6 +44,7 @@ module _ (kind label : ℕ) where
   found-at (m ∷ ms) zero l k e s = rw (e, eq-eqb (kindNumber k) kind s, eq-eqb label label refl)
   found-at (m ∷ ms) (suc i) l k e s = by-test (bears (submissionOf m) kind label) (λ t. rw t) (λ f. rw f (found-at ms i (omega arith) k e s))
 
+  -- and back
   pub means-held : (q : List (List ℕ)) → HeldSomewhere q kind label → isHeld kind label q ≡ true
   means-held q h = found-at q (h .place) (h .inside) (h .type) (h .accepted) (h .same)
 
@@ -58,6 +59,7 @@ barred-means q Kind.AddressWithdraw label e = absurd (false≢true e)
 barred-means q Kind.ResourcesAvailable label e = absurd (false≢true e)
 barred-means q Kind.NoKind label e = absurd (false≢true e)
 
+-- and back
 pub means-barred : (q : List (List ℕ)) {kind : Kind} {label : ℕ} → BarredBy q kind label → isBarred q kind label ≡ true
 unfolding isBarred
 means-barred q (by-withdraw {label} h) = means-held 2 label q h

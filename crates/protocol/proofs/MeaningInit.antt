@@ -98,6 +98,7 @@ agreed-case t (parameters-changed b q) e = absurd e
 agreed-case t (sequence-error b q r) e = absurd e
 agreed-case {p = p} t (resumes b q r) e = agreed-of p (b .init) (b .session) e
 
+-- the timeout of a session that begins is the lesser of both, and 0 only where both are 0
 pub start-agreed : (s : State) (p : ℕ) (rd : Reading) (t : Terms) → BearsTerms (startOf s p rd) t → Agreed p rd t
 start-agreed s p rd t e = agreed-case t (start-cases s p rd) e
 

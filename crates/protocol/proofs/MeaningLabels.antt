@@ -56,12 +56,14 @@ module _ (g : Message) (m : LabelMessage) where
   label-of k (Field.Value l) e f q named = names k e
   label-of k Field.Absent e Fec.Wildcard q every = under-wildcard k e q
 
+  -- a message touches the label that it names, or all of them under the wildcard FEC
   pub effect-touches : (t : Touched) → labelEffect g ≡ LabelEffect.Change m t → {l : ℕ} → Touches t l → Touching g m l
   unfolding labelEffect
   effect-touches t e p =
       let k = type-of (g .typename) (touchedBy (g .label) (g .fec)) m t e in
       label-of (k .0) (g .label) refl (g .fec) refl (rw (k .1) p)
 
+  -- and back
   pub touching-effect : {l : ℕ} → Touching g m l → (t : Touched) × (labelEffect g ≡ LabelEffect.Change m t) × Touches t l
   unfolding labelEffect
   touching-effect (names {l = l} k e) = (Touched.Label l, rw e (effect-of (g .typename) m k (Touched.Label l)), named)
@@ -106,6 +108,7 @@ module _ (ls : List ℕ) (g : Message) where
       let p : TouchesProtected ls m t = missing-touches ls v m t e in
       by-label (effect-touches g m t q (p .touches)) (p .needs)
 
+  -- 33 comes only where 01 says so
   pub missing-means : IsValid ls → protectionRule ls g ≡ Protection.Missing → (g .protection ≡ FtField.Absent) × Demands ls g
   unfolding protectionRule
   missing-means v e = by (g .protection) refl e
@@ -126,6 +129,7 @@ module _ (ls : List ℕ) (g : Message) where
       by FtField.Absent q e = (q, bare q e)
       by (FtField.Number n) q e = no (guarded (labelEffect g) e)
 
+  -- and always there
   pub means-missing : g .protection ≡ FtField.Absent → Demands ls g → protectionRule ls g ≡ Protection.Missing
   means-missing q (by-kind k) = bare-rule q ∙ rw (kind-bare k)
   means-missing q (by-label {m} {l} p needs) =
@@ -187,6 +191,7 @@ module _ (ls : List ℕ) (g : Message) where
   guarded-wrong n q (LabelEffect.Change m Touched.Every) r e = no (cc)
   guarded-wrong n q (LabelEffect.Change m Touched.Nothing) r e = no (cc)
 
+  -- 32 comes only where 01 says so
   pub wrong-means : protectionRule ls g ≡ Protection.Wrong → WronglyProtected ls g
   unfolding protectionRule
   wrong-means e = by (g .protection) refl e
@@ -202,6 +207,7 @@ module _ (ls : List ℕ) (g : Message) where
           no (bare (labelEffect g) (cleared (alwaysProtected (kindOf g)) Protection.Missing (effectProtection ls false (labelEffect g)) Protection.Wrong (λ z. cc) e .1))
       by (FtField.Number n) q e = guarded-wrong n q (labelEffect g) refl e
 
+  -- and always there
   pub means-wrong : WronglyProtected ls g → protectionRule ls g ≡ Protection.Wrong
   unfolding protectionRule labelEffect protectionOf codeProtection
   means-wrong w =

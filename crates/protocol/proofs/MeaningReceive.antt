@@ -76,10 +76,12 @@ module _ (s : State) (g : Message) where
 
   -- a message that acknowledges R again, as one without FT ACK does, releases nothing: the message alone acts
   module _ (law : Lawful s) (again : ackBorne s (g .ack) ≡ s .released .0) where
+    -- to acknowledge R again releases nothing,
     pub nothing-acked : ackOn s g ≡ Ack.Releases 0
     unfolding ackOn
     nothing-acked = rw again (ack-again s (law .released) (law .window))
 
+    -- and the message alone acts
     pub message-alone : receivedState s g ≡ taken s g
     unfolding receivedState taken acked releasedLabels
     message-alone = rw (nothing-acked, again)
@@ -109,20 +111,26 @@ module _ (s : State) (u : Progress) (m : List ℕ) (fits : phaseFits (Phase.UpFT
     pub receive-takes : Takes s g count
     receive-takes = done-takes (rw (read, d) at (receive-case s (Phase.UpFT u) m fits))
 
+    -- the state is exactly the rule's, the phase UpFT with the lowered count
     pub receive-leaves : ReceivedFrom s (u .sent) g count (receive s (Phase.UpFT u) m)
     receive-leaves = rw (receive-does s (Phase.UpFT u) m d, read) (record { answer = refl; state = refl; phase = refl; output = refl })
 
+    -- by its parts: R is the number acknowledged, I, kept and the terms stay, S is the message's number or stays, the k oldest leave,
+    -- the label words are those after the ACK and then the message
     pub receive-acts : AckThenMessage s g count left
     receive-acts = rw (receive-leaves .state) (received-acts s g count (receive-takes .turn .protection .ack .acks))
 
+    -- S moves to the message's number, the successor of S; without FT Protection it stays
     pub receive-secures : SecuresFrom s g left
     receive-secures = rw (receive-leaves .state) (taken-secures s g count receive-takes)
 
 -- ---- "In UpPlain messages are passed on."
 module _ (s : State) (m : List ℕ) where
+  -- UpPlain: Done changes nothing,
   pub plain-passed : receive s Phase.UpPlain m .answer ≡ Answer.Done → receive s Phase.UpPlain m ≡ unchanged Answer.Done s Phase.UpPlain
   plain-passed d = receive-does s Phase.UpPlain m d
 
+  -- and no answers come but 22, 36, 31 and Done
   pub plain-answers : phaseFits Phase.UpPlain s ≡ true → PlainAnswer (receive s Phase.UpPlain m .answer)
   plain-answers fits = by (receive-case s Phase.UpPlain m fits)
     where

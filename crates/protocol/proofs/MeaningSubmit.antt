@@ -36,6 +36,7 @@ module _ (s : State) (ph : Phase) (m : List ℕ) where
     labels = λ kind label e. rw e;
   }
 
+  -- Done: the message is the newest, those before it keep their order, it has no number, the label words are as accepting leaves them
   pub submit-queues : Window s → submit s ph m .answer ≡ Answer.Done → QueuedFrom s ph m (submit s ph m)
   submit-queues w d = rw (submit-does s ph m d) (submitted-from w)
 

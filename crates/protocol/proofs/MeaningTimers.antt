@@ -58,9 +58,11 @@ module _ (s : State) (law : Lawful s) where
     output = refl;
   }
 
+  -- Restore: exactly the words of code 6 are free, all else is as it was, Failed if kept, else Idle
   pub restore-leaves : FailedFrom s (restore s)
   restore-leaves = failed-from
 
+  -- the same of Connection failed
   pub failed-leaves : (ph : Phase) → phaseFits ph s ≡ true → connected ph ≡ true → FailedFrom s (connectionFailed s ph)
   unfolding connectionFailed
   failed-leaves ph fits c =
@@ -75,6 +77,7 @@ module _ (s : State) (fits : phaseFits Phase.Failed s ≡ true) (elapsed : ℕ) 
   passed-is b e =
       rw e (admitted-does s Phase.Failed fits Answer.Done refl (pick b (releasedWith Answer.Done) (unchanged Answer.Done s Phase.Failed)))
 
+  -- a timeout of 0 never releases, one not reached keeps, one reached releases
   pub passed-leaves : TimePassed s elapsed
   unfolding expired
   passed-leaves =

@@ -35,16 +35,19 @@ module _ (s : State) (ph : Phase) (id : MessageId) (own : OwnParameters) (propos
       rw (admitted-does s ph fits (pick (not (mayOpen ph)) Answer.WrongPhase (roomFor bytes room)) d (stepped Answer.Done s (waitingFor (proposedOf proposal)) bytes))
       (record { answer = refl; state = refl; phase = refl; reads = rw e (init-reads id own (proposedOf proposal) ack) })
 
+  -- our Init as the peer reads it: with kept state R, the ACK S and the seconds proposed
   pub open-kept : s .kept ≡ true → OpenedFrom s id own proposal (FtField.Number (s .secured)) (openSession s ph id own proposal room)
   unfolding keptAck
   open-kept k = opened (rw k)
 
+  -- without it neither R nor an ACK
   pub open-fresh : s .kept ≡ false → OpenedFrom s id own proposal FtField.Absent (openSession s ph id own proposal room)
   unfolding keptAck
   open-fresh k = opened (rw k)
 
 -- ---- KeepAlive
 module _ (s : State) (id : MessageId) (room : ℕ) where
+  -- in UpFT 16 bytes with the ACK S
   pub alive-up : (u : Progress) → phaseFits (Phase.UpFT u) s ≡ true → 16 ≤ room → AliveFrom s (Phase.UpFT u) id (FtField.Number (s .secured)) 16 (keepalive s (Phase.UpFT u) id room)
   unfolding keepalive writer
   alive-up u fits enough =
@@ -53,6 +56,7 @@ module _ (s : State) (id : MessageId) (room : ℕ) where
       rw (admitted-does s ph fits (roomFor (aliveBytes s ph id) room) d (stepped Answer.Done s ph (aliveBytes s ph id)))
       (record { answer = refl; state = refl; phase = refl; size = refl; reads = keepalive-reads id (FtField.Number (s .secured)) })
 
+  -- in UpPlain 8 bytes without
   pub alive-plain : phaseFits Phase.UpPlain s ≡ true → 8 ≤ room → AliveFrom s Phase.UpPlain id FtField.Absent 8 (keepalive s Phase.UpPlain id room)
   unfolding keepalive writer
   alive-plain fits enough =

@@ -29,9 +29,11 @@ module _ (s : State) (ph : Phase) (m : List ℕ) where
   answer-by : Passes s ph m → {a : Answer} → SubmitCase s m a → submit s ph m .answer ≡ a
   answer-by p c = submit-says s ph m ∙ admitted-is s ph (p .fits) (submitRule s m) ∙ case-submit s m c
 
+  -- where every other test passes it is taken below 64 held
   pub passes-done : Passes s ph m → held s < 64 → submit s ph m .answer ≡ Answer.Done
   passes-done p l = answer-by p (queues (passes-unbarred p) (p .allowed) l)
 
+  -- and answered 7 at 64
   pub passes-full : Passes s ph m → 64 ≤ held s → submit s ph m .answer ≡ Answer.StoreFull
   passes-full p l = answer-by p (store-full (passes-unbarred p) (p .allowed) l)
 
@@ -53,12 +55,14 @@ module _ (s : State) (ph : Phase) (m : List ℕ) where
       let p = cleared (not (phaseFits ph s)) Answer.WrongPhase (submitRule s m) a other (sym (submit-says s ph m) ∙ e) in
       (not-false (phaseFits ph s) (p .0), p .1)
 
+  -- it is taken only so
   pub done-passes : submit s ph m .answer ≡ Answer.Done → Passes s ph m × (held s < 64)
   done-passes e =
       let p = admitted-last (λ f. cc) e in
       let w = done-last s m (p .1) in
       (last-passes (p .0) (w .0), w .1)
 
+  -- and 7 comes only so
   pub full-passes : submit s ph m .answer ≡ Answer.StoreFull → Passes s ph m × (64 ≤ held s)
   full-passes e =
       let p = admitted-last (λ f. cc) e in

@@ -56,6 +56,7 @@ module _ (s : State) (ph : Phase) (m : List ℕ) (d : submit s ph m .answer ≡ 
   pub submit-state : submit s ph m .state ≡ submitted s m
   submit-state = rw (submit-does s ph m d)
 
+  -- a submission that is Done leaves one more held
   pub submit-queue : submit s ph m .state .queue ≡ s .queue ++ (m ∷ [])
   unfolding submitted
   submit-queue = rw submit-state
@@ -118,6 +119,7 @@ module _ (s : State) (u : Progress) (m : List ℕ) (g : Message) (read : reading
   pub receive-state : receive s (Phase.UpFT u) m .state ≡ receivedState s g
   receive-state = rw (receive-does s (Phase.UpFT u) m d, read)
 
+  -- a message that is Done leaves those held less those that its ACK releases
   pub receive-queue : (receive s (Phase.UpFT u) m .state .queue ≡ drop (ackCount (ackOn s g)) (s .queue)) × (receive s (Phase.UpFT u) m .state .terms ≡ s .terms)
   receive-queue = rw receive-state (received-queue s g)
 

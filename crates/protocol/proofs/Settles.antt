@@ -24,6 +24,7 @@ use Rattle.protocol.specs.Writer.{writer}
 use Rattle.protocol.proofs.Effects.{act-done, done-is}
 use Rattle.protocol.proofs.Settling.{settle-answer}
 
+-- every call is the answer of its tests, settled
 pub settles : (c : Call) (s : State) (ph : Phase) (room : ℕ) → step c s ph room ≡ settle (judged c s ph room) s ph (done c s ph)
 unfolding step judged done settle effectOf writer openSession initReceived connectionFailed timePassed submit sendNext keepalive receive
 settles formats s ph room = refl

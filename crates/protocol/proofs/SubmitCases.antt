@@ -52,6 +52,7 @@ module _ (s : State) (m : List ℕ) where
   submission-case f Submission.Refused e = not-sent f e
   submission-case f (Submission.Accepted kind label) e = kind-case f e
 
+  -- every answer of Submit is a case of the list,
   pub submit-cases : SubmitCase s m (submitRule s m)
   unfolding submitRule
   submit-cases = by (s .kept) refl (ltb (length m) shortest) refl (ltb longest (length m)) refl
@@ -73,6 +74,7 @@ module _ (s : State) (m : List ℕ) where
   unfolding kindRule
   unbarred-is u = fitting-is (u .fitting) ∙ rw (u .accepted, u .free)
 
+  -- and each case has its answer: 1, 3, 4, 5, 6, 13, 7
   pub case-submit : {a : Answer} → SubmitCase s m a → submitRule s m ≡ a
   unfolding submitRule kindRule
   case-submit (not-kept k) = rw k

@@ -66,9 +66,11 @@ module _ (c : Call) (im : List ℕ) (ph : Phase) (out : List ℕ) where
 
   -- the same, of the image's own changes and of the state
   module _ (st : Standing im ph) where
+    -- what it leaves: the image before the call, as after a break
     pub failure-leaves : 20 ≤ answerNumber said → answerNumber said ≤ 23 → Unapplied im (leaves c im ph out)
     failure-leaves l u = rw (failure-is l u) (failed-unapplied im ph st said (lent c out))
 
+    -- what it leaves: block 0 with kept 0 and the slots' bytes, Idle
     pub release-leaves : 30 ≤ answerNumber said → ReleasedIdle im (leaves c im ph out)
     release-leaves l = rw (release-is l) (released-idle im ph st said (lent c out))
 

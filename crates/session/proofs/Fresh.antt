@@ -137,6 +137,7 @@ pub record Sending : Type 0 where
   pub lent : List ℕ
   pub writes : 1 ≤ leaves (sends false) image (upWith 1) lent .outcome .written
 
+-- the second send of a connection writes the second message
 pub second-send : Sending
 second-send =
     let two : Holding 0 2 = queue-one (queue-one first (omega arith)) (omega arith) in

@@ -94,6 +94,7 @@ module _ (im : List ℕ) (ph : Phase) (st : Standing im ph) (out : List ℕ) whe
   stands (keeps-alive id) p = given-stands (keeps-alive id) refl refl p
   stands (receives m) p = given-stands (receives m) refl refl p
 
+  -- every call, on an image that stands: answer, state, phase and bytes written are those of `step` on its state
   pub refines : (c : Call) → Proper c ph → seen (leaves c im ph out) ≡ step c (stateOf im) ph (length out)
   unfolding step settle effectOf
   refines formats p = ap seen formatted-is ∙ rw new-decodes

@@ -77,6 +77,7 @@ settles-other c im ph out other =
     ∙ given-settle c im ph out other
     ∙ call-settles im (given c ph) (lent c out) (slotsOf c (stateOf im) ph) (judged c (stateOf im) ph (length out)) (stateOf im) (done c (stateOf im) ph) (done-answer c (stateOf im) ph)
 
+-- every call is the answer of its tests, settled
 pub settles-on : (c : Call) (im : List ℕ) (ph : Phase) (out : List ℕ) → leaves c im ph out ≡ settleOf (answerOn c im ph out) (given c ph) im (lent c out) (doneOn c im ph out)
 unfolding answerOn doneOn leaves formatOf
 settles-on formats im ph out = refl

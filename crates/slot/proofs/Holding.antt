@@ -56,6 +56,7 @@ borne b (Accepted k l) e h =
     let p = both-true (eqb (kindNumber k) (kindOf b)) (eqb l (labelOf b)) h in
     record { kind = k; label = l; accepted = e; kinded = eqb-true _ _ (p .0); labelled = eqb-true _ _ (p .1) }
 
+-- a slot with right fields holds a message that Submit takes
 pub slot-holds : (b : List ℕ) → slotOk b ≡ true → Holds b
 unfolding slotOk
 slot-holds b ok =
@@ -71,6 +72,7 @@ slot-holds b ok =
 pub holds-kind : (b : List ℕ) → slotOk b ≡ true → kindOf b ≡ kindIn (submissionOf (messageOf b))
 holds-kind b ok = let h = slot-holds b ok in rw (h .accepted) (sym (h .kinded))
 
+-- and so is its label
 pub holds-label : (b : List ℕ) → slotOk b ≡ true → labelOf b ≡ labelIn (submissionOf (messageOf b))
 holds-label b ok = let h = slot-holds b ok in rw (h .accepted) (sym (h .labelled))
 
@@ -126,6 +128,7 @@ module _ (b m : List ℕ) (long : length b ≡ blockSize) (s : Storable m) where
   pub length-slotFor : length (slotFor b m) ≡ blockSize
   length-slotFor = rw is-slot (length-slot b m n (s .label) long (s .short) fk fl)
 
+  -- a slot that was written has its check
   pub slotFor-sound : sound (slotFor b m) ≡ true
   slotFor-sound = rw is-slot (slot-sound b m n (s .label) long (s .short) fk fl)
 
@@ -133,6 +136,7 @@ module _ (b m : List ℕ) (long : length b ≡ blockSize) (s : Storable m) where
   pub slotFor-message : messageOf (slotFor b m) ≡ m
   slotFor-message = rw is-slot (message-slot b m n (s .label) long (s .short) fk fl)
 
+  -- its fields are right
   pub slotFor-ok : slotOk (slotFor b m) ≡ true
   unfolding slotOk n
   slotFor-ok =

@@ -12,6 +12,7 @@ use Rattle.text.specs.Text.{Put}
 pub put-none : (s : List ℕ) (at : ℕ) → Put s at [] s at
 put-none s at = record { bytes = sym (filled-none (λ i. 0) s at); ends = omega arith }
 
+-- texts put one after the other are their join
 pub put-then : {a t b u c : List ℕ} {at mid end : ℕ} → Put a at t b mid → Put b mid u c end → Put a at (t ++ u) c end
 put-then {a} {t} {b} {u} {c} {at} {mid} {end} p q =
     let next : c ≡ copied (copied a at t) (at + length t) u =

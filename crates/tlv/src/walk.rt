@@ -195,8 +195,10 @@ fn walk_whole(m: &[u8]) -> Walk
     walk_tlvs(m)
 }
 
-// The TLVs of a whole message, behind a head whose length says what follows. The bytes are lent on from their start: then the
-// compiler hands address and length over in registers, and no caller copies the pair through memory.
+// Where each listed TLV of a message stands, in every message type, or that it is malformed: a head cut off or whose length is not that of
+// what follows, a TLV cut off, a listed one with a wrong length or a second time, a label above 1,048,575. U and F of a TLV are ignored,
+// others than those listed skipped. The bytes are lent on from their start: then the compiler hands address and length over in registers,
+// and no caller copies the pair through memory.
 pub fn walk_message(m: &[u8]) -> Walk
     ensures { λ r. ⌜ r ≡ tlvsOf (now (m .entry)) ⌝ }
 {

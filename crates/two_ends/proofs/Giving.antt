@@ -36,6 +36,7 @@ in-use : (x y : End) → x .begun ≡ true → y .begun ≡ true → Shared (sid
 unfolding isHeld
 in-use x y gx gy s p q = λ l may g. let t = rw (gx, gy) at s in t .agree [] [] p q l may g refl
 
+-- with both stores empty every label given at one end is in use or asked back at the other
 pub given-used : (x y : Opener) → Fit x → Fit y → Afresh x y → (vs : List (Bool × Event)) → AllProper vs → Lasts (run (start x y) vs)
     → run (start x y) vs .a .begun ≡ true → run (start x y) vs .b .begun ≡ true → store (run (start x y) vs .a) ≡ [] → store (run (start x y) vs .b) ≡ []
     → InUse (run (start x y) vs .a) (run (start x y) vs .b) × InUse (run (start x y) vs .b) (run (start x y) vs .a)

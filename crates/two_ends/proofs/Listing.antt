@@ -24,6 +24,7 @@ listed e t = record {
 counts : (e : End) → e .begun ≡ true → Tidy (sideOf e .state) → Tidy (e .state)
 counts e g t = rw g at t
 
+-- at an end that has begun a label is withdrawing or releasing only while its message is held, and none has code 6
 pub labels-last : (x y : Opener) → Fit x → Fit y → Afresh x y → (vs : List (Bool × Event)) → AllProper vs → Lasts (run (start x y) vs)
     → (run (start x y) vs .a .begun ≡ true → Listed (run (start x y) vs .a)) × (run (start x y) vs .b .begun ≡ true → Listed (run (start x y) vs .b))
 labels-last x y fx fy f vs p k =

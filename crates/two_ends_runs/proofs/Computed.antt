@@ -40,10 +40,12 @@ pub sixty-four : ending (full 64) ≡ full-ends
 unfolding everything
 sixty-four = refl
 
+-- the 65th is answered 7
 pub sixty-fifth : submit (full 64 .a .state) (full 64 .a .phase) (address 7) .answer ≡ Answer.StoreFull
 unfolding everything
 sixty-fifth = refl
 
+-- and changes nothing
 pub unchanged-by-it : ending (full 65) ≡ full-ends
 unfolding everything
 unchanged-by-it = refl
