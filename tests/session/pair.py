@@ -12,7 +12,6 @@ def label_message(kind, label):
     return message(TYPE[kind], label, tlv(FEC, bytes.fromhex("020001200a000001")), label_tlv(label))
 
 
-
 class Pair(Player):
     def fresh(self, ours=None, theirs=None):
         for end in (P1, P2):
