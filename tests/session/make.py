@@ -227,6 +227,8 @@ def still_held(p):
     p.both()
     p.alive(P1)
     p.alive(P2)
+    p.mapping(P1, 110)
+    p.answered(0)
     p.withdraw(P1, 110)
     p.answered(0)
     p.release(P2, 110)
