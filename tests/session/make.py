@@ -19,7 +19,7 @@ from stored import settle  # noqa: E402
 SHORT, KEPT, COPY = 0, 3, 4
 
 
-def example(p):
+def before(p):
     p.title("before the example")
     p.fresh()
     for _ in range(26):
@@ -32,6 +32,9 @@ def example(p):
         p.alive(P1)
     p.alive(P2)
     p.both()
+
+
+def example(p):
     p.title("the example")
     p.title("note 1")
     p.mapping(P1, 101)
@@ -156,8 +159,9 @@ def timeouts(p):
 def lengths(p):
     p.title("lengths")
     p.fresh()
-    for size in (480, 481):
+    for size, answer in ((480, 0), (481, 3)):
         p.submit(P1, f"P1 submit {size} bytes", message(TYPE[ADDRESS], 4, tlv(0x0101, bytes(size - 12))))
+        p.answered(answer)
     p.submit(P1, "P1 submit 8 bytes", message(TYPE[ADDRESS], 4))
     p.submit(P1, "P1 submit 7 bytes", message(TYPE[ADDRESS], 4)[:7])
     for room in (495, 496):
@@ -180,24 +184,20 @@ def full_labels(p):
     p.mapping(P1, 100)
     for i in range(119):
         p.unprotected(1001 + i)
-    p.mapping(P1, 101)
-    p.answered(13)
+    p.mapping(P1, 101, 13)
     p.mapping(P1, 100)
-    p.answered(0)
     p.both()
     on_copies(p, "receive", p.receive, ((21, label_message(MAPPING, 1123)), (20, with_label(MAPPING, 1123, protection_tlv(2)))))
 
 
 def full_store(p):
-    """The label list is still full: "6, 13, 7"."""
+    """Two Mappings are held, and the label list is still full: "6, 13, 7"."""
     p.title("the full store")
-    for _ in range(63):
+    for answer in (*[0] * 62, 7):
         p.address(P1)
-    p.answered(7)
-    p.mapping(P1, 101)
-    p.answered(13)
-    p.withdraw(P1, 101)
-    p.answered(6)
+        p.answered(answer)
+    p.mapping(P1, 101, 13)
+    p.withdraw(P1, 101, 6)
     p.both()
     for _ in range(64):
         p.pass_on(P1)
@@ -217,22 +217,16 @@ def still_held(p):
     p.withdraw(P1, 110)
     p.pass_on(P2)
     p.mapping(P1, 110)
-    p.answered(0)
-    p.withdraw(P1, 110)
-    p.answered(6)
+    p.withdraw(P1, 110, 6)
     p.pass_on(P1)
     p.pass_on(P1)
-    p.release(P2, 110)
-    p.answered(6)
+    p.release(P2, 110, 6)
     p.both()
     p.alive(P1)
     p.alive(P2)
     p.mapping(P1, 110)
-    p.answered(0)
     p.withdraw(P1, 110)
-    p.answered(0)
     p.release(P2, 110)
-    p.answered(0)
     p.both()
 
 
@@ -344,9 +338,12 @@ def block_0(p):
     p.answered(33, "Idle")
 
 
+PARTS = (before, example, recovery, restart, net_zero, timeouts, lengths, full_labels, full_store, still_held, messages, refused_images, beginnings, plain_session, block_0)
+
+
 def main():
     p = Pair()
-    for part in (example, recovery, restart, net_zero, timeouts, lengths, full_labels, full_store, still_held, messages, refused_images, beginnings, plain_session, block_0):
+    for part in PARTS:
         part(p)
     settle({f"session_cases/{name}": "".join(line + "\n" for line in lines).encode() for name, lines in (("stdin", SCRIPT), ("stdout", LINES))})
 
