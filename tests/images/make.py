@@ -57,6 +57,12 @@ def damaged(data, at):
     return data[:at] + bytes([data[at] ^ 1]) + data[at + 1 :]
 
 
+def by_bytes(start, end):
+    """A block by its first and its last bytes, zeros between."""
+    start, end = bytes.fromhex(start), bytes.fromhex(end)
+    return start + bytes(BLOCK - len(start) - len(end)) + end
+
+
 def lines(rows):
     return "".join(f"{row}\n" for row in rows).encode()
 
@@ -69,6 +75,12 @@ def refused(answer, block):
 GIVEN16 = [word(16, 1)]
 PAPER = image(block0(GIVEN16, held=1), {0: mapping_slot()})
 THREE = {k: slot_block(mapping(20 + k), MAPPING, 20 + k) for k in range(3)}
+
+
+# The layout by its bytes: R 5, I 6, S 9, first slot 63, 2 held, timeout 5, the peer's parameters 30 and 4096; label 16 given, and 17 used in the last word.
+BYTES = by_bytes("00000001 00000005 00000006 00000009 003f 0002 0005 01 00 001e 1000 00100010", "00300011 11db 966c")
+MAPPING_BYTES = by_bytes("001b 01 00 00000010 0400 0017 00000007 0100 0007 02 0001 18 0a0000 0200 0004 00000010", "276b 1e1a")
+ADDRESS_BYTES = by_bytes("0008 04 00 ffffffff 0300 0004 00000007", "0714 f599")
 
 
 def slot_of(i):
@@ -101,6 +113,7 @@ ZERO_SUMS = next(b for b in (block0(secured=n) for n in range(1, 1 << 20)) if b[
 BARE = 8 + len(mapping(16))
 CASES = [
     ("new", image(RELEASED), counts(0, 0, 0, 0, 0, 0)),
+    ("layout_by_bytes", image(BYTES, {63: MAPPING_BYTES, 0: ADDRESS_BYTES}), counts(5, 6, 9, 2, 1, 2)),
     ("nothing_held", image(block0(released=9, issued=9, secured=4)), counts(9, 9, 4, 0, 0, 0)),
     ("full_ring_wraps", full_ring(), counts(LAST - 1, 2, 77, 64, 61, 120)),
     ("dead_slots_damaged", image(block0(GIVEN16, held=1), {0: mapping_slot()}, bytes(range(256)) * 2), counts(0, 0, 0, 1, 1, 1)),
@@ -110,6 +123,7 @@ CASES = [
     ("byte_short", PAPER[:-1], refused(12, 0)),
     ("byte_long", PAPER + b"\0", refused(12, 0)),
     ("twice_as_long", PAPER + PAPER, refused(12, 0)),
+    ("size_before_block_0", damaged(PAPER[:-1], 100), refused(12, 0)),
     ("check_of_block_0", damaged(PAPER, 100), refused(10, 0)),
     ("check_before_fields", damaged(PAPER, 3), refused(10, 0)),
     ("check_of_block_3", damaged(live(THREE), 3 * BLOCK + 60), refused(10, 3)),
@@ -141,6 +155,8 @@ CASES = [
     ("message_with_ft_tlv", bad_slot(slot_block(message(TYPE[ADDRESS], ID, ack_tlv(0)), ADDRESS, OF_NO_LABEL)), refused(11, 1)),
     ("padding_set", bad_slot(altered(mapping_slot(), BARE + 400, b"\1")), refused(11, 1)),
     ("ring_order", image(block0(first=62, held=4), {62: mapping_slot(), 63: mapping_slot(label=17)}), refused(11, 64)),
+    ("block_0_check_before_slots", damaged(damaged(live(THREE), 100), BLOCK + 60), refused(10, 0)),
+    ("block_0_fields_before_slots", damaged(live(THREE, version=2), BLOCK + 60), refused(11, 0)),
     ("slot_check_before_fields", live({0: damaged(mapping_slot(label=17), 4)}), refused(10, 1)),
 ]
 

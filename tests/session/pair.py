@@ -12,7 +12,6 @@ def label_message(kind, label):
     return message(TYPE[kind], label, tlv(FEC, bytes.fromhex("020001200a000001")), label_tlv(label))
 
 
-
 class Pair(Player):
     def fresh(self, ours=None, theirs=None):
         for end in (P1, P2):
@@ -32,14 +31,17 @@ class Pair(Player):
         for end in ends or (P1, P2):
             self.failed(end, f"P{end} connection failed")
 
-    def mapping(self, end, label):
+    def mapping(self, end, label, answer=0):
         self.submit(end, f"P{end} submit Mapping {label}", label_message(MAPPING, label))
+        self.answered(answer)
 
-    def withdraw(self, end, label):
+    def withdraw(self, end, label, answer=0):
         self.submit(end, f"P{end} submit Withdraw {label}", label_message(WITHDRAW, label))
+        self.answered(answer)
 
-    def release(self, end, label):
+    def release(self, end, label, answer=0):
         self.submit(end, f"P{end} submit Release {label}", label_message(RELEASE, label))
+        self.answered(answer)
 
     def address(self, end):
         self.submit(end, f"P{end} submit Address", AN_ADDRESS)

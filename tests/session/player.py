@@ -26,7 +26,7 @@ def step(name, word, *numbers, message=""):
 class Player:
     def __init__(self):
         self.image = [bytearray(im.SIZE - (place == 0)) for place in range(5)]
-        self.phase, self.out = [("Idle",)] * 5, [b""] * 5
+        self.phase, self.out, self.last = [("Idle",)] * 5, [b""] * 5, None
 
     def title(self, text):
         SCRIPT.append(f"# {text}: title")
@@ -35,7 +35,7 @@ class Player:
     # The ten calls.
     def outcome(self, place, name, o):
         show(name, o, self.image[place])
-        self.phase[place], self.out[place] = o.phase, o.out or self.out[place]
+        self.phase[place], self.out[place], self.last = o.phase, o.out or self.out[place], o
         return o
 
     def format(self, place, name):
@@ -82,6 +82,13 @@ class Player:
     def time(self, place, name, seconds):
         step(name, "time", place, seconds)
         self.outcome(place, name, c.time_passed(self.image[place], self.phase[place], seconds))
+
+    # What the build paper says of the last call, in its own numbers and bytes: the lines above are what tests/paper makes of it.
+    def answered(self, answer, phase=None):
+        assert (self.last.answer, phase or self.last.phase[0]) == (answer, self.last.phase[0]), (SCRIPT[-1], answer, phase)
+
+    def wrote(self, text):
+        assert self.last.out == bytes.fromhex(text), (SCRIPT[-1], self.last.out.hex())
 
     # What is done to the images and phases.
     def counts(self, place, name):
