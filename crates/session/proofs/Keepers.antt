@@ -1,26 +1,26 @@
 -- No wrong keeper of 01's list meets the promises. Assumes nothing.
-use Prim.Native.Nat.{ℕ, _+_, _≤_}
+use Prim.Native.Nat.{ℕ, _+_, _-_, _≤_, _<_}
 use mathlib.Core.Bool.{Bool, true, false, true≢false}
 use mathlib.Core.List.{List, [], _∷_}
 use mathlib.Core.Logic.{inl, inr}
 use mathlib.Core.Path.{_≡_, refl, sym, ap, _∙_}
 use native.Mathlib.Omega.{arith}
 use lib.ListN.{length, length-append, length-drop}
-use Rattle.octets.specs.Bytes.{Bytes}
 use Rattle.message.specs.Reading.{readingOf}
 use Rattle.protocol.specs.declared.Answer.{Answer}
 use Rattle.protocol.specs.declared.Phase.{Phase}
+use Rattle.protocol.specs.Acked.{acked}
 use Rattle.protocol.specs.Answers.{effectOf, isDone}
 use Rattle.protocol.specs.Calls.{Call, formats, submits, sends, receives, step}
 use Rattle.protocol.specs.Init.{fresh}
 use Rattle.protocol.specs.Judged.{judged}
 use Rattle.protocol.specs.Phases.{phaseFits, upWith}
 use Rattle.protocol.specs.Proper.{Proper}
-use Rattle.protocol.specs.Receive.{ackCount, ackOn, receiveRule}
+use Rattle.protocol.specs.Receive.{ackCount, ackOn, receivedState, receiveRule, taken}
 use Rattle.protocol.specs.State.{State, held}
 use Rattle.protocol.specs.Step.{Step}
 use Rattle.protocol.specs.Submit.{submitRule}
-use Rattle.protocol.proofs.Queues.{receive-queue, submit-queue}
+use Rattle.protocol.proofs.Queues.{received-queue, receive-state, submit-queue}
 use Rattle.protocol.proofs.Settles.{step-answer}
 use Rattle.protocol.proofs.Settling.{admitted-is}
 use Rattle.calls.specs.Outcomes.{After, settleOf}
@@ -28,9 +28,10 @@ use Rattle.calls.specs.State.{stateOf}
 use Rattle.call_meaning.specs.Standing.{Standing}
 use Rattle.connect.specs.Start.{formatOf}
 use Rattle.session.specs.Call.{leaves}
-use Rattle.session.specs.Keepers.{InventsHeld, InventsReleased, Is, Keeper, Meets, Wrong, always-refuses, one-answer, one-answer-to-messages, never-stores, only-nods, invents-counts}
+use Rattle.session.specs.Keepers.{InventsCount, InventsHeld, InventsReleased, Is, Keeper, Meets, Taking, Wrong, stateBefore, stateLeft, always-refuses, one-answer, one-answer-to-messages, one-count, never-stores, only-nods, invents-counts}
 use Rattle.session.proofs.Fresh.{begun, begun-stands, begun-state, second-send}
 use Rattle.session.proofs.Refines.{refines}
+use Rattle.session.proofs.Round.{Alive, alive-none, alive-taken, alive-two, rounded, rounded-stands, rounded-state}
 use Rattle.session.proofs.Sample.{address, address-taken, aliveWith, alive-right, alive-wrong, alive-bytes, terms}
 
 -- ---- what the calls answer to a fresh session
@@ -49,9 +50,12 @@ unfolding judged fresh
 begun-takes = says (submits address) tt ∙ admitted-is (fresh terms) (upWith 0) fits (submitRule (fresh terms) address) ∙ address-taken (fresh terms) refl (omega arith)
 
 -- a KeepAlive by the number that it acknowledges
-alive-says : (n : ℕ) → Bytes (aliveWith n) → {a : Answer} → receiveRule (fresh terms) (upWith 0) (readingOf (aliveWith n)) ≡ a → leaves (receives (aliveWith n)) begun (upWith 0) [] .outcome .answer ≡ a
+alive-says : (n : ℕ) → n < 256 → {a : Answer} → receiveRule (fresh terms) (upWith 0) (readingOf (aliveWith 0 0 0 n)) ≡ a → leaves (receives (aliveWith 0 0 0 n)) begun (upWith 0) [] .outcome .answer ≡ a
 unfolding judged
-alive-says n byte e = says (receives (aliveWith n)) byte ∙ admitted-is (fresh terms) (upWith 0) fits (receiveRule (fresh terms) (upWith 0) (readingOf (aliveWith n))) ∙ e
+alive-says n low e =
+    says (receives (aliveWith 0 0 0 n)) (alive-bytes 0 0 0 n (omega arith) (omega arith) (omega arith) low)
+    ∙ admitted-is (fresh terms) (upWith 0) fits (receiveRule (fresh terms) (upWith 0) (readingOf (aliveWith 0 0 0 n)))
+    ∙ e
 
 -- ---- counts
 -- a message queued is one more
@@ -89,9 +93,9 @@ module _ (keeper : Keeper) (meets : Meets keeper) where
 
   deaf-fails : (a : Answer) → ((im : List ℕ) (ph : Phase) (m : List ℕ) → keeper (receives m) im ph [] .outcome .answer ≡ a) → ⊥
   deaf-fails a wrong =
-      let said : (n : ℕ) → leaves (receives (aliveWith n)) begun (upWith 0) [] .outcome .answer ≡ a =
-      λ n. sym (same-answer (receives (aliveWith n)) begun (upWith 0) []) ∙ wrong begun (upWith 0) (aliveWith n) in
-      let e : Answer.Done ≡ Answer.AckSequenceError = sym (alive-says 0 (alive-bytes 0 (omega arith)) alive-right) ∙ said 0 ∙ sym (said 1) ∙ alive-says 1 (alive-bytes 1 (omega arith)) alive-wrong in
+      let said : (n : ℕ) → leaves (receives (aliveWith 0 0 0 n)) begun (upWith 0) [] .outcome .answer ≡ a =
+      λ n. sym (same-answer (receives (aliveWith 0 0 0 n)) begun (upWith 0) []) ∙ wrong begun (upWith 0) (aliveWith 0 0 0 n) in
+      let e : Answer.Done ≡ Answer.AckSequenceError = sym (alive-says 0 (omega arith) alive-right) ∙ said 0 ∙ sym (said 1) ∙ alive-says 1 (omega arith) alive-wrong in
       let z : _≡_ {A = ℕ} 0 1 = cc in omega arith
 
   storeless-fails : ((im : List ℕ) (ph : Phase) (m : List ℕ) → keeper (submits m) im ph [] .image ≡ im) → ⊥
@@ -112,16 +116,53 @@ module _ (keeper : Keeper) (meets : Meets keeper) where
       (ap (λ (i : List ℕ). held (stateOf i)) (same-image (submits (w .message)) (w .image) (w .phase) [])
       ∙ one-more-held (w .image) (w .phase) (w .standing) (w .message) (sym (same-answer (submits (w .message)) (w .image) (w .phase) []) ∙ w .done))
 
-  releaser-fails : InventsReleased keeper → ⊥
+  -- a message taken leaves what the protocol's Receive leaves
+  left-is : (w : Taking keeper) → stateLeft w ≡ receivedState (stateBefore w) (w .read)
   unfolding step
-  releaser-fails w =
+  left-is w =
       let e = refines (w .image) (Phase.UpFT (w .progress)) (w .standing) [] (receives (w .message)) (w .bytes) in
       let d = sym (ap (λ (x : Step). x .answer) e) ∙ sym (same-answer (receives (w .message)) (w .image) (Phase.UpFT (w .progress)) []) ∙ w .done in
-      w .invented
-      (ap (λ (i : List ℕ). held (stateOf i)) (same-image (receives (w .message)) (w .image) (Phase.UpFT (w .progress)) [])
-      ∙ ap (λ (x : Step). held (x .state)) e
-      ∙ ap length (receive-queue (stateOf (w .image)) (w .progress) (w .message) (w .read) (w .whole) d .0)
-      ∙ length-drop (ackCount (ackOn (stateOf (w .image)) (w .read))) (stateOf (w .image) .queue))
+      ap (λ (i : List ℕ). stateOf i) (same-image (receives (w .message)) (w .image) (Phase.UpFT (w .progress)) [])
+      ∙ ap (λ (x : Step). x .state) e
+      ∙ receive-state (stateOf (w .image)) (w .progress) (w .message) (w .read) (w .whole) d
+
+  count-left : (w : Taking keeper) → held (stateLeft w) ≡ held (stateBefore w) - ackCount (ackOn (stateBefore w) (w .read))
+  count-left w =
+      ap (λ (t : State). held t) (left-is w)
+      ∙ ap length (received-queue (stateBefore w) (w .read) .0)
+      ∙ length-drop (ackCount (ackOn (stateBefore w) (w .read))) (stateBefore w .queue)
+
+  counter-fails : InventsCount keeper → ⊥
+  counter-fails w = w .invented (count-left (w .taking))
+
+  releaser-fails : InventsReleased keeper → ⊥
+  unfolding receivedState taken acked
+  releaser-fails w = w .invented (ap (λ (t : State). t .released .0) (left-is (w .taking)))
+
+  abbrev takes-alive : {n : ℕ} → Alive n → Taking keeper
+  takes-alive x = record {
+    image = rounded;
+    progress = record { sent = 2 };
+    message = x .message;
+    read = x .read;
+    standing = rounded-stands;
+    bytes = x .bytes;
+    whole = x .whole;
+    done = same-answer (receives (x .message)) rounded (upWith 2) [] ∙ alive-taken x;
+  }
+
+  -- P4 and P7: "R=0xFFFFFFFE, I=1: ACK 1 releases 2; .. ACK 0xFFFFFFFE releases none"
+  module _ (k : ℕ) (wrong : (w : Taking keeper) → held (stateBefore w) ≡ held (stateLeft w) + k) where
+    released : (n : ℕ) → Alive n → 2 ≡ (2 - n) + k
+    released n x =
+        let w = takes-alive x in
+        let count : ackCount (ackOn (stateOf rounded) (x .read)) ≡ n = rw rounded-state (ap ackCount (x .count)) in
+        let before : held (stateOf rounded) ≡ 2 = ap (λ (t : State). held t) rounded-state in
+        let left : held (stateLeft w) ≡ 2 - n = count-left w ∙ rw (before, count) in
+        sym before ∙ wrong w ∙ ap (λ (h : ℕ). h + k) left
+
+    one-count-fails : ⊥
+    one-count-fails = omega (arith, released 2 alive-two, released 0 alive-none)
 
 -- ---- the list: whichever it is, it does not meet the promises
 pub no-wrong-keeper : (w : Wrong) (keeper : Keeper) → Is w keeper → Meets keeper → ⊥
@@ -129,7 +170,9 @@ unfolding Is
 no-wrong-keeper always-refuses keeper wrong meets = refuser-fails keeper meets wrong
 no-wrong-keeper one-answer keeper wrong meets = constant-fails keeper meets (wrong .0) (wrong .1)
 no-wrong-keeper one-answer-to-messages keeper wrong meets = deaf-fails keeper meets (wrong .0) (wrong .1)
+no-wrong-keeper one-count keeper wrong meets = one-count-fails keeper meets (wrong .0) (wrong .1)
 no-wrong-keeper never-stores keeper wrong meets = storeless-fails keeper meets wrong
 no-wrong-keeper only-nods keeper wrong meets = nodder-fails keeper meets wrong
 no-wrong-keeper invents-counts keeper (inl wrong) meets = inventor-fails keeper meets wrong
-no-wrong-keeper invents-counts keeper (inr wrong) meets = releaser-fails keeper meets wrong
+no-wrong-keeper invents-counts keeper (inr (inl wrong)) meets = counter-fails keeper meets wrong
+no-wrong-keeper invents-counts keeper (inr (inr wrong)) meets = releaser-fails keeper meets wrong

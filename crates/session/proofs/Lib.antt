@@ -9,5 +9,6 @@ pub mod Medium
 -- the wrong keepers, and the numbers of lower crates
 pub mod Sample
 pub mod Fresh
+pub mod Round
 pub mod Keepers
 pub mod Numbers

@@ -1,25 +1,29 @@
 -- An owner who stores what the outcome tells has the call's image on the medium; one whose power goes before has there an image
 -- that passes the same checks and stands for the same state as before the call. Assumes nothing.
 use Prim.Native.Nat.{ℕ, zero, suc, _≤_, _<_}
-use mathlib.Core.Bool.{false}
+use mathlib.Core.Bool.{true, false}
 use mathlib.Core.List.{List}
 use mathlib.Core.Path.{_≡_, refl, sym, ap, _∙_}
 use native.Mathlib.Omega.{arith}
 use lib.Dec.{eqb}
 use lib.ListN.{length}
 use borrow.Author.Tests.{eqb-false}
+use Rattle.octets.specs.Bytes.{Bytes}
 use Rattle.octets.proofs.Differ.{differ-false}
 use Rattle.block0.specs.Layout.{slotCount}
 use Rattle.image.specs.Sizes.{block}
+use Rattle.image.proofs.Ranges.{bytes-in-range}
 use Rattle.image.proofs.Sound.{parts-sound, sound-parts}
 use Rattle.protocol.specs.declared.Answer.{Answer}
 use Rattle.protocol.specs.declared.Phase.{Phase}
 use Rattle.protocol.specs.Calls.{Call, restores, step}
-use Rattle.protocol.specs.Phases.{restingPhase}
+use Rattle.protocol.specs.Judged.{judged}
+use Rattle.protocol.specs.Phases.{phaseFits, restingPhase}
 use Rattle.protocol.specs.Proper.{Proper}
 use Rattle.protocol.specs.Step.{broken, Step}
 use Rattle.calls.specs.Outcomes.{After, stepStored}
 use Rattle.calls.specs.State.{stateOf}
+use Rattle.calls.proofs.Settled.{checks-sound}
 use Rattle.calls.proofs.Slots.{slot-alone}
 use Rattle.call_meaning.specs.Medium.{Same, allStored, committed, stores}
 use Rattle.call_meaning.specs.Seen.{seen}
@@ -27,7 +31,9 @@ use Rattle.call_meaning.specs.Standing.{Standing}
 use Rattle.call_meaning.proofs.Slots.{slot-same}
 use Rattle.call_meaning.proofs.Written.{Without, fewer-told, not-slot, not-zeroth, told-within, written-all}
 use Rattle.session.specs.Call.{leaves, makesImage}
+use Rattle.session.proofs.Answers.{answer-is}
 use Rattle.session.proofs.Refines.{refines, stands}
+use Rattle.session.proofs.Settles.{answerOn}
 use Rattle.session.proofs.Told.{block0-told, every, others-kept, slot-not-live}
 
 module _ (c : Call) (im : List ℕ) (ph : Phase) (out : List ℕ) (other : makesImage c ≡ false) (st : Standing im ph) where
@@ -80,3 +86,16 @@ module _ (c : Call) (im : List ℕ) (ph : Phase) (out : List ℕ) (other : makes
       } in
       let e = refines (committed n im x) ph there out restores tt in
       (ap (λ (y : Step). y .answer) e, ap (λ (y : Step). y .state) e ∙ rw (same .state), ap (λ (y : Step). y .phase) e ∙ rw (same .state))
+
+-- as an owner reads it: of an image of bytes that restore answers 0 of, and in a phase that it allows, whatever the call was that the power cut short,
+-- restore answers 0 again and gives the state before the call, code 6 words freed
+module _ (c : Call) (im : List ℕ) (ph : Phase) (out : List ℕ) (other : makesImage c ≡ false) where
+  pub cut-of-bytes : Bytes im → leaves restores im ph out .outcome .answer ≡ Answer.Done → phaseFits ph (stateOf im) ≡ true → (n : ℕ) → n < length (stores (leaves c im ph out .outcome))
+      → (leaves restores (committed n im (leaves c im ph out)) ph out .outcome .answer ≡ Answer.Done)
+      × (stateOf (leaves restores (committed n im (leaves c im ph out)) ph out .image) ≡ broken (stateOf im))
+      × (leaves restores (committed n im (leaves c im ph out)) ph out .outcome .phase ≡ restingPhase (stateOf im))
+  unfolding answerOn judged
+  cut-of-bytes byte ok fits n less =
+      let says = sym ok ∙ answer-is restores im ph out in
+      let sound = sound-parts im (checks-sound im says refl) in
+      cut-restores c im ph out other (record { sound = sound; range = bytes-in-range im byte; fits = fits }) n less

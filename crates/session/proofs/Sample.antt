@@ -16,6 +16,7 @@ use Rattle.message.specs.declared.Kind.{Kind}
 use Rattle.message.specs.declared.Submission.{Submission}
 use Rattle.message.specs.Kinds.{kindOf}
 use Rattle.message.specs.Reading.{typeOf, messageOf, placesOf, readingOf}
+use Rattle.message.specs.Storable.{Storable}
 use Rattle.message.specs.Submission.{noLabel, bearsFt, submissionOf}
 use Rattle.protocol.specs.declared.Answer.{Answer}
 use Rattle.protocol.specs.declared.Terms.{Terms}
@@ -39,14 +40,17 @@ address-accepted : submissionOf address ≡ Submission.Accepted Kind.Address noL
 unfolding submissionOf readingOf placesOf tlvsOf walkOf fix steps turnOf typeOf bearsFt messageOf kindOf
 address-accepted = refl
 
+pub address-storable : Storable address
+address-storable = record { low = omega arith; short = omega arith; kind = Kind.Address; label = noLabel; accepted = address-accepted }
+
 -- while state is kept and there is room it is taken
 pub address-taken : (s : State) → s .kept ≡ true → held s < capacity → submitRule s address ≡ Answer.Done
 unfolding submitRule kindRule isBarred acceptedAs
 address-taken s kept room = rw (kept, address-accepted, lt-leb capacity (held s) room)
 
--- a KeepAlive that acknowledges a number below 256
-abbrev pub aliveWith : ℕ → List ℕ
-aliveWith n = 2 ∷ 1 ∷ 0 ∷ 12 ∷ 0 ∷ 0 ∷ 0 ∷ 1 ∷ 5 ∷ 4 ∷ 0 ∷ 4 ∷ 0 ∷ 0 ∷ 0 ∷ n ∷ []
+-- a KeepAlive that acknowledges the number of these four bytes
+abbrev pub aliveWith : ℕ → ℕ → ℕ → ℕ → List ℕ
+aliveWith a b c d = 2 ∷ 1 ∷ 0 ∷ 12 ∷ 0 ∷ 0 ∷ 0 ∷ 1 ∷ 5 ∷ 4 ∷ 0 ∷ 4 ∷ a ∷ b ∷ c ∷ d ∷ []
 
 abbrev Each : List ℕ → Type 0
 Each [] = Unit {0}
@@ -57,14 +61,16 @@ each-byte [] e i = omega arith
 each-byte (x ∷ xs) e zero = e .0
 each-byte (x ∷ xs) e (suc i) = each-byte xs (e .1) i
 
-pub alive-bytes : (n : ℕ) → n < 256 → Bytes (aliveWith n)
-alive-bytes n l = each-byte (aliveWith n) (omega arith, (omega arith, (omega arith, (omega arith, (omega arith, (omega arith, (omega arith, (omega arith, (omega arith, (omega arith, (omega arith, (omega arith, (omega arith, (omega arith, (omega arith, (l, tt))))))))))))))))
+pub alive-bytes : (a b c d : ℕ) → a < 256 → b < 256 → c < 256 → d < 256 → Bytes (aliveWith a b c d)
+alive-bytes a b c d la lb lc ld =
+    each-byte (aliveWith a b c d)
+    (omega arith, (omega arith, (omega arith, (omega arith, (omega arith, (omega arith, (omega arith, (omega arith, (omega arith, (omega arith, (omega arith, (omega arith, (la, (lb, (lc, (ld, tt))))))))))))))))
 
 -- nothing was issued: zero says so, and one was never sent
-pub alive-right : receiveRule (fresh terms) (upWith 0) (readingOf (aliveWith 0)) ≡ Answer.Done
+pub alive-right : receiveRule (fresh terms) (upWith 0) (readingOf (aliveWith 0 0 0 0)) ≡ Answer.Done
 unfolding fresh readingOf placesOf tlvsOf walkOf fix steps turnOf notedOf tlvOf typeOf messageOf kindOf fieldAt numberAt ftRule messageRule ackOn ackOf stepsOf labelsRule protectionRule labelEffect
 alive-right = refl
 
-pub alive-wrong : receiveRule (fresh terms) (upWith 0) (readingOf (aliveWith 1)) ≡ Answer.AckSequenceError
+pub alive-wrong : receiveRule (fresh terms) (upWith 0) (readingOf (aliveWith 0 0 0 1)) ≡ Answer.AckSequenceError
 unfolding fresh readingOf placesOf tlvsOf walkOf fix steps turnOf notedOf tlvOf typeOf messageOf kindOf fieldAt numberAt ftRule messageRule ackOn ackOf stepsOf
 alive-wrong = refl

@@ -12,11 +12,12 @@ use Rattle.message.specs.Reading.{readingOf}
 use Rattle.protocol.specs.declared.Answer.{Answer}
 use Rattle.protocol.specs.declared.Phase.{Phase}
 use Rattle.protocol.specs.declared.Progress.{Progress}
+use Rattle.protocol.specs.Acked.{ackBorne}
 use Rattle.protocol.specs.Answers.{isDone}
 use Rattle.protocol.specs.Calls.{Call, submits, sends, receives}
 use Rattle.protocol.specs.Phases.{upWith}
 use Rattle.protocol.specs.Receive.{ackCount, ackOn}
-use Rattle.protocol.specs.State.{held}
+use Rattle.protocol.specs.State.{State, held}
 use Rattle.calls.specs.Outcomes.{After}
 use Rattle.calls.specs.State.{stateOf}
 use Rattle.call_meaning.specs.Standing.{Standing}
@@ -38,8 +39,8 @@ pub record InventsHeld (keeper : Keeper) : Type 0 where
   pub done : keeper (submits message) image phase [] .outcome .answer ≡ Answer.Done
   pub invented : held (stateOf (keeper (submits message) image phase [] .image)) ≢ held (stateOf image) + 1
 
--- a message taken by a call that left another count than those held less those that its ACK releases
-pub record InventsReleased (keeper : Keeper) : Type 0 where
+-- a message that the keeper takes in UpFT
+pub record Taking (keeper : Keeper) : Type 0 where
   pub image : List ℕ
   pub progress : Progress
   pub message : List ℕ
@@ -48,10 +49,26 @@ pub record InventsReleased (keeper : Keeper) : Type 0 where
   pub bytes : Bytes message
   pub whole : readingOf message ≡ Reading.Whole read
   pub done : keeper (receives message) image (Phase.UpFT progress) [] .outcome .answer ≡ Answer.Done
-  pub invented : held (stateOf (keeper (receives message) image (Phase.UpFT progress) [] .image)) ≢ held (stateOf image) - ackCount (ackOn (stateOf image) read)
+
+-- the state before it, and the state that the keeper leaves
+abbrev pub stateBefore : {keeper : Keeper} → Taking keeper → State
+stateBefore w = stateOf (w .image)
+
+abbrev pub stateLeft : {keeper : Keeper} → Taking keeper → State
+stateLeft {keeper} w = stateOf (keeper (receives (w .message)) (w .image) (Phase.UpFT (w .progress)) [] .image)
+
+-- it left another count than those held less those that its ACK releases
+pub record InventsCount (keeper : Keeper) : Type 0 where
+  pub taking : Taking keeper
+  pub invented : held (stateLeft taking) ≢ held (stateBefore taking) - ackCount (ackOn (stateBefore taking) (taking .read))
+
+-- it left another R than the number that its ACK names
+pub record InventsReleased (keeper : Keeper) : Type 0 where
+  pub taking : Taking keeper
+  pub invented : stateLeft taking .released .0 ≢ ackBorne (stateBefore taking) (taking .read .ack)
 
 pub data Wrong : Type 0 where
-  always-refuses one-answer one-answer-to-messages never-stores only-nods invents-counts : Wrong
+  always-refuses one-answer one-answer-to-messages one-count never-stores only-nods invents-counts : Wrong
 
 unfoldable pub Is : Wrong → Keeper → Type 0
 -- every submission is refused
@@ -60,8 +77,10 @@ Is always-refuses keeper = (im : List ℕ) (ph : Phase) (m : List ℕ) → isDon
 Is one-answer keeper = (a : Answer) × ((c : Call) (im : List ℕ) (ph : Phase) (out : List ℕ) → keeper c im ph out .outcome .answer ≡ a)
 -- every message received has one and the same answer, whatever it acknowledges
 Is one-answer-to-messages keeper = (a : Answer) × ((im : List ℕ) (ph : Phase) (m : List ℕ) → keeper (receives m) im ph [] .outcome .answer ≡ a)
+-- every message taken releases one and the same count, whatever it acknowledges
+Is one-count keeper = (k : ℕ) × ((w : Taking keeper) → held (stateBefore w) ≡ held (stateLeft w) + k)
 -- no submission changes the image
 Is never-stores keeper = (im : List ℕ) (ph : Phase) (m : List ℕ) → keeper (submits m) im ph [] .image ≡ im
 -- once something was sent on a connection, nothing more is written
 Is only-nods keeper = (im : List ℕ) (sent : ℕ) (ask : Bool) (out : List ℕ) → 1 ≤ sent → keeper (sends ask) im (upWith sent) out .outcome .written ≡ 0
-Is invents-counts keeper = InventsHeld keeper ⊎ InventsReleased keeper
+Is invents-counts keeper = InventsHeld keeper ⊎ (InventsCount keeper ⊎ InventsReleased keeper)
