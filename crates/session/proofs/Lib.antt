@@ -3,6 +3,7 @@ pub mod Settles
 pub mod Answers
 pub mod Puts
 pub mod Refines
+pub mod Room
 -- what the owner stores
 pub mod Told
 pub mod Medium
