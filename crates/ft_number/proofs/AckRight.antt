@@ -1,6 +1,6 @@
 -- An ACK is right, and releases k, exactly if it is the k-th successor of R and k is at most the steps from R to I; every other ACK is a
 -- sequence error. The only premise is that the three are numbers (0 to 0xFFFFFFFF).
-use Prim.Native.Nat.{ℕ, zero, suc, _+_, _<_, _≤_}
+use Prim.Native.Nat.{ℕ, zero, suc, _<_, _≤_}
 use mathlib.Core.Path.{_≡_, refl, sym, ap, _∙_}
 use native.Mathlib.Omega.{arith}
 use Rattle.ft_number.specs.declared.Ack.{Ack}

@@ -32,8 +32,8 @@ use Rattle.call_meaning.proofs.Slots.{slot-same}
 use Rattle.call_meaning.proofs.Written.{Without, fewer-told, not-slot, not-zeroth, told-within, written-all}
 use Rattle.session.specs.Call.{leaves, makesImage}
 use Rattle.session.proofs.Answers.{answer-is}
-use Rattle.session.proofs.Settles.{answerOn}
 use Rattle.session.proofs.Refines.{refines, stands}
+use Rattle.session.proofs.Settles.{answerOn}
 use Rattle.session.proofs.Told.{block0-told, every, others-kept, slot-not-live}
 
 module _ (c : Call) (im : List ℕ) (ph : Phase) (out : List ℕ) (other : makesImage c ≡ false) (st : Standing im ph) where

@@ -11,7 +11,6 @@ use Rattle.image.proofs.Sound.{sound-parts, sound-valid}
 use Rattle.protocol.specs.declared.Answer.{Answer}
 use Rattle.protocol.specs.declared.Phase.{Phase}
 use Rattle.protocol.specs.Calls.{submits, step}
-use Rattle.protocol.specs.Judged.{judged}
 use Rattle.protocol.specs.State.{capacity, held}
 use Rattle.protocol.specs.Submit.{submit}
 use Rattle.protocol.specs.SubmitCases.{Passes}
