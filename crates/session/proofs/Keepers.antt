@@ -1,11 +1,11 @@
 -- No wrong keeper of 01's list meets the promises. Assumes nothing.
 use Prim.Native.Nat.{ℕ, _+_, _-_, _≤_, _<_}
 use mathlib.Core.Bool.{Bool, true, false, true≢false}
-use mathlib.Core.List.{List, [], _∷_}
+use mathlib.Core.List.{List, []}
 use mathlib.Core.Logic.{inl, inr}
 use mathlib.Core.Path.{_≡_, refl, sym, ap, _∙_}
 use native.Mathlib.Omega.{arith}
-use lib.ListN.{length, length-append, length-drop}
+use lib.ListN.{length, length-drop}
 use Rattle.message.specs.Reading.{readingOf}
 use Rattle.protocol.specs.declared.Answer.{Answer}
 use Rattle.protocol.specs.declared.Phase.{Phase}
@@ -20,16 +20,16 @@ use Rattle.protocol.specs.Receive.{ackCount, ackOn, receivedState, receiveRule,
 use Rattle.protocol.specs.State.{State, held}
 use Rattle.protocol.specs.Step.{Step}
 use Rattle.protocol.specs.Submit.{submitRule}
-use Rattle.protocol.proofs.Queues.{received-queue, receive-state, submit-queue}
+use Rattle.protocol.proofs.Queues.{received-queue, receive-state}
 use Rattle.protocol.proofs.Settles.{step-answer}
 use Rattle.protocol.proofs.Settling.{admitted-is}
 use Rattle.calls.specs.Outcomes.{After, settleOf}
 use Rattle.calls.specs.State.{stateOf}
-use Rattle.call_meaning.specs.Standing.{Standing}
 use Rattle.connect.specs.Start.{formatOf}
 use Rattle.session.specs.Call.{leaves}
 use Rattle.session.specs.Keepers.{InventsCount, InventsHeld, InventsReleased, Is, Keeper, Meets, Taking, Wrong, stateBefore, stateLeft, always-refuses, one-answer, one-answer-to-messages, one-count, never-stores, only-nods, invents-counts}
 use Rattle.session.proofs.Fresh.{begun, begun-stands, begun-state, second-send}
+use Rattle.session.proofs.Queued.{one-more-held}
 use Rattle.session.proofs.Refines.{refines}
 use Rattle.session.proofs.Round.{Alive, alive-none, alive-taken, alive-two, rounded, rounded-stands, rounded-state}
 use Rattle.session.proofs.Sample.{address, address-taken, aliveWith, alive-right, alive-wrong, alive-bytes, terms}
@@ -56,17 +56,6 @@ alive-says n low e =
     says (receives (aliveWith 0 0 0 n)) (alive-bytes 0 0 0 n (omega arith) (omega arith) (omega arith) low)
     ∙ admitted-is (fresh terms) (upWith 0) fits (receiveRule (fresh terms) (upWith 0) (readingOf (aliveWith 0 0 0 n)))
     ∙ e
-
--- ---- counts
--- a message queued is one more
-one-more-held : (im : List ℕ) (ph : Phase) → Standing im ph → (m : List ℕ) → leaves (submits m) im ph [] .outcome .answer ≡ Answer.Done
-    → held (stateOf (leaves (submits m) im ph [] .image)) ≡ held (stateOf im) + 1
-unfolding step
-one-more-held im ph st m d =
-    let e = refines im ph st [] (submits m) tt in
-    ap (λ (x : Step). held (x .state)) e
-    ∙ ap length (submit-queue (stateOf im) ph m (sym (ap (λ (x : Step). x .answer) e) ∙ d))
-    ∙ length-append (stateOf im .queue) (m ∷ [])
 
 module _ (keeper : Keeper) (meets : Meets keeper) where
   same-answer : (c : Call) (im : List ℕ) (ph : Phase) (out : List ℕ) → keeper c im ph out .outcome .answer ≡ leaves c im ph out .outcome .answer
@@ -102,7 +91,7 @@ module _ (keeper : Keeper) (meets : Meets keeper) where
   storeless-fails wrong =
       let still : held (stateOf (leaves (submits address) begun (upWith 0) [] .image)) ≡ held (stateOf begun) =
       ap (λ (i : List ℕ). held (stateOf i)) (sym (same-image (submits address) begun (upWith 0) []) ∙ wrong begun (upWith 0) address) in
-      omega (arith, one-more-held begun (upWith 0) begun-stands address begun-takes)
+      omega (arith, one-more-held begun (upWith 0) begun-stands address [] begun-takes)
 
   nodder-fails : ((im : List ℕ) (sent : ℕ) (ask : Bool) (out : List ℕ) → 1 ≤ sent → keeper (sends ask) im (upWith sent) out .outcome .written ≡ 0) → ⊥
   nodder-fails wrong =
@@ -114,7 +103,7 @@ module _ (keeper : Keeper) (meets : Meets keeper) where
   inventor-fails w =
       w .invented
       (ap (λ (i : List ℕ). held (stateOf i)) (same-image (submits (w .message)) (w .image) (w .phase) [])
-      ∙ one-more-held (w .image) (w .phase) (w .standing) (w .message) (sym (same-answer (submits (w .message)) (w .image) (w .phase) []) ∙ w .done))
+      ∙ one-more-held (w .image) (w .phase) (w .standing) (w .message) [] (sym (same-answer (submits (w .message)) (w .image) (w .phase) []) ∙ w .done))
 
   -- a message taken leaves what the protocol's Receive leaves
   left-is : (w : Taking keeper) → stateLeft w ≡ receivedState (stateBefore w) (w .read)

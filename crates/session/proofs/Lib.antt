@@ -2,10 +2,12 @@
 pub mod Settles
 pub mod Answers
 pub mod Puts
+pub mod Begin
 pub mod Refines
 pub mod Room
 -- what the owner stores
 pub mod Told
+pub mod Queued
 pub mod Medium
 -- the wrong keepers, and the numbers of lower crates
 pub mod Sample

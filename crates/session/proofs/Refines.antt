@@ -4,12 +4,10 @@ use mathlib.Core.Bool.{true, false}
 use mathlib.Core.List.{List, []}
 use mathlib.Core.Path.{_≡_, refl, sym, ap, _∙_}
 use lib.ListN.{length}
-use borrow.Author.Tests.{eq-eqb}
 use Rattle.image.specs.declared.Verdict.{Verdict}
-use Rattle.image.specs.Sizes.{imageSize}
 use Rattle.image.specs.State.{InRange, decode}
 use Rattle.image.specs.Verdict.{IsSound}
-use Rattle.image.proofs.Changes.{new-sound, new-decodes, in-range-released}
+use Rattle.image.proofs.Changes.{new-decodes}
 use Rattle.image.proofs.Sound.{parts-sound}
 use Rattle.protocol.specs.declared.Answer.{Answer}
 use Rattle.protocol.specs.declared.Phase.{Phase}
@@ -31,8 +29,8 @@ use Rattle.call_meaning.specs.Seen.{seen}
 use Rattle.call_meaning.specs.Standing.{Standing, Stands}
 use Rattle.call_meaning.proofs.Putting.{lawful-image}
 use Rattle.call_meaning.proofs.Refining.{Kept, call-seen, call-stands}
-use Rattle.connect.specs.Start.{formatOf, formatted}
 use Rattle.session.specs.Call.{given, leaves, lent, makesImage, slotsOf}
+use Rattle.session.proofs.Begin.{format-formats, formatted-stands}
 use Rattle.session.proofs.Puts.{done-keeps}
 use Rattle.session.proofs.Settles.{called}
 
@@ -75,15 +73,10 @@ module _ (im : List ℕ) (ph : Phase) (st : Standing im ph) (out : List ℕ) whe
   unfolding judged done
   restore-keeps t = done-keeps im ph st restores 0 refl tt refl
 
-  -- ---- Format makes a new image of one that has its size
-  formatted-is : leaves formats im ph out ≡ formatted
-  unfolding leaves formatOf settleOf effectOf
-  formatted-is = rw (eq-eqb (length im) imageSize (st .sound .size))
-
   -- ---- every call
   pub stands : (c : Call) → Proper c ph → Stands (leaves c im ph out)
   unfolding phaseFits
-  stands formats p = rw formatted-is (record { sound = new-sound; range = rw new-decodes in-range-released; fits = rw new-decodes })
+  stands formats p = rw (format-formats im ph out (st .sound .size)) formatted-stands
   stands restores p = rw restored (call-stands im ph st [] stay Answer.Done (restore (stateOf im)) refl restore-keeps)
   stands fails p = given-stands fails refl refl p
   stands (opens id own proposal) p = given-stands (opens id own proposal) refl refl p
@@ -97,7 +90,7 @@ module _ (im : List ℕ) (ph : Phase) (st : Standing im ph) (out : List ℕ) whe
   -- every call, on an image that stands: answer, state, phase and bytes written are those of `step` on its state
   pub refines : (c : Call) → Proper c ph → seen (leaves c im ph out) ≡ step c (stateOf im) ph (length out)
   unfolding step settle effectOf
-  refines formats p = ap seen formatted-is ∙ rw new-decodes
+  refines formats p = ap seen (format-formats im ph out (st .sound .size)) ∙ rw new-decodes
   refines restores p = ap seen restored ∙ call-seen im ph st [] stay Answer.Done (restore (stateOf im)) refl restore-keeps
   refines fails p = given-seen fails refl refl p
   refines (opens id own proposal) p = given-seen (opens id own proposal) refl refl p
