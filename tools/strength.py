@@ -1,5 +1,6 @@
 #!/usr/bin/env python3
-"""docs/STRENGTH.md: of every public function where its promise is stated and proved, and the wrong answers that are tried on it.
+"""docs/STRENGTH.md: of every public function its promise, its `requires`, where it is stated and proved, and the wrong answers that are
+tried on it; and of every crate its laws.
 
     tools/strength.py            writes the file from the sources and the must-fail edits
     tools/strength.py --check    fails where the stored file is another, or a call has fewer wrong answers than it should
@@ -16,23 +17,51 @@ PAGE = ROOT / "docs" / "STRENGTH.md"
 TWICE = {"ft_number", "pdu", "message", "label_list", "image", "connect", "init", "submit", "send", "timers", "receive"}
 HEAD = """# Strength of the promises
 
-Made by `tools/strength.py` from the sources and the must-fail edits; the gate checks that it is up to date.
+Made by `tools/strength.py` from the sources and the must-fail edits; the gate checks that it is up to date. What an owner can trust is in
+docs/PROMISES.md; this page is its reference, crate by crate from the lowest to the highest.
 
-Each public function, the definitions that its contract cites, where its proof stands ("search": the prover finds it by itself), and
-the wrong answers that are tried on it, each with the rule that it breaks or with what it would do. A wrong answer is a change of code or
-of a definition in `crates/NAME/must-fail/*.edit`; the gate applies it, the prover must refuse it, and `tools/refusals.py` looks that it is
-refused by itself and for a false fact. Where a change is made in a helper, or refused in a law, that is named in brackets. The promises
-in words are in docs/PROMISES.md.
+**Functions.** Each public function: its promise in words, as the comment over it says it; its preconditions, "-" where it takes every
+input, and the crates that call it and so show them; the definitions that its contract cites; where its proof stands ("search": the prover
+finds it by itself); and the wrong answers that are tried on it, each with the rule that it breaks or with what it would do. The contract
+stands over the function in `src/`. A wrong answer is a change of code or of a definition in `crates/NAME/must-fail/*.edit`; the gate
+applies it, the prover must refuse it, and `tools/refusals.py` looks that it is refused by itself and for a false fact. Where a change is
+made in a helper, or refused in a law, that is named in brackets.
+
+**Inside.** The functions with a precondition that no other crate can call.
+
+**Laws.** The public names of `proofs/`, file by file, each with its sentence; those without one, aids of the others, stand at the end of
+their file. Words of statements are defined in `specs/`.
 
 """
 FUNCTION = re.compile(r"^(pub )?(?:extern \"C\" )?fn (\w+)\(", re.M)
 GHOST_USE = re.compile(r"^ghost use Rattle·(\w+)(?:·specs\.specs|\.specs)\.([\w.]+?)(?:\.\{([^}]*)\})?;", re.M)
 ENSURES = re.compile(r"ensures [^{]*\{(.*)\}\s*$", re.M)
+REQUIRES = re.compile(r"requires \{ ⌜ (.*) ⌝ \}\s*$", re.M)
+LAW = re.compile(r"\s*(?:abbrev |unfoldable )?pub (?:record |data |ruleset )?([^\s(){}:]+)(?=\s)")
+
+
+def words_above(lines, mark):
+    """The comment that ends these lines, headings of sections too, without its marks; attributes between are passed over."""
+    said = []
+    for line in reversed(lines):
+        if line.startswith("#["):
+            continue
+        if not line.lstrip().startswith(mark):
+            break
+        said.insert(0, line.strip().removeprefix(mark).strip(" -"))
+    return " ".join(said).replace("|", "\\|")
+
+
+def head_of(lines, mark):
+    """The comment that opens a file."""
+    return words_above(lines[: next((n for n, line in enumerate(lines) if not line.startswith(mark)), len(lines))], mark)
 
 
 class Function:
-    def __init__(self, crate, path, public, name, text, cited):
+    def __init__(self, crate, path, public, name, text, cited, above):
         self.crate, self.public, self.name, self.text = crate, public, name, text
+        self.promise = words_above(above.splitlines(), "//") or "-"
+        self.requires = "; ".join(f"`{clause}`" for clause in REQUIRES.findall(text)).replace("|", "\\|")
         inside = path.relative_to(crate / "src").with_suffix("").as_posix()
         self.module = "" if inside in ("lib", "main") else inside + "/"
         clauses = " ".join(ENSURES.findall(text))
@@ -65,8 +94,9 @@ def functions(crate):
         starts = list(FUNCTION.finditer(source)) + [None]
         for this, following in zip(starts, starts[1:]):
             text = source[this.start() : following.start() if following else len(source)]
-            seen = path == root or path.stem in open_modules or this[2] in exported
-            found[this[2]] = Function(crate, path, bool(this[1]) and seen, this[2], text, definitions(crate, source))
+            above = source[: this.start()]
+            seen = path == root or path.stem in open_modules or this[2] in exported or above.endswith("#[no_mangle]\n")
+            found[this[2]] = Function(crate, path, bool(this[1]) and seen, this[2], text, definitions(crate, source), above)
     return found
 
 
@@ -106,27 +136,77 @@ def cell(answers, own):
     return "; ".join(said).replace("|", "\\|") or "none"
 
 
-def section(crate, faults):
-    here = functions(crate)
-    tried = wrong_answers(crate)
+def callers(function, sources):
+    """The crates that call a function, its own included, by their sources."""
+    own, name = function.crate.name, function.name
+    module = function.module.rstrip("/")
+    inside = re.search(rf"(?<!fn )\b{name}\(", sources[own])
+    whole = re.compile(rf"\b{own}::(?:\w+::)*{name}\b")
+    others = [
+        crate
+        for crate, text in sources.items()
+        if crate != own and (whole.search(text) or (f"use {own}::{module};" in text and f"{module}::{name}(" in text))
+    ]
+    return ([own] if inside else []) + others
+
+
+def needs(function, sources):
+    """The preconditions of a function, and who shows them."""
+    if not function.requires:
+        return "-"
+    return f"{function.requires}; shown by {', '.join(callers(function, sources)) or 'nobody: it is not called'}"
+
+
+def function_table(here, tried, sources, faults):
+    """The rows of the public functions, and the wrong answers that they show."""
     public = [f for f in here.values() if f.public]
-    if not public and not tried:
-        return ""
     rows, shown = [], set()
     for function in public:
         answers = tried_on(function, here, tried, len(public) == 1)
         shown.update(answers)
-        if crate.name in TWICE and len(answers) < 2:
-            faults.append(f"{crate.name}::{function.name}: {len(answers)} wrong answers tried, two wanted")
-        rows.append(f"| `{function.name}` | {', '.join(function.cites) or '-'} | {function.proof()} | {cell(answers, function.name)} |")
-    lines = [f"## {crate.name}\n"]
-    if rows:
-        lines += ["| function | stated | proved | wrong answers tried |", "|---|---|---|---|", *rows, ""]
-    laws = [answer for answer in tried if answer not in shown]
-    if laws:
+        name, crate = function.name, function.crate.name
+        if crate in TWICE and len(answers) < 2:
+            faults.append(f"{crate}::{name}: {len(answers)} wrong answers tried, two wanted")
+        stated = ", ".join(function.cites) or "-"
+        rows.append(f"| `{name}` | {function.promise} | {needs(function, sources)} | {stated} | {function.proof()} | {cell(answers, name)} |")
+    head = ["| function | promise | requires | stated | proved | wrong answers tried |", "|---|---|---|---|---|---|"]
+    return [*head, *rows, ""] if rows else [], shown
+
+
+def inside_table(here):
+    """The preconditions of functions that only their own crate can call."""
+    rows = [f"| `{f.name}` | {f.promise} | {f.requires} |" for f in here.values() if f.requires and not f.public]
+    return ["| inside | what it does | requires |", "|---|---|---|", *rows, ""] if rows else []
+
+
+def laws_in(path):
+    """The rows of a file of laws: what it holds, each law with a sentence, and the names of the others."""
+    lines = path.read_text().splitlines()
+    rows, bare = [f"| {path.relative_to(path.parent.parent)} | *{head_of(lines, '--')}* |"], []
+    for number, line in enumerate(lines):
+        law = LAW.match(line)
+        said = law and words_above(lines[:number], "--")
+        if said:
+            rows.append(f"| `{law[1]}` | {said} |")
+        elif law:
+            bare.append(f"`{law[1]}`")
+    return rows + ([f"| and | {', '.join(dict.fromkeys(bare))} |"] if bare else [])
+
+
+def law_table(crate):
+    rows = [row for path in sorted((crate / "proofs").glob("*.antt")) for row in laws_in(path)]
+    return ["| law | says |", "|---|---|", *rows, ""] if rows else []
+
+
+def section(crate, sources, faults):
+    here, tried = functions(crate), wrong_answers(crate)
+    of_functions, shown = function_table(here, tried, sources, faults)
+    refused = [answer for answer in tried if answer not in shown]
+    lines = [f"## {crate.name}\n", head_of((crate / "src" / "lib.rt").read_text().splitlines(), "//") + "\n", *of_functions, *inside_table(here)]
+    if refused:
         lines += ["| refused in | wrong answer tried |", "|---|---|"]
-        lines += [f"| `{name}` | `{label}`: {words} |" for label, name, words in laws] + [""]
-    return "\n".join(lines) + "\n"
+        lines += [f"| `{name}` | `{label}`: {words} |" for label, name, words in refused] + [""]
+    return "\n".join(lines + law_table(crate)) + "\n"
 
 
 def cited_in_coverage(tried):
@@ -145,7 +225,8 @@ def crates():
 def main(check):
     faults = []
     libraries = [crate for crate in crates() if (crate / "src" / "lib.rt").is_file()]
-    made = HEAD + "".join(section(crate, faults) for crate in libraries)
+    sources = {crate.name: "\n".join(path.read_text() for path in sorted((crate / "src").rglob("*.rt"))) for crate in crates()}
+    made = HEAD + "".join(section(crate, sources, faults) for crate in libraries)
     faults += cited_in_coverage({(crate.name, label) for crate in libraries for label, _, _ in wrong_answers(crate)})
     if not check:
         PAGE.write_text(made)

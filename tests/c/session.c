@@ -7,20 +7,39 @@
 
 /* The image in memory, what its store holds, and the phase. */
 typedef struct {
-    const char *name;
     uint8_t image[LDP_FT_IMAGE_SIZE];
     uint8_t store[LDP_FT_IMAGE_SIZE];
     ldp_ft_session session;
 } cabinet;
 
-static cabinet ours = {.name = "ours"}, peer = {.name = "peer"};
+static cabinet ours, peer;
 static uint8_t out[504];
+
+/* What is to be written, byte by byte: both ends take their parameters by one header, and would not notice if two of them were swapped. Our Init
+   has message ID 0x11223344, KeepAlive time 30, maximum PDU length 4096, receiver 10.0.0.1:3 and 5 seconds; where state is kept R is set, and the ACK. */
+#define ID_AND_PARAMETERS 0x11, 0x22, 0x33, 0x44, 0x05, 0x00, 0, 14, 0, 1, 0, 30, 0, 0, 0x10, 0x00, 10, 0, 0, 1, 0, 3
+static const uint8_t fresh_init[34] = {0x02, 0x00, 0, 30, ID_AND_PARAMETERS, 0x85, 0x03, 0, 4, 0x00, 0, 0, 5};
+static const uint8_t our_resuming_init[42] = {0x02, 0x00, 0, 38, ID_AND_PARAMETERS, 0x85, 0x03, 0, 4, 0x80, 0, 0, 5, 0x05, 0x04, 0, 4, 0, 0, 0, 0};
+static const uint8_t peers_resuming_init[42] = {0x02, 0x00, 0, 38, ID_AND_PARAMETERS, 0x85, 0x03, 0, 4, 0x80, 0, 0, 5, 0x05, 0x04, 0, 4, 0, 0, 0, 1};
+static const uint8_t keepalive[16] = {0x02, 0x01, 0, 12, 0, 0, 0, 7, 0x05, 0x04, 0, 4, 0, 0, 0, 2};
+
+/* A Mapping (0x0400) and a Withdraw (0x0402) of label 16, FEC 10.0.0.0/24, as submitted, and as sent with numbers 1 and 2 and ACK 0. */
+#define FEC_AND_LABEL 0x01, 0x00, 0, 7, 2, 0, 1, 24, 10, 0, 0, 0x02, 0x00, 0, 4, 0, 0, 0, 16
+static const uint8_t mapping[27] = {0x04, 0x00, 0, 23, 0, 0, 0, 9, FEC_AND_LABEL};
+static const uint8_t mapping_sent[43] = {0x04, 0x00, 0, 39, 0, 0, 0, 9, FEC_AND_LABEL, 0x02, 0x03, 0, 4, 0, 0, 0, 1, 0x05, 0x04, 0, 4, 0, 0, 0, 0};
+static const uint8_t withdraw[27] = {0x04, 0x02, 0, 23, 0, 0, 0, 10, FEC_AND_LABEL};
+static const uint8_t withdraw_sent[43] = {0x04, 0x02, 0, 39, 0, 0, 0, 10, FEC_AND_LABEL, 0x02, 0x03, 0, 4, 0, 0, 0, 2, 0x05, 0x04, 0, 4, 0, 0, 0, 0};
 
 static void expect(uint32_t found, uint32_t wanted, const char *what) {
     if (found != wanted) {
         printf("%s: %u, and %u is wanted\n", what, (unsigned)found, (unsigned)wanted);
         exit(1);
     }
+}
+
+static void expect_written(size_t length, const uint8_t *wanted, size_t wanted_length, const char *what) {
+    expect((uint32_t)length, (uint32_t)wanted_length, what);
+    for (size_t i = 0; i < length; i++) expect(out[i], wanted[i], what);
 }
 
 static void store_block(cabinet *c, uint32_t block) {
@@ -36,51 +55,52 @@ static size_t settle(cabinet *c, ldp_ft_outcome o, uint32_t answer, const char *
     return o.length;
 }
 
-static size_t open_session(cabinet *c) {
-    ldp_ft_outcome o = ldp_ft_open(c->image, sizeof c->image, c->session, 1, 30, 4096, 0x0a000001, 0, false, 0, out, sizeof out);
+/* The proposal is not given, so its 9 is not read. */
+static size_t open_session(cabinet *c, const uint8_t *wanted, size_t wanted_length) {
+    ldp_ft_outcome o =
+        ldp_ft_open(c->image, sizeof c->image, c->session, 0x11223344, 30, 4096, 0x0a000001, 3, false, 9, out, sizeof out);
     size_t length = settle(c, o, 0, "open");
+    expect_written(length, wanted, wanted_length, "Init");
     expect(c->session.phase, LDP_FT_INIT_WAIT, "phase after open");
     expect(c->session.value, 5, "proposed timeout");
     return length;
 }
 
-/* Both Inits cross. */
-static void connect_both(size_t init_length) {
-    uint8_t init[504];
-    size_t length = open_session(&ours);
-    expect((uint32_t)length, (uint32_t)init_length, "length of Init");
-    memcpy(init, out, length);
-    size_t back = open_session(&peer);
-    settle(&ours, ldp_ft_init_received(ours.image, sizeof ours.image, ours.session, out, back), 0, "Init received");
-    settle(&peer, ldp_ft_init_received(peer.image, sizeof peer.image, peer.session, init, length), 0, "Init received by the peer");
+/* Both Inits cross; they have the same length. */
+static void connect_both(const uint8_t *our_init, const uint8_t *peers_init, size_t length) {
+    open_session(&ours, our_init, length);
+    open_session(&peer, peers_init, length);
+    settle(&ours, ldp_ft_init_received(ours.image, sizeof ours.image, ours.session, peers_init, length), 0, "Init received");
+    settle(&peer, ldp_ft_init_received(peer.image, sizeof peer.image, peer.session, our_init, length), 0, "Init received by the peer");
     expect(ours.session.phase, LDP_FT_UP_FT, "phase after Init");
     expect(peer.session.phase, LDP_FT_UP_FT, "the peer's phase after Init");
 }
 
-/* Everything that one has to send arrives at the other; the number of messages. */
-static unsigned flush(cabinet *from, cabinet *to) {
-    unsigned count = 0;
-    for (;;) {
-        ldp_ft_outcome o = ldp_ft_send_next(from->image, sizeof from->image, from->session, true, out, sizeof out);
-        size_t length = settle(from, o, o.answer == 8 ? 8 : 0, "send next");
-        if (o.answer == 8) return count;
-        settle(to, ldp_ft_receive(to->image, sizeof to->image, to->session, out, length), 0, "receive");
-        count++;
-    }
+static void nothing_unsent(void) {
+    settle(&ours, ldp_ft_send_next(ours.image, sizeof ours.image, ours.session, true, out, sizeof out), 8, "nothing unsent");
 }
 
-static void acknowledge(cabinet *from, cabinet *to) {
-    size_t length = settle(from, ldp_ft_keepalive(from->image, sizeof from->image, from->session, 7, out, sizeof out), 0, "KeepAlive");
-    expect((uint32_t)length, 16, "length of KeepAlive");
-    settle(to, ldp_ft_receive(to->image, sizeof to->image, to->session, out, length), 0, "receive KeepAlive");
+/* All that we have to send is one message, as it is given here; it arrives at the peer. */
+static void pass_on(const uint8_t *wanted, size_t wanted_length) {
+    ldp_ft_outcome o = ldp_ft_send_next(ours.image, sizeof ours.image, ours.session, true, out, sizeof out);
+    size_t length = settle(&ours, o, 0, "send next");
+    expect_written(length, wanted, wanted_length, "message sent");
+    expect(ours.session.value, 1, "count sent");
+    settle(&peer, ldp_ft_receive(peer.image, sizeof peer.image, peer.session, out, length), 0, "receive");
+    nothing_unsent();
 }
 
-/* A Mapping (0x0400) or Withdraw (0x0402) of label 16, FEC 10.0.0.0/24. */
-static const uint8_t mapping[] = {4, 0, 0, 23, 0, 0, 0, 9, 1, 0, 0, 7, 2, 0, 1, 24, 10, 0, 0, 2, 0, 0, 4, 0, 0, 0, 16};
-static const uint8_t withdraw[] = {4, 2, 0, 23, 0, 0, 0, 10, 1, 0, 0, 7, 2, 0, 1, 24, 10, 0, 0, 2, 0, 0, 4, 0, 0, 0, 16};
+static void acknowledge(void) {
+    size_t length = settle(&peer, ldp_ft_keepalive(peer.image, sizeof peer.image, peer.session, 7, out, sizeof out), 0, "KeepAlive");
+    expect_written(length, keepalive, sizeof keepalive, "KeepAlive");
+    settle(&ours, ldp_ft_receive(ours.image, sizeof ours.image, ours.session, out, length), 0, "receive KeepAlive");
+}
 
-static void submit(const uint8_t *msg, size_t length) {
-    settle(&ours, ldp_ft_submit(ours.image, sizeof ours.image, ours.session, msg, length), 0, "submit");
+static void submit(const uint8_t *msg, size_t length, uint32_t slot) {
+    ldp_ft_outcome o = ldp_ft_submit(ours.image, sizeof ours.image, ours.session, msg, length);
+    settle(&ours, o, 0, "submit");
+    expect(o.slot, slot, "slot written");
+    expect(o.block0, 1, "block 0 changed");
 }
 
 /* The word of label 16 is at the first place. */
@@ -103,6 +123,7 @@ static void power_cut(cabinet *c) {
     expect(c->session.phase, LDP_FT_FAILED, "phase after restore");
 }
 
+/* The Withdraw is held, in block 2. */
 static void refusals(void) {
     ldp_ft_session nowhere = {5, 77};
     ldp_ft_outcome o = ldp_ft_connection_failed(ours.image, sizeof ours.image, nowhere);
@@ -113,10 +134,10 @@ static void refusals(void) {
     expect(ldp_ft_keepalive(ours.image, sizeof ours.image, ours.session, 1, NULL, 0).answer, 9, "no room");
     uint8_t spoilt[LDP_FT_IMAGE_SIZE];
     memcpy(spoilt, ours.image, sizeof spoilt);
-    spoilt[100] ^= 1;
+    spoilt[2 * LDP_FT_BLOCK_SIZE + 100] ^= 1;
     o = ldp_ft_restore(spoilt, sizeof spoilt);
     expect(o.answer, 10, "spoilt image");
-    expect(o.block, 0, "spoilt block");
+    expect(o.block, 2, "spoilt block");
 }
 
 static void readers(void) {
@@ -128,12 +149,37 @@ static void readers(void) {
     expect(opened.answer, 0, "PDU");
     expect(opened.count, 1, "messages of the PDU");
     ldp_ft_part part = ldp_ft_pdu_message(pdu, sizeof pdu, 10);
-    expect(part.end - part.start, sizeof mapping, "length of the message");
-    ldp_ft_message m = ldp_ft_message_read(pdu + part.start, part.end - part.start);
-    expect(m.type, 0x0400, "type");
-    expect(m.has, LDP_FT_HAS_FEC | LDP_FT_HAS_LABEL, "TLVs");
+    expect(part.answer, 0, "message of the PDU");
+    expect(part.start, 10, "start of the message");
+    expect(part.end, 37, "end of the message");
+}
+
+/* Every field is read where the header declares it: no two of a message have the same value. */
+static void fields(void) {
+    ldp_ft_message m = ldp_ft_message_read(withdraw_sent, sizeof withdraw_sent);
+    expect(m.answer, 0, "Withdraw");
+    expect(m.type, 0x0402, "type");
+    expect(m.message_id, 10, "message ID");
+    expect(m.kind, 2, "kind");
+    expect(m.has, LDP_FT_HAS_FEC | LDP_FT_HAS_LABEL | LDP_FT_HAS_FT_PROTECTION | LDP_FT_HAS_FT_ACK, "TLVs");
+    expect(m.fec_start, 12, "start of the FEC");
+    expect(m.fec_end, 19, "end of the FEC");
     expect(m.label, 16, "label");
-    expect(m.fec_end - m.fec_start, 7, "length of the FEC");
+    expect(m.number, 2, "number");
+    m = ldp_ft_message_read(peers_resuming_init, sizeof peers_resuming_init);
+    expect(m.has, LDP_FT_HAS_PARAMETERS | LDP_FT_HAS_FT_SESSION | LDP_FT_HAS_FT_ACK, "TLVs of an Init");
+    expect(m.ack, 1, "ACK");
+    expect(m.reconnect, 1, "R");
+    expect(m.timeout, 5, "seconds");
+    expect(m.keepalive_time, 30, "KeepAlive time");
+    expect(m.max_pdu_length, 4096, "maximum PDU length");
+    static const uint8_t available[] = {0x00, 0x01, 0, 18, 0, 0, 0, 11, 0x03, 0x00, 0, 10, 0, 0, 0, 15, 0, 0, 0, 0, 0, 0};
+    m = ldp_ft_message_read(available, sizeof available);
+    expect(m.kind, 6, "kind of Resources Available");
+    expect(m.status, 15, "Label Resources Available");
+}
+
+static void numbers(void) {
     expect((uint32_t)ldp_ft_distance(0xFFFFFFFF, 1).steps, 1, "distance");
     expect((uint32_t)ldp_ft_distance(2, 1).steps, 0xFFFFFFFF, "distance back");
     expect(ldp_ft_successor(0xFFFFFFFF), 1, "successor");
@@ -144,26 +190,28 @@ static void readers(void) {
 int main(void) {
     begin(&ours);
     begin(&peer);
-    connect_both(34);
-    submit(mapping, sizeof mapping);
+    connect_both(fresh_init, fresh_init, sizeof fresh_init);
+    submit(mapping, sizeof mapping, 1);
     expect_code(&ours, 1, "given");
-    expect(flush(&ours, &peer), 1, "sent");
+    pass_on(mapping_sent, sizeof mapping_sent);
     expect_code(&peer, 3, "in use at the peer");
 
-    /* The peer has stored the Mapping, its acknowledgement is lost, and our power is cut: the message goes out once more and is not taken twice. */
+    /* The peer has stored the Mapping, its acknowledgement is lost, and our power is cut: the peer's Init acknowledges it, and it goes out no more. */
     power_cut(&ours);
     settle(&peer, ldp_ft_connection_failed(peer.image, sizeof peer.image, peer.session), 0, "connection failed");
-    connect_both(42);
-    expect(flush(&ours, &peer), 0, "acknowledged by the peer's Init");
+    connect_both(our_resuming_init, peers_resuming_init, sizeof our_resuming_init);
+    nothing_unsent();
 
-    submit(withdraw, sizeof withdraw);
+    submit(withdraw, sizeof withdraw, 2);
     expect_code(&ours, 2, "being withdrawn");
-    expect(flush(&ours, &peer), 1, "sent");
+    pass_on(withdraw_sent, sizeof withdraw_sent);
     expect_code(&peer, 4, "asked back from the peer");
-    acknowledge(&peer, &ours);
-    expect_code(&ours, 0, "free again");
     refusals();
+    acknowledge();
+    expect_code(&ours, 0, "free again");
     readers();
+    fields();
+    numbers();
     puts("ldp_ft: a session from C, ok");
     return 0;
 }

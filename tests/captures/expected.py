@@ -1,12 +1,18 @@
 #!/usr/bin/env python3
-"""Makes the input and the expected output of ldp_dump from captured PDUs and Wireshark's reading of them: expected.py [--check].
-With --check nothing is written, and the exit status is 1 where a file differs."""
+"""The input and the expected output of ldp_dump, from captured PDUs and Wireshark's reading of them.
+
+    tests/captures/expected.py            writes crates/ldp_dump/{stdin,stdout}
+    tests/captures/expected.py --check    fails where a stored file is another
+"""
 import json
-import os
+import pathlib
 import sys
 
-HERE = os.path.dirname(os.path.abspath(__file__))
-CRATE = os.path.join(HERE, "..", "..", "crates", "ldp_dump")
+sys.dont_write_bytecode = True
+HERE = pathlib.Path(__file__).resolve().parent
+sys.path.append(str(HERE.parent))
+from stored import settle  # noqa: E402
+
 CAPTURES = ("basic", "three-routers", "dual-stack", "typed-wildcard-requests")
 
 
@@ -38,27 +44,10 @@ def line(pdu_number, message_number, message):
 def made():
     pdus = []
     for capture in CAPTURES:
-        with open(os.path.join(HERE, capture + ".jsonl"), encoding="ascii") as file:
-            pdus += [json.loads(row) for row in file]
+        pdus += [json.loads(row) for row in (HERE / f"{capture}.jsonl").read_text(encoding="ascii").splitlines()]
     stream = b"".join(bytes.fromhex(pdu["hex"]) for pdu in pdus)
     lines = "".join(line(n, k, message) for n, pdu in enumerate(pdus) for k, message in enumerate(pdu["messages"]))
-    return {"stdin": stream, "stdout": lines.encode("ascii")}
+    return {"ldp_dump/stdin": stream, "ldp_dump/stdout": lines.encode("ascii")}
 
 
-def main():
-    check = sys.argv[1:] == ["--check"]
-    differs = False
-    for name, content in made().items():
-        path = os.path.join(CRATE, name)
-        if not check:
-            with open(path, "wb") as file:
-                file.write(content)
-            continue
-        stored = open(path, "rb").read() if os.path.exists(path) else None
-        if stored != content:
-            print(f"crates/ldp_dump/{name} is not what tests/captures/expected.py makes of the captures")
-            differs = True
-    sys.exit(1 if differs else 0)
-
-
-main()
+settle(made())

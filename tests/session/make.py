@@ -1,5 +1,5 @@
 #!/usr/bin/env python3
-"""The script that session_cases plays, and the lines that it prints: what a cabinet written from the build paper (paper/) makes of it.
+"""The script that session_cases plays, and the lines that it prints: what a cabinet written from the build paper (tests/paper) makes of it.
 
     tests/session/make.py            writes crates/session_cases/{stdin,stdout}
     tests/session/make.py --check    fails where a stored file is another
@@ -8,15 +8,18 @@ import pathlib
 import sys
 
 sys.dont_write_bytecode = True
-from paper import reading as r  # noqa: E402
-from paper.pair import ADDRESS, MAPPING, P1, P2, RELEASE, WITHDRAW, Pair, label_message  # noqa: E402
-from paper.player import LINES, SCRIPT  # noqa: E402
+sys.path.append(str(pathlib.Path(__file__).resolve().parents[1]))
+from answers import INITS, PLAIN, RECEIVED, RECEIVED_BY_BYTES, SUBMITTED, SUBMITTED_BY_BYTES, TWO_FAULTS, init, own, with_label  # noqa: E402
+from pair import AN_ADDRESS, P1, P2, Pair, label_message  # noqa: E402
+from paper.wire import ADDRESS, MAPPING, TYPE, ack_tlv, message, protection_tlv, session_tlv, tlv  # noqa: E402
+from player import LINES, SCRIPT  # noqa: E402
+from stored import settle  # noqa: E402
 
 # Beside P1 and P2: an image that is kept, and the copy that a call is made on; SHORT is the copy of all bytes but the last.
 SHORT, KEPT, COPY = 0, 3, 4
 
 
-def example(p):
+def before(p):
     p.title("before the example")
     p.fresh()
     for _ in range(26):
@@ -29,6 +32,9 @@ def example(p):
         p.alive(P1)
     p.alive(P2)
     p.both()
+
+
+def example(p):
     p.title("the example")
     p.title("note 1")
     p.mapping(P1, 101)
@@ -53,6 +59,7 @@ def example(p):
     p.send_lost(P1)
     p.title("note 8")
     p.keepalive(P1, "P1 keepalive, lost")
+    p.wrote("0201 000c 00000002 0504 0004 0000005e")
     p.title("note 9")
     p.withdraw(P2, 203)
     p.send_lost(P2)
@@ -133,7 +140,9 @@ def timeouts(p):
     p.mapping(P1, 16)
     p.lose()
     p.wait(4)
+    p.answered(0, "Failed")
     p.wait(5)
+    p.answered(0, "Idle")
     p.fresh(0, 0)
     p.lose()
     p.wait(4294967295)
@@ -150,20 +159,45 @@ def timeouts(p):
 def lengths(p):
     p.title("lengths")
     p.fresh()
-    for size in (480, 481):
-        p.submit(P1, f"P1 submit {size} bytes", r.message(0x0300, 4, r.tlv(0x0101, bytes(size - 12))))
-    p.submit(P1, "P1 submit 8 bytes", r.message(0x0300, 4))
-    p.submit(P1, "P1 submit 7 bytes", r.message(0x0300, 4)[:7])
+    for size, answer in ((480, 0), (481, 3)):
+        p.submit(P1, f"P1 submit {size} bytes", message(TYPE[ADDRESS], 4, tlv(0x0101, bytes(size - 12))))
+        p.answered(answer)
+    p.submit(P1, "P1 submit 8 bytes", message(TYPE[ADDRESS], 4))
+    p.submit(P1, "P1 submit 7 bytes", message(TYPE[ADDRESS], 4)[:7])
     for room in (495, 496):
         p.send(P1, f"P1 send, room {room}", room, True)
     p.counts(P1, "P1")
 
 
-def full_store(p):
-    p.title("the full store")
+def on_copies(p, word, step, rows):
+    for answer, m in rows:
+        p.copy(COPY, P1)
+        step(COPY, f"P1 {word} {m.hex()}", m)
+        p.answered(answer)
+        p.counts(COPY, "P1")
+
+
+def full_labels(p):
+    """The Mapping of a label that has code 1 needs no word."""
+    p.title("the full label list")
     p.fresh()
-    for _ in range(65):
+    p.mapping(P1, 100)
+    for i in range(119):
+        p.unprotected(1001 + i)
+    p.mapping(P1, 101, 13)
+    p.mapping(P1, 100)
+    p.both()
+    on_copies(p, "receive", p.receive, ((21, label_message(MAPPING, 1123)), (20, with_label(MAPPING, 1123, protection_tlv(2)))))
+
+
+def full_store(p):
+    """Two Mappings are held, and the label list is still full: "6, 13, 7"."""
+    p.title("the full store")
+    for answer in (*[0] * 62, 7):
         p.address(P1)
+        p.answered(answer)
+    p.mapping(P1, 101, 13)
+    p.withdraw(P1, 101, 6)
     p.both()
     for _ in range(64):
         p.pass_on(P1)
@@ -173,116 +207,26 @@ def full_store(p):
     p.both()
 
 
-ID = 9
-
-
-def protection(n):
-    return r.tlv(r.PROTECTION, r.field(n, 4))
-
-
-def ack(n):
-    return r.tlv(r.ACK, r.field(n, 4))
-
-
-def keepalive(*tlvs):
-    return r.message(0x0201, ID, *tlvs)
-
-
-def bare_address(*tlvs):
-    return r.message(0x0300, ID, *tlvs)
-
-
-def with_label(kind, label, *tlvs):
-    return r.message(kind, ID, r.tlv(r.FEC, b""), r.tlv(r.LABEL, r.field(label, 4)), *tlvs)
-
-
-def status(code):
-    return r.message(0x0001, ID, r.tlv(r.STATUS, r.field(code, 4) + bytes(6)))
-
-
-def init(*tlvs, ident=0):
-    return r.message(0x0200, ident, *tlvs)
-
-
-def own(seconds=15, size=1500):
-    return r.tlv(r.PARAMETERS, r.field(1, 2) + r.field(seconds, 2) + bytes(2) + r.field(size, 2) + bytes(6))
-
-
-def session(again, seconds):
-    return r.tlv(0x8503, r.field(0x8000 * again, 2) + r.field(seconds, 2))
-
-
-NO_LABEL = r.message(MAPPING, ID, r.tlv(r.FEC, b""))
-RECEIVED = (
-    keepalive(ack(1)),
-    keepalive(ack(2)),
-    keepalive(ack(3)),
-    keepalive(ack(0)),
-    bare_address(protection(2), ack(2)),
-    bare_address(protection(3), ack(2)),
-    bare_address(protection(3), ack(3)),
-    bare_address(protection(1)),
-    bare_address(protection(0)),
-    keepalive(protection(2)),
-    bare_address(),
-    with_label(MAPPING, 201),
-    with_label(MAPPING, 1000, protection(2)),
-    with_label(WITHDRAW, 201, protection(2)),
-    with_label(RELEASE, 101, protection(2)),
-    keepalive(protection(2), ack(2))[:20],
-    with_label(MAPPING, 1048576),
-    NO_LABEL,
-    init(ident=ID),
-    status(0x8000000A),
-)
-PLAIN = (
-    keepalive(),
-    with_label(MAPPING, 300),
-    keepalive(ack(0)),
-    bare_address(protection(1)),
-    NO_LABEL,
-    status(0x8000000A),
-)
-SUBMITTED = (
-    NO_LABEL,
-    with_label(MAPPING, 102, protection(3)),
-    r.message(0x0401, ID, r.tlv(r.FEC, b"")),
-    r.message(WITHDRAW, ID, r.tlv(r.FEC, b"")),
-    status(0xE),
-    status(0xF),
-    with_label(MAPPING, 15),
-    with_label(WITHDRAW, 102),
-    with_label(RELEASE, 1000),
-    with_label(RELEASE, 201),
-)
-INITS = (
-    init(own(), session(1, 5), ack(2)),
-    init(own(), session(1, 5), ack(3)),
-    init(own(seconds=16), session(1, 5), ack(2)),
-    init(own(size=1501), session(1, 5), ack(2)),
-    init(own(), session(0, 3), ack(9)),
-    init(own(), session(1, 5)),
-    init(own()),
-    init(session(0, 5), ident=ID),
-    keepalive(),
-)
-
-
-def on_copies(p, word, step, messages):
-    for m in messages:
-        p.copy(COPY, P1)
-        step(COPY, f"P1 {word} {m.hex()}", m)
-        p.counts(COPY, "P1")
-
-
-def full_labels(p):
-    p.title("the full label list")
+def still_held(p):
+    """ "same label's Withdraw/Release of that kind still held": the label's code alone would allow the second one."""
+    p.title("a Withdraw and a Release still held")
     p.fresh()
-    for i in range(120):
-        p.unprotected(1001 + i)
-    p.mapping(P1, 101)
+    p.mapping(P1, 110)
+    p.pass_on(P1)
+    p.release(P2, 110)
+    p.withdraw(P1, 110)
+    p.pass_on(P2)
+    p.mapping(P1, 110)
+    p.withdraw(P1, 110, 6)
+    p.pass_on(P1)
+    p.pass_on(P1)
+    p.release(P2, 110, 6)
     p.both()
-    p.unprotected(1123)
+    p.alive(P1)
+    p.alive(P2)
+    p.mapping(P1, 110)
+    p.withdraw(P1, 110)
+    p.release(P2, 110)
     p.both()
 
 
@@ -298,8 +242,13 @@ def messages(p):
     p.unprotected(1000)
     p.both()
     on_copies(p, "receive", p.receive, RECEIVED)
+    p.title("two faults in a message")
+    on_copies(p, "receive", p.receive, TWO_FAULTS)
     p.title("messages submitted")
     on_copies(p, "submit", p.submit, SUBMITTED)
+    p.title("the paper's bytes")
+    on_copies(p, "receive", p.receive, RECEIVED_BY_BYTES)
+    on_copies(p, "submit", p.submit, SUBMITTED_BY_BYTES)
 
 
 def every_call(p, title, copy=COPY):
@@ -308,10 +257,10 @@ def every_call(p, title, copy=COPY):
     for name, step, *rest in (
         ("open", p.open),
         ("keepalive", p.keepalive, 64),
-        ("init", p.init, ADDRESS),
-        ("submit", p.submit, ADDRESS),
+        ("init", p.init, AN_ADDRESS),
+        ("submit", p.submit, AN_ADDRESS),
         ("send", p.send, 64),
-        ("receive", p.receive, ADDRESS),
+        ("receive", p.receive, AN_ADDRESS),
         ("connection failed", p.failed),
         ("time passed 0", p.time, 0),
     ):
@@ -356,21 +305,47 @@ def plain_session(p):
     p.title("a plain session")
     p.format(P1, "P1 format")
     p.begin(P1)
+    p.wrote("0200 001e 00000001 0500 000e 0001 001e 00 00 1000 0a000002 0000 8503 0004 0000 0005")
     p.init(P1, "P1 init, no FT Session", init(own()))
     on_copies(p, "receive", p.receive, PLAIN)
 
 
+# Block 0 of a kept session: R and I 5, S 9, first slot 62, none held, timeout 3, the peer's parameters 15 and 1500; label 16 given, and 17 used in the last word.
+BLOCK_0 = bytes.fromhex("00000001 00000005 00000005 00000009 003e 0000 0003 01 00 000f 05dc 00100010") + bytes(472) + bytes.fromhex("00300011 07a2 f68f")
+
+
+def block_0(p):
+    """Each field is read where the paper puts it."""
+    p.title("block 0 by its bytes")
+    p.format(KEPT, "format")
+    for at, byte in enumerate(BLOCK_0):
+        if p.image[KEPT][at] != byte:
+            p.spoil(KEPT, at, byte)
+    p.restore(KEPT, "restore")
+    p.answered(0, "Failed")
+    p.counts(KEPT, "kept")
+    for elapsed, phase in ((2, "Failed"), (3, "Idle")):
+        p.copy(COPY, KEPT)
+        p.time(COPY, f"time passed {elapsed}", elapsed)
+        p.answered(0, phase)
+    p.open(KEPT, "open")
+    p.wrote("0200 0026 00000001 0500 000e 0001 001e 00 00 1000 0a000002 0000 8503 0004 8000 0005 0504 0004 00000009")
+    p.init(KEPT, "init", init(own(), session_tlv(1, 5), ack_tlv(5)))
+    p.answered(0, "UpFT")
+    p.submit(KEPT, "submit", AN_ADDRESS)
+    assert p.last.slot == 63
+    p.receive(KEPT, "receive Mapping 17", label_message(MAPPING, 17))
+    p.answered(33, "Idle")
+
+
+PARTS = (before, example, recovery, restart, net_zero, timeouts, lengths, full_labels, full_store, still_held, messages, refused_images, beginnings, plain_session, block_0)
+
+
 def main():
     p = Pair()
-    for part in (example, recovery, restart, net_zero, timeouts, lengths, full_store, full_labels, messages, refused_images, beginnings, plain_session):
+    for part in PARTS:
         part(p)
-    crate = pathlib.Path(__file__).resolve().parents[2] / "crates/session_cases"
-    for name, lines in (("stdin", SCRIPT), ("stdout", LINES)):
-        text = "".join(line + "\n" for line in lines)
-        if sys.argv[1:] != ["--check"]:
-            (crate / name).write_text(text)
-        elif (crate / name).read_text() != text:
-            sys.exit(f"{name} of session_cases is not what tests/session/make.py makes")
+    settle({f"session_cases/{name}": "".join(line + "\n" for line in lines).encode() for name, lines in (("stdin", SCRIPT), ("stdout", LINES))})
 
 
 main()

@@ -1,8 +1,8 @@
 -- The sums of a block's words in rows: how they grow, what they make of the check. Assumes nothing.
-use mathlib.Core.Path.{_≡_, refl, sym, ap, _∙_}
+use Prim.Native.Nat.{ℕ, zero, suc, _+_, _-_, _*_, _/_, _%_, _^_, _≤_, _<_}
 use mathlib.Core.Bool.{true}
 use mathlib.Core.List.{List}
-use Prim.Native.Nat.{ℕ, zero, suc, _+_, _-_, _*_, _/_, _%_, _^_, _≤_, _<_}
+use mathlib.Core.Path.{_≡_, refl, sym, ap, _∙_}
 use native.Mathlib.Nat.{mul-le-mul}
 use native.Mathlib.Numerals.{add-one}
 use native.Mathlib.Omega.{arith}
@@ -12,8 +12,8 @@ use Rattle.block.specs.Check.{checkOf, checkAt}
 use Rattle.block.specs.Rows.{leAt, paired, four, later, odds, sumBy, runBy, InRows}
 use Rattle.block.specs.Zeros.{allZero}
 use Rattle.block.proofs.Le.{word-low}
-use Rattle.block.proofs.ZeroBytes.{zero-from, zero-past}
 use Rattle.block.proofs.Weights.{sum-zeros, run-zeros, check-is}
+use Rattle.block.proofs.ZeroBytes.{zero-from, zero-past}
 
 -- ---- one row more, two sums in a number
 sum-more : (f g : ℕ → ℕ) (n x r : ℕ) → x ≡ paired (sumBy 16 f n) (sumBy 16 g n) → r ≡ paired (f (n * 16)) (g (n * 16))

@@ -1,8 +1,8 @@
 -- The laws of a run of numbers: what is written is read back, and nothing else changes. Assumes nothing.
-use mathlib.Core.Path.{_≡_, refl, _∙_}
+use Prim.Native.Nat.{ℕ, _+_, _^_, _-_, _≤_, _<_}
 use mathlib.Core.List.{List, [], _∷_}
 use mathlib.Core.Logic.{_≢_, ⊎-elim}
-use Prim.Native.Nat.{ℕ, _+_, _^_, _-_, _≤_, _<_}
+use mathlib.Core.Path.{_≡_, refl, _∙_}
 use native.Mathlib.Omega.{arith}
 use lib.ListN.{length, getD, replicate}
 use Rattle.octets.specs.Be.{beAt, putBe}
@@ -28,6 +28,7 @@ getD-putRun (w ∷ ws) (v ∷ vs) s at j out =
     getD-putRun ws vs (putBe w s at v) (at + w) j (λ k l. omega (arith, out (w + k) (omega arith)))
     ∙ getD-putBe w s at v j (λ k l. out k (omega arith))
 
+-- what a run of fields writes it reads back
 pub getRun-putRun : (ws vs s : List ℕ) (at : ℕ) → at + runSize ws ≤ length s → Fit ws vs → getRun ws (putRun ws vs s at) at ≡ vs
 getRun-putRun [] [] s at h none = refl
 getRun-putRun (w ∷ ws) (v ∷ vs) s at h (one small f) =
@@ -55,6 +56,7 @@ zeros-getRun (w ∷ ws) s at z =
     zeros-getRun ws s (at + w) (λ k l. let e : at + w + k ≡ at + (w + k) = omega arith in rw e (z (w + k) (omega arith))) in
     rw (zeros-beAt w s at (λ k l. z k (omega arith)), rest)
 
+-- and its bytes are zero where the fields are
 pub getRun-zeros : (ws s : List ℕ) (at : ℕ) → getRun ws s at ≡ replicate (length ws) 0 → (k : ℕ) → k < runSize ws → getD s (at + k) 0 ≡ 0
 getRun-zeros [] s at e k l = absurd (omega arith)
 getRun-zeros (w ∷ ws) s at e k l =

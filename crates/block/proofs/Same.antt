@@ -1,12 +1,12 @@
 -- Numbers written where they stand already, and a check that is right already, change nothing. Assumes nothing.
-use mathlib.Core.Path.{_≡_, refl, sym, ap, _∙_}
+use Prim.Native.Nat.{ℕ, zero, suc, _+_, _*_, _/_, _%_, _<_}
 use mathlib.Core.Bool.{true}
 use mathlib.Core.List.{List, [], _∷_}
-use Prim.Native.Nat.{ℕ, zero, suc, _+_, _*_, _/_, _%_, _<_}
+use mathlib.Core.Path.{_≡_, refl, sym, ap, _∙_}
 use native.Mathlib.Omega.{arith}
-use borrow.Author.Tests.{eqb-true}
 use lib.ListN.{getD, set, take, replicate}
 use lib.Seq.{set-getD}
+use borrow.Author.Tests.{eqb-true}
 use Rattle.octets.specs.Be.{beAt, putBe}
 use Rattle.octets.specs.Bytes.{Bytes}
 use Rattle.octets.proofs.Be.{beAt-suc, putBe-suc, getD-putBe}

@@ -1,12 +1,12 @@
 -- A sealed block: what it changes, and that it is sound. Assumes nothing.
-use mathlib.Core.Path.{_≡_, sym, ap, _∙_}
+use Prim.Native.Nat.{ℕ, _<_}
 use mathlib.Core.Bool.{true}
 use mathlib.Core.List.{List}
-use Prim.Native.Nat.{ℕ, _<_}
+use mathlib.Core.Path.{_≡_, sym, ap, _∙_}
 use native.Mathlib.Omega.{arith}
-use borrow.Author.Tests.{eq-eqb}
 use lib.ListN.{length, getD, take, length-take}
 use lib.Seq.{getD-take, ext-getD}
+use borrow.Author.Tests.{eq-eqb}
 use Rattle.octets.proofs.Be.{getD-putBe, beAt-putBe-fits, length-putBe}
 use Rattle.block.specs.Check.{blockSize, checkAt, checkOf, sound, sealed}
 use Rattle.block.proofs.Sums.{checkOf-lt}

@@ -1,7 +1,7 @@
 -- The check as one sum and one weighted sum of the block's words with their bytes swapped. Assumes nothing.
-use mathlib.Core.Path.{_≡_, refl, ap, _∙_}
-use mathlib.Core.List.{List}
 use Prim.Native.Nat.{ℕ, zero, suc, _+_, _*_, _%_, _≤_}
+use mathlib.Core.List.{List}
+use mathlib.Core.Path.{_≡_, refl, ap, _∙_}
 use native.Mathlib.Nat.{zero-add, suc-add, suc-mul}
 use native.Mathlib.Omega.{arith}
 use lib.ListN.{length, getD, drop}
@@ -34,6 +34,7 @@ check-after s (suc n) h =
     same : (i j : ℕ) → i ≡ j → i % 65535 ≡ j % 65535
     same i j e = ap (λ (k : ℕ). k % 65535) e
 
+-- the check is one sum of the words and one by weight, with the words' bytes swapped
 pub check-is : (s : List ℕ) → length s ≡ checkAt
     → checkOf s ≡ (1 + 256 * sumBy 2 (leAt 2 s) 254) % 65535 * 65536 + (254 + 256 * runBy 2 (leAt 2 s) 254) % 65535
 check-is s long = check-after s 254 (omega arith) ∙ sums-last s (1 + 256 * sumBy 2 (leAt 2 s) 254) (254 + 256 * runBy 2 (leAt 2 s) 254) 508 (omega arith)

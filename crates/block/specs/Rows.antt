@@ -1,8 +1,8 @@
 -- The words of a block in rows of eight, and two words in one number: how the code sums them. It reads a word's first byte as the low one.
 -- The check's own definition is in Check.antt; that these sums make it up is proved.
 use Prim.Native.Nat.{ℕ, zero, suc, _+_, _*_, _^_, _≤_}
-use mathlib.Core.Path.{_≡_}
 use mathlib.Core.List.{List}
+use mathlib.Core.Path.{_≡_}
 use lib.ListN.{getD}
 
 -- the number that the w bytes from index `at` on spell, the first byte the least significant

@@ -1,7 +1,7 @@
 -- A layout as the list of its fields' widths in bytes: numbers that stand one after the other.
 use Prim.Native.Nat.{ℕ, _+_, _<_}
-use mathlib.Core.Path.{_≡_}
 use mathlib.Core.List.{List, [], _∷_}
+use mathlib.Core.Path.{_≡_}
 use lib.ListN.{length, getD, replicate}
 use Rattle.octets.specs.Be.{beAt, putBe}
 

@@ -1,11 +1,11 @@
 // A block of the stored image: 512 bytes, the last four of them the check of the others.
-ghost use mathlib.Core.Path.{_≡_};
-ghost use mathlib.Core.Bool.{true};
 ghost use Prim.Native.Nat.{_≤_};
+ghost use mathlib.Core.Bool.{true};
+ghost use mathlib.Core.Path.{_≡_};
 ghost use lib.ListN.{length, take};
 ghost use Rattle.octets.specs.Part.{part};
-ghost use Rattle.block.specs.Zeros.{allZero};
 ghost use Rattle.block.specs.Check.{blockSize, checkAt, checkOf, sound, sealed, blockCheckOf};
+ghost use Rattle.block.specs.Zeros.{allZero};
 
 mod rows;
 pub mod words;
@@ -38,7 +38,7 @@ fn check_before(block: &[u8], end: usize) -> u32
     rows::check_rows(&block[0..CHECK_AT], (end + 15) / 16)
 }
 
-// Whether the block has its check.
+// Whether bytes 508 to 511 are the check of those before, bit for bit: A from 1 and B from 0, over 254 big-endian words, modulo 65,535.
 pub fn is_sound(block: &[u8]) -> bool
     requires { ⌜ length (now block) ≡ blockSize ⌝ }
     ensures { λ r. ⌜ r ≡ sound (now (block .entry)) ⌝ }
@@ -54,7 +54,7 @@ pub fn is_sound_before(block: &[u8], end: usize) -> bool
     octets::get_u32(block, CHECK_AT) == check_before(block, end)
 }
 
-// Writes the check of the block.
+// Writes the check of the block; every other byte stays.
 pub fn seal(block: &mut [u8])
     requires { ⌜ length (now block) ≡ blockSize ⌝ }
     ensures { λ _. ⌜ now (block .exit) ≡ sealed (now (block .entry)) ⌝ }
@@ -72,7 +72,7 @@ pub fn seal_before(block: &mut [u8], end: usize)
     octets::put_u32(block, CHECK_AT, sum);
 }
 
-// The check of the first 508 of any bytes.
+// The check A * 65536 + B of the first 508 of any bytes; refused where there are fewer.
 pub fn block_check(block: &[u8]) -> BlockCheck
     ensures { λ r. ⌜ r ≡ blockCheckOf (now (block .entry)) ⌝ }
 {

@@ -1,8 +1,8 @@
 // A block's words, summed in rows of eight: two stand side by side in a number, so that one addition sums both. A word is read with its bytes
 // swapped, as the machine reads it; modulo 65,535 that is a factor of 256, and so is its undoing, once at the end.
-ghost use mathlib.Core.Path.{_≡_};
-ghost use mathlib.Core.Bool.{true};
 ghost use Prim.Native.Nat.{_+_, _*_, _/_, _%_, _≤_, _<_};
+ghost use mathlib.Core.Bool.{true};
+ghost use mathlib.Core.Path.{_≡_};
 ghost use lib.ListN.{length, drop};
 ghost use Rattle.block.specs.Check.{checkAt, checkOf};
 ghost use Rattle.block.specs.Rows.{leAt, paired, InRows, Room};

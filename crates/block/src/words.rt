@@ -1,6 +1,6 @@
 // A run of 32-bit words in lent bytes, loaded into a lent slice of numbers and stored back.
-ghost use mathlib.Core.Path.{_≡_};
 ghost use Prim.Native.Nat.{_+_, _*_, _≤_};
+ghost use mathlib.Core.Path.{_≡_};
 ghost use lib.ListN.{length};
 ghost use Rattle.block.specs.Run.{wordsAt, withWords};
 
@@ -16,7 +16,7 @@ pub fn load_words(s: &[u8], at: usize, words: &mut [u32])
     }
 }
 
-// Writes `words` into `s` from `at` on.
+// Writes `words` into `s` from `at` on; every other byte stays.
 pub fn store_words(s: &mut [u8], at: usize, words: &[u32])
     requires { ⌜ at + length (now words) * 4 ≤ length (now s) ⌝ }
     ensures { λ _. ⌜ now (s .exit) ≡ withWords (length (now (words .entry))) (now (words .entry)) (now (s .entry)) at ⌝ }

@@ -1,6 +1,6 @@
 // Bytes that are all zero, looked at 64 at a time; the last 64 may overlap those before them.
-ghost use mathlib.Core.Path.{_≡_};
 ghost use Prim.Native.Nat.{_+_, _≤_, _<_};
+ghost use mathlib.Core.Path.{_≡_};
 ghost use lib.Dec.{eqb};
 ghost use lib.ListN.{length, take, drop};
 ghost use Rattle.block.specs.Zeros.{allZero};

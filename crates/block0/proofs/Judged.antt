@@ -1,16 +1,16 @@
 -- The answers of `fieldsOk`, by the tests that lead to each. Assumes nothing.
-use mathlib.Core.Path.{_≡_, refl, sym, _∙_}
+use Prim.Native.Nat.{ℕ}
 use mathlib.Core.Bool.{Bool, true, false, not}
 use mathlib.Core.List.{List}
-use Prim.Native.Nat.{ℕ}
+use mathlib.Core.Path.{_≡_, refl, sym, _∙_}
 use borrow.Author.Tests.{eq-eqb, ne-eqb, not-true, not-false}
 use Rattle.octets.specs.Be.{beAt}
 use Rattle.octets.specs.Pick.{both}
-use Rattle.label_list.specs.Valid.{validOf}
 use Rattle.block.specs.Zeros.{allZero}
+use Rattle.label_list.specs.Valid.{validOf}
 use Rattle.block0.specs.declared.Header.{Header}
-use Rattle.block0.specs.Layout.{headerOf, labelsOf}
 use Rattle.block0.specs.Fields.{headerOk, bodyOf, fieldsOk}
+use Rattle.block0.specs.Layout.{headerOf, labelsOf}
 use Rattle.block0.proofs.Rules.{zero-valid}
 
 zeros-decide : (t : Bool) (b : List ℕ) → allZero (bodyOf b) ≡ t → t ≡ both t (validOf (labelsOf b))

@@ -1,31 +1,31 @@
 -- Block 0's fields: the test and its clauses. Assumes nothing.
-use mathlib.Core.Path.{_≡_, refl, sym, ap, _∙_}
+use Prim.Native.Nat.{ℕ, _+_, _-_, _≤_, _<_}
 use mathlib.Core.Bool.{true}
 use mathlib.Core.List.{List, _∷_}
-use mathlib.Core.Logic.{_⊎_, ⊎-elim}
-use Prim.Native.Nat.{ℕ, _+_, _-_, _≤_, _<_}
+use mathlib.Core.Logic.{⊎-elim}
+use mathlib.Core.Path.{_≡_, refl, sym, ap, _∙_}
 use native.Mathlib.Nat.{eq-zero-or-pos}
 use native.Mathlib.Omega.{arith}
-use borrow.Author.Tests.{eq-eqb, ne-eqb, ltb-true, leb-true, lt-ltb, le-leb}
 use lib.Dec.{eqb}
 use lib.ListN.{length, getD, drop, replicate}
+use borrow.Author.Tests.{eq-eqb, ne-eqb, ltb-true, leb-true, lt-ltb, le-leb}
 use Rattle.octets.specs.Be.{beAt}
 use Rattle.octets.specs.Part.{part}
 use Rattle.octets.specs.Pick.{pick}
 use Rattle.octets.proofs.Choice.{both-true, below-or-not}
 use Rattle.octets.proofs.Part.{part-at, part-inside}
-use Rattle.ft_number.specs.Circle.{stepsOf}
-use Rattle.label_list.specs.Word.{wordCount, isFree}
-use Rattle.label_list.specs.Valid.{validOf, validWord}
 use Rattle.block.specs.Check.{checkAt}
 use Rattle.block.specs.Run.{getRun, Words}
 use Rattle.block.specs.Zeros.{allZero}
 use Rattle.block.proofs.Run.{zeros-getRun, getRun-zeros}
 use Rattle.block.proofs.WordRun.{zeros-words, words-zeros}
 use Rattle.block.proofs.ZeroBytes.{zero-bytes, bytes-zero}
+use Rattle.ft_number.specs.Circle.{stepsOf}
+use Rattle.label_list.specs.Valid.{validOf, validWord}
+use Rattle.label_list.specs.Word.{wordCount, isFree}
 use Rattle.block0.specs.declared.Header.{Header}
-use Rattle.block0.specs.Layout.{widths, labelsAt, values, fromValues, headerOf, labelsOf, block0, releasedHeader, noLabels}
 use Rattle.block0.specs.Fields.{atMost, headerOk, bodyOf, fieldsOk, Fits, Valid}
+use Rattle.block0.specs.Layout.{widths, labelsAt, values, fromValues, headerOf, labelsOf, block0, releasedHeader, noLabels}
 use Rattle.block0.proofs.Written.{length-block0, run-block0, header-block0, labels-block0}
 
 -- ---- zeros
@@ -82,6 +82,7 @@ header-parts h e =
     let r = both-true _ _ (q .1) in
     (ltb-true _ _ (p .0), leb-true _ _ (q .0), leb-true _ _ (r .0), r .1)
 
+-- right fields are the rules, clause by clause
 pub fields-valid : (b : List ℕ) → fieldsOk b ≡ true → Valid (headerOf b) (labelsOf b)
 unfolding fieldsOk
 fields-valid b e =

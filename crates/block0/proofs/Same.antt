@@ -1,9 +1,9 @@
 -- Block 0 written without a look at every label word: with those that it has, with one of them changed, or with none left; and with its own numbers
 -- too, it is the same. Assumes nothing.
-use mathlib.Core.Path.{_≡_, sym, ap, ap₂, _∙_}
+use Prim.Native.Nat.{ℕ, _+_, _*_, _<_}
 use mathlib.Core.Bool.{true}
 use mathlib.Core.List.{List}
-use Prim.Native.Nat.{ℕ, _+_, _*_, _<_}
+use mathlib.Core.Path.{_≡_, sym, ap, ap₂, _∙_}
 use native.Mathlib.Omega.{arith}
 use lib.ListN.{length, getD, set}
 use borrow.Author.Tests.{eqb-true}
@@ -11,15 +11,15 @@ use Rattle.octets.specs.Be.{beAt, putBe}
 use Rattle.octets.specs.Bytes.{Bytes}
 use Rattle.octets.specs.Fill.{zeroed}
 use Rattle.octets.proofs.Choice.{both-true}
-use Rattle.label_list.specs.Word.{wordCount}
 use Rattle.block.specs.Check.{sound, sealed}
 use Rattle.block.specs.Run.{getRun, putRun, wordsAt, withWords}
 use Rattle.block.proofs.Run.{getD-putRun}
-use Rattle.block.proofs.WordRun.{words-same as words-agree, zeroed-words}
 use Rattle.block.proofs.Same.{putRun-same, words-same, word-put, sealed-same}
+use Rattle.block.proofs.WordRun.{words-same as words-agree, zeroed-words}
+use Rattle.label_list.specs.Word.{wordCount}
 use Rattle.block0.specs.declared.Header.{Header}
-use Rattle.block0.specs.Layout.{widths, labelsAt, values, headerOf, labelsOf, block0, noLabels}
 use Rattle.block0.specs.Fields.{fieldsOk}
+use Rattle.block0.specs.Layout.{widths, labelsAt, values, headerOf, labelsOf, block0, noLabels}
 
 -- the fields stand before the label words: `n` is the block with its fields written
 module _ (b : List ℕ) (h : Header) {n : List ℕ} (e : n ≡ putRun widths (values h) b 0) where

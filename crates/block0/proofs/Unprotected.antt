@@ -1,23 +1,23 @@
 -- Whether a label is used without protection: by the words one after the other, and of each by its second byte. Assumes nothing.
-use mathlib.Core.Path.{_≡_, refl, sym, ap, _∙_}
+use Prim.Native.Nat.{ℕ, _+_, _*_, _/_, _≤_, _<_}
 use mathlib.Core.Bool.{true, false}
 use mathlib.Core.List.{List}
 use mathlib.Core.Logic.{_≢_}
-use Prim.Native.Nat.{ℕ, _+_, _*_, _/_, _≤_, _<_}
+use mathlib.Core.Path.{_≡_, refl, sym, ap, _∙_}
 use native.Mathlib.Numerals.{add-one}
 use native.Mathlib.Omega.{arith}
-use borrow.Author.Tests.{ne-eqb}
 use lib.ListN.{getD, drop, drop-of-length-le}
 use lib.Seq.{drop-cons}
+use borrow.Author.Tests.{ne-eqb}
 use Rattle.octets.specs.Bytes.{Bytes}
 use Rattle.octets.specs.Part.{part}
 use Rattle.octets.specs.Pick.{pick}
-use Rattle.label_list.specs.Word.{wordCount, codeOf}
-use Rattle.label_list.specs.Find.{any}
 use Rattle.block.specs.Check.{checkAt}
 use Rattle.block.specs.Run.{wordsAt}
 use Rattle.block.specs.Zeros.{allZero}
 use Rattle.block.proofs.WordRun.{length-wordsAt, getD-wordsAt}
+use Rattle.label_list.specs.Find.{any}
+use Rattle.label_list.specs.Word.{wordCount, codeOf}
 use Rattle.block0.specs.Layout.{labelsAt, labelsOf}
 use Rattle.block0.specs.Unprotected.{isUnprotected, unprotected}
 use Rattle.block0.proofs.Rules.{free-words}

@@ -1,19 +1,19 @@
 -- Block 0 that was written: it is sound, and is read back. Assumes nothing.
-use mathlib.Core.Path.{_≡_, refl, ap, _∙_}
+use Prim.Native.Nat.{ℕ, _+_, _^_, _<_}
 use mathlib.Core.Bool.{true}
 use mathlib.Core.List.{List}
-use Prim.Native.Nat.{ℕ, _+_, _^_, _<_}
+use mathlib.Core.Path.{_≡_, refl, ap, _∙_}
 use native.Mathlib.Omega.{arith}
 use lib.ListN.{length, getD}
-use Rattle.label_list.specs.Word.{wordCount}
 use Rattle.block.specs.Check.{sealed, sound}
 use Rattle.block.specs.Run.{getRun, putRun, withWords, Words}
-use Rattle.block.proofs.Sealed.{sealed-else, length-sealed, sealed-sound}
 use Rattle.block.proofs.Run.{Fit, none, one, length-putRun, getRun-putRun, getRun-same}
+use Rattle.block.proofs.Sealed.{sealed-else, length-sealed, sealed-sound}
 use Rattle.block.proofs.WordRun.{length-withWords, getD-withWords, words-put, words-same}
+use Rattle.label_list.specs.Word.{wordCount}
 use Rattle.block0.specs.declared.Header.{Header}
-use Rattle.block0.specs.Layout.{widths, labelsAt, values, fromValues, headerOf, labelsOf, block0}
 use Rattle.block0.specs.Fields.{Fits}
+use Rattle.block0.specs.Layout.{widths, labelsAt, values, fromValues, headerOf, labelsOf, block0}
 
 fits : (h : Header) → Fits h → Fit widths (values h)
 fits h f =
@@ -44,6 +44,7 @@ module _ (b : List ℕ) (h : Header) (ls : List ℕ) (long : length b ≡ 512) w
   pub length-block0 : length (block0 b h ls) ≡ 512
   length-block0 = rw is-sealed (length-sealed filled ∙ long-filled)
 
+  -- a block 0 that was written has its check
   pub block0-sound : sound (block0 b h ls) ≡ true
   block0-sound = rw is-sealed (sealed-sound filled long-filled)
 
@@ -59,10 +60,12 @@ module _ (b : List ℕ) (h : Header) (ls : List ℕ) (long : length b ≡ 512) w
         ∙ getD-withWords wordCount ls numbered labelsAt (0 + k) (λ i m. omega arith))
         ∙ getRun-putRun widths (values h) b 0 (omega arith) (fits h fh)
 
+    -- the numbers that were written are read back, where each has its width
     pub header-block0 : headerOf (block0 b h ls) ≡ h
     unfolding headerOf
     header-block0 = ap fromValues run-block0
 
+    -- so are the label words
     pub labels-block0 : labelsOf (block0 b h ls) ≡ ls
     unfolding labelsOf filled
     labels-block0 =

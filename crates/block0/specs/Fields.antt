@@ -1,19 +1,19 @@
 -- "Fields: the ranges above; R to I no longer than held, and I not zero unless R is; label words by the rules below."
 -- "With kept 0, bytes 4 to 507 are zero."
 use Prim.Native.Nat.{ℕ, _≤_, _<_}
-use mathlib.Core.Path.{_≡_}
 use mathlib.Core.Bool.{Bool, true, false}
 use mathlib.Core.List.{List}
+use mathlib.Core.Path.{_≡_}
 use lib.Dec.{leb, ltb, eqb}
 use Rattle.octets.specs.Be.{beAt}
 use Rattle.octets.specs.Part.{part}
 use Rattle.octets.specs.Pick.{pick, both}
-use Rattle.ft_number.specs.Circle.{stepsOf}
-use Rattle.ft_number.specs.declared.Steps.{Steps}
-use Rattle.ft_number.specs.declared.Steps.the-variants.{Count, Unreachable}
-use Rattle.label_list.specs.Valid.{validOf}
 use Rattle.block.specs.Check.{checkAt}
 use Rattle.block.specs.Zeros.{allZero}
+use Rattle.ft_number.specs.declared.Steps.{Steps}
+use Rattle.ft_number.specs.declared.Steps.the-variants.{Count, Unreachable}
+use Rattle.ft_number.specs.Circle.{stepsOf}
+use Rattle.label_list.specs.Valid.{validOf}
 use Rattle.block0.specs.declared.Header.{Header}
 use Rattle.block0.specs.Layout.{slotCount, version, headerOf, labelsOf, releasedHeader, noLabels}
 

@@ -3,9 +3,9 @@
 use Prim.Native.Nat.{ℕ}
 use mathlib.Core.List.{List, [], _∷_}
 use lib.ListN.{getD, replicate}
-use Rattle.label_list.specs.Word.{wordCount}
 use Rattle.block.specs.Check.{sealed}
 use Rattle.block.specs.Run.{getRun, putRun, wordsAt, withWords}
+use Rattle.label_list.specs.Word.{wordCount}
 use Rattle.block0.specs.declared.Header.{Header}
 
 -- "Blocks 1 to 64, slots 0 to 63, used in a ring"

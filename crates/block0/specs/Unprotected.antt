@@ -3,8 +3,8 @@ use Prim.Native.Nat.{ℕ}
 use mathlib.Core.Bool.{Bool}
 use mathlib.Core.List.{List}
 use lib.Dec.{eqb}
-use Rattle.label_list.specs.Word.{codeOf}
 use Rattle.label_list.specs.Find.{any}
+use Rattle.label_list.specs.Word.{codeOf}
 
 -- the word's label is used without protection
 abbrev pub isUnprotected : ℕ → Bool

@@ -1,14 +1,14 @@
 // Block 0 of the stored image: the session's numbers and its 120 label words.
-ghost use mathlib.Core.Path.{_≡_};
 ghost use Prim.Native.Nat.{_<_};
+ghost use mathlib.Core.Path.{_≡_};
 ghost use lib.ListN.{length, getD, set, take, drop};
-ghost use Rattle.label_list.specs.Valid.{validOf};
-ghost use Rattle.label_list.specs.Word.{wordCount};
 ghost use Rattle.block.specs.Check.{blockSize};
 ghost use Rattle.block.specs.Run.{putRun};
-ghost use Rattle.block0.specs.Layout.{widths, values, headerOf, labelsOf, releasedHeader, noLabels, block0};
 ghost use Rattle.ft_number.specs.Circle.{stepsOf};
+ghost use Rattle.label_list.specs.Valid.{validOf};
+ghost use Rattle.label_list.specs.Word.{wordCount};
 ghost use Rattle.block0.specs.Fields.{atMost, headerOk, fieldsOk};
+ghost use Rattle.block0.specs.Layout.{widths, values, headerOf, labelsOf, releasedHeader, noLabels, block0};
 ghost use Rattle.block0.specs.Unprotected.{isUnprotected, unprotected};
 use ft_number::FtNumber;
 use ft_number::Steps;
@@ -101,7 +101,7 @@ fn put_fields(block: &mut [u8], h: Header)
     put_rest(block, h);
 }
 
-// Writes block 0 whole: its fields, its label words and its check.
+// Writes block 0 whole: version, fields, a zero byte 23, the label words and the check.
 pub fn write_block0(block: &mut [u8], h: Header, labels: &[u32])
     requires { ⌜ (length (now block) ≡ blockSize) × (length (now labels) ≡ wordCount) ⌝ }
     ensures { λ _. ⌜ now (block .exit) ≡ block0 (now (block .entry)) h (now (labels .entry)) ⌝ }
@@ -130,7 +130,7 @@ pub fn write_label(block: &mut [u8], h: Header, place: usize, word: u32)
     block::seal(block);
 }
 
-// Writes a released block 0. No label stands in it, so only the fields are summed for the check.
+// Writes a released block 0: every number 0, kept 0, every label word free. So only the fields are summed for the check.
 pub fn write_released(block: &mut [u8])
     requires { ⌜ length (now block) ≡ blockSize ⌝ }
     ensures { λ _. ⌜ now (block .exit) ≡ block0 (now (block .entry)) releasedHeader noLabels ⌝ }
@@ -200,7 +200,7 @@ fn is_unprotected(block: &[u8], place: usize) -> bool
     read_label(block, place) / label_list::LABEL_COUNT == 6
 }
 
-// Whether any label is. Where all words are free they are not read one by one.
+// Whether a label word has code 6. Where all words are free they are not read one by one.
 pub fn has_unprotected(block: &[u8]) -> bool
     requires { ⌜ length (now block) ≡ blockSize ⌝ }
     ensures { λ r. ⌜ r ≡ unprotected (labelsOf (now (block .entry))) ⌝ }
@@ -218,7 +218,8 @@ pub fn has_unprotected(block: &[u8]) -> bool
     false
 }
 
-// Whether block 0's fields are right. Its check is not looked at.
+// 01's rules for the fields: version 1, first 0 to 63, held 0 to 64, kept 0 or 1, byte 23 zero, R to I no longer than held, I not zero
+// unless R is, the label words' rule, and with kept 0 bytes 4 to 507 zero. The check is not looked at.
 pub fn block0_is_valid(block: &[u8]) -> bool
     requires { ⌜ length (now block) ≡ blockSize ⌝ }
     ensures { λ r. ⌜ r ≡ fieldsOk (now (block .entry)) ⌝ }

@@ -1,21 +1,21 @@
 -- The ways in which a call returns: by its first tests, and by its own. Assumes nothing.
-use mathlib.Core.Path.{_≡_, sym, ap, _∙_}
+use Prim.Native.Nat.{ℕ}
 use mathlib.Core.Bool.{true, false}
 use mathlib.Core.List.{List}
-use Prim.Native.Nat.{ℕ}
+use mathlib.Core.Path.{_≡_, sym, ap, _∙_}
 use Rattle.image.specs.Verdict.{verdict, IsSound}
 use Rattle.image.proofs.Sound.{sound-parts}
-use Rattle.calls.specs.declared.Answer
-use Rattle.calls.specs.declared.Answer.{Answer}
-use Rattle.calls.specs.declared.Effect
-use Rattle.calls.specs.declared.Effect.{Effect}
+use Rattle.protocol.specs.declared.Answer.{Answer}
+use Rattle.protocol.specs.declared.Effect.{Effect}
+use Rattle.protocol.specs.declared.Phase.{Phase}
 use Rattle.calls.specs.declared.Outcome.{Outcome}
-use Rattle.calls.specs.declared.Phase.{Phase}
-use Rattle.calls.specs.Answers.{answerNumber, effectBy, effectOf}
-use Rattle.calls.specs.Outcomes.{After, after, isDone, refusal, checked, admitted, settleOf}
-use Rattle.calls.proofs.Settled.{admit-refused, admit-passed, admitted-is, checks-sound}
+
+use Rattle.protocol.specs.Answers.{answerNumber, effectBy, effectOf, isDone}
+use Rattle.protocol.proofs.Settling.{done-harmless}
+use Rattle.calls.specs.Outcomes.{After, after, refusal, checked, admittedOn, settleOf}
 use Rattle.calls.proofs.Ends.{settle-refusal, unchanged-is}
-use Rattle.call_meaning.proofs.Refusals.{checked-harmless, admitted-harmless, done-harmless, settle-does}
+use Rattle.calls.proofs.Settled.{admit-refused, admit-passed, admitted-is, checks-sound}
+use Rattle.call_meaning.proofs.Refusals.{checked-harmless, admitted-harmless, settle-does}
 
 -- ---- restore's checks alone
 module _ (im : List ℕ) {r : Answer} (e : r ≡ checked (verdict im) Answer.Done) where
@@ -30,15 +30,15 @@ module _ (im : List ℕ) {r : Answer} (e : r ≡ checked (verdict im) Answer.Don
   checks-passed t = sound-parts im (checks-sound im e t)
 
 -- ---- restore's checks and the phase
-module _ (im : List ℕ) (ph : Phase) {r : Answer} (e : r ≡ admitted im ph Answer.Done) (o : List ℕ) (a : Answer) (d : After) where
+module _ (im : List ℕ) (ph : Phase) {r : Answer} (e : r ≡ admittedOn im ph Answer.Done) (o : List ℕ) (a : Answer) (d : After) where
   -- a call that the first tests refuse changes nothing
-  pub call-refused : {x : Outcome} → isDone r ≡ false → x ≡ refusal r ph → after x im o ≡ settleOf (admitted im ph a) ph im o d
+  pub call-refused : {x : Outcome} → isDone r ≡ false → x ≡ refusal r ph → after x im o ≡ settleOf (admittedOn im ph a) ph im o d
   call-refused n p =
       rw (← admit-refused im ph e a n)
       (unchanged-is r ph im o p ∙ sym (settle-refusal r ph im o d (ap effectOf e ∙ admitted-harmless im ph Answer.Done done-harmless (ap isDone (sym e) ∙ n))))
 
   -- one that they pass is settled by its own answer
-  pub call-own : {x : After} → isDone r ≡ true → x ≡ settleOf a ph im o d → x ≡ settleOf (admitted im ph a) ph im o d
+  pub call-own : {x : After} → isDone r ≡ true → x ≡ settleOf a ph im o d → x ≡ settleOf (admittedOn im ph a) ph im o d
   call-own t p = rw (admitted-is (admit-passed im ph e t) a) p
 
 -- done: what the call does itself

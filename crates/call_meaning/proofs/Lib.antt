@@ -1,5 +1,9 @@
 pub mod Refusals
 pub mod Calling
 pub mod Stands
-pub mod Released
+pub mod Putting
 pub mod Answered
+pub mod Refining
+-- what the owner stores, block by block
+pub mod Slots
+pub mod Written

@@ -1,22 +1,16 @@
 -- What the first tests of a call leave, whatever its own tests are. Assumes nothing.
-use mathlib.Core.Path.{_≡_, refl, sym}
-use mathlib.Core.Bool.{true, false, true≢false}
-use mathlib.Core.List.{List}
 use Prim.Native.Nat.{ℕ, _<_}
+use mathlib.Core.Bool.{true}
+use mathlib.Core.List.{List}
+use mathlib.Core.Path.{_≡_, refl, sym}
 use Rattle.image.specs.declared.Verdict.{Verdict}
-use Rattle.calls.specs.declared.Answer
-use Rattle.calls.specs.declared.Answer.{Answer}
-use Rattle.calls.specs.declared.Effect
-use Rattle.calls.specs.declared.Effect.{Effect}
-use Rattle.calls.specs.declared.Phase.{Phase}
-use Rattle.calls.specs.Answers.{answerNumber, effectOf}
-use Rattle.calls.specs.Outcomes.{After, isDone, checked, admitted, settleOf}
-use Rattle.calls.proofs.Effects.{effect-nothing}
+use Rattle.protocol.specs.declared.Answer.{Answer}
+use Rattle.protocol.specs.declared.Phase.{Phase}
+use Rattle.protocol.specs.Answers.{answerNumber, effectOf, isDone}
+use Rattle.protocol.proofs.Effects.{effect-nothing}
+use Rattle.protocol.proofs.Settling.{Harmless}
+use Rattle.calls.specs.Outcomes.{After, checked, admittedOn, settleOf}
 use Rattle.calls.proofs.Settled.{checked-all, admitted-all}
-
--- an answer that, where it is not Done, leaves everything as it was
-abbrev pub Harmless : Answer → Type 0
-Harmless a = isDone a ≡ false → effectOf a ≡ Effect.Nothing
 
 refusal-harmless : (x : Answer) → 0 < answerNumber x → answerNumber x < 20 → Harmless x
 refusal-harmless x l m n = sym (effect-nothing x (answerNumber x) refl l m)
@@ -25,12 +19,8 @@ refusal-harmless x l m n = sym (effect-nothing x (answerNumber x) refl l m)
 pub checked-harmless : (v : Verdict) (a : Answer) → Harmless a → Harmless (checked v a)
 checked-harmless v a h = checked-all Harmless refusal-harmless v (λ s. h)
 
-pub admitted-harmless : (im : List ℕ) (ph : Phase) (a : Answer) → Harmless a → Harmless (admitted im ph a)
+pub admitted-harmless : (im : List ℕ) (ph : Phase) (a : Answer) → Harmless a → Harmless (admittedOn im ph a)
 admitted-harmless im ph a h = admitted-all Harmless refusal-harmless im ph (λ d. h)
-
--- Done refuses nothing
-pub done-harmless : Harmless Answer.Done
-done-harmless n = absurd (true≢false n)
 
 -- an answer that is Done does what the call does
 pub settle-does : (a : Answer) (ph : Phase) (im o : List ℕ) (d : After) → isDone a ≡ true → settleOf a ph im o d ≡ d

@@ -1,72 +1,67 @@
 -- However a call ends, it leaves a sound image in range and a phase that the image allows. Assumes nothing.
-use mathlib.Core.Path.{_≡_}
+use Prim.Native.Nat.{ℕ}
 use mathlib.Core.Bool.{true}
 use mathlib.Core.List.{List}
-use Prim.Native.Nat.{ℕ, _≤_, _<_}
-use native.Mathlib.Omega.{arith}
-use native.Mathlib.Nat.{eq-or-lt-of-le}
-use mathlib.Core.Logic.{⊎-elim}
-use borrow.Author.Tests.{eq-eqb}
+use mathlib.Core.Path.{_≡_}
 use Rattle.octets.proofs.Choice.{by-test}
-use Rattle.block0.specs.declared.Header.{Header}
-use Rattle.image.specs.State.{State, decode, InRange}
+use Rattle.image.specs.State.{decode, InRange}
 use Rattle.image.specs.Verdict.{IsSound}
 use Rattle.image.proofs.Changes.{in-range-released, release-decodes, release-sound, break-decodes, break-sound, in-range-broken}
-use Rattle.image.proofs.Sound.{parts-sound, sound-valid}
-use Rattle.calls.specs.declared.Answer.{Answer}
-use Rattle.calls.specs.declared.Effect
-use Rattle.calls.specs.declared.Effect.{Effect}
-use Rattle.calls.specs.declared.Phase
-use Rattle.calls.specs.declared.Phase.{Phase}
-use Rattle.calls.specs.Answers.{effectOf}
-use Rattle.calls.specs.Phases.{phaseFits, restingPhase}
-use Rattle.calls.specs.Outcomes.{After, isDone, unchanged, failedWith, releasedWith, settledBy, settleOf}
-use Rattle.calls.proofs.Settled.{Admitted}
+use Rattle.image.proofs.Sound.{parts-sound}
+use Rattle.protocol.specs.declared.Answer.{Answer}
+use Rattle.protocol.specs.declared.Effect.{Effect}
+use Rattle.protocol.specs.declared.Phase.{Phase}
+use Rattle.protocol.specs.Answers.{effectOf, isDone}
+use Rattle.protocol.specs.Phases.{phaseFits}
+use Rattle.protocol.specs.State.{State}
+use Rattle.protocol.proofs.KeepingPhases.{resting-fits}
+use Rattle.calls.specs.Outcomes.{After, untouched, failedOn, releasedOn, leftBy, settleOf}
+use Rattle.calls.specs.State.{stateOf}
+use Rattle.calls.specs.Storing.{Slots, stored}
 use Rattle.calls.proofs.Ends.{settle-other}
-use Rattle.calls.proofs.Phasing.{resting-failed, resting-idle}
-use Rattle.call_meaning.specs.Standing.{Standing, Stands, Stored}
+use Rattle.calls.proofs.Putting.{break-puts, release-puts}
+use Rattle.calls.proofs.Settled.{Admitted}
+use Rattle.call_meaning.specs.Standing.{Standing, Stands}
+use Rattle.call_meaning.proofs.Putting.{Puts, put-range, put-sound, put-state}
 use Rattle.call_meaning.proofs.Refusals.{settle-does}
 
--- a call that comes to what stands is admitted
+-- a call that comes to what stands is admittedOn
 pub standing-admitted : {im : List ℕ} {ph : Phase} → Standing im ph → Admitted im ph
 standing-admitted {im} st = record { passes = parts-sound im (st .sound); fits = st .fits }
 
--- the phase at rest is one that the image allows
-pub resting-fits : (h : Header) → h .kept ≤ 1 → phaseFits (restingPhase h) h ≡ true
-unfolding phaseFits
-resting-fits h l =
-    ⊎-elim
-    (λ (e : h .kept ≡ 1). rw (← resting-failed h e) (eq-eqb (h .kept) 1 e))
-    (λ (z : h .kept < 1). rw (← resting-idle h (λ (e : h .kept ≡ 1). omega arith)) (eq-eqb (h .kept) 0 (omega arith)))
-    (eq-or-lt-of-le l)
-
 -- a state that is stored stands
-pub stored-stands : {im : List ℕ} {s : State} {ph : Phase} → Stored im s ph → Standing im ph
-stored-stands d = record { sound = d .sound; range = rw (d .decodes) (d .range); fits = rw (d .decodes) (d .fits) }
+pub puts-stands : {im : List ℕ} → IsSound im → {slots : Slots} {s : State} {ph : Phase} → Puts im slots s → phaseFits ph s ≡ true → Standing (stored im slots s) ph
+puts-stands {im} sound {slots} {s} p f = record {
+  sound = put-sound im sound slots s p;
+  range = put-range im sound slots s p;
+  fits = rw (put-state im sound slots s p) f;
+}
 
 -- ---- the three ends of a call that is not done
 -- as connection failed, whatever the phase was
-pub failure-stands : (im : List ℕ) → IsSound im → InRange (decode im) → (a : Answer) (o : List ℕ) → Stands (failedWith a im o)
-unfolding failedWith
+pub failure-stands : (im : List ℕ) → IsSound im → InRange (decode im) → (a : Answer) (o : List ℕ) → Stands (failedOn a im o)
+unfolding failedOn
 failure-stands im s r a o = record {
-  sound = break-sound im s r;
-  range = rw (break-decodes im s r) (in-range-broken im s r);
-  fits = rw (break-decodes im s r) (resting-fits (decode im .header) (sound-valid im s .kept));
+  sound = rw (break-puts im s) (break-sound im s r);
+  range = rw (break-puts im s, break-decodes im s r) (in-range-broken im s r);
+  fits = rw (break-puts im s, break-decodes im s r) (resting-fits (stateOf im));
 }
 
 module _ (im : List ℕ) (ph : Phase) (st : Standing im ph) (a : Answer) (o : List ℕ) where
-  pub failed-stands : Stands (failedWith a im o)
+  -- as connection failed
+  pub failed-stands : Stands (failedOn a im o)
   failed-stands = failure-stands im (st .sound) (st .range) a o
 
-  pub released-stands : Stands (releasedWith a im o)
-  unfolding releasedWith phaseFits
+  -- released
+  pub released-stands : Stands (releasedOn a im o)
+  unfolding releasedOn phaseFits
   released-stands = record {
-    sound = release-sound im (st .sound .size);
-    range = rw (release-decodes im (st .sound .size)) in-range-released;
-    fits = rw (release-decodes im (st .sound .size));
+    sound = rw (release-puts im) (release-sound im (st .sound .size));
+    range = rw (release-puts im, release-decodes im (st .sound .size)) in-range-released;
+    fits = rw (release-puts im, release-decodes im (st .sound .size));
   }
 
-  other-stands : (f : Effect) → Stands (settledBy f a ph im o (unchanged a ph im o))
+  other-stands : (f : Effect) → Stands (leftBy f a ph im o (untouched a ph im o))
   other-stands Effect.Nothing = st
   other-stands Effect.Fail = failed-stands
   other-stands Effect.Release = released-stands
@@ -78,15 +73,15 @@ module _ (im : List ℕ) (ph : Phase) (st : Standing im ph) (a : Answer) (o : Li
   settled-stands done d =
       by-test (isDone a)
       (λ t. rw (settle-does a ph im o done t) (d t))
-      (λ n. rw (settle-other a ph im o done (unchanged a ph im o) n) (other-stands (effectOf a)))
+      (λ n. rw (settle-other a ph im o done (untouched a ph im o) n) (other-stands (effectOf a)))
 
 -- the answer that is left is that of the call's tests, or of what is done
 pub settled-answer : (P : Answer → Type 0) (a : Answer) (ph : Phase) (im o : List ℕ) (done : After) → (P (done .outcome .answer) → P a)
     → P (settleOf a ph im o done .outcome .answer) → P a
-unfolding settleOf failedWith releasedWith
+unfolding settleOf failedOn releasedOn
 settled-answer P a ph im o done d = by (effectOf a)
   where
-    by : (f : Effect) → P (settledBy f a ph im o done .outcome .answer) → P a
+    by : (f : Effect) → P (leftBy f a ph im o done .outcome .answer) → P a
     by Effect.Nothing q = q
     by Effect.Fail q = q
     by Effect.Release q = q

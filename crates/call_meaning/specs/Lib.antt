@@ -1,2 +1,4 @@
 pub mod Standing
+pub mod Seen
+pub mod Medium
 pub mod Ended

@@ -1,26 +1,20 @@
 -- What every call keeps: a sound image whose numbers have their widths, and a phase that it allows.
-use mathlib.Core.Path.{_≡_}
+use Prim.Native.Nat.{ℕ}
 use mathlib.Core.Bool.{true}
 use mathlib.Core.List.{List}
-use Prim.Native.Nat.{ℕ}
-use Rattle.image.specs.State.{State, decode, InRange}
+use mathlib.Core.Path.{_≡_}
+use Rattle.image.specs.State.{decode, InRange}
 use Rattle.image.specs.Verdict.{IsSound}
-use Rattle.calls.specs.declared.Phase.{Phase}
-use Rattle.calls.specs.Phases.{phaseFits}
+use Rattle.protocol.specs.declared.Phase.{Phase}
+use Rattle.protocol.specs.Phases.{phaseFits}
 use Rattle.calls.specs.Outcomes.{After}
+use Rattle.calls.specs.State.{stateOf}
 
 pub record Standing (im : List ℕ) (ph : Phase) : Type 0 where
   pub sound : IsSound im
   pub range : InRange (decode im)
-  pub fits : phaseFits ph (decode im .header) ≡ true
+  pub fits : phaseFits ph (stateOf im) ≡ true
 
 -- what a call leaves stands
 abbrev pub Stands : After → Type 0
 Stands x = Standing (x .image) (x .outcome .phase)
-
--- a state stored in an image: it is read back, the image is sound, its numbers are in range, and it allows the phase
-pub record Stored (im : List ℕ) (s : State) (ph : Phase) : Type 0 where
-  pub decodes : decode im ≡ s
-  pub sound : IsSound im
-  pub range : InRange s
-  pub fits : phaseFits ph (s .header) ≡ true

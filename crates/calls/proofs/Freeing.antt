@@ -1,20 +1,20 @@
 -- Messages whose release frees no label: a walk over their kinds, and what it says of the label words. Assumes nothing.
-use mathlib.Core.Path.{_≡_, refl, sym, _∙_}
+use Prim.Native.Nat.{ℕ, _+_, _≤_, _<_}
 use mathlib.Core.Bool.{Bool, true, false}
 use mathlib.Core.List.{List, [], _∷_}
-use Prim.Native.Nat.{ℕ, _+_, _≤_, _<_}
+use mathlib.Core.Path.{_≡_, refl, sym, _∙_}
 use native.Mathlib.Numerals.{add-one}
-use borrow.Author.Tests.{eq-eqb, ne-eqb}
 use lib.Dec.{eqb}
 use lib.ListN.{length, getD, take, drop, drop-of-length-le}
 use lib.Seq.{length-take-le, drop-cons, getD-take}
+use borrow.Author.Tests.{eq-eqb, ne-eqb}
 use Rattle.octets.proofs.Choice.{cleared}
-use Rattle.message.specs.Kinds.{kindNumber}
-use Rattle.message.specs.Submission.{submissionOf}
-use Rattle.message.specs.declared.Kind
 use Rattle.message.specs.declared.Kind.{Kind}
-use Rattle.slot.specs.Held.{kindIn, labelIn}
-use Rattle.calls.specs.Acked.{releasedKind, releasedLabels, freesLabel, freesNone}
+use Rattle.message.specs.Kinds.{kindNumber}
+use Rattle.message.specs.Storable.{kindIn, labelIn}
+use Rattle.message.specs.Submission.{submissionOf}
+use Rattle.protocol.specs.Acked.{releasedKind, releasedLabels}
+use Rattle.calls.specs.Freeing.{freesLabel, freesNone}
 
 -- by the kind; the premises are what the code was told of the two kinds' numbers
 module _ (kind : ℕ) {w : ℕ} (ew : w ≡ kindNumber Kind.Withdraw) where

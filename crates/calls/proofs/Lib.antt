@@ -1,7 +1,10 @@
-pub mod Effects
 pub mod Phasing
 pub mod Settled
+pub mod Putting
 pub mod Releasing
 pub mod Freeing
 pub mod Ends
 pub mod Saying
+pub mod Called
+pub mod Acknowledged
+pub mod Slots

@@ -1,35 +1,35 @@
--- The steps from R to I as a count, the phase at rest, and UpFT. Assumes nothing.
-use mathlib.Core.Path.{_≡_}
-use mathlib.Core.Bool.{true}
-use Prim.Native.Nat.{ℕ, _≤_}
-use borrow.Author.Tests.{eq-eqb, ne-eqb, eqb-true, le-leb, leb-true}
-use lib.Dec.{eqb, leb}
-use Rattle.octets.proofs.Choice.{both-true}
-use Rattle.ft_number.specs.Circle.{stepsOf}
+-- The steps from R to I as a count, and the phases that an image allows, by block 0's numbers. Assumes nothing.
+use Prim.Native.Nat.{ℕ}
+use mathlib.Core.Bool.{Bool}
+use mathlib.Core.List.{List}
+use mathlib.Core.Path.{_≡_, refl}
 use Rattle.ft_number.specs.declared.Steps.{Steps}
+use Rattle.ft_number.specs.Circle.{stepsOf}
 use Rattle.block0.specs.declared.Header.{Header}
-use Rattle.calls.specs.Phases.{countOf, issuedCount, phaseFits, restingPhase}
-use Rattle.calls.specs.declared.Phase
-use Rattle.calls.specs.declared.Phase.{Phase}
+use Rattle.image.specs.State.{decode}
+use Rattle.protocol.specs.declared.Phase.{Phase}
+use Rattle.protocol.specs.Phases.{countOf, issuedCount, phaseFits}
+use Rattle.protocol.specs.State.{State}
+use Rattle.calls.specs.State.{stateBy, stateOf, numbersOf}
 
-pub issued-is : (h : Header) (s t : Steps) → s ≡ stepsOf (h .released .0) (h .issued .0) → s ≡ t → countOf t ≡ issuedCount h
+pub issued-is : (s : State) (x t : Steps) → x ≡ stepsOf (s .released .0) (s .issued .0) → x ≡ t → countOf t ≡ issuedCount s
 unfolding issuedCount
-issued-is h s t e g = rw (← e, g)
+issued-is s x t e g = rw (← e, g)
 
-pub resting-failed : (h : Header) → h .kept ≡ 1 → Phase.Failed ≡ restingPhase h
-unfolding restingPhase
-resting-failed h e = rw (eq-eqb (h .kept) 1 e)
+-- the numbers decide alone which have a number and which phase fits
+module _ (h : Header) (words : List ℕ) (queue : List (List ℕ)) where
+  pub issued-alone : issuedCount (stateBy h words queue) ≡ issuedCount (numbersOf h)
+  unfolding issuedCount
+  issued-alone = refl
 
-pub resting-idle : (h : Header) → (h .kept ≡ 1 → ⊥) → Phase.Idle ≡ restingPhase h
-unfolding restingPhase
-resting-idle h e = rw (ne-eqb (h .kept) 1 e)
+  fits-alone : (ph : Phase) → phaseFits ph (stateBy h words queue) ≡ phaseFits ph (numbersOf h)
+  unfolding phaseFits issuedCount
+  fits-alone Phase.Idle = refl
+  fits-alone (Phase.InitWait v) = refl
+  fits-alone (Phase.UpFT u) = refl
+  fits-alone Phase.UpPlain = refl
+  fits-alone Phase.Failed = refl
 
--- UpFT: the state is kept, and no more were sent than have a number
-module _ (h : Header) (n : ℕ) where
-  pub fits-up : h .kept ≡ 1 → n ≤ issuedCount h → phaseFits (Phase.UpFT n) h ≡ true
-  unfolding phaseFits
-  fits-up k l = rw (eq-eqb (h .kept) 1 k, le-leb n (issuedCount h) l)
-
-  pub up-fits : phaseFits (Phase.UpFT n) h ≡ true → (h .kept ≡ 1) × (n ≤ issuedCount h)
-  unfolding phaseFits
-  up-fits f = let p = both-true (eqb (h .kept) 1) (leb n (issuedCount h)) f in (eqb-true (h .kept) 1 (p .0), leb-true n (issuedCount h) (p .1))
+-- a test's result, of a header that was read
+pub fits-read : (im : List ℕ) (ph : Phase) {h : Header} {b t : Bool} → b ≡ phaseFits ph (numbersOf h) → h ≡ decode im .header → b ≡ t → phaseFits ph (stateOf im) ≡ t
+fits-read im ph e f g = rw (fits-alone (decode im .header) (decode im .labels) (decode im .queue) ph, ← f, ← e) g

@@ -1,23 +1,21 @@
 -- The label words as messages are released one after the other. Assumes nothing.
-use mathlib.Core.Path.{_≡_, refl, sym, _∙_}
+use Prim.Native.Nat.{ℕ, _+_, _≤_, _<_}
 use mathlib.Core.Bool.{false}
 use mathlib.Core.List.{List, [], _∷_, _++_}
-use Prim.Native.Nat.{ℕ, _+_, _≤_, _<_}
+use mathlib.Core.Path.{_≡_, refl, sym, _∙_}
 use native.Mathlib.Numerals.{add-one}
 use native.Mathlib.Omega.{arith}
-use borrow.Author.Tests.{eq-eqb, ne-eqb}
 use lib.Dec.{eqb}
 use lib.ListN.{length, getD, take}
 use lib.Seq.{take-suc}
-use Rattle.message.specs.Kinds.{kindNumber}
-use Rattle.message.specs.Submission.{submissionOf}
-use Rattle.message.specs.declared.Kind
-use Rattle.message.specs.declared.Kind.{Kind}
-use Rattle.label_list.specs.declared.LabelMessage
+use borrow.Author.Tests.{eq-eqb, ne-eqb}
 use Rattle.label_list.specs.declared.LabelMessage.{LabelMessage}
 use Rattle.label_events.specs.Ack.{ackedOf}
-use Rattle.slot.specs.Held.{kindIn, labelIn}
-use Rattle.calls.specs.Acked.{releasedKind, releasedLabels}
+use Rattle.message.specs.declared.Kind.{Kind}
+use Rattle.message.specs.Kinds.{kindNumber}
+use Rattle.message.specs.Storable.{kindIn, labelIn}
+use Rattle.message.specs.Submission.{submissionOf}
+use Rattle.protocol.specs.Acked.{releasedKind, releasedLabels}
 
 -- by the kind; the premises are what the code was told of the two kinds' numbers, and its tests
 module _ (kind label : ℕ) (ls : List ℕ) {w : ℕ} (ew : w ≡ kindNumber Kind.Withdraw) where
@@ -37,6 +35,7 @@ module _ (kind label : ℕ) (ls : List ℕ) {w : ℕ} (ew : w ≡ kindNumber Kin
     unfolding releasedKind
     released-other m = rw (other, ne-eqb kind (kindNumber Kind.Release) (λ k. m (k ∙ sym er)))
 
+-- to release one run of messages and then another is to release both
 pub released-append : (ms ns : List (List ℕ)) (ls : List ℕ) → releasedLabels (ms ++ ns) ls ≡ releasedLabels ns (releasedLabels ms ls)
 unfolding releasedLabels
 released-append [] ns ls = refl

@@ -1,43 +1,43 @@
 -- The first tests of a call, and what its answer leaves. Assumes nothing.
-use mathlib.Core.Path.{_≡_, refl, sym, ap, _∙_}
-use mathlib.Core.Bool.{Bool, true, false, true≢false}
-use mathlib.Core.List.{List}
 use Prim.Native.Nat.{ℕ, _<_}
+use mathlib.Core.Bool.{Bool, true, false, not, true≢false}
+use mathlib.Core.List.{List}
+use mathlib.Core.Path.{_≡_, refl, sym, ap, _∙_}
 use native.Mathlib.Omega.{arith}
 use borrow.Author.Tests.{eqb-true}
 use Rattle.octets.specs.Pick.{pick}
-use Rattle.block0.specs.declared.Header.{Header}
-use Rattle.image.specs.State.{decode}
-use Rattle.image.specs.Verdict.{verdict, IsSound}
-use Rattle.image.specs.declared.Verdict
 use Rattle.image.specs.declared.Verdict.{Verdict}
+use Rattle.image.specs.Verdict.{verdict, IsSound}
 use Rattle.image.proofs.Sound.{sound-parts}
-use Rattle.calls.specs.declared.Answer
-use Rattle.calls.specs.declared.Answer.{Answer}
-use Rattle.calls.specs.declared.Phase.{Phase}
-use Rattle.calls.specs.Answers.{answerNumber}
-use Rattle.calls.specs.Phases.{phaseFits}
-use Rattle.calls.specs.Outcomes.{isDone, checked, admitted}
+use Rattle.protocol.specs.declared.Answer.{Answer}
+use Rattle.protocol.specs.declared.Phase.{Phase}
+use Rattle.protocol.specs.Answers.{answerNumber, isDone}
+use Rattle.protocol.specs.Phases.{phaseFits}
+use Rattle.protocol.specs.Step.{admitted}
+use Rattle.calls.specs.Outcomes.{checked, admittedOn}
+use Rattle.calls.specs.State.{stateOf}
 
--- what a call knows that was admitted
+-- what a call knows that was admittedOn
 pub record Admitted (im : List ℕ) (ph : Phase) : Type 0 where
   pub passes : verdict im ≡ Verdict.Sound
-  pub fits : phaseFits ph (decode im .header) ≡ true
+  pub fits : phaseFits ph (stateOf im) ≡ true
 
 -- ---- the first tests, and then an answer
 -- what holds of the refusals by the first tests, and of the answer that comes where they are passed, holds of the answer
 module _ (P : Answer → Type 0) (refused : (x : Answer) → 0 < answerNumber x → answerNumber x < 20 → P x) where
+  -- restore's checks
   pub checked-all : (v : Verdict) {a : Answer} → (v ≡ Verdict.Sound → P a) → P (checked v a)
   checked-all Verdict.Sound p = p refl
   checked-all Verdict.WrongSize p = refused Answer.WrongSize (omega arith) (omega arith)
   checked-all (Verdict.BadBlock b) p = refused (Answer.BadBlock b) (omega arith) (omega arith)
   checked-all (Verdict.BadField b) p = refused (Answer.BadField b) (omega arith) (omega arith)
 
-  pub admitted-all : (im : List ℕ) (ph : Phase) {a : Answer} → (Admitted im ph → P a) → P (admitted im ph a)
-  unfolding admitted
-  admitted-all im ph {a} p = checked-all (verdict im) (λ s. by (phaseFits ph (decode im .header)) refl s)
+  -- restore's checks, and then the phase
+  pub admitted-all : (im : List ℕ) (ph : Phase) {a : Answer} → (Admitted im ph → P a) → P (admittedOn im ph a)
+  unfolding admittedOn admitted
+  admitted-all im ph {a} p = checked-all (verdict im) (λ s. by (phaseFits ph (stateOf im)) refl s)
     where
-      by : (b : Bool) → phaseFits ph (decode im .header) ≡ b → verdict im ≡ Verdict.Sound → P (pick b a Answer.WrongPhase)
+      by : (b : Bool) → phaseFits ph (stateOf im) ≡ b → verdict im ≡ Verdict.Sound → P (pick (not b) Answer.WrongPhase a)
       by true f s = p (record { passes = s; fits = f })
       by false f s = refused Answer.WrongPhase (omega arith) (omega arith)
 
@@ -49,13 +49,13 @@ pub checks-sound : (im : List ℕ) {r : Answer} → r ≡ checked (verdict im) A
 checks-sound im e t =
     checked-all (λ (x : Answer). isDone x ≡ true → verdict im ≡ Verdict.Sound) (λ x l m t. absurd (not-done x l t)) (verdict im) (λ s t. s) (ap isDone (sym e) ∙ t)
 
--- a call that is done was admitted, and its own tests are passed
-pub admitted-done : (im : List ℕ) (ph : Phase) (a : Answer) → isDone (admitted im ph a) ≡ true → Admitted im ph × (isDone a ≡ true)
+-- a call that is done was admittedOn, and its own tests are passed
+pub admitted-done : (im : List ℕ) (ph : Phase) (a : Answer) → isDone (admittedOn im ph a) ≡ true → Admitted im ph × (isDone a ≡ true)
 admitted-done im ph a =
     admitted-all (λ (x : Answer). isDone x ≡ true → Admitted im ph × (isDone a ≡ true)) (λ x l m t. absurd (not-done x l t)) im ph (λ d t. (d, t))
 
-refused-same : (v : Verdict) (b : Bool) (a c : Answer) → (isDone a ≡ false → a ≡ c) → isDone (checked v (pick b a Answer.WrongPhase)) ≡ false
-    → checked v (pick b a Answer.WrongPhase) ≡ checked v (pick b c Answer.WrongPhase)
+refused-same : (v : Verdict) (b : Bool) (a c : Answer) → (isDone a ≡ false → a ≡ c) → isDone (checked v (pick (not b) Answer.WrongPhase a)) ≡ false
+    → checked v (pick (not b) Answer.WrongPhase a) ≡ checked v (pick (not b) Answer.WrongPhase c)
 refused-same Verdict.Sound true a c h n = h n
 refused-same Verdict.Sound false a c h n = refl
 refused-same Verdict.WrongSize b a c h n = refl
@@ -63,41 +63,38 @@ refused-same (Verdict.BadBlock k) b a c h n = refl
 refused-same (Verdict.BadField k) b a c h n = refl
 
 -- a refusal is the same where the call's own tests agree on theirs
-pub admitted-other : (im : List ℕ) (ph : Phase) (a c : Answer) → (isDone a ≡ false → a ≡ c) → isDone (admitted im ph a) ≡ false → admitted im ph a ≡ admitted im ph c
-unfolding admitted
-admitted-other im ph a c h n = refused-same (verdict im) (phaseFits ph (decode im .header)) a c h n
+pub admitted-other : (im : List ℕ) (ph : Phase) (a c : Answer) → (isDone a ≡ false → a ≡ c) → isDone (admittedOn im ph a) ≡ false → admittedOn im ph a ≡ admittedOn im ph c
+unfolding admittedOn admitted
+admitted-other im ph a c h n = refused-same (verdict im) (phaseFits ph (stateOf im)) a c h n
 
 -- ---- the tests as the code makes them
--- a test's result, of a header that was read
-pub fits-read : (ph : Phase) {h h′ : Header} {b t : Bool} → b ≡ phaseFits ph h → h ≡ h′ → b ≡ t → phaseFits ph h′ ≡ t
-fits-read ph e f g = rw (← f, ← e) g
-
 module _ (im : List ℕ) (ph : Phase) where
-  pub admit-checks : (a : Answer) {r : Answer} → r ≡ checked (verdict im) Answer.Done → isDone r ≡ false → r ≡ admitted im ph a
-  unfolding admitted
+  pub admit-checks : (a : Answer) {r : Answer} → r ≡ checked (verdict im) Answer.Done → isDone r ≡ false → r ≡ admittedOn im ph a
+  unfolding admittedOn admitted
   admit-checks a e n =
-      e ∙ refused-same (verdict im) true Answer.Done (pick (phaseFits ph (decode im .header)) a Answer.WrongPhase) (λ z. absurd (true≢false z)) (ap isDone (sym e) ∙ n)
+      e ∙ refused-same (verdict im) true Answer.Done (pick (not (phaseFits ph (stateOf im))) Answer.WrongPhase a) (λ z. absurd (true≢false z)) (ap isDone (sym e) ∙ n)
 
-  pub admit-phase : (a : Answer) → verdict im ≡ Verdict.Sound → phaseFits ph (decode im .header) ≡ false → Answer.WrongPhase ≡ admitted im ph a
-  unfolding admitted
+  pub admit-phase : (a : Answer) → verdict im ≡ Verdict.Sound → phaseFits ph (stateOf im) ≡ false → Answer.WrongPhase ≡ admittedOn im ph a
+  unfolding admittedOn admitted
   admit-phase a s f = rw (s, f)
 
-  pub admit-rest : (a : Answer) → verdict im ≡ Verdict.Sound → phaseFits ph (decode im .header) ≡ true → a ≡ admitted im ph a
-  unfolding admitted
+  pub admit-rest : (a : Answer) → verdict im ≡ Verdict.Sound → phaseFits ph (stateOf im) ≡ true → a ≡ admittedOn im ph a
+  unfolding admittedOn admitted
   admit-rest a s f = rw (s, f)
 
-module _ (im : List ℕ) (ph : Phase) {r : Answer} (e : r ≡ admitted im ph Answer.Done) where
-  -- a call that is not admitted is answered so, whatever its own tests would say
-  pub admit-refused : (a : Answer) → isDone r ≡ false → r ≡ admitted im ph a
+module _ (im : List ℕ) (ph : Phase) {r : Answer} (e : r ≡ admittedOn im ph Answer.Done) where
+  -- a call that is not admittedOn is answered so, whatever its own tests would say
+  pub admit-refused : (a : Answer) → isDone r ≡ false → r ≡ admittedOn im ph a
   admit-refused a n = e ∙ admitted-other im ph Answer.Done a (λ z. absurd (true≢false z)) (ap isDone (sym e) ∙ n)
 
-  -- one that is admitted has a sound image and a phase that it allows
+  -- one that is admittedOn has a sound image and a phase that it allows
   pub admit-passed : isDone r ≡ true → Admitted im ph
   admit-passed t = admitted-done im ph Answer.Done (ap isDone (sym e) ∙ t) .0
 
 -- then its own tests decide
-pub admitted-is : {im : List ℕ} {ph : Phase} → Admitted im ph → (a : Answer) → admitted im ph a ≡ a
+pub admitted-is : {im : List ℕ} {ph : Phase} → Admitted im ph → (a : Answer) → admittedOn im ph a ≡ a
 admitted-is {im} {ph} d a = sym (admit-rest im ph a (d .passes) (d .fits))
 
+-- a call that is admitted has a sound image
 pub admitted-sound : {im : List ℕ} {ph : Phase} → Admitted im ph → IsSound im
 admitted-sound {im} d = sound-parts im (d .passes)

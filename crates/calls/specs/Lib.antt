@@ -1,5 +1,4 @@
-pub mod Answers
-pub mod Phases
+pub mod State
+pub mod Storing
 pub mod Outcomes
-pub mod Acked
-pub mod Received
+pub mod Freeing

@@ -1,10 +1,13 @@
 // What an acknowledgement makes of block 0's numbers and label words.
+ghost use Prim.Native.Nat.{_-_, _≤_};
 ghost use mathlib.Core.Path.{_≡_};
-ghost use Prim.Native.Nat.{_≤_};
 ghost use lib.ListN.{take};
+ghost use Rattle.block0.specs.Updates.{headerReleased};
+ghost use Rattle.image.specs.Sizes.{slotAt};
 ghost use Rattle.image.specs.State.{decode};
 ghost use Rattle.image.specs.Verdict.{IsSound};
-ghost use Rattle.calls.specs.Acked.{releasedKind, releasedLabels, freesLabel, freesNone, withReleased};
+ghost use Rattle.protocol.specs.Acked.{releasedKind, releasedLabels};
+ghost use Rattle.calls.specs.Freeing.{freesLabel, freesNone};
 use block0::Header;
 use ft_number::FtNumber;
 use label_list::LabelMessage;
@@ -24,7 +27,7 @@ fn release_label(words: &mut [u32], kind: u8, label: u32)
     }
 }
 
-// The label words after the oldest `count` held messages were released.
+// The label words after the oldest `count` held messages were released: of a Withdraw 2 and of a Release 5 become free, all else stays.
 pub fn release_labels(image: &[u8], count: usize, words: &mut [u32])
     requires { ⌜ IsSound (now image) × (count ≤ decode (now image) .header .held) ⌝ }
     ensures { λ _. ⌜ now (words .exit) ≡ releasedLabels (take count (decode (now (image .entry)) .queue)) (now (words .entry)) ⌝ }
@@ -67,10 +70,10 @@ pub fn frees_none(image: &[u8], count: usize) -> bool
     true
 }
 
-// The header after an ACK: R is the number acknowledged, and the oldest `count` slots are free.
+// The header after an ACK: R is the number acknowledged, and the oldest `count` slots are free; all else stays.
 pub fn released_header(h: Header, count: u32, ack: FtNumber) -> Header
     requires { ⌜ count ≤ h .held ⌝ }
-    ensures { λ r. ⌜ r ≡ withReleased h count (ack .0) ⌝ }
+    ensures { λ r. ⌜ r ≡ headerReleased h ack (slotAt (h .first) count) (h .held - count) ⌝ }
 {
     let mut next = h;
     next.released = ack;

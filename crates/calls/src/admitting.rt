@@ -1,8 +1,7 @@
 // The first two tests of every call, and a refusal.
 ghost use mathlib.Core.Path.{_≡_};
 ghost use Rattle.image.specs.Verdict.{verdict};
-ghost use Rattle.calls.specs.Outcomes.{checked, admitted, refusal};
-ghost use Rattle.calls.specs.declared.Answer;
+ghost use Rattle.calls.specs.Outcomes.{checked, admittedOn, refusal};
 use crate::Answer;
 use crate::Outcome;
 use crate::Phase;
@@ -24,7 +23,7 @@ pub fn check(image: &[u8]) -> Answer
 
 // Restore's checks, and whether the image allows the phase: the first two tests of every call.
 pub fn admit(image: &[u8], phase: Phase) -> Answer
-    ensures { λ r. ⌜ r ≡ admitted (now (image .entry)) phase Answer.Done ⌝ }
+    ensures { λ r. ⌜ r ≡ admittedOn (now (image .entry)) phase Answer.Done ⌝ }
 {
     let a = check(image);
     if !is_done(a) {
@@ -36,7 +35,7 @@ pub fn admit(image: &[u8], phase: Phase) -> Answer
     Answer::Done
 }
 
-// A refusal: nothing changed.
+// A refusal: that answer, the phase as given, nothing written and nothing to store.
 pub fn refuse(answer: Answer, phase: Phase) -> Outcome
     ensures { λ r. ⌜ r ≡ refusal answer phase ⌝ }
 {

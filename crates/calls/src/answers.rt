@@ -1,7 +1,6 @@
 // The answers: the number of each, and what it leaves.
 ghost use mathlib.Core.Path.{_≡_};
-ghost use Rattle.calls.specs.Answers.{answerNumber, effectOf};
-ghost use Rattle.calls.specs.Outcomes.{isDone};
+ghost use Rattle.protocol.specs.Answers.{answerNumber, effectOf, isDone};
 use crate::Answer;
 use crate::Effect;
 
@@ -38,7 +37,7 @@ pub fn answer_number(a: Answer) -> u32
     }
 }
 
-// What an answer leaves.
+// What an answer leaves: 0 acts, 1 to 13 nothing, 20 to 23 as connection failed, 30 to 36 released.
 pub fn effect_of(a: Answer) -> Effect
     ensures { λ r. ⌜ r ≡ effectOf a ⌝ }
 {

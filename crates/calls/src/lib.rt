@@ -22,55 +22,14 @@ pub use ending::settle;
 pub use phases::issued_count;
 pub use phases::phase_fits;
 pub use phases::resting_phase;
+pub use protocol::Answer;
+pub use protocol::Effect;
+pub use protocol::Phase;
+pub use protocol::Progress;
+pub use protocol::Waiting;
 pub use receiving::is_init;
 pub use storing::store_changed;
 pub use storing::store_numbers;
-
-// 01's phases. InitWait bears our proposed timeout, UpFT the count sent on this connection.
-pub enum Phase {
-    Idle,
-    InitWait(u16),
-    UpFT(u32),
-    UpPlain,
-    Failed,
-}
-
-// A case for each number of 01's answer table; `answerNumber` gives the number.
-pub enum Answer {
-    Done,
-    WrongPhase,
-    ZeroDistance,
-    LengthOutOfRange,
-    Malformed,
-    KindNotSent,
-    LabelNotAllowed,
-    StoreFull,
-    NothingUnsent,
-    OutputTooShort,
-    BadBlock(usize),
-    BadField(usize),
-    WrongSize,
-    NoLabelWord,
-    OutOfTurn,
-    NoWordForMapping,
-    MalformedReceived,
-    BadInit,
-    ZeroNumber,
-    FtTlvInPlain,
-    ProtectionWrong,
-    ProtectionMissing,
-    AckSequenceError,
-    ParametersChanged,
-    StatusFatal,
-}
-
-// What an answer leaves: nothing changed, the connection failed, the state released, or the call done.
-pub enum Effect {
-    Nothing,
-    Fail,
-    Release,
-    Act,
-}
 
 // What a call answers. `slot` is the block of the slot that was written, to be stored before block 0, and 0 where none was;
 // `block0` says whether block 0's bytes changed, to be stored before output leaves.

@@ -1,6 +1,6 @@
 // What a received message is asked first.
 ghost use mathlib.Core.Path.{_≡_};
-ghost use Rattle.calls.specs.Received.{isInit};
+ghost use Rattle.protocol.specs.Received.{isInit};
 use message::MessageType;
 
 // Whether it is an Init.

@@ -1,7 +1,7 @@
 // Stores of block 0, which the owner stores where its bytes changed: they changed exactly where block 0 says something else.
-ghost use mathlib.Core.Path.{_≡_};
 ghost use mathlib.Core.Bool.{true, false};
 ghost use mathlib.Core.Logic.{_≢_};
+ghost use mathlib.Core.Path.{_≡_};
 ghost use lib.ListN.{length};
 ghost use Rattle.octets.specs.Differ.{differ};
 ghost use Rattle.label_list.specs.Word.{wordCount};

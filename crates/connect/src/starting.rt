@@ -1,6 +1,6 @@
 // Format and Restore.
-ghost use mathlib.Core.Path.{_≡_};
 ghost use mathlib.Core.List.{[]};
+ghost use mathlib.Core.Path.{_≡_};
 ghost use Rattle.calls.specs.Outcomes.{after};
 ghost use Rattle.connect.specs.Start.{formatOf, restoreOf};
 use calls::Answer;

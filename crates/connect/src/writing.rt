@@ -1,11 +1,16 @@
 // Open and KeepAlive: the messages that a session writes of its own. They leave the image, so they are lent it to read.
 ghost use mathlib.Core.Path.{_≡_};
+ghost use Rattle.protocol.specs.KeepAlive.{aliveAck};
+ghost use Rattle.protocol.specs.Open.{keptAck};
+ghost use Rattle.protocol.specs.Phases.{isUp, mayOpen};
 ghost use Rattle.calls.specs.Outcomes.{after};
-ghost use Rattle.connect.specs.Writers.{keptAck, opens, openOf, isUp, aliveAck, keepaliveOf, writtenAs};
+ghost use Rattle.calls.specs.State.{numbersOf};
+ghost use Rattle.connect.specs.Writers.{openOf, keepaliveOf, writtenAs};
 use block0::Header;
 use calls::Answer;
 use calls::Outcome;
 use calls::Phase;
+use calls::Waiting;
 use ft_number::FtNumber;
 use ft_number::MessageId;
 use ft_number::Proposal;
@@ -15,7 +20,7 @@ use tlv::FtField;
 
 // The ACK that our Init bears, and with it R: of kept state alone.
 fn kept_ack(h: Header) -> FtField
-    ensures { λ r. ⌜ r ≡ keptAck h ⌝ }
+    ensures { λ r. ⌜ r ≡ keptAck (numbersOf h) ⌝ }
 {
     let secured = h.secured;
     if h.kept == 1 {
@@ -26,7 +31,7 @@ fn kept_ack(h: Header) -> FtField
 
 // Whether Open may come in the phase.
 fn opens_in(phase: Phase) -> bool
-    ensures { λ r. ⌜ r ≡ opens phase ⌝ }
+    ensures { λ r. ⌜ r ≡ mayOpen phase ⌝ }
 {
     match phase {
         Phase::Idle => true,
@@ -100,7 +105,11 @@ pub fn open_session(
     let seconds = ft_number::proposed_timeout(proposal);
     let ack = kept_ack(image::header_of(image));
     let written = message_writer::write_init(out, id, parameters, seconds, ack);
-    answer_written(written, phase, Phase::InitWait(seconds))
+    answer_written(
+        written,
+        phase,
+        Phase::InitWait(Waiting { timeout: seconds }),
+    )
 }
 
 // Writes a KeepAlive.

@@ -1,14 +1,13 @@
 -- The lines of a PDU, one message after the other: what holds after k of them, and how the next one keeps it. Assumes nothing.
 use Prim.Native.Nat.{ℕ, suc, _+_, _-_, _*_, _≤_, _<_}
-use mathlib.Core.Path.{_≡_, refl, sym, ap, _∙_}
 use mathlib.Core.List.{List, [], _∷_, _++_, append-nil, append-assoc}
+use mathlib.Core.Path.{_≡_, refl, sym, ap, _∙_}
 use native.Mathlib.Nat.{sub-zero}
 use native.Mathlib.Omega.{arith}
 use lib.ListN.{length}
+use Rattle.pdu.specs.declared.Opened.{Opened}
 use Rattle.pdu.specs.Pdu.{placeOf, messageOf, openedOf}
 use Rattle.pdu.specs.Split.{handedOut}
-use Rattle.pdu.specs.declared.Opened
-use Rattle.pdu.specs.declared.Opened.{Opened}
 use Rattle.pdu.proofs.Split.{Reach, Next, reach-next, opened-reach}
 use Rattle.text.specs.Text.{Put}
 use Rattle.text.proofs.Pieces.{put-none, put-then, put-length}

@@ -1,22 +1,20 @@
 -- The parts of a message that was read, as its line shows them. Assumes nothing.
 use Prim.Native.Nat.{ℕ, _+_, _≤_}
-use mathlib.Core.Path.{_≡_, refl, sym, ap, _∙_}
 use mathlib.Core.Bool.{Bool, true, false}
 use mathlib.Core.List.{List}
+use mathlib.Core.Path.{_≡_, refl, sym, ap, _∙_}
 use native.Mathlib.Omega.{arith}
-use borrow.Author.Tests.{eqb-true, eqb-false}
 use lib.Dec.{eqb}
+use borrow.Author.Tests.{eqb-true, eqb-false}
 use Rattle.octets.specs.Be.{beAt}
 use Rattle.octets.specs.Pick.{pick}
-use Rattle.tlv.specs.Value.{partAt}
 use Rattle.tlv.specs.declared.Part.{Part}
-use Rattle.tlv.specs.declared.walk.Tlv
 use Rattle.tlv.specs.declared.walk.Tlv.{Tlv}
+use Rattle.tlv.specs.Value.{partAt}
 use Rattle.tlv.proofs.Places.{Lies, found-lies}
-use Rattle.message.specs.Reading.{messageOf, readingOf}
 use Rattle.message.specs.declared.Message.{Message}
-use Rattle.message.specs.declared.Reading
 use Rattle.message.specs.declared.Reading.{Reading}
+use Rattle.message.specs.Reading.{messageOf, readingOf}
 use Rattle.message.proofs.Laws.{Whole, whole, whole-fec, whole-parameters}
 use Rattle.dump.specs.Fields.{PartsWithin}
 

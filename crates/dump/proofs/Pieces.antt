@@ -1,12 +1,12 @@
 -- The head of a line and the line, from the pieces that were put. Assumes nothing.
 use Prim.Native.Nat.{ℕ}
-use mathlib.Core.Path.{_≡_, sym, ap}
 use mathlib.Core.List.{List, _++_}
+use mathlib.Core.Path.{_≡_, sym, ap}
 use Rattle.ft_number.specs.declared.MessageId.{MessageId}
-use Rattle.message.specs.Reading.{numberIn, idIn, readingOf}
 use Rattle.text.specs.Text.{ascii, decimal, Put}
 use Rattle.text.proofs.Pieces.{put-then}
 use Rattle.dump_fields.specs.Field.{typeText}
+use Rattle.message.specs.Reading.{numberIn, idIn, readingOf}
 use Rattle.dump.specs.Line.{headText, readingText, lineOf}
 
 module _ {a b c d : List ℕ} {at end second third : ℕ} (m : List ℕ) where

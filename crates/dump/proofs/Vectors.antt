@@ -1,13 +1,13 @@
 -- The example of docs/LDP_DUMP.md computes: a Mapping with FT Protection, and a malformed Withdraw. Assumes nothing.
-use mathlib.Core.Path.{_≡_, refl}
-use mathlib.Core.List.{List, [], _∷_}
 use Prim.Native.Nat.{ℕ}
+use mathlib.Core.List.{List, [], _∷_}
+use mathlib.Core.Path.{_≡_, refl}
 use Rattle.octets.specs.Fix.{fix, steps}
-use Rattle.tlv.specs.Tlv.{tlvOf}
-use Rattle.tlv.specs.Walk.{notedOf, turnOf, walkOf, tlvsOf}
-use Rattle.tlv.specs.Value.{partAt, fecAt, fieldAt, numberAt, parametersAt, sessionAt}
-use Rattle.message.specs.Reading.{typeOf, messageOf, placesOf, readingOf}
 use Rattle.text.specs.Text.{ascii, decimal}
+use Rattle.tlv.specs.Tlv.{tlvOf}
+use Rattle.tlv.specs.Value.{partAt, fecAt, fieldAt, numberAt, parametersAt, sessionAt}
+use Rattle.tlv.specs.Walk.{notedOf, turnOf, walkOf, tlvsOf}
+use Rattle.message.specs.Reading.{typeOf, messageOf, placesOf, readingOf}
 use Rattle.dump.specs.Line.{headText, lineOf}
 
 abbrev mapping : List ℕ

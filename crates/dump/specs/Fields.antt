@@ -3,10 +3,10 @@ use Prim.Native.Nat.{ℕ, _+_, _≤_}
 use mathlib.Core.List.{List, _++_}
 use lib.ListN.{length}
 use Rattle.octets.specs.Part.{part}
-use Rattle.message.specs.declared.Message.{Message}
-use Rattle.tlv.specs.declared.Part.{Part}
 use Rattle.text.specs.Text.{ascii}
+use Rattle.tlv.specs.declared.Part.{Part}
 use Rattle.dump_fields.specs.Field.{fecText, labelText, statusText, parametersText, sessionText, ftText}
+use Rattle.message.specs.declared.Message.{Message}
 
 -- the bytes of a part of the message
 abbrev pub valueOf : List ℕ → Part → List ℕ

@@ -4,15 +4,13 @@
 use Prim.Native.Nat.{ℕ, _+_, _*_}
 use mathlib.Core.Bool.{Bool, true, false}
 use mathlib.Core.List.{List, [], _∷_, _++_}
+use Rattle.pdu.specs.declared.Opened.{Opened}
 use Rattle.pdu.specs.Pdu.{openedOf}
 use Rattle.pdu.specs.Split.{handedOut}
-use Rattle.pdu.specs.declared.Opened
-use Rattle.pdu.specs.declared.Opened.{Opened}
-use Rattle.message.specs.Reading.{numberIn, idIn, readingOf}
-use Rattle.message.specs.declared.Reading
-use Rattle.message.specs.declared.Reading.{Reading}
 use Rattle.text.specs.Text.{ascii, decimal}
 use Rattle.dump_fields.specs.Field.{typeText}
+use Rattle.message.specs.declared.Reading.{Reading}
+use Rattle.message.specs.Reading.{numberIn, idIn, readingOf}
 use Rattle.dump.specs.Fields.{fieldsText}
 
 unfoldable pub headText : ℕ → ℕ → List ℕ → List ℕ

@@ -2,12 +2,12 @@
 pub mod line; // line.rt: the line of one message
 pub mod stream; // stream.rt: a stream of PDUs
 
-ghost use mathlib.Core.Path.{_≡_};
 ghost use Prim.Native.Nat.{_≤_};
+ghost use mathlib.Core.Path.{_≡_};
 ghost use lib.ListN.{length};
+ghost use Rattle.pdu.specs.declared.Opened.the-variants.{Whole};
 ghost use Rattle.pdu.specs.Pdu.{openedOf};
 ghost use Rattle.pdu.specs.Split.{handedOut};
-ghost use Rattle.pdu.specs.declared.Opened.the-variants.{Whole};
 ghost use Rattle.text.specs.Text.{Put};
 ghost use Rattle.dump.specs.Line.{linesOf, pduText, isWhole, textRoom, largestPdu};
 
@@ -35,7 +35,7 @@ fn put_lines(out: &mut [u8], number: u64, pdu: &[u8], count: u32) -> usize
     end
 }
 
-// The text of a PDU with its number: the lines of its messages, or that it is malformed.
+// The text of a PDU with its number: the lines of its messages, numbered from 0, or that it is malformed; and whether it was whole.
 pub fn dump_pdu(out: &mut [u8], number: u64, pdu: &[u8]) -> Dumped
     requires { ⌜ (length (now pdu) ≤ largestPdu) × (textRoom ≤ length (now out)) ⌝ }
     ensures { λ r. ⌜ Put (now (out .entry)) 0 (pduText number (now (pdu .entry))) (now (out .exit)) (r .end) ⌝ }

@@ -1,14 +1,14 @@
 // The line of one message.
+ghost use Prim.Native.Nat.{_+_, _-_, _*_, _≤_};
+ghost use mathlib.Core.Path.{_≡_};
+ghost use lib.ListN.{length};
+ghost use Rattle.text.specs.Text.{Put};
+ghost use Rattle.message.specs.Reading.{readingOf};
+ghost use Rattle.dump.specs.Fields.{valueOf, bindingText, stateText, ftTexts, fieldsText, PartsWithin};
+ghost use Rattle.dump.specs.Line.{headText, readingText, lineOf, lineRoom};
 use message::Message;
 use message::Reading;
 use tlv::Part;
-ghost use mathlib.Core.Path.{_≡_};
-ghost use Prim.Native.Nat.{_+_, _-_, _*_, _≤_};
-ghost use lib.ListN.{length};
-ghost use Rattle.message.specs.Reading.{readingOf};
-ghost use Rattle.text.specs.Text.{Put};
-ghost use Rattle.dump.specs.Fields.{valueOf, bindingText, stateText, ftTexts, fieldsText, PartsWithin};
-ghost use Rattle.dump.specs.Line.{headText, readingText, lineOf, lineRoom};
 
 // The number of the PDU, that of the message in it, the type and the message ID.
 fn put_head(out: &mut [u8], at: usize, number: u64, k: u64, m: &[u8]) -> usize
@@ -97,7 +97,8 @@ fn put_reading(out: &mut [u8], at: usize, m: &[u8]) -> usize
     }
 }
 
-// The line of the message m, the k-th of the PDU with the number.
+// The line of the message m, the k-th of the PDU with the number: both numbers, its type, its ID and the listed TLVs in their order, or
+// that it is malformed, and a newline.
 pub fn put_line(out: &mut [u8], at: usize, number: u64, k: u64, m: &[u8]) -> usize
     requires { ⌜ (8 ≤ length (now m)) × (at + lineRoom (length (now m)) ≤ length (now out)) ⌝ }
     ensures { λ r. ⌜ Put (now (out .entry)) at (lineOf number k (now (m .entry))) (now (out .exit)) r ⌝ }

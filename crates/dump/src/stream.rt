@@ -1,9 +1,9 @@
 // A stream of PDUs of any length, read PDU by PDU and written as text to standard output.
-use crate::dump_pdu;
-use libc::STDOUT_FILENO;
 ghost use Prim.Native.Nat.{_≤_};
 ghost use lib.ListN.{length};
 ghost use Rattle.dump.specs.Line.{textRoom, largestPdu};
+use crate::dump_pdu;
+use libc::STDOUT_FILENO;
 
 // Reads the next PDU into `buffer`, version and length first, and answers how many bytes came: 0 at the stream's end, fewer than
 // the PDU has where the stream ends inside it.
@@ -33,7 +33,7 @@ fn dump_next(fd: i32, number: u64, buffer: &mut [u8], out: &mut [u8]) -> bool
     io::write_all(STDOUT_FILENO, &out[..end]) && text.whole
 }
 
-// Writes the text of every PDU of the stream.
+// Writes the text of every PDU of the stream. Proved safe and ending; what is read and written is tested (docs/LDP_DUMP.md).
 pub fn dump_stream(fd: i32) {
     let mut buffer = [0u8; 65539];
     let mut out = [0u8; 2400000];

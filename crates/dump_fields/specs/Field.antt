@@ -5,17 +5,12 @@ use mathlib.Core.Bool.{Bool}
 use mathlib.Core.List.{List, [], _∷_, _++_}
 use Rattle.octets.specs.Be.{bytes}
 use Rattle.octets.specs.Pick.{pick}
-use Rattle.tlv.specs.declared.Fec
-use Rattle.tlv.specs.declared.Fec.{Fec}
-use Rattle.tlv.specs.declared.Field
-use Rattle.tlv.specs.declared.Field.{Field}
-use Rattle.tlv.specs.declared.FtField
-use Rattle.tlv.specs.declared.FtField.{FtField}
-use Rattle.tlv.specs.declared.Parameters
-use Rattle.tlv.specs.declared.Parameters.{Parameters}
-use Rattle.tlv.specs.declared.Session
-use Rattle.tlv.specs.declared.Session.{Session}
 use Rattle.text.specs.Text.{ascii, decimal, hex}
+use Rattle.tlv.specs.declared.Fec.{Fec}
+use Rattle.tlv.specs.declared.Field.{Field}
+use Rattle.tlv.specs.declared.FtField.{FtField}
+use Rattle.tlv.specs.declared.Parameters.{Parameters}
+use Rattle.tlv.specs.declared.Session.{Session}
 
 -- bytes in hexadecimal; `-` where there is none
 abbrev pub bytesText : List ℕ → List ℕ

@@ -1,16 +1,16 @@
 // One TLV as a field of a line of ldp_dump's text: each function puts it from `at` on and answers where it ends.
-// Each asks for the room that its field may need; only `dump` calls them.
+// Each asks for the room that its field may need, and puts nothing for a TLV that does not stand; only `dump` calls them.
+ghost use Prim.Native.Nat.{_+_, _*_, _≤_};
+ghost use mathlib.Core.List.{_++_};
+ghost use mathlib.Core.Path.{_≡_};
+ghost use lib.ListN.{length};
+ghost use Rattle.text.specs.Text.{decimal, Put};
+ghost use Rattle.dump_fields.specs.Field.{bytesText, typeText, fecText, labelText, statusText, parametersText, bit, sessionText, ftText};
 use tlv::Fec;
 use tlv::Field;
 use tlv::FtField;
 use tlv::Parameters;
 use tlv::Session;
-ghost use mathlib.Core.Path.{_≡_};
-ghost use mathlib.Core.List.{_++_};
-ghost use Prim.Native.Nat.{_+_, _*_, _≤_};
-ghost use lib.ListN.{length};
-ghost use Rattle.text.specs.Text.{decimal, Put};
-ghost use Rattle.dump_fields.specs.Field.{bytesText, typeText, fecText, labelText, statusText, parametersText, bit, sessionText, ftText};
 
 // A name and then bytes in hexadecimal; `-` where there is none.
 pub fn put_bytes(out: &mut [u8], at: usize, name: &[u8], value: &[u8]) -> usize
@@ -59,6 +59,7 @@ pub fn put_fec(out: &mut [u8], at: usize, fec: Fec, value: &[u8]) -> usize
     }
 }
 
+// The label.
 pub fn put_label(out: &mut [u8], at: usize, label: Field) -> usize
     requires { ⌜ at + 27 ≤ length (now out) ⌝ }
     ensures { λ r. ⌜ Put (now (out .entry)) at (labelText label) (now (out .exit)) r ⌝ }

@@ -1,18 +1,18 @@
 -- What the numbers' definitions mean: `stepsOf` counts successors and is the fewest there are, the count is unique within the circle, and an ACK
--- is right exactly if it lies on the way from R to I. Assumes nothing.
+-- that is right names a number on the way from R to I. Assumes nothing.
 use Prim.Native.Nat.{ℕ, zero, suc, _+_, _-_, _%_, _<_, _≤_}
+use mathlib.Core.Bool.{Bool, true, false}
+use mathlib.Core.Path.{_≡_, refl, sym, ap, _∙_}
 use native.Mathlib.Numerals.{add-one}
 use native.Mathlib.Omega.{arith}
-use mathlib.Core.Path.{_≡_, refl, sym, ap, _∙_}
-use borrow.Author.Tests.{ne-eqb, leb-true}
-use mathlib.Core.Bool.{Bool, true, false}
 use lib.Dec.{leb}
+use borrow.Author.Tests.{ne-eqb, leb-true}
 use Rattle.octets.specs.Pick.{pick}
-use Rattle.ft_number.specs.Circle.{circle, next, after, forward, stepsOf}
-use Rattle.ft_number.specs.Ack.{within, ackOf}
+use Rattle.ft_number.specs.declared.Ack.the-variants.{Releases, SequenceError}
 use Rattle.ft_number.specs.declared.Steps.{Steps}
 use Rattle.ft_number.specs.declared.Steps.the-variants.{Count, Unreachable}
-use Rattle.ft_number.specs.declared.Ack.the-variants.{Releases, SequenceError}
+use Rattle.ft_number.specs.Ack.{within, ackOf}
+use Rattle.ft_number.specs.Circle.{circle, next, after, forward, stepsOf}
 use Rattle.ft_number.proofs.Laws.{steps-none, steps-on}
 
 -- the successor of "none" is 1, and the number after the last is 1 again
@@ -120,6 +120,7 @@ pub record Acknowledged (r i a k : ℕ) : Type 0 where
   pub window : stepsOf r i ≡ Count issued
   pub few : k ≤ issued
 
+-- an ACK that releases k names the k-th number after R, and at least k were issued
 pub ack-releases : (r i a k : ℕ) → ackOf r i a ≡ Releases k → Acknowledged r i a k
 unfolding ackOf
 ack-releases r i a k e = by (stepsOf r a) (stepsOf r i) refl refl e

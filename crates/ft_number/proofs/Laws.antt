@@ -1,20 +1,20 @@
 -- Laws of the definitions on numbers, over plain values: the functions' proofs cite them. Assume nothing.
-use mathlib.Core.Path.{_≡_, refl}
 use Prim.Native.Nat.{ℕ, zero, suc, _≤_, _<_, _-_, _^_, min}
+use mathlib.Core.Path.{_≡_, refl}
 use native.Mathlib.Omega.{arith}
 use lib.IntN.{pos, negℤ, _-ℤ_, +ℤ-idl}
 use borrow.Author.Tests.{le-leb, lt-leb, eq-eqb, ne-eqb}
+use mir.Facts.{toZ-pos, toZ-ofZ}
 use mir.Syntax.{Width, w32}
 use mir.Val.{hbits, SFits, toZ, ofZ}
-use mir.Facts.{toZ-pos, toZ-ofZ}
-use Rattle.ft_number.specs.Circle.{circle, forward, stepsOf}
-use Rattle.ft_number.specs.Ack.{ackOf}
-use Rattle.ft_number.specs.Distance.{distanceOf}
-use Rattle.ft_number.specs.Timeout.{lesserOf}
-use Rattle.ft_number.specs.declared.Steps.{Steps}
-use Rattle.ft_number.specs.declared.Steps.the-variants.{Count, Unreachable}
 use Rattle.ft_number.specs.declared.Ack.the-variants.{Releases, SequenceError}
 use Rattle.ft_number.specs.declared.Distance.the-variants.{Steps as Way, Refused}
+use Rattle.ft_number.specs.declared.Steps.{Steps}
+use Rattle.ft_number.specs.declared.Steps.the-variants.{Count, Unreachable}
+use Rattle.ft_number.specs.Ack.{ackOf}
+use Rattle.ft_number.specs.Circle.{circle, forward, stepsOf}
+use Rattle.ft_number.specs.Distance.{distanceOf}
+use Rattle.ft_number.specs.Timeout.{lesserOf}
 
 -- The cases of each definition. A premise on numbers is `omega`'s at a need; a premise `e` is a callee's `.ensures`, and `g` what a match told.
 pub lesser-of : (a b r : ℕ) → ((a ≡ 0 → r ≡ b) × (b ≡ 0 → r ≡ a) × (0 < a → 0 < b → r ≡ min a b)) → r ≡ lesserOf a b

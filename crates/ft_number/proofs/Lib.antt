@@ -1,4 +1,5 @@
 pub mod Laws
 pub mod Circle
+pub mod AckRight
 pub mod Signed
 pub mod Timeout

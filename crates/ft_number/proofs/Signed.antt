@@ -1,16 +1,16 @@
 -- What the signed distance means: so many successors lead forward from one number to the other, or back. Assumes nothing.
 use Prim.Native.Nat.{ℕ, zero, suc, _+_, _-_, _%_, _<_, _≤_}
-use native.Mathlib.Omega.{arith}
-use mathlib.Core.Path.{_≡_, refl, sym, ap, _∙_}
 use mathlib.Core.Bool.{Bool, true, false}
+use mathlib.Core.Path.{_≡_, refl, sym, ap, _∙_}
+use native.Mathlib.Omega.{arith}
 use lib.Dec.{leb}
 use lib.IntN.{ℤ, pos, negsuc, negℤ}
 use borrow.Author.Tests.{leb-true, leb-false, le-leb, lt-leb, ne-eqb}
 use Rattle.octets.specs.Pick.{pick}
-use Rattle.ft_number.specs.Circle.{circle, after, forward}
-use Rattle.ft_number.specs.Distance.{half, shorter, distanceOf}
 use Rattle.ft_number.specs.declared.Distance.{Distance}
 use Rattle.ft_number.specs.declared.Distance.the-variants.{Steps, Refused}
+use Rattle.ft_number.specs.Circle.{circle, after, forward}
+use Rattle.ft_number.specs.Distance.{half, shorter, distanceOf}
 use Rattle.ft_number.proofs.Circle.{after-none, after-is}
 
 -- z places on from a is b, and that is the shorter way: forward by successors of a, or back by successors of b
@@ -32,6 +32,7 @@ module _ (a b : ℕ) (la : 0 < a) (ha : a ≤ circle) (lb : 0 < b) (hb : b ≤ c
   ahead zero e h = (after-none a ∙ omega arith, h, e)
   ahead (suc k) e h = (after-is (suc k) a ha (omega arith) ∙ omega arith, h, e)
 
+  -- k: k successors lead there, and k is the forward count; -k: k successors lead back, and both counts add up to the circle
   pub distance-leads : Leads a b (shorter (forward a b))
   distance-leads = by (leb (forward a b) half) refl
     where
@@ -65,6 +66,7 @@ shorter-back (suc d) h = by (leb (suc d) half) refl
         let l : half < suc d = leb-false _ _ e in
         rw (rest, neg-neg) (simp (le-leb (circle - suc d) half (omega arith)))
 
+-- the distance back is the distance negated
 pub distance-antisymmetric : (a b : ℕ) → a ≤ circle → b ≤ circle → distanceOf b a ≡ negated (distanceOf a b)
 unfolding distanceOf
 distance-antisymmetric zero zero ha hb = refl

@@ -1,7 +1,7 @@
 -- What the lesser timeout means, zero counting as infinite. Assumes nothing.
 use Prim.Native.Nat.{ℕ, zero, suc, min, _<_, _≤_}
-use native.Mathlib.Omega.{arith}
 use mathlib.Core.Path.{_≡_, refl, sym, _∙_}
+use native.Mathlib.Omega.{arith}
 use Rattle.ft_number.specs.Timeout.{lesserOf}
 
 -- zero is its neutral element ..
@@ -10,6 +10,7 @@ unfolding lesserOf
 lesser-none zero = (refl, refl)
 lesser-none (suc a) = (refl, refl)
 
+-- the order does not matter
 pub lesser-commutes : (a b : ℕ) → lesserOf a b ≡ lesserOf b a
 unfolding lesserOf
 lesser-commutes zero zero = refl
@@ -31,6 +32,7 @@ pub record Lesser (a b r : ℕ) : Type 0 where
   pub finite : 0 < a → 0 < r
   pub either : (r < a → r ≡ b) × (r < b → r ≡ a)
 
+-- it is never longer than a side that is not 0
 pub lesser-is : (a b : ℕ) → Lesser a b (lesserOf a b)
 unfolding lesserOf
 lesser-is zero b = record { left = λ l. absurd (omega arith); right = λ l. omega arith; finite = λ l. absurd (omega arith); either = (λ l. refl, λ l. absurd (omega arith)) }
@@ -44,6 +46,7 @@ lesser-some zero b h k = absurd (omega arith)
 lesser-some (suc a) zero h k = absurd (omega arith)
 lesser-some (suc a) (suc b) h k = refl
 
+-- nor does the grouping
 pub lesser-assoc : (a b c : ℕ) → lesserOf (lesserOf a b) c ≡ lesserOf a (lesserOf b c)
 unfolding lesserOf
 lesser-assoc zero b c = refl

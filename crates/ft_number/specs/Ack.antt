@@ -3,11 +3,11 @@
 use Prim.Native.Nat.{ℕ}
 use lib.Dec.{leb}
 use Rattle.octets.specs.Pick.{pick}
-use Rattle.ft_number.specs.Circle.{stepsOf}
-use Rattle.ft_number.specs.declared.Steps.{Steps}
-use Rattle.ft_number.specs.declared.Steps.the-variants.{Count, Unreachable}
 use Rattle.ft_number.specs.declared.Ack.{Ack}
 use Rattle.ft_number.specs.declared.Ack.the-variants.{Releases, SequenceError}
+use Rattle.ft_number.specs.declared.Steps.{Steps}
+use Rattle.ft_number.specs.declared.Steps.the-variants.{Count, Unreachable}
+use Rattle.ft_number.specs.Circle.{stepsOf}
 
 -- k steps lead to what is acknowledged, n to what was issued
 abbrev pub within : Steps → Steps → Ack

@@ -4,9 +4,9 @@ use Prim.Native.Nat.{ℕ, _-_}
 use lib.Dec.{eqb, leb}
 use lib.IntN.{ℤ, pos, negℤ}
 use Rattle.octets.specs.Pick.{pick}
-use Rattle.ft_number.specs.Circle.{circle, forward}
 use Rattle.ft_number.specs.declared.Distance.{Distance}
 use Rattle.ft_number.specs.declared.Distance.the-variants.{Steps, Refused}
+use Rattle.ft_number.specs.Circle.{circle, forward}
 
 -- the farthest that a shorter way can be: half of circle - 1
 abbrev pub half : ℕ

@@ -1,4 +1,5 @@
 pub mod Circle
 pub mod Ack
+pub mod AckRight
 pub mod Distance
 pub mod Timeout

@@ -1,7 +1,7 @@
 // FT sequence numbers and message IDs, the acknowledgement decision, the signed distance, and the reconnection timeout.
 ghost use mathlib.Core.Path.{_≡_};
-ghost use Rattle.ft_number.specs.Circle.{next, after, forward, stepsOf};
 ghost use Rattle.ft_number.specs.Ack.{ackOf};
+ghost use Rattle.ft_number.specs.Circle.{next, after, forward, stepsOf};
 ghost use Rattle.ft_number.specs.Distance.{distanceOf};
 ghost use Rattle.ft_number.specs.Timeout.{lesserOf, proposedOf};
 
@@ -41,7 +41,7 @@ const CIRCLE: u32 = 4294967295;
 // The seconds proposed where the owner gives none.
 const DEFAULT_TIMEOUT: u16 = 5;
 
-// The number that follows n.
+// The number that follows n: after 0xFFFFFFFF comes 1 again, and 1 follows 0, which is no number.
 pub fn successor(n: FtNumber) -> FtNumber
     ensures { λ r. ⌜ r .0 ≡ next (n .0) ⌝ }
 {
@@ -66,7 +66,7 @@ fn places(a: u32, b: u32) -> u32
     ((b as u64 + CIRCLE as u64 - a as u64) % CIRCLE as u64) as u32
 }
 
-// How many successors lead from one number to another.
+// How many successors lead from one number to another, or that none do.
 pub fn steps_between(from: FtNumber, to: FtNumber) -> Steps
     ensures { λ r. ⌜ r ≡ stepsOf (from .0) (to .0) ⌝ }
 {
@@ -81,7 +81,7 @@ pub fn steps_between(from: FtNumber, to: FtNumber) -> Steps
     Steps::Count(places(a, b))
 }
 
-// How many held messages an acknowledgement releases, or that it names none of them.
+// How many held messages an acknowledgement releases, or that it names none of them: a sequence error.
 pub fn acknowledge(released: FtNumber, issued: FtNumber, ack: FtNumber) -> Ack
     ensures { λ r. ⌜ r ≡ ackOf (released .0) (issued .0) (ack .0) ⌝ }
 {
@@ -100,7 +100,7 @@ pub fn acknowledge(released: FtNumber, issued: FtNumber, ack: FtNumber) -> Ack
     }
 }
 
-// The signed distance between two numbers, the shorter way round.
+// The signed distance between two numbers, the shorter way round; refused with a zero.
 pub fn signed_distance(from: FtNumber, to: FtNumber) -> Distance
     ensures { λ r. ⌜ r ≡ distanceOf (from .0) (to .0) ⌝ }
 {
@@ -133,7 +133,7 @@ pub fn lesser_timeout(a: u32, b: u32) -> u32
     if a <= b { a } else { b }
 }
 
-// The timeout that our Init proposes.
+// The timeout that our Init proposes: the owner's, 0 included, and 5 seconds where none is given.
 pub fn proposed_timeout(p: Proposal) -> u16
     ensures { λ r. ⌜ r ≡ proposedOf p ⌝ }
 {

@@ -1,8 +1,8 @@
 -- One block of an image put, and the others as they were. Assumes nothing.
-use mathlib.Core.Path.{_≡_, _∙_}
+use Prim.Native.Nat.{ℕ, _+_, _-_, _*_, _≤_, _<_}
 use mathlib.Core.List.{List}
 use mathlib.Core.Logic.{_≢_}
-use Prim.Native.Nat.{ℕ, _+_, _-_, _*_, _≤_, _<_}
+use mathlib.Core.Path.{_≡_, _∙_}
 use native.Mathlib.Omega.{arith, ne-cases}
 use lib.ListN.{length}
 use Rattle.octets.proofs.Part.{length-part, length-withPart, part-same, part-before, part-after}
@@ -19,9 +19,11 @@ module _ (image : List ℕ) (b : ℕ) (p : List ℕ) (inside : b * blockSize + b
   pub length-put : length (withBlock image b p) ≡ length image
   length-put = length-withPart image (b * 512) (b * 512 + 512) p inside fits
 
+  -- a block that was written is read back
   pub block-put : block (withBlock image b p) b ≡ p
   block-put = part-same image (b * 512) (b * 512 + 512) p (omega arith) inside fits
 
+  -- every other block is as it was
   pub block-other : (c : ℕ) → c ≢ b → block (withBlock image b p) c ≡ block image c
   block-other c apart =
       ne-cases c b (block (withBlock image b p) c ≡ block image c) apart

@@ -1,35 +1,35 @@
 -- What becomes of the state of a released image, of a new one, and of one as after a break. Assumes nothing.
-use mathlib.Core.Path.{_≡_, refl, ap, _∙_}
+use Prim.Native.Nat.{ℕ, _<_}
 use mathlib.Core.Bool.{true}
 use mathlib.Core.List.{List}
 use mathlib.Core.Logic.{_≢_}
-use Prim.Native.Nat.{ℕ, _<_}
+use mathlib.Core.Path.{_≡_, refl, ap, _∙_}
 use native.Mathlib.Omega.{arith}
 use lib.ListN.{length, replicate, length-map}
 use Rattle.octets.proofs.Fill.{length-zeros}
-use Rattle.ft_number.specs.Circle.{stepsOf}
-use Rattle.label_list.specs.Word.{wordCount, wordOf}
-use Rattle.label_list.specs.Rules.{codeSwept}
-use Rattle.label_list.specs.Sweep.{wordSwept, sweptOf}
-use Rattle.label_list.specs.Valid.{validOf}
-use Rattle.label_list.specs.declared.SweepRule.the-variants.{AfterBreak}
-use Rattle.label_meaning.proofs.Meaning.{valid-means, means-valid}
-use Rattle.label_meaning.proofs.Swept.{sweep-valid}
 use Rattle.block.specs.Check.{blockSize}
 use Rattle.block.specs.Run.{Words}
 use Rattle.block.proofs.WordRun.{none-fit}
-use Rattle.block0.specs.Layout.{slotCount, releasedHeader, noLabels}
+use Rattle.ft_number.specs.Circle.{stepsOf}
+use Rattle.label_list.specs.declared.SweepRule.the-variants.{AfterBreak}
+use Rattle.label_list.specs.Rules.{codeSwept}
+use Rattle.label_list.specs.Sweep.{wordSwept, sweptOf}
+use Rattle.label_list.specs.Valid.{validOf}
+use Rattle.label_list.specs.Word.{wordCount, wordOf}
 use Rattle.block0.specs.Fields.{Fits, Valid}
+use Rattle.block0.specs.Layout.{slotCount, releasedHeader, noLabels}
 use Rattle.block0.proofs.Rules.{none-valid}
-use Rattle.image.specs.Sizes.{imageSize, block, blockOf}
+use Rattle.label_meaning.proofs.Meaning.{valid-means, means-valid}
+use Rattle.label_meaning.proofs.Swept.{sweep-valid}
+use Rattle.image.specs.Events.{released, releaseOf, newImage, broken, breakOf}
 use Rattle.image.specs.Ring.{ring}
+use Rattle.image.specs.Sizes.{imageSize, block, blockOf}
 use Rattle.image.specs.State.{InRange, decode}
 use Rattle.image.specs.Verdict.{IsSound}
-use Rattle.image.specs.Events.{released, releaseOf, newImage, broken, breakOf}
-use Rattle.image.proofs.Stored.{decode-store0, decode-keep, zeroth-other}
-use Rattle.image.proofs.Sound.{sound-store0, sound-keep, sound-valid}
 use Rattle.image.proofs.Formatted.{block-zeros}
 use Rattle.image.proofs.Ranges.{valid-words}
+use Rattle.image.proofs.Sound.{sound-store0, sound-keep, sound-valid}
+use Rattle.image.proofs.Stored.{decode-store0, decode-keep, zeroth-other}
 
 -- ---- released
 fits-released : Fits releasedHeader
@@ -63,10 +63,12 @@ valid-released = record {
 }
 
 module _ (image : List ℕ) (size : length image ≡ imageSize) where
+  -- a released image stands for the released state
   pub release-decodes : decode (releaseOf image) ≡ released
   unfolding releaseOf ring
   release-decodes = decode-store0 image size releasedHeader noLabels fits-released words-none
 
+  -- and is sound
   pub release-sound : IsSound (releaseOf image)
   unfolding releaseOf
   release-sound = sound-store0 image releasedHeader noLabels size fits-released words-none valid-released (λ i l. absurd (omega arith))
@@ -81,9 +83,11 @@ is-released : newImage ≡ releaseOf (replicate imageSize 0)
 unfolding newImage releaseOf
 is-released = refl
 
+-- a new image stands for the released state
 pub new-decodes : decode newImage ≡ released
 new-decodes = rw is-released (release-decodes (replicate imageSize 0) (length-zeros imageSize))
 
+-- and is sound
 pub new-sound : IsSound newImage
 new-sound = rw is-released (release-sound (replicate imageSize 0) (length-zeros imageSize))
 
@@ -123,14 +127,17 @@ module _ (image : List ℕ) (s : IsSound image) (range : InRange (decode image))
         idle = λ k. (v .idle k .0, ap (λ (ls : List ℕ). sweptOf ls AfterBreak) (v .idle k .1) ∙ swept-none);
       }
 
+  -- as after a break only the label words change
   pub break-decodes : decode (breakOf image) ≡ broken (decode image)
   unfolding breakOf freed
   break-decodes = decode-keep image (decode image .header) freed (s .size) (range .header) freed-words refl refl
 
+  -- and a sound image is sound
   pub break-sound : IsSound (breakOf image)
   unfolding breakOf freed
   break-sound = sound-keep image (decode image .header) freed s (range .header) freed-words freed-fields refl refl
 
+  -- its numbers keep their widths
   pub in-range-broken : InRange (broken (decode image))
   unfolding freed
   in-range-broken = record { header = range .header; labels = freed-words }

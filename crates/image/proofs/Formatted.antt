@@ -1,19 +1,19 @@
 -- An image of zeros, and a new image. Assumes nothing.
-use mathlib.Core.Path.{_≡_, refl, sym, _∙_}
-use mathlib.Core.List.{List}
 use Prim.Native.Nat.{ℕ, _+_, _*_, _≤_}
+use mathlib.Core.List.{List}
+use mathlib.Core.Path.{_≡_, refl, sym, _∙_}
 use native.Mathlib.Omega.{arith}
-use borrow.Author.Tests.{eq-eqb, ne-eqb}
 use lib.ListN.{length, replicate}
 use lib.Seq.{ext-getD}
+use borrow.Author.Tests.{eq-eqb, ne-eqb}
 use Rattle.octets.specs.Fill.{zeroed}
 use Rattle.octets.proofs.Fill.{length-zeros, zeros-at, zeroed-all}
 use Rattle.octets.proofs.Part.{part-at}
 use Rattle.block.specs.Check.{blockSize}
 use Rattle.image.specs.declared.Verdict.the-variants.{Sound, WrongSize}
+use Rattle.image.specs.Events.{sizeVerdict, releaseOf, newImage, formatOf}
 use Rattle.image.specs.Sizes.{imageSize, block}
 use Rattle.image.proofs.Blocks.{length-block}
-use Rattle.image.specs.Events.{sizeVerdict, releaseOf, newImage, formatOf}
 
 -- a block of zeros
 pub block-zeros : (n b : ℕ) → b * blockSize + blockSize ≤ n → block (replicate n 0) b ≡ replicate blockSize 0

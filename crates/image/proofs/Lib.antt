@@ -1,5 +1,6 @@
 pub mod Blocks
 pub mod Rings
+pub mod Faults
 pub mod Scans
 pub mod Stored
 pub mod Sound

@@ -1,16 +1,16 @@
 -- The messages held: the queue and the slots in which they stand. Assumes nothing.
-use mathlib.Core.Path.{_≡_, sym, _∙_}
+use Prim.Native.Nat.{ℕ, _+_, _<_}
 use mathlib.Core.Bool.{true}
 use mathlib.Core.List.{List, []}
-use Prim.Native.Nat.{ℕ, _+_, _<_}
+use mathlib.Core.Path.{_≡_, sym, _∙_}
 use native.Mathlib.Omega.{arith}
 use lib.ListN.{length, getD}
-use Rattle.message.specs.Submission.{submissionOf}
 use Rattle.block.specs.Check.{blockSize}
 use Rattle.block0.specs.Layout.{headerOf}
-use Rattle.slot.specs.Layout.{kindOf, labelOf, messageOf}
+use Rattle.message.specs.Storable.{Storable, kindIn, labelIn}
+use Rattle.message.specs.Submission.{submissionOf}
 use Rattle.slot.specs.Fields.{slotOk}
-use Rattle.slot.specs.Held.{Storable, kindIn, labelIn}
+use Rattle.slot.specs.Layout.{kindOf, labelOf, messageOf}
 use Rattle.slot.proofs.Holding.{holds-kind, holds-label, holds-storable}
 use Rattle.image.specs.Sizes.{block, blockOf, slotAt}
 use Rattle.image.specs.State.{decode, slotsOf, heldBlock}
@@ -19,6 +19,7 @@ use Rattle.image.proofs.Blocks.{length-block}
 use Rattle.image.proofs.Rings.{ring-at, ring-length}
 use Rattle.image.proofs.Sound.{sound-valid, sound-live}
 
+-- the queue has as many messages as are held
 pub queue-length : (image : List ℕ) → length (decode image .queue) ≡ decode image .header .held
 unfolding decode
 queue-length image = ring-length (slotsOf image) (headerOf (block image 0) .first) (headerOf (block image 0) .held)

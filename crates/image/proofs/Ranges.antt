@@ -1,23 +1,23 @@
 -- The numbers that an image of bytes holds have their widths, and so have valid label words. Assumes nothing.
-use mathlib.Core.Path.{_≡_}
+use Prim.Native.Nat.{ℕ, _+_, _*_, _≤_, _<_}
 use mathlib.Core.Bool.{true}
 use mathlib.Core.List.{List}
 use mathlib.Core.Logic.{⊎-elim}
-use Prim.Native.Nat.{ℕ, _+_, _*_, _-_, _≤_, _<_}
+use mathlib.Core.Path.{_≡_}
 use native.Mathlib.Omega.{arith}
 use lib.ListN.{length, List·getD-eq-default}
 use Rattle.octets.specs.Bytes.{Bytes}
 use Rattle.octets.proofs.Be.{beAt-lt}
-use Rattle.octets.proofs.Part.{part-at, part-inside}
 use Rattle.octets.proofs.Choice.{below-or-not}
-use Rattle.label_list.specs.Word.{wordCount}
-use Rattle.label_list.specs.Valid.{validOf}
-use Rattle.label_meaning.proofs.Meaning.{valid-means, valid-range}
+use Rattle.octets.proofs.Part.{part-at, part-inside}
 use Rattle.block.specs.Check.{blockSize}
 use Rattle.block.specs.Run.{wordsAt, Words}
 use Rattle.block.proofs.WordRun.{length-wordsAt, getD-wordsAt}
-use Rattle.block0.specs.Layout.{labelsAt, headerOf, labelsOf}
+use Rattle.label_list.specs.Valid.{validOf}
+use Rattle.label_list.specs.Word.{wordCount}
 use Rattle.block0.specs.Fields.{Fits}
+use Rattle.block0.specs.Layout.{labelsAt, headerOf, labelsOf}
+use Rattle.label_meaning.proofs.Meaning.{valid-means, valid-range}
 use Rattle.image.specs.Sizes.{block}
 use Rattle.image.specs.State.{decode, InRange}
 
@@ -53,6 +53,7 @@ words-bytes n s at byte = record {
       (below-or-not i n);
 }
 
+-- the numbers in an image of bytes have their widths
 pub bytes-in-range : (image : List ℕ) → Bytes image → InRange (decode image)
 unfolding decode labelsOf
 bytes-in-range image byte = record {
@@ -60,6 +61,7 @@ bytes-in-range image byte = record {
   labels = words-bytes wordCount (block image 0) labelsAt (bytes-block image 0 byte);
 }
 
+-- the label words of any image are 120
 pub labels-count : (image : List ℕ) → length (decode image .labels) ≡ wordCount
 unfolding decode labelsOf
 labels-count image = length-wordsAt wordCount (block image 0) labelsAt

@@ -1,12 +1,12 @@
 -- A ring of slots read as a list. Assumes nothing.
-use mathlib.Core.Path.{_≡_, refl, ap, _∙_}
-use mathlib.Core.List.{[], _∷_, _++_}
 use Prim.Native.Nat.{ℕ, zero, suc, _+_, _-_, _%_, _≤_, _<_}
+use mathlib.Core.List.{[], _∷_, _++_}
+use mathlib.Core.Path.{_≡_, refl, ap, _∙_}
 use native.Mathlib.Omega.{arith}
 use lib.ListN.{length, getD, drop}
 use Rattle.block0.specs.Layout.{slotCount}
-use Rattle.image.specs.Sizes.{slotAt}
 use Rattle.image.specs.Ring.{ring}
+use Rattle.image.specs.Sizes.{slotAt}
 
 pub ring-length : {A : Type 0} (sl : ℕ → A) (f n : ℕ) → length (ring sl f n) ≡ n
 unfolding ring

@@ -1,35 +1,35 @@
 -- A store of what the image says already changes nothing, and a store of anything else changes the bytes of block 0; so do a break and a release. Assumes nothing.
-use mathlib.Core.Path.{_≡_, sym, ap, ap₂, _∙_}
+use Prim.Native.Nat.{ℕ}
 use mathlib.Core.Bool.{true, false, false≢true}
 use mathlib.Core.List.{List, [], _∷_}
 use mathlib.Core.Logic.{_≢_}
-use Prim.Native.Nat.{ℕ, zero, suc}
+use mathlib.Core.Path.{_≡_, refl, sym, ap, ap₂, _∙_}
 use native.Mathlib.Omega.{arith}
-use borrow.Author.Tests.{eqb-true, eqb-false, ne-eqb}
 use lib.Dec.{eqb}
 use lib.ListN.{length, getD, drop, take-append-drop, length-map, List·getD-map}
 use lib.Seq.{ext-getD}
+use borrow.Author.Tests.{eqb-true, eqb-false, ne-eqb}
 use Rattle.octets.specs.Bytes.{Bytes}
 use Rattle.octets.specs.Differ.{differ}
-use Rattle.octets.proofs.Choice.{by-test, cleared}
+use Rattle.octets.proofs.Choice.{by-test}
 use Rattle.octets.proofs.Differ.{differ-false}
-use Rattle.label_list.specs.Word.{wordCount, codeOf, wordOf}
+use Rattle.block.specs.Run.{Words}
+use Rattle.label_list.specs.declared.SweepRule.the-variants.{AfterBreak}
 use Rattle.label_list.specs.Find.{any}
 use Rattle.label_list.specs.Rules.{codeSwept}
 use Rattle.label_list.specs.Sweep.{wordSwept, sweptOf}
-use Rattle.label_list.specs.declared.SweepRule.the-variants.{AfterBreak}
-use Rattle.label_meaning.specs.Valid.{InRange, IsValid}
-use Rattle.label_meaning.proofs.Meaning.{valid-means}
-use Rattle.block.specs.Run.{Words}
+use Rattle.label_list.specs.Word.{wordCount, codeOf, wordOf}
 use Rattle.block0.specs.declared.Header.{Header}
-use Rattle.block0.specs.Layout.{headerOf, labelsOf}
 use Rattle.block0.specs.Fields.{Fits}
-use Rattle.block0.specs.Unprotected.{unprotected}
+use Rattle.block0.specs.Layout.{headerOf, labelsOf}
+use Rattle.block0.specs.Unprotected.{isUnprotected, unprotected}
 use Rattle.block0.proofs.Same.{block0-same}
+use Rattle.label_meaning.specs.Valid.{InRange, IsValid}
+use Rattle.label_meaning.proofs.Meaning.{any-none, valid-means, range-listed}
+use Rattle.image.specs.Events.{releaseOf, breakOf}
 use Rattle.image.specs.Sizes.{imageSize, block}
 use Rattle.image.specs.State.{State, decode, store0}
 use Rattle.image.specs.Verdict.{IsSound}
-use Rattle.image.specs.Events.{releaseOf, breakOf}
 use Rattle.image.proofs.Changes.{release-decodes, break-decodes}
 use Rattle.image.proofs.Ranges.{bytes-block, bytes-in-range}
 use Rattle.image.proofs.Sound.{sound-valid}
@@ -49,6 +49,7 @@ pub store-same : (image : List ℕ) → IsSound image → Bytes image → store0
 unfolding store0 decode
 store-same image s byte = rw (block0-same (block image 0) (bytes-block image 0 byte) (s .check) (s .fields)) (take-append-drop 512 image)
 
+-- anything else changes the bytes
 pub store-changed : (image : List ℕ) (h : Header) (ls : List ℕ) → length image ≡ imageSize → Fits h → Words wordCount ls
     → (h ≡ decode image .header → ls ≡ decode image .labels → ⊥) → true ≡ differ (block image 0) (block (store0 image h ls) 0)
 store-changed image h ls size fh fl other =
@@ -62,6 +63,7 @@ release-same image s byte idle =
     let v = sound-valid image s .idle idle in
     ap₂ (λ (h : Header) (ls : List ℕ). store0 image h ls) (sym (v .0)) (sym (v .1)) ∙ store-same image s byte
 
+-- with kept 1 the bytes of block 0 are others
 pub release-changed : (image : List ℕ) → length image ≡ imageSize → (decode image .header .kept ≡ 0 → ⊥) → true ≡ differ (block image 0) (block (releaseOf image) 0)
 release-changed image size kept =
     said-changed image (releaseOf image) (λ p q. kept (ap (λ (h : Header). h .kept) (p ∙ ap (λ (t : State). t .header) (release-decodes image size))))
@@ -76,20 +78,15 @@ word-kept w range other =
     (λ z. rw z (omega arith)))
   where
     free : codeOf w ≡ 0 → 0 ≡ w
-    free z = by-test (eqb w 0) (λ e. sym (eqb-true w 0 e)) (λ e. let r : InRange w = range (eqb-false w 0 e) in absurd (omega arith))
-
-none-at : (ls : List ℕ) → unprotected ls ≡ false → (i : ℕ) → codeOf (getD ls i 0) ≡ 6 → ⊥
-unfolding any
-none-at [] e i six = omega (arith, six)
-none-at (w ∷ ws) e zero six = eqb-false (codeOf w) 6 (cleared (eqb (codeOf w) 6) true (unprotected ws) false (λ z. cc) e .0) six
-none-at (w ∷ ws) e (suc i) six = none-at ws (cleared (eqb (codeOf w) 6) true (unprotected ws) false (λ z. cc) e .1) i six
+    free z = by-test (eqb w 0) (λ e. sym (eqb-true w 0 e)) (λ e. absurd (range-listed (range (eqb-false w 0 e)) z))
 
 words-kept : (ls : List ℕ) → IsValid ls → unprotected ls ≡ false → sweptOf ls AfterBreak ≡ ls
 unfolding wordSwept wordOf codeSwept
 words-kept ls v none =
     ext-getD 0 (sweptOf ls AfterBreak) ls (length-map ls (wordSwept AfterBreak)) (λ i h.
-    List·getD-map (wordSwept AfterBreak) ls i 0 ∙ word-kept (getD ls i 0) (v .each i) (none-at ls none i))
+    List·getD-map (wordSwept AfterBreak) ls i 0 ∙ word-kept (getD ls i 0) (v .each i) (eqb-false _ 6 (any-none isUnprotected ls none refl i)))
 
+-- a break: with no word of code 6 nothing changes,
 pub break-same : (image : List ℕ) → IsSound image → Bytes image → unprotected (decode image .labels) ≡ false → breakOf image ≡ image
 unfolding breakOf
 break-same image s byte none =
@@ -104,6 +101,7 @@ swept-other (w ∷ ws) some same =
     (λ t. let e : w ≡ 0 = ap (λ (l : List ℕ). getD l 0 0) same ∙ rw t in omega (arith, eqb-true (codeOf w) 6 t))
     (λ f. swept-other ws (rw f at some) (ap (λ (l : List ℕ). drop 1 l) same))
 
+-- with one the bytes of block 0 are others
 pub break-changed : (image : List ℕ) → IsSound image → Bytes image → unprotected (decode image .labels) ≡ true → true ≡ differ (block image 0) (block (breakOf image) 0)
 break-changed image s byte some =
     said-changed image (breakOf image) (λ p q.

@@ -1,63 +1,131 @@
--- The clauses of `scan` and `verdict`, by the tests that lead to each answer. Assumes nothing.
-use mathlib.Core.Path.{_≡_, refl, sym, _∙_}
+-- The blocks that restore looks at, and the clauses of `verdict` by the tests that lead to each answer. Assumes nothing.
+use Prim.Native.Nat.{ℕ, zero, suc, _+_, _-_, _%_, _≤_, _<_}
 use mathlib.Core.Bool.{Bool, true, false, not}
 use mathlib.Core.List.{List}
-use Prim.Native.Nat.{ℕ, suc, _+_, _-_, _%_, _≤_, _<_}
+use mathlib.Core.Logic.{_≢_}
+use mathlib.Core.Path.{_≡_, refl, sym, ap, _∙_}
 use native.Mathlib.Omega.{arith}
+use lib.Dec.{eqb}
+use lib.ListN.{length, getD}
 use borrow.Author.Tests.{eq-eqb, ne-eqb, not-true, not-false}
-use lib.ListN.{length}
+use Rattle.octets.specs.Pick.{pick}
+use Rattle.octets.proofs.Choice.{pick-all}
 use Rattle.block.specs.Check.{sound}
+use Rattle.label_list.specs.Find.{any}
+use Rattle.label_list.proofs.Sought.{any-cons}
 use Rattle.block0.specs.declared.Header.{Header}
-use Rattle.block0.specs.Layout.{slotCount, headerOf}
 use Rattle.block0.specs.Fields.{fieldsOk}
+use Rattle.block0.specs.Layout.{slotCount, headerOf}
 use Rattle.slot.specs.declared.SlotVerdict.{SlotVerdict}
-use Rattle.slot.specs.declared.SlotVerdict.the-variants.{Good, BadCheck, BadFields}
-use Rattle.slot.specs.Fields.{slotVerdict}
+use Rattle.slot.specs.Fields.{slotOk, slotVerdict}
+use Rattle.image.specs.declared.Judgement.{Judgement}
 use Rattle.image.specs.declared.Verdict.{Verdict}
 use Rattle.image.specs.declared.Verdict.the-variants.{Sound, WrongSize, BadBlock, BadField}
-use Rattle.image.specs.Sizes.{imageSize, block, blockOf}
-use Rattle.image.specs.Verdict.{slotThen, slotFirst, scan, verdict, verdictNumber}
+use Rattle.image.specs.Ring.{ring}
+use Rattle.image.specs.Sizes.{blockCount, imageSize, block, blockOf, slotAt}
+use Rattle.image.specs.State.{decode}
+use Rattle.image.specs.Verdict.{looked, fieldsRight, bytesJudged, blockJudged, faultThen, firstFault, verdict, verdictNumber, verdictBlock}
+use Rattle.image.proofs.Faults.{fault-same, named-below}
+use Rattle.image.proofs.Rings.{ring-length, ring-at}
+use Rattle.image.proofs.Stored.{Idle}
 
-pub scan-none : (s : List ℕ) (f : ℕ) → scan s f 0 ≡ Sound
-unfolding scan
-scan-none s f = refl
+-- ---- the blocks that are looked at
+not-zeroth : (k : ℕ) → eqb (blockOf k) 0 ≡ false
+not-zeroth k = ne-eqb (blockOf k) 0 (omega arith)
 
-pub scan-one : (s : List ℕ) (f n : ℕ) → scan s f (suc n) ≡ slotFirst s (blockOf (f % slotCount)) (scan s (f + 1) n)
-unfolding scan
-scan-one s f n = refl
+module _ (h : Header) where
+  pub looked-length : length (looked h) ≡ suc (h .held)
+  looked-length = ap suc (ring-length blockOf (h .first) (h .held))
 
--- ---- the loop, which has come to slot i
-pub scan-start : (s : List ℕ) (f n : ℕ) → scan s (f + 0) (n - 0) ≡ scan s f n
-scan-start s f n =
-    let e : f + 0 ≡ f = omega arith in
-    let g : n - 0 ≡ n = omega arith in
-    rw (e, g)
+  pub looked-slot : (i : ℕ) → i < h .held → getD (looked h) (suc i) 0 ≡ blockOf (slotAt (h .first) i)
+  looked-slot i l = ring-at blockOf 0 (h .first) (h .held) i l
 
--- slot i of the ring, and then the rest
-scan-turn : (s : List ℕ) (f n i : ℕ) → i < n → scan s (f + i) (n - i) ≡ slotFirst s (blockOf ((f + i) % slotCount)) (scan s (f + (i + 1)) (n - (i + 1)))
-scan-turn s f n i h =
-    let left : n - i ≡ suc (n - (i + 1)) = omega arith in
-    let next : f + i + 1 ≡ f + (i + 1) = omega arith in
-    rw (left, scan-one, next)
+  looked-below : (i : ℕ) → i < length (looked h) → getD (looked h) i 0 < blockCount
+  looked-below zero l = omega arith
+  looked-below (suc i) l = rw (looked-slot i (omega (arith, looked-length))) (omega arith)
 
-pub scan-end : (s : List ℕ) (f n i : ℕ) (all : Verdict) → n ≤ i → scan s (f + i) (n - i) ≡ all → Sound ≡ all
-scan-end s f n i all l inv =
-    let none : n - i ≡ 0 = omega arith in
-    sym (scan-none s (f + i)) ∙ (rw none at inv)
+module _ (image : List ℕ) where
+  -- none of these is idle
+  live-judged : (b : ℕ) → any (eqb b) (looked (headerOf (block image 0))) ≡ true → blockJudged image b ≡ bytesJudged image b
+  unfolding blockJudged
+  live-judged b l = rw l
 
-module _ (s : List ℕ) (f n i : ℕ) (all : Verdict) (left : i < n) (inv : scan s (f + i) (n - i) ≡ all)
-    {b : List ℕ} (eb : b ≡ block s ((f + i) % slotCount + 1)) {v : SlotVerdict} (ev : v ≡ slotVerdict b) where
-  turned : slotThen v ((f + i) % slotCount + 1) (scan s (f + (i + 1)) (n - (i + 1))) ≡ all
-  turned = rw (ev, eb) (sym (scan-turn s f n i left) ∙ inv)
+  pub looked-judged : firstFault (blockJudged image) (looked (headerOf (block image 0))) ≡ firstFault (bytesJudged image) (looked (headerOf (block image 0)))
+  looked-judged = fault-same (blockJudged image) (bytesJudged image) (looked (headerOf (block image 0))) live-judged
 
-  pub scan-check : v ≡ BadCheck → BadBlock ((f + i) % slotCount + 1) ≡ all
-  scan-check h = rw h at turned
+  -- a slot that is not live is idle
+  pub idle-judged : (k : ℕ) → Idle image k → blockJudged image (blockOf k) ≡ Judgement.Idle
+  unfolding blockJudged any decode ring
+  idle-judged k idle = rw (not-zeroth k, none (headerOf (block image 0) .first) (headerOf (block image 0) .held) idle)
+    where
+      none : (f n : ℕ) → ((i : ℕ) → i < n → slotAt f i ≢ k) → any (eqb (blockOf k)) (ring blockOf f n) ≡ false
+      none f zero apart = refl
+      none f (suc n) apart =
+          let e : f + 0 ≡ f = omega arith in
+          let first : f % slotCount ≢ k = rw e at (apart 0 (omega arith)) in
+          any-cons (eqb (blockOf k)) (blockOf (f % slotCount)) (ring blockOf (f + 1) n) (ne-eqb (blockOf k) (blockOf (f % slotCount)) (λ same. first (omega arith)))
+          ∙ none (f + 1) n (λ i l. let e : f + suc i ≡ f + 1 + i = omega arith in rw e at (apart (suc i) (omega arith)))
 
-  pub scan-fields : v ≡ BadFields → BadField ((f + i) % slotCount + 1) ≡ all
-  scan-fields h = rw h at turned
+  -- the block that restore's checks name is a block of the image
+  pub verdict-below : verdictBlock (verdict image) < blockCount
+  unfolding verdict
+  verdict-below =
+      pick-all (λ v. verdictBlock v < blockCount) (not (eqb (length image) imageSize)) (omega arith)
+      (named-below (blockJudged image) (looked (headerOf (block image 0))) blockCount (omega arith) (looked-below (headerOf (block image 0))))
 
-  pub scan-next : v ≡ Good → scan s (f + (i + 1)) (n - (i + 1)) ≡ all
-  scan-next h = rw h at turned
+-- ---- the live slots, in a loop that has come to slot i
+-- what is said of a slot's bytes
+abbrev slotJudged : SlotVerdict → Judgement
+slotJudged SlotVerdict.Good = Judgement.Good
+slotJudged SlotVerdict.BadCheck = Judgement.BadCheck
+slotJudged SlotVerdict.BadFields = Judgement.BadFields
+
+pub slot-fields : (s : List ℕ) (k : ℕ) → fieldsRight s (blockOf k) ≡ slotOk (block s (blockOf k))
+slot-fields s k = rw (not-zeroth k)
+
+slot-bytes : (s : List ℕ) (k : ℕ) → bytesJudged s (blockOf k) ≡ slotJudged (slotVerdict (block s (blockOf k)))
+unfolding bytesJudged slotVerdict
+slot-bytes s k = rw (slot-fields s k) (by (sound (block s (blockOf k))) (slotOk (block s (blockOf k))))
+  where
+    by : (c f : Bool)
+        → pick (not c) Judgement.BadCheck (pick (not f) Judgement.BadFields Judgement.Good)
+        ≡ slotJudged (pick c (pick f SlotVerdict.Good SlotVerdict.BadFields) SlotVerdict.BadCheck)
+    by true true = refl
+    by true false = refl
+    by false f = refl
+
+module _ (s : List ℕ) (f n : ℕ) where
+  pub scan-start : firstFault (bytesJudged s) (ring blockOf (f + 0) (n - 0)) ≡ firstFault (bytesJudged s) (ring blockOf f n)
+  scan-start =
+      let e : f + 0 ≡ f = omega arith in
+      let g : n - 0 ≡ n = omega arith in
+      rw (e, g)
+
+  module _ (i : ℕ) (all : Verdict) where
+    pub scan-end : n ≤ i → firstFault (bytesJudged s) (ring blockOf (f + i) (n - i)) ≡ all → Sound ≡ all
+    unfolding firstFault ring
+    scan-end l inv =
+        let none : n - i ≡ 0 = omega arith in
+        rw none at inv
+
+    module _ (left : i < n) (inv : firstFault (bytesJudged s) (ring blockOf (f + i) (n - i)) ≡ all)
+        {b : List ℕ} (eb : b ≡ block s ((f + i) % slotCount + 1)) {v : SlotVerdict} (ev : v ≡ slotVerdict b) where
+      -- slot i, and then the rest
+      turned : faultThen (slotJudged v) ((f + i) % slotCount + 1) (firstFault (bytesJudged s) (ring blockOf (f + (i + 1)) (n - (i + 1)))) ≡ all
+      unfolding firstFault ring
+      turned =
+          let more : n - i ≡ suc (n - (i + 1)) = omega arith in
+          let next : f + i + 1 ≡ f + (i + 1) = omega arith in
+          rw (ev, eb, ← slot-bytes s ((f + i) % slotCount)) (rw (more, next) at inv)
+
+      pub scan-check : v ≡ SlotVerdict.BadCheck → BadBlock ((f + i) % slotCount + 1) ≡ all
+      scan-check h = rw h at turned
+
+      pub scan-fields : v ≡ SlotVerdict.BadFields → BadField ((f + i) % slotCount + 1) ≡ all
+      scan-fields h = rw h at turned
+
+      pub scan-next : v ≡ SlotVerdict.Good → firstFault (bytesJudged s) (ring blockOf (f + (i + 1)) (n - (i + 1))) ≡ all
+      scan-next h = rw h at turned
 
 pub ruleset scans = (scan-start, scan-end, scan-check, scan-fields, scan-next)
 
@@ -67,20 +135,26 @@ module _ (s : List ℕ) where
   unfolding verdict
   wrong-size h = simp (ne-eqb (length s) imageSize h)
 
-  module _ (size : length s ≡ imageSize) {b : List ℕ} (eb : b ≡ block s 0) {t : Bool} (et : t ≡ sound b) where
-    pub zeroth-check : not t ≡ true → BadBlock 0 ≡ verdict s
-    unfolding verdict
-    zeroth-check h = simp (eq-eqb (length s) imageSize size, ← eb, ← et, not-true t h)
+  module _ (size : length s ≡ imageSize) where
+    -- block 0, and then the live slots
+    sized : faultThen (bytesJudged s 0) 0 (firstFault (bytesJudged s) (ring blockOf (headerOf (block s 0) .first) (headerOf (block s 0) .held))) ≡ verdict s
+    unfolding verdict firstFault
+    sized = simp (eq-eqb (length s) imageSize size) (sym (looked-judged s))
 
-    module _ (fine : not t ≡ false) {u : Bool} (eu : u ≡ fieldsOk b) where
-      pub zeroth-fields : not u ≡ true → BadField 0 ≡ verdict s
-      unfolding verdict
-      zeroth-fields h = simp (eq-eqb (length s) imageSize size, ← eb, ← et, not-false t fine, ← eu, not-true u h)
+    module _ {b : List ℕ} (eb : b ≡ block s 0) {t : Bool} (et : t ≡ sound b) where
+      pub zeroth-check : not t ≡ true → BadBlock 0 ≡ verdict s
+      unfolding bytesJudged
+      zeroth-check h = simp (← eb, ← et, not-true t h) at sized
 
-      pub slots-judged : not u ≡ false → {h : Header} → h ≡ headerOf b → {f n : ℕ} → f ≡ h .first → n ≡ h .held → {r : Verdict} → r ≡ scan s f n → r ≡ verdict s
-      unfolding verdict
-      slots-judged hu eh ef en er =
-          er ∙ sym (simp (eq-eqb (length s) imageSize size, ← eb, ← et, not-false t fine, ← eu, not-false u hu, ← eh, ← ef, ← en))
+      module _ (fine : not t ≡ false) {u : Bool} (eu : u ≡ fieldsOk b) where
+        pub zeroth-fields : not u ≡ true → BadField 0 ≡ verdict s
+        unfolding bytesJudged
+        zeroth-fields h = simp (← eb, ← et, not-false t fine, ← eu, not-true u h) at sized
+
+        pub slots-judged : not u ≡ false → {h : Header} → h ≡ headerOf b → {f n : ℕ} → f ≡ h .first → n ≡ h .held
+            → {r : Verdict} → r ≡ firstFault (bytesJudged s) (ring blockOf f n) → r ≡ verdict s
+        unfolding bytesJudged
+        slots-judged hu eh ef en er = er ∙ (simp (← eb, ← et, not-false t fine, ← eu, not-false u hu, ← eh, ← ef, ← en) at sized)
 
 pub ruleset verdicts = (wrong-size, zeroth-check, zeroth-fields, slots-judged)
 

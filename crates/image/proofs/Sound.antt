@@ -1,76 +1,79 @@
 -- A sound image, clause by clause, and what storing leaves of it. Assumes nothing.
-use mathlib.Core.Path.{_≡_, refl}
+use Prim.Native.Nat.{ℕ, zero, suc, _+_, _-_, _≤_, _<_}
+use mathlib.Core.Bool.{Bool, true, false, not}
 use mathlib.Core.List.{List}
 use mathlib.Core.Logic.{_≢_, ⊎-elim}
-use Prim.Native.Nat.{ℕ, zero, suc, _+_, _-_, _%_, _≤_, _<_}
+use mathlib.Core.Path.{_≡_, refl, sym, _∙_}
 use native.Mathlib.Nat.{eq-or-lt-of-le}
 use native.Mathlib.Omega.{arith}
-use borrow.Author.Tests.{eqb-true, eq-eqb}
 use lib.Dec.{eqb}
-use lib.ListN.{length}
-use Rattle.octets.proofs.Choice.{no, passed}
-use Rattle.label_list.specs.Word.{wordCount}
+use lib.ListN.{length, getD}
+use borrow.Author.Tests.{eqb-true, eq-eqb, not-false}
+use Rattle.octets.specs.Pick.{pick}
+use Rattle.octets.proofs.Choice.{cleared}
 use Rattle.block.specs.Check.{blockSize, sound}
 use Rattle.block.specs.Run.{Words}
+use Rattle.label_list.specs.Word.{wordCount}
 use Rattle.block0.specs.declared.Header.{Header}
+use Rattle.block0.specs.Fields.{Fits, Valid}
 use Rattle.block0.specs.Layout.{slotCount, headerOf, block0}
-use Rattle.block0.specs.Fields.{fieldsOk, Fits, Valid}
-use Rattle.block0.proofs.Written.{header-block0, block0-sound}
 use Rattle.block0.proofs.Rules.{fields-valid, valid-fields}
-use Rattle.slot.specs.declared.SlotVerdict.{SlotVerdict}
-use Rattle.slot.specs.declared.SlotVerdict.the-variants.{Good, BadCheck, BadFields}
-use Rattle.slot.specs.Fields.{slotVerdict}
-use Rattle.slot.specs.Held.{Storable}
-use Rattle.slot.proofs.Holding.{slotFor-sound, slotFor-ok, good-parts, parts-good}
-use Rattle.image.specs.declared.Verdict.{Verdict}
-use Rattle.image.specs.declared.Verdict.the-variants.{Sound, WrongSize, BadBlock, BadField}
+use Rattle.block0.proofs.Written.{header-block0, block0-sound}
+use Rattle.message.specs.Storable.{Storable}
+use Rattle.slot.proofs.Holding.{slotFor-sound, slotFor-ok}
+use Rattle.image.specs.declared.Judgement.the-variants.{Good, BadCheck, BadFields}
+use Rattle.image.specs.declared.Verdict.the-variants.{Sound, WrongSize}
 use Rattle.image.specs.Sizes.{block, blockOf, slotAt, imageSize}
 use Rattle.image.specs.State.{decode, storeSlot, store0}
-use Rattle.image.specs.Verdict.{scan, verdict, slotThen, slotFirst, IsSound, SlotGood}
+use Rattle.image.specs.Verdict.{looked, fieldsRight, bytesJudged, verdict, IsSound, SlotGood}
 use Rattle.image.proofs.Blocks.{length-block}
-use Rattle.image.proofs.Scans.{scan-one, scan-none}
+use Rattle.image.proofs.Faults.{NoFault, faultless-each, each-faultless}
+use Rattle.image.proofs.Scans.{looked-length, looked-slot, looked-judged, slot-fields}
 use Rattle.image.proofs.Stored.{Idle, length-storeSlot, slot-put, slot-other, length-store0, zeroth-put, zeroth-other}
 
--- ---- the ring
-pub scan-good : (image : List ℕ) (f n : ℕ) → ((i : ℕ) → i < n → SlotGood (block image (blockOf (slotAt f i)))) → scan image f n ≡ Sound
-scan-good image f zero good = scan-none image f
-scan-good image f (suc n) good =
-    let e : f + 0 ≡ f = omega arith in
-    let g : SlotGood (block image (blockOf (f % slotCount))) = rw e at (good 0 (omega arith)) in
-    rw (scan-one, parts-good (block image (blockOf (f % slotCount))) (g .check) (g .fields))
-    (scan-good image (f + 1) n (λ i l. let e : f + suc i ≡ f + 1 + i = omega arith in rw e at (good (suc i) (omega arith))))
-
-slot-parts : (image : List ℕ) (b : ℕ) (rest : Verdict) → slotFirst image b rest ≡ Sound → SlotGood (block image b) × (rest ≡ Sound)
-slot-parts image b rest h = by (slotVerdict (block image b)) refl h
-  where
-    by : (v : SlotVerdict) → slotVerdict (block image b) ≡ v → slotThen v b rest ≡ Sound → SlotGood (block image b) × (rest ≡ Sound)
-    by Good e q = let g = good-parts (block image b) e in (record { check = g .0; fields = g .1 }, q)
-    by BadCheck e q = let z : _≡_ {A = ℕ} 0 1 = cc in no z
-    by BadFields e q = let z : _≡_ {A = ℕ} 0 1 = cc in no z
-
-pub good-scan : (image : List ℕ) (f n : ℕ) → scan image f n ≡ Sound → (i : ℕ) → i < n → SlotGood (block image (blockOf (slotAt f i)))
-good-scan image f zero h i l = absurd (omega arith)
-good-scan image f (suc n) h zero l =
-    let e : f + 0 ≡ f = omega arith in
-    rw e (slot-parts image (blockOf (f % slotCount)) (scan image (f + 1) n) (rw scan-one at h) .0)
-good-scan image f (suc n) h (suc i) l =
-    let e : f + suc i ≡ f + 1 + i = omega arith in
-    rw e (good-scan image (f + 1) n (slot-parts image (blockOf (f % slotCount)) (scan image (f + 1) n) (rw scan-one at h) .1) i (omega arith))
-
 -- ---- a verdict and its clauses
+bytes-good : (image : List ℕ) (b : ℕ) → NoFault (bytesJudged image b) → (sound (block image b) ≡ true) × (fieldsRight image b ≡ true)
+unfolding bytesJudged
+bytes-good image b = by (sound (block image b)) (fieldsRight image b)
+  where
+    by : (c f : Bool) → NoFault (pick (not c) BadCheck (pick (not f) BadFields Good)) → (c ≡ true) × (f ≡ true)
+    by true true h = (refl, refl)
+    by true false h = absurd h
+    by false f h = absurd h
+
+good-bytes : (image : List ℕ) (b : ℕ) → sound (block image b) ≡ true → fieldsRight image b ≡ true → NoFault (bytesJudged image b)
+unfolding bytesJudged
+good-bytes image b c f = rw (c, f) tt
+
+-- a sound verdict is its clauses
 pub sound-parts : (image : List ℕ) → verdict image ≡ Sound → IsSound image
 unfolding verdict
 sound-parts image h =
-    let b : List ℕ = block image 0 in
-    let p = passed (eqb (length image) imageSize) _ WrongSize Sound (λ e. cc) h in
-    let q = passed (sound b) _ (BadBlock 0) Sound (λ e. cc) (p .1) in
-    let r = passed (fieldsOk b) _ (BadField 0) Sound (λ e. cc) (q .1) in
-    record { size = eqb-true _ _ (p .0); check = q .0; fields = r .0; slots = good-scan image (headerOf b .first) (headerOf b .held) (r .1) }
+    let z : Header = headerOf (block image 0) in
+    let p = cleared (not (eqb (length image) imageSize)) WrongSize _ Sound (λ e. cc) h in
+    let each = faultless-each (bytesJudged image) (looked z) (sym (looked-judged image) ∙ p .1) in
+    let zeroth = bytes-good image 0 (each 0 (omega (arith, looked-length z))) in
+    record {
+      size = eqb-true _ _ (not-false _ (p .0));
+      check = zeroth .0;
+      fields = zeroth .1;
+      slots = λ i l.
+          let k : ℕ = slotAt (z .first) i in
+          let g = bytes-good image (blockOf k) (rw (looked-slot z i l) at (each (suc i) (omega (arith, looked-length z)))) in
+          record { check = g .0; fields = sym (slot-fields image k) ∙ g .1 };
+    }
 
+-- and back
 pub parts-sound : (image : List ℕ) → IsSound image → verdict image ≡ Sound
 unfolding verdict
-parts-sound image s =
-    simp (eq-eqb _ _ (s .size), s .check, s .fields, scan-good image (headerOf (block image 0) .first) (headerOf (block image 0) .held) (s .slots))
+parts-sound image s = simp (eq-eqb _ _ (s .size)) (looked-judged image ∙ each-faultless (bytesJudged image) (looked (headerOf (block image 0))) each)
+  where
+    each : (i : ℕ) → i < length (looked (headerOf (block image 0))) → NoFault (bytesJudged image (getD (looked (headerOf (block image 0))) i 0))
+    each zero l = good-bytes image 0 (s .check) (s .fields)
+    each (suc i) l =
+        let live : i < headerOf (block image 0) .held = omega (arith, looked-length (headerOf (block image 0))) in
+        let k : ℕ = slotAt (headerOf (block image 0) .first) i in
+        rw (looked-slot (headerOf (block image 0)) i live) (good-bytes image (blockOf k) (s .slots i live .check) (slot-fields image k ∙ s .slots i live .fields))
 
 -- ---- what a sound image tells of its state
 pub sound-valid : (image : List ℕ) → IsSound image → Valid (decode image .header) (decode image .labels)
@@ -124,6 +127,7 @@ sound-store0 image h ls size fh fl v live =
 pub idle-last : (image : List ℕ) → decode image .header .held < slotCount → Idle image (slotAt (decode image .header .first) (decode image .header .held))
 idle-last image room i l = omega arith
 
+-- one more held, where the new fields keep the rules
 pub sound-accept : (image : List ℕ) (h : Header) (ls m : List ℕ) → IsSound image → Fits h → Words wordCount ls → Valid h ls → Storable m
     → h .first ≡ decode image .header .first → h .held ≡ decode image .header .held + 1 → decode image .header .held < slotCount
     → IsSound (store0 (storeSlot image (slotAt (decode image .header .first) (decode image .header .held)) m) h ls)
@@ -141,6 +145,7 @@ sound-accept image h ls m s fh fl v fits ef eh room =
     rw (slot-other image (s .size) k low m fits (blockOf (slotAt f i)) (omega arith)) (sound-live image s i before))
     (eq-or-lt-of-le (omega arith))))
 
+-- the oldest let go
 pub sound-release : (image : List ℕ) (h : Header) (ls : List ℕ) (n : ℕ) → IsSound image → Fits h → Words wordCount ls → Valid h ls
     → n ≤ decode image .header .held → h .first ≡ slotAt (decode image .header .first) n → h .held ≡ decode image .header .held - n
     → IsSound (store0 image h ls)
@@ -149,6 +154,7 @@ sound-release image h ls n s fh fl v low ef eh =
     let there : slotAt (h .first) i ≡ slotAt (decode image .header .first) (n + i) = omega arith in
     rw there (sound-live image s (n + i) (omega arith)))
 
+-- block 0 alone
 pub sound-keep : (image : List ℕ) (h : Header) (ls : List ℕ) → IsSound image → Fits h → Words wordCount ls → Valid h ls
     → h .first ≡ decode image .header .first → h .held ≡ decode image .header .held → IsSound (store0 image h ls)
 sound-keep image h ls s fh fl v ef eh =

@@ -1,25 +1,26 @@
 -- What is stored is what is read again. Assumes nothing.
-use mathlib.Core.Path.{_≡_, refl, sym, ap, ap₂, _∙_}
+use Prim.Native.Nat.{ℕ, _+_, _-_, _*_, _≤_, _<_}
 use mathlib.Core.List.{List, [], _∷_, _++_}
 use mathlib.Core.Logic.{_≢_}
-use Prim.Native.Nat.{ℕ, _+_, _-_, _*_, _≤_, _<_}
+use mathlib.Core.Path.{_≡_, refl, sym, ap, ap₂, _∙_}
 use native.Mathlib.Omega.{arith}
 use lib.ListN.{length, drop}
-use Rattle.label_list.specs.Word.{wordCount}
 use Rattle.block.specs.Check.{blockSize}
 use Rattle.block.specs.Run.{Words}
+use Rattle.label_list.specs.Word.{wordCount}
 use Rattle.block0.specs.declared.Header.{Header}
-use Rattle.block0.specs.Layout.{slotCount, headerOf, labelsOf, block0}
 use Rattle.block0.specs.Fields.{Fits}
+use Rattle.block0.specs.Layout.{slotCount, headerOf, labelsOf, block0}
 use Rattle.block0.proofs.Written.{length-block0, header-block0, labels-block0}
+use Rattle.message.specs.Storable.{Storable}
+use Rattle.slot.specs.Held.{slotFor}
 use Rattle.slot.specs.Layout.{messageOf}
-use Rattle.slot.specs.Held.{Storable, slotFor}
 use Rattle.slot.proofs.Holding.{length-slotFor, slotFor-message}
-use Rattle.image.specs.Sizes.{block, blockOf, slotAt, imageSize}
 use Rattle.image.specs.Ring.{ring}
+use Rattle.image.specs.Sizes.{block, blockOf, slotAt, imageSize}
 use Rattle.image.specs.State.{State, slotsOf, decode, storeSlot, store0}
-use Rattle.image.proofs.Rings.{ring-same, ring-snoc, ring-drop}
 use Rattle.image.proofs.Blocks.{length-block, length-put, block-put, block-other}
+use Rattle.image.proofs.Rings.{ring-same, ring-snoc, ring-drop}
 
 pub state-eq : {h h′ : Header} {l l′ : List ℕ} {q q′ : List (List ℕ)} → h ≡ h′ → l ≡ l′ → q ≡ q′
     → _≡_ {A = State} (record { header = h; labels = l; queue = q }) (record { header = h′; labels = l′; queue = q′ })

@@ -4,8 +4,8 @@ use mathlib.Core.List.{List, []}
 use lib.Dec.{eqb}
 use lib.ListN.{length, replicate}
 use Rattle.octets.specs.Pick.{pick}
-use Rattle.label_list.specs.Sweep.{sweptOf}
 use Rattle.label_list.specs.declared.SweepRule.the-variants.{AfterBreak}
+use Rattle.label_list.specs.Sweep.{sweptOf}
 use Rattle.block0.specs.Layout.{releasedHeader, noLabels}
 use Rattle.image.specs.declared.Verdict.{Verdict}
 use Rattle.image.specs.declared.Verdict.the-variants.{Sound, WrongSize}
@@ -19,7 +19,7 @@ released = record { header = releasedHeader; labels = noLabels; queue = [] }
 unfoldable pub releaseOf : List ℕ → List ℕ
 releaseOf image = store image released
 
--- a new image: block 0 with kept 0, and 64 slots of 512 zeros; an image of another size is left as it is
+-- a new image: block 0 with kept 0, and 64 slots of 512 zeros
 unfoldable pub newImage : List ℕ
 newImage = store (replicate imageSize 0) released
 
@@ -27,6 +27,7 @@ newImage = store (replicate imageSize 0) released
 unfoldable pub sizeVerdict : List ℕ → Verdict
 sizeVerdict image = pick (eqb (length image) imageSize) Sound WrongSize
 
+-- an image of another size is left as it is
 unfoldable pub formatOf : List ℕ → List ℕ
 formatOf image = pick (eqb (length image) imageSize) newImage image
 

@@ -6,8 +6,12 @@ use Rattle.octets.specs.Part.{part, withPart}
 use Rattle.block.specs.Check.{blockSize}
 use Rattle.block0.specs.Layout.{slotCount}
 
+-- block 0, and a block for each slot
+abbrev pub blockCount : ℕ
+blockCount = 1 + slotCount
+
 abbrev pub imageSize : ℕ
-imageSize = (slotCount + 1) * blockSize
+imageSize = blockCount * blockSize
 
 -- block b of an image, and the image with block b replaced
 abbrev pub block : List ℕ → ℕ → List ℕ

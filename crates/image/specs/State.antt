@@ -1,16 +1,16 @@
 -- The state that an image stands for, and the two stages in which it is stored.
 use Prim.Native.Nat.{ℕ, _*_}
 use mathlib.Core.List.{List}
-use Rattle.label_list.specs.Word.{wordCount}
 use Rattle.block.specs.Check.{blockSize}
 use Rattle.block.specs.Run.{Words}
+use Rattle.label_list.specs.Word.{wordCount}
 use Rattle.block0.specs.declared.Header.{Header}
-use Rattle.block0.specs.Layout.{headerOf, labelsOf, block0}
 use Rattle.block0.specs.Fields.{Fits}
-use Rattle.slot.specs.Layout.{messageOf}
+use Rattle.block0.specs.Layout.{headerOf, labelsOf, block0}
 use Rattle.slot.specs.Held.{slotFor}
-use Rattle.image.specs.Sizes.{block, withBlock, blockOf, slotAt}
+use Rattle.slot.specs.Layout.{messageOf}
 use Rattle.image.specs.Ring.{ring}
+use Rattle.image.specs.Sizes.{block, withBlock, blockOf, slotAt}
 
 -- the numbers of block 0, its label words, and the messages held, the oldest first
 pub record State : Type 0 where

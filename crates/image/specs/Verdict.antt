@@ -1,42 +1,56 @@
 -- Restore's checks. "Restore checks size, block 0, its fields, then live slots in ring order: check, then fields."
-use Prim.Native.Nat.{ℕ, zero, suc, _+_, _%_, _<_}
+use Prim.Native.Nat.{ℕ, _<_}
+use mathlib.Core.Bool.{Bool, true, not}
+use mathlib.Core.List.{List, [], _∷_}
 use mathlib.Core.Path.{_≡_}
-use mathlib.Core.Bool.{true}
-use mathlib.Core.List.{List}
 use lib.Dec.{eqb}
 use lib.ListN.{length}
 use Rattle.octets.specs.Pick.{pick}
 use Rattle.block.specs.Check.{sound}
-use Rattle.block0.specs.Layout.{slotCount, headerOf}
+use Rattle.label_list.specs.Find.{any}
+use Rattle.block0.specs.declared.Header.{Header}
 use Rattle.block0.specs.Fields.{fieldsOk}
-use Rattle.slot.specs.declared.SlotVerdict.{SlotVerdict}
-use Rattle.slot.specs.declared.SlotVerdict.the-variants.{Good, BadCheck, BadFields}
-use Rattle.slot.specs.Fields.{slotOk, slotVerdict}
+use Rattle.block0.specs.Layout.{headerOf}
+use Rattle.slot.specs.Fields.{slotOk}
+use Rattle.image.specs.declared.Judgement.{Judgement}
+use Rattle.image.specs.declared.Judgement.the-variants.{Good, BadCheck, BadFields, Idle}
 use Rattle.image.specs.declared.Verdict.{Verdict}
 use Rattle.image.specs.declared.Verdict.the-variants.{Sound, WrongSize, BadBlock, BadField}
+use Rattle.image.specs.Ring.{ring}
 use Rattle.image.specs.Sizes.{imageSize, slotAt, block, blockOf}
 
--- what is said of block b as a slot, and then of the rest
-abbrev pub slotThen : SlotVerdict → ℕ → Verdict → Verdict
-slotThen Good b rest = rest
-slotThen BadCheck b rest = BadBlock b
-slotThen BadFields b rest = BadField b
+-- ---- the judgement of a block
+-- the blocks that are looked at, in this order: block 0, then the live slots that it names. "Slots that aren't live are not looked at."
+abbrev pub looked : Header → List ℕ
+looked h = 0 ∷ ring blockOf (h .first) (h .held)
 
-abbrev pub slotFirst : List ℕ → ℕ → Verdict → Verdict
-slotFirst image b rest = slotThen (slotVerdict (block image b)) b rest
+-- the fields of block b are right: block 0's, or a slot's
+abbrev pub fieldsRight : List ℕ → ℕ → Bool
+fieldsRight image b = pick (eqb b 0) (fieldsOk (block image b)) (slotOk (block image b))
 
--- the n slots from slot f on, round the ring
-unfoldable pub scan : List ℕ → ℕ → ℕ → Verdict
-scan image f zero = Sound
-scan image f (suc n) = slotFirst image (blockOf (f % slotCount)) (scan image (f + 1) n)
+-- the judgement of block b by its bytes: "check, then fields"
+unfoldable pub bytesJudged : List ℕ → ℕ → Judgement
+bytesJudged image b = pick (not (sound (block image b))) BadCheck (pick (not (fieldsRight image b)) BadFields Good)
+
+-- the judgement of block b: idle where block 0 does not lead to it, else by its bytes
+unfoldable pub blockJudged : List ℕ → ℕ → Judgement
+blockJudged image b = pick (not (any (eqb b) (looked (headerOf (block image 0))))) Idle (bytesJudged image b)
+
+-- ---- the first fault
+-- block b, and then the rest: a good block is no fault, nor is an idle one
+abbrev pub faultThen : Judgement → ℕ → Verdict → Verdict
+faultThen BadCheck b rest = BadBlock b
+faultThen BadFields b rest = BadField b
+faultThen Good b rest = rest
+faultThen Idle b rest = rest
+
+-- of the blocks in an order
+unfoldable pub firstFault : (ℕ → Judgement) → List ℕ → Verdict
+firstFault judgement [] = Sound
+firstFault judgement (b ∷ rest) = faultThen (judgement b) b (firstFault judgement rest)
 
 unfoldable pub verdict : List ℕ → Verdict
-verdict image =
-    pick (eqb (length image) imageSize)
-    (pick (sound (block image 0))
-    (pick (fieldsOk (block image 0)) (scan image (headerOf (block image 0) .first) (headerOf (block image 0) .held)) (BadField 0))
-    (BadBlock 0))
-    WrongSize
+verdict image = pick (not (eqb (length image) imageSize)) WrongSize (firstFault (blockJudged image) (looked (headerOf (block image 0))))
 
 -- the answer's number: "10 bad block, with its number; 11 bad field, with block number; 12 image not 33,280 bytes"
 abbrev pub verdictNumber : Verdict → ℕ

@@ -2,8 +2,8 @@
 ghost use mathlib.Core.Path.{_≡_};
 ghost use lib.ListN.{length};
 ghost use Rattle.block0.specs.Unprotected.{unprotected};
-ghost use Rattle.image.specs.Sizes.{imageSize};
 ghost use Rattle.image.specs.Events.{sizeVerdict, formatOf, releaseOf, breakOf};
+ghost use Rattle.image.specs.Sizes.{imageSize};
 ghost use Rattle.image.specs.State.{decode};
 use crate::Verdict;
 use label_list::SweepRule;
@@ -16,7 +16,7 @@ pub fn release(image: &mut [u8])
     block0::write_released(&mut image[0..block::BLOCK_SIZE]);
 }
 
-// A new image: released, with slots of zeros.
+// A new image: released, with slots of zeros. Bytes of another size are left as they are (12).
 pub fn format(image: &mut [u8]) -> Verdict
     ensures { λ r. ⌜ (r ≡ sizeVerdict (now (image .entry))) × (now (image .exit) ≡ formatOf (now (image .entry))) ⌝ }
 {
@@ -36,7 +36,7 @@ pub fn has_unprotected(image: &[u8]) -> bool
     block0::has_unprotected(crate::block_at(image, 0))
 }
 
-// As after a break: the label words of code 6 are freed.
+// As after a break: the label words of code 6 are freed, everything else stays, and block 0 is sealed again.
 pub fn free_unprotected(image: &mut [u8])
     requires { ⌜ length (now image) ≡ imageSize ⌝ }
     ensures { λ _. ⌜ now (image .exit) ≡ breakOf (now (image .entry)) ⌝ }

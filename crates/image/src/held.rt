@@ -1,12 +1,12 @@
 // The messages held by a sound image, counted from the oldest: each as that very part of the image, with its kind and label.
-ghost use mathlib.Core.Path.{_≡_};
-ghost use mathlib.Core.List.{[]};
 ghost use Prim.Native.Nat.{_+_, _<_};
+ghost use mathlib.Core.List.{[]};
+ghost use mathlib.Core.Path.{_≡_};
 ghost use lib.ListN.{length, getD};
-ghost use Rattle.message.specs.Submission.{submissionOf};
 ghost use Rattle.block.specs.Check.{blockSize};
+ghost use Rattle.message.specs.Storable.{kindIn, labelIn};
+ghost use Rattle.message.specs.Submission.{submissionOf};
 ghost use Rattle.slot.specs.Layout.{messageAt};
-ghost use Rattle.slot.specs.Held.{kindIn, labelIn};
 ghost use Rattle.image.specs.State.{decode, heldBlock, heldPlace};
 ghost use Rattle.image.specs.Verdict.{IsSound};
 
@@ -21,7 +21,7 @@ fn held_slot(image: &[u8], i: usize) -> &[u8]
     crate::block_at(image, b)
 }
 
-// The i-th message held.
+// The i-th message held, from the oldest, as that very part of the image.
 pub fn held_message(image: &[u8], i: usize) -> &[u8]
     requires { ⌜ IsSound (now image) × (i < decode (now image) .header .held) ⌝ }
     ensures { λ r. ⌜ now r ≡ getD (decode (now (image .entry)) .queue) i [] ⌝ }
@@ -30,7 +30,7 @@ pub fn held_message(image: &[u8], i: usize) -> &[u8]
     slot::message_of(held_slot(image, i))
 }
 
-// The number of its kind, 1 to 6.
+// The number of its kind, 1 to 6, as Submit judges it.
 pub fn held_kind(image: &[u8], i: usize) -> u8
     requires { ⌜ IsSound (now image) × (i < decode (now image) .header .held) ⌝ }
     ensures { λ r. ⌜ r ≡ kindIn (submissionOf (getD (decode (now (image .entry)) .queue) i [])) ⌝ }
@@ -38,7 +38,7 @@ pub fn held_kind(image: &[u8], i: usize) -> u8
     slot::kind_of(held_slot(image, i))
 }
 
-// Its label; 0xFFFFFFFF for the kinds without one.
+// Its label, as Submit judges it; 0xFFFFFFFF for the kinds without one.
 pub fn held_label(image: &[u8], i: usize) -> u32
     requires { ⌜ IsSound (now image) × (i < decode (now image) .header .held) ⌝ }
     ensures { λ r. ⌜ r ≡ labelIn (submissionOf (getD (decode (now (image .entry)) .queue) i [])) ⌝ }

@@ -1,16 +1,17 @@
 // The stored image: 65 blocks of 512 bytes. Block 0 holds the session's numbers and label words, the others are slots of a ring.
-ghost use mathlib.Core.Path.{_≡_};
 ghost use Prim.Native.Nat.{_+_, _*_, _≤_, _<_};
+ghost use mathlib.Core.Path.{_≡_};
 ghost use lib.ListN.{length, getD, set};
-ghost use Rattle.label_list.specs.Word.{wordCount};
-ghost use Rattle.message.specs.Submission.{submissionOf};
-ghost use Rattle.message.specs.declared.Submission.the-variants.{Accepted};
 ghost use Rattle.block.specs.Check.{blockSize};
+ghost use Rattle.label_list.specs.Word.{wordCount};
 ghost use Rattle.block0.specs.Layout.{slotCount};
-ghost use Rattle.slot.specs.Layout.{longest};
-ghost use Rattle.image.specs.Sizes.{imageSize, block};
+ghost use Rattle.message.specs.declared.Submission.the-variants.{Accepted};
+ghost use Rattle.message.specs.Storable.{longest};
+ghost use Rattle.message.specs.Submission.{submissionOf};
+ghost use Rattle.image.specs.Ring.{ring};
+ghost use Rattle.image.specs.Sizes.{blockCount, imageSize, block, blockOf};
 ghost use Rattle.image.specs.State.{decode, storeSlot, store0};
-ghost use Rattle.image.specs.Verdict.{scan, verdict, verdictNumber, verdictBlock};
+ghost use Rattle.image.specs.Verdict.{bytesJudged, firstFault, verdict, verdictNumber, verdictBlock};
 use block0::Header;
 use message::Kind;
 use slot::SlotVerdict;
@@ -34,10 +35,20 @@ pub enum Verdict {
     BadField(usize),
 }
 
-// The slots of the ring, and the size of the image: they and block 0.
+// What restore's checks say of one block, of which the verdict is the first fault; a slot that is not live is idle.
+pub enum Judgement {
+    Good,
+    BadCheck,
+    BadFields,
+    Idle,
+}
+
+// The slots of the ring; the blocks of the image, block 0 and the slots; its size.
 pub const SLOT_COUNT: usize = block0::SLOT_COUNT as usize;
 
-pub const IMAGE_SIZE: usize = (SLOT_COUNT + 1) * block::BLOCK_SIZE;
+const BLOCK_COUNT: usize = 1 + SLOT_COUNT;
+
+pub const IMAGE_SIZE: usize = BLOCK_COUNT * block::BLOCK_SIZE;
 
 // The paper's number of a verdict.
 pub fn verdict_number(v: Verdict) -> u32
@@ -71,7 +82,7 @@ fn wide(x: u16) -> usize
 
 // Block b, as that very part of the image.
 fn block_at(image: &[u8], b: usize) -> &[u8]
-    requires { ⌜ (length (now image) ≡ imageSize) × (b ≤ slotCount) ⌝ }
+    requires { ⌜ (length (now image) ≡ imageSize) × (b < blockCount) ⌝ }
     ensures { λ r. ⌜ (now r ≡ block (now (image .entry)) b) × (length (now r) ≡ blockSize) ⌝ }
     ensures place { λ r. ⌜ (r .ptr .0 ≡ image .entry .ptr .0) × (r .ptr .1 ≡ b * blockSize + image .entry .ptr .1) ⌝ }
 {
@@ -83,7 +94,7 @@ fn block_at(image: &[u8], b: usize) -> &[u8]
 // The live slots in ring order: the check of each, then its fields.
 fn scan_slots(image: &[u8], first: usize, held: usize) -> Verdict
     requires { ⌜ (length (now image) ≡ imageSize) × (first < 65536) × (held < 65536) ⌝ }
-    ensures { λ r. ⌜ r ≡ scan (now (image .entry)) first held ⌝ }
+    ensures { λ r. ⌜ r ≡ firstFault (bytesJudged (now (image .entry))) (ring blockOf first held) ⌝ }
 {
     let mut i: usize = 0;
     while i < held {
@@ -102,7 +113,8 @@ fn scan_slots(image: &[u8], first: usize, held: usize) -> Verdict
     Verdict::Sound
 }
 
-// Restore's checks, in the paper's order. Slots that are not live are not looked at.
+// Restore's checks of any bytes, in the paper's order: size (12), block 0's check (10), its fields (11), then each live slot in ring order,
+// check before fields. Slots that are not live are not looked at; each block is summed once, and after a fault none is read.
 pub fn check_image(image: &[u8]) -> Verdict
     ensures { λ r. ⌜ r ≡ verdict (now (image .entry)) ⌝ }
 {
@@ -144,7 +156,7 @@ pub fn label_at(image: &[u8], place: usize) -> u32
     block0::read_label(block_at(image, 0), place)
 }
 
-// First stage: stores a message that Submit takes in slot k, with its kind and label.
+// First stage: stores a message that Submit takes in slot k, with its kind and label; every other block stays.
 pub fn store_slot(image: &mut [u8], k: usize, m: &[u8], kind: Kind, label: u32)
     requires { ⌜ (length (now image) ≡ imageSize) × (k < slotCount) × (length (now m) ≤ longest) × (submissionOf (now m) ≡ Accepted kind label) ⌝ }
     ensures { λ _. ⌜ now (image .exit) ≡ storeSlot (now (image .entry)) k (now (m .entry)) ⌝ }
@@ -153,7 +165,7 @@ pub fn store_slot(image: &mut [u8], k: usize, m: &[u8], kind: Kind, label: u32)
     slot::write_slot(&mut image[start..start + block::BLOCK_SIZE], m, kind, label);
 }
 
-// Second stage: stores block 0.
+// Second stage: stores block 0; every slot stays.
 pub fn store_block0(image: &mut [u8], h: Header, labels: &[u32])
     requires { ⌜ (length (now image) ≡ imageSize) × (length (now labels) ≡ wordCount) ⌝ }
     ensures { λ _. ⌜ now (image .exit) ≡ store0 (now (image .entry)) h (now (labels .entry)) ⌝ }

@@ -1,13 +1,13 @@
 -- The counts of a report. Assumes nothing.
-use mathlib.Core.Path.{_≡_, sym, _∙_}
+use Prim.Native.Nat.{ℕ, _-_, _≤_}
 use mathlib.Core.Bool.{true}
 use mathlib.Core.List.{List}
-use Prim.Native.Nat.{ℕ, _-_, _≤_}
-use borrow.Author.Tests.{leb-true, eq-eqb, ne-eqb}
+use mathlib.Core.Path.{_≡_, sym, _∙_}
 use lib.Dec.{leb}
-use Rattle.ft_number.specs.Circle.{stepsOf}
+use borrow.Author.Tests.{leb-true, eq-eqb, ne-eqb}
 use Rattle.ft_number.specs.declared.Steps.{Steps}
 use Rattle.ft_number.specs.declared.Steps.the-variants.{Count, Unreachable}
+use Rattle.ft_number.specs.Circle.{stepsOf}
 use Rattle.label_list.specs.Find.{countOf}
 use Rattle.block0.specs.declared.Header.{Header}
 use Rattle.block0.specs.Fields.{atMost}

@@ -3,9 +3,9 @@ use Prim.Native.Nat.{ℕ, _-_}
 use mathlib.Core.List.{List}
 use lib.Dec.{eqb}
 use Rattle.octets.specs.Pick.{pick}
-use Rattle.ft_number.specs.Circle.{stepsOf}
 use Rattle.ft_number.specs.declared.Steps.{Steps}
 use Rattle.ft_number.specs.declared.Steps.the-variants.{Count, Unreachable}
+use Rattle.ft_number.specs.Circle.{stepsOf}
 use Rattle.label_list.specs.Find.{countOf}
 use Rattle.block0.specs.declared.Header.{Header}
 use Rattle.image.specs.declared.Verdict.{Verdict}

@@ -1,14 +1,14 @@
 // What a stored image says, for people: its counts, or why it is refused, as lines of text.
-use block0::Header;
-use ft_number::FtNumber;
-use ft_number::Steps;
-ghost use mathlib.Core.Path.{_≡_};
 ghost use mathlib.Core.Bool.{true};
-ghost use Rattle.block0.specs.Fields.{atMost};
+ghost use mathlib.Core.Path.{_≡_};
 ghost use Rattle.ft_number.specs.Circle.{stepsOf};
+ghost use Rattle.block0.specs.Fields.{atMost};
 ghost use Rattle.image.specs.State.{decode};
 ghost use Rattle.image.specs.Verdict.{IsSound};
 ghost use Rattle.image_report.specs.Report.{pendedOf, countsOf, reportOf};
+use block0::Header;
+use ft_number::FtNumber;
+use ft_number::Steps;
 
 pub mod lines;
 
@@ -59,7 +59,7 @@ fn counts_of(image: &[u8]) -> Counts
     }
 }
 
-// What any bytes say that may be an image.
+// What any bytes say that may be an image: released, issued, secured, held, pended, label words in use; or a refusal's number and block.
 pub fn report_of(image: &[u8]) -> Report
     ensures { λ r. ⌜ r ≡ reportOf (now (image .entry)) ⌝ }
 {

@@ -1,10 +1,10 @@
 // A report as lines of text: each function puts its text from `at` on and answers where it ends.
-use crate::Counts;
-use crate::Report;
 ghost use Prim.Native.Nat.{_+_, _≤_};
 ghost use lib.ListN.{length};
 ghost use Rattle.text.specs.Text.{Put};
 ghost use Rattle.image_report.specs.Lines.{textRoom, line, numbersText, countsText, refusedText, textOf};
+use crate::Counts;
+use crate::Report;
 
 // A name, a number and the line's end. The longest name has nine letters.
 fn put_line(out: &mut [u8], at: usize, name: &[u8], n: u64) -> usize
@@ -47,7 +47,7 @@ fn put_refusal(out: &mut [u8], answer: u32, block: usize) -> usize
     put_line(out, end, b" block ", block as u64)
 }
 
-// Puts a report at the start of `out`.
+// Puts a report at the start of `out` and answers its length; no byte after it changes.
 pub fn put_report(out: &mut [u8], report: Report) -> usize
     requires { ⌜ textRoom ≤ length (now out) ⌝ }
     ensures { λ r. ⌜ Put (now (out .entry)) 0 (textOf report) (now (out .exit)) r ⌝ }
@@ -62,7 +62,8 @@ pub fn put_report(out: &mut [u8], report: Report) -> usize
     }
 }
 
-// Reads an image from `fd`, of any size, and prints what it says: a byte more than it may have shows that it is too long.
+// Reads an image from `fd`, of any size, and prints what it says: a byte more than it may have shows that it is too long. Proved safe and
+// ending; what the system reads and writes is tested.
 pub fn print_image(fd: i32) {
     let mut image = [0u8; image::IMAGE_SIZE + 1];
     let size = io::read_full(fd, &mut image);

@@ -1,6 +1,4 @@
 pub mod Starts
-pub mod Cases
-pub mod Widths
+pub mod Fitting
+pub mod Stored
 pub mod Received
-pub mod Begun
-pub mod Meaning

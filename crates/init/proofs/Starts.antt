@@ -1,72 +1,98 @@
--- How an Init is judged, test by test. Assumes nothing.
-use mathlib.Core.Path.{_≡_}
-use mathlib.Core.Bool.{Bool, true, false, not}
+-- How an Init is judged, test by test, and that block 0's numbers decide it alone. Assumes nothing.
 use Prim.Native.Nat.{ℕ}
+use mathlib.Core.Bool.{Bool, true, false, not}
+use mathlib.Core.List.{List}
+use mathlib.Core.Path.{_≡_, refl}
 use borrow.Author.Tests.{eq-eqb, ne-eqb, not-true, not-false}
+use Rattle.ft_number.specs.declared.Ack.{Ack}
 use Rattle.ft_number.specs.Ack.{ackOf}
 use Rattle.ft_number.specs.Timeout.{lesserOf}
-use Rattle.ft_number.specs.declared.Ack.{Ack}
-use Rattle.tlv.specs.declared.FtField
+use Rattle.block0.specs.declared.Header.{Header}
 use Rattle.tlv.specs.declared.FtField.{FtField}
-use Rattle.tlv.specs.declared.Session
+use Rattle.tlv.specs.declared.Parameters.{Parameters}
 use Rattle.tlv.specs.declared.Session.{Session}
 use Rattle.message.specs.declared.Message.{Message}
-use Rattle.message.specs.declared.Reading
 use Rattle.message.specs.declared.Reading.{Reading}
-use Rattle.block0.specs.declared.Header.{Header}
-use Rattle.calls.specs.declared.Answer
-use Rattle.calls.specs.declared.Answer.{Answer}
-use Rattle.calls.specs.Received.{isInit}
-use Rattle.init.specs.declared.Start
-use Rattle.init.specs.declared.Start.{Start}
-use Rattle.init.specs.declared.Terms.{Terms}
-use Rattle.init.specs.Judged.{resumedBy, bothSet, peerSet, sessionStart, parametersStart, startOf}
+use Rattle.protocol.specs.declared.Answer.{Answer}
+use Rattle.protocol.specs.declared.Start.{Start}
+use Rattle.protocol.specs.declared.Terms.{Terms}
+use Rattle.protocol.specs.Init.{termsOf, resumedBy, bothSet, peerSet, sessionStart, parametersStart, startOf}
+use Rattle.protocol.specs.Received.{isInit}
+use Rattle.protocol.specs.State.{State}
+use Rattle.calls.specs.State.{stateBy, numbersOf}
 
 -- ---- both R set
-module _ (h : Header) (t : Terms) (a : ℕ) where
-  pub both-keepalive : (h .keepalive ≡ t .keepalive → ⊥) → Start.Refused Answer.ParametersChanged ≡ bothSet h t a
+module _ (s : State) (t : Terms) (a : ℕ) where
+  pub both-keepalive : (s .terms .keepalive ≡ t .keepalive → ⊥) → Start.Refused Answer.ParametersChanged ≡ bothSet s t a
   unfolding bothSet
-  both-keepalive n = rw (ne-eqb (h .keepalive) (t .keepalive) n)
+  both-keepalive n = rw (ne-eqb (s .terms .keepalive) (t .keepalive) n)
 
-  pub both-maxpdu : h .keepalive ≡ t .keepalive → (h .maxpdu ≡ t .maxpdu → ⊥) → Start.Refused Answer.ParametersChanged ≡ bothSet h t a
+  pub both-maxpdu : s .terms .keepalive ≡ t .keepalive → (s .terms .maxpdu ≡ t .maxpdu → ⊥) → Start.Refused Answer.ParametersChanged ≡ bothSet s t a
   unfolding bothSet
-  both-maxpdu e n = rw (eq-eqb (h .keepalive) (t .keepalive) e, ne-eqb (h .maxpdu) (t .maxpdu) n)
+  both-maxpdu e n = rw (eq-eqb (s .terms .keepalive) (t .keepalive) e, ne-eqb (s .terms .maxpdu) (t .maxpdu) n)
 
-  pub both-ack : {k k′ : Ack} → h .keepalive ≡ t .keepalive → h .maxpdu ≡ t .maxpdu → k ≡ ackOf (h .released .0) (h .issued .0) a → k ≡ k′
-      → resumedBy t a k′ ≡ bothSet h t a
+  pub both-ack : {k k′ : Ack} → s .terms .keepalive ≡ t .keepalive → s .terms .maxpdu ≡ t .maxpdu → k ≡ ackOf (s .released .0) (s .issued .0) a → k ≡ k′
+      → resumedBy t a k′ ≡ bothSet s t a
   unfolding bothSet
-  both-ack e f p g = rw (eq-eqb (h .keepalive) (t .keepalive) e, eq-eqb (h .maxpdu) (t .maxpdu) f, ← p, g)
+  both-ack e f p g = rw (eq-eqb (s .terms .keepalive) (t .keepalive) e, eq-eqb (s .terms .maxpdu) (t .maxpdu) f, ← p, g)
 
 -- ---- the peer's R set
-module _ (h : Header) (t : Terms) {ack : FtField} where
-  pub peer-absent : ack ≡ FtField.Absent → Start.Refused Answer.BadInit ≡ peerSet h t ack
+module _ (s : State) (t : Terms) {ack : FtField} where
+  pub peer-absent : ack ≡ FtField.Absent → Start.Refused Answer.BadInit ≡ peerSet s t ack
   peer-absent g = rw g
 
   module _ {n : ℕ} (g : ack ≡ FtField.Number (record { 0 = n })) where
-    pub peer-fresh : (h .kept ≡ 1 → ⊥) → Start.Fresh t ≡ peerSet h t ack
-    peer-fresh k = rw (g, ne-eqb (h .kept) 1 k)
+    pub peer-fresh : s .kept ≡ false → Start.Fresh t ≡ peerSet s t ack
+    peer-fresh k = rw (g, k)
 
-    pub peer-both : {st : Start} → h .kept ≡ 1 → st ≡ bothSet h t n → st ≡ peerSet h t ack
-    peer-both k e = rw (g, eq-eqb (h .kept) 1 k) e
+    pub peer-both : {st : Start} → s .kept ≡ true → st ≡ bothSet s t n → st ≡ peerSet s t ack
+    unfolding bothSet
+    peer-both k e = rw (g, k) e
 
 -- ---- an Init with FT Session
-module _ (h : Header) (p ka mp : ℕ) (ack : FtField) {s : Session} {r : Bool} {n : ℕ} (g : s ≡ Session.Given r n) {seconds : ℕ} (e : seconds ≡ lesserOf p n) where
-  pub session-fresh : not r ≡ true → Start.Fresh (record { timeout = seconds; keepalive = ka; maxpdu = mp }) ≡ sessionStart h p ka mp ack s
-  session-fresh f = rw (g, not-true r f, e)
+module _ (s : State) (p ka mp : ℕ) (ack : FtField) {f : Session} {r : Bool} {n : ℕ} (g : f ≡ Session.Given r n) {seconds : ℕ} (e : seconds ≡ lesserOf p n) where
+  pub session-fresh : not r ≡ true → Start.Fresh (record { timeout = seconds; keepalive = ka; maxpdu = mp }) ≡ sessionStart s p ka mp ack f
+  session-fresh b = rw (g, not-true r b, e)
 
-  pub session-peer : {st : Start} → not r ≡ false → st ≡ peerSet h (record { timeout = seconds; keepalive = ka; maxpdu = mp }) ack → st ≡ sessionStart h p ka mp ack s
-  session-peer f q = rw (g, not-false r f) (rw e at q)
+  pub session-peer : {st : Start} → not r ≡ false → st ≡ peerSet s (record { timeout = seconds; keepalive = ka; maxpdu = mp }) ack
+      → st ≡ sessionStart s p ka mp ack f
+  session-peer b q = rw (g, not-false r b) (rw e at q)
 
 -- ---- a message
-module _ (h : Header) (p : ℕ) {rd : Reading} {g : Message} (w : rd ≡ Reading.Whole g) where
-  pub start-other : isInit (g .typename) ≡ false → Start.Refused Answer.MalformedReceived ≡ startOf h p rd
+module _ (s : State) (p : ℕ) {rd : Reading} {g : Message} (w : rd ≡ Reading.Whole g) where
+  pub start-other : isInit (g .typename) ≡ false → Start.Refused Answer.MalformedReceived ≡ startOf s p rd
   unfolding startOf
   start-other f = rw (w, f)
 
-  pub start-init : {st : Start} → isInit (g .typename) ≡ true → st ≡ parametersStart h p (g .ack) (g .session) (g .parameters) → st ≡ startOf h p rd
+  pub start-init : {st : Start} → isInit (g .typename) ≡ true → st ≡ parametersStart s p (g .ack) (g .session) (g .parameters)
+      → st ≡ startOf s p rd
   unfolding startOf
   start-init f e = rw (w, f) e
 
-pub start-malformed : (h : Header) (p : ℕ) {rd : Reading} → rd ≡ Reading.Malformed → Start.Refused Answer.MalformedReceived ≡ startOf h p rd
+pub start-malformed : (s : State) (p : ℕ) {rd : Reading} → rd ≡ Reading.Malformed → Start.Refused Answer.MalformedReceived ≡ startOf s p rd
 unfolding startOf
-start-malformed h p w = rw w
+start-malformed s p w = rw w
+
+-- ---- neither the label words nor the messages held are asked
+module _ (h : Header) (words : List ℕ) (queue : List (List ℕ)) (p : ℕ) where
+  both-alone : (t : Terms) (a : ℕ) → bothSet (numbersOf h) t a ≡ bothSet (stateBy h words queue) t a
+  unfolding bothSet
+  both-alone t a = refl
+
+  peer-alone : (t : Terms) (ack : FtField) → peerSet (numbersOf h) t ack ≡ peerSet (stateBy h words queue) t ack
+  peer-alone t FtField.Absent = refl
+  peer-alone t (FtField.Number a) = rw (both-alone t (a .0))
+
+  session-alone : (ka mp : ℕ) (ack : FtField) (s : Session) → sessionStart (numbersOf h) p ka mp ack s ≡ sessionStart (stateBy h words queue) p ka mp ack s
+  session-alone ka mp ack Session.Absent = refl
+  session-alone ka mp ack (Session.Given true n) = peer-alone (termsOf p n ka mp) ack
+  session-alone ka mp ack (Session.Given false n) = refl
+
+  parameters-alone : (ack : FtField) (s : Session) (q : Parameters) → parametersStart (numbersOf h) p ack s q ≡ parametersStart (stateBy h words queue) p ack s q
+  parameters-alone ack s Parameters.Absent = refl
+  parameters-alone ack s (Parameters.Given ka mp) = session-alone ka mp ack s
+
+  pub start-alone : (rd : Reading) → startOf (numbersOf h) p rd ≡ startOf (stateBy h words queue) p rd
+  unfolding startOf
+  start-alone Reading.Malformed = refl
+  start-alone (Reading.Whole g) = rw (parameters-alone (g .ack) (g .session) (g .parameters))

@@ -1,4 +1,2 @@
-pub mod Judged
-pub mod Begun
-pub mod Cases
-pub mod Meaning
+pub mod Received
+pub mod Fitting

@@ -1,23 +1,29 @@
 // The session that the peer's Init begins: released, fresh, or resumed.
-ghost use mathlib.Core.Path.{_≡_};
-ghost use mathlib.Core.List.{[]};
 ghost use Prim.Native.Nat.{_≤_};
+ghost use mathlib.Core.List.{[]};
+ghost use mathlib.Core.Path.{_≡_};
 ghost use Rattle.octets.specs.Differ.{differ};
 ghost use Rattle.image.specs.Sizes.{block};
-ghost use Rattle.image.specs.State.{decode, store};
-ghost use Rattle.image.specs.Events.{releaseOf};
+ghost use Rattle.image.specs.State.{decode};
 ghost use Rattle.image.specs.Verdict.{IsSound};
+ghost use Rattle.protocol.specs.Init.{fresh, resumed, startPhase, startState};
+ghost use Rattle.protocol.specs.Phases.{awaits, proposalOf};
+ghost use Rattle.protocol.specs.State.{releasedState};
 ghost use Rattle.calls.specs.Outcomes.{after};
-ghost use Rattle.init.specs.Begun.{StartFits, fresh, resumed, startImage, startPhase, begunAs, awaits, proposalOf, initReceivedOf};
-use crate::Start;
-use crate::Terms;
+ghost use Rattle.calls.specs.State.{stateOf};
+ghost use Rattle.calls.specs.Storing.{empty, fewer, stored};
+ghost use Rattle.init.specs.Fitting.{StartFits};
+ghost use Rattle.init.specs.Received.{startSlots, begunOn, initReceivedOf};
 use crate::judging::judge_start;
 use crate::judging::start_answer;
 use block0::Header;
 use calls::Answer;
 use calls::Outcome;
 use calls::Phase;
+use calls::Progress;
 use ft_number::FtNumber;
+use protocol::Start;
+use protocol::Terms;
 
 // Whether the peer's Init is awaited.
 fn awaits_init(phase: Phase) -> bool
@@ -38,7 +44,7 @@ fn proposal_of(phase: Phase) -> u16
 {
     match phase {
         Phase::Idle => 0,
-        Phase::InitWait(seconds) => seconds,
+        Phase::InitWait(v) => v.timeout,
         Phase::UpFT(_) => 0,
         Phase::UpPlain => 0,
         Phase::Failed => 0,
@@ -48,7 +54,7 @@ fn proposal_of(phase: Phase) -> u16
 // A fresh session: kept 1, the terms, and nothing else. Whether block 0 changed.
 fn store_fresh(image: &mut [u8], terms: Terms) -> bool
     requires { ⌜ IsSound (now image) ⌝ }
-    ensures { λ r. ⌜ (now (image .exit) ≡ store (now (image .entry)) (fresh terms)) × (r ≡ differ (block (now (image .entry)) 0) (block (now (image .exit)) 0)) ⌝ }
+    ensures { λ r. ⌜ (now (image .exit) ≡ stored (now (image .entry)) empty (fresh terms)) × (r ≡ differ (block (now (image .entry)) 0) (block (now (image .exit)) 0)) ⌝ }
 {
     let h = Header {
         released: FtNumber(0),
@@ -68,7 +74,7 @@ fn store_fresh(image: &mut [u8], terms: Terms) -> bool
 // A resumed session: the peer's ACK is applied, and the timeout is the newly agreed one. Whether block 0 changed.
 fn store_resumed(image: &mut [u8], terms: Terms, count: u32, ack: FtNumber) -> bool
     requires { ⌜ IsSound (now image) × (count ≤ decode (now image) .header .held) ⌝ }
-    ensures { λ r. ⌜ (now (image .exit) ≡ store (now (image .entry)) (resumed (decode (now (image .entry))) terms count (ack .0))) × (r ≡ differ (block (now (image .entry)) 0) (block (now (image .exit)) 0)) ⌝ }
+    ensures { λ r. ⌜ (now (image .exit) ≡ stored (now (image .entry)) (fewer count) (resumed (stateOf (now (image .entry))) terms count (ack .0))) × (r ≡ differ (block (now (image .entry)) 0) (block (now (image .exit)) 0)) ⌝ }
 {
     let h = image::header_of(image);
     let mut next = calls::released_header(h, count, ack);
@@ -86,7 +92,7 @@ fn store_resumed(image: &mut [u8], terms: Terms, count: u32, ack: FtNumber) -> b
 // The state released. Whether block 0 changed.
 fn store_released(image: &mut [u8]) -> bool
     requires { ⌜ IsSound (now image) ⌝ }
-    ensures { λ r. ⌜ (now (image .exit) ≡ releaseOf (now (image .entry))) × (r ≡ differ (block (now (image .entry)) 0) (block (now (image .exit)) 0)) ⌝ }
+    ensures { λ r. ⌜ (now (image .exit) ≡ stored (now (image .entry)) empty releasedState) × (r ≡ differ (block (now (image .entry)) 0) (block (now (image .exit)) 0)) ⌝ }
 {
     let o = calls::release(image, Answer::Done);
     o.block0
@@ -95,7 +101,7 @@ fn store_released(image: &mut [u8]) -> bool
 // Stores the state that a start leads to; a refusal leaves the image as it is. Whether block 0 changed.
 fn store_start(image: &mut [u8], start: Start) -> bool
     requires { ⌜ IsSound (now image) × StartFits (decode (now image) .header .held) start ⌝ }
-    ensures { λ r. ⌜ (now (image .exit) ≡ startImage (now (image .entry)) start) × (r ≡ differ (block (now (image .entry)) 0) (block (now (image .exit)) 0)) ⌝ }
+    ensures { λ r. ⌜ (now (image .exit) ≡ stored (now (image .entry)) (startSlots start) (startState (stateOf (now (image .entry))) start)) × (r ≡ differ (block (now (image .entry)) 0) (block (now (image .exit)) 0)) ⌝ }
 {
     match start {
         Start::Refused(_) => false,
@@ -112,15 +118,15 @@ fn start_phase(start: Start, phase: Phase) -> Phase
     match start {
         Start::Refused(_) => phase,
         Start::Plain => Phase::UpPlain,
-        Start::Fresh(_) => Phase::UpFT(0),
-        Start::Resumed(_, _, _) => Phase::UpFT(0),
+        Start::Fresh(_) => Phase::UpFT(Progress { sent: 0 }),
+        Start::Resumed(_, _, _) => Phase::UpFT(Progress { sent: 0 }),
     }
 }
 
 // Begins the session.
 fn begin(image: &mut [u8], phase: Phase, start: Start) -> Outcome
     requires { ⌜ IsSound (now image) × StartFits (decode (now image) .header .held) start ⌝ }
-    ensures { λ r. ⌜ after r (now (image .exit)) [] ≡ begunAs (now (image .entry)) phase start ⌝ }
+    ensures { λ r. ⌜ after r (now (image .exit)) [] ≡ begunOn (now (image .entry)) phase start ⌝ }
 {
     Outcome {
         answer: Answer::Done,

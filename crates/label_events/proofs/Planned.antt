@@ -1,41 +1,41 @@
 -- The ways through the definitions of a change, of a message accepted, acknowledged and received. Assumes nothing.
-use mathlib.Core.Path.{_≡_, refl, sym, _∙_}
+use Prim.Native.Nat.{ℕ, _≤_, _<_}
 use mathlib.Core.Bool.{Bool, true, false}
 use mathlib.Core.List.{List}
 use mathlib.Core.Logic.{_≢_}
-use Prim.Native.Nat.{ℕ, _≤_, _<_}
+use mathlib.Core.Path.{_≡_, refl, sym, _∙_}
 use native.Mathlib.Omega.{arith}
 use lib.ListN.{getD, set}
 use borrow.Author.Tests.{eq-eqb, ne-eqb}
 use Rattle.octets.proofs.Choice.{pick-all}
-use Rattle.label_list.specs.Word.{labelCount, codeOf, wordOf, isFree, listable, standsFor}
-use Rattle.label_list.specs.Rules.{sentSide, receivedSide, codeAccepted, codeAcked, codeReceived}
-use Rattle.label_list.specs.Protection.{codeProtection}
-use Rattle.label_list.specs.Find.{findOf, FoundIn}
-use Rattle.label_events.specs.Change.{ChangeIn, codeIn, codeAt, changeAt, changed}
-use Rattle.label_events.specs.Accept.{planBy, planOf, acceptanceOf, acceptedOf}
-use Rattle.label_events.specs.Ack.{ackedAt, ackedOf}
-use Rattle.label_events.specs.Protect.{protectionOf}
-use Rattle.label_events.specs.Receive.{receivedPlace, receivedChange, receptionOf, everyReceived, receivedOf}
-use Rattle.label_list.specs.declared.Side.{Side}
 use Rattle.label_list.specs.declared.Found.{Found}
 use Rattle.label_list.specs.declared.Found.the-variants.{At, Nowhere}
 use Rattle.label_list.specs.declared.LabelMessage.{LabelMessage}
-use Rattle.label_list.specs.declared.Protection.{Protection}
 use Rattle.label_list.specs.declared.Next.{Next}
 use Rattle.label_list.specs.declared.Next.the-variants.{Code, NotAllowed as Never}
+use Rattle.label_list.specs.declared.Protection.{Protection}
+use Rattle.label_list.specs.declared.Side.{Side}
+use Rattle.label_list.specs.Find.{findOf, FoundIn}
+use Rattle.label_list.specs.Protection.{codeProtection}
+use Rattle.label_list.specs.Rules.{sentSide, receivedSide, codeAccepted, codeAcked, codeReceived}
+use Rattle.label_list.specs.Word.{labelCount, codeOf, wordOf, isFree, listable, standsFor}
+use Rattle.label_list.proofs.Reached.{found-in, found-passes}
+use Rattle.label_list.proofs.Standing.{within-in, within-below, within-above, stands-parts}
+use Rattle.label_events.specs.declared.Acceptance.{Acceptance}
+use Rattle.label_events.specs.declared.Acceptance.the-variants.{NotAllowed}
 use Rattle.label_events.specs.declared.Change.{Change}
 use Rattle.label_events.specs.declared.Change.the-variants.{Keep, Put, NoRoom}
 use Rattle.label_events.specs.declared.Plan.{Plan}
 use Rattle.label_events.specs.declared.Plan.the-variants.{Allowed, Refused}
-use Rattle.label_events.specs.declared.Acceptance.{Acceptance}
-use Rattle.label_events.specs.declared.Acceptance.the-variants.{NotAllowed}
-use Rattle.label_events.specs.declared.Touched.{Touched}
-use Rattle.label_events.specs.declared.Touched.the-variants.{Label, Every, Nothing}
 use Rattle.label_events.specs.declared.Reception.{Reception}
 use Rattle.label_events.specs.declared.Reception.the-variants.{Taken}
-use Rattle.label_list.proofs.Standing.{within-in, within-below, within-above, stands-parts}
-use Rattle.label_list.proofs.Reached.{found-in, found-passes}
+use Rattle.label_events.specs.declared.Touched.{Touched}
+use Rattle.label_events.specs.declared.Touched.the-variants.{Label, Every, Nothing}
+use Rattle.label_events.specs.Accept.{planBy, planOf, acceptanceOf, acceptedOf}
+use Rattle.label_events.specs.Ack.{ackedAt, ackedOf}
+use Rattle.label_events.specs.Change.{ChangeIn, codeIn, codeAt, changeAt, changed}
+use Rattle.label_events.specs.Protect.{protectionOf}
+use Rattle.label_events.specs.Receive.{receivedPlace, receivedChange, receptionOf, everyReceived, receivedOf}
 use Rattle.label_events.proofs.Written.{change-of-in}
 
 -- A change, by what the two searches found.

@@ -1,19 +1,19 @@
 -- Laws of a change: it writes inside the list. Assumes nothing.
-use mathlib.Core.Path.{_≡_, refl}
-use mathlib.Core.List.{List}
 use Prim.Native.Nat.{ℕ, _<_}
-use lib.ListN.{length}
+use mathlib.Core.List.{List}
+use mathlib.Core.Path.{_≡_, refl}
 use lib.Dec.{eqb}
+use lib.ListN.{length}
 use Rattle.octets.proofs.Choice.{pick-all}
-use Rattle.label_list.specs.Word.{isFree, standsFor, wordOf}
-use Rattle.label_list.specs.Find.{findOf, FoundIn}
-use Rattle.label_list.specs.declared.Side.{Side}
 use Rattle.label_list.specs.declared.Found.{Found}
 use Rattle.label_list.specs.declared.Found.the-variants.{At, Nowhere}
+use Rattle.label_list.specs.declared.Side.{Side}
+use Rattle.label_list.specs.Find.{findOf, FoundIn}
+use Rattle.label_list.specs.Word.{isFree, standsFor, wordOf}
 use Rattle.label_list.proofs.Reached.{found-in}
-use Rattle.label_events.specs.Change.{ChangeIn, takeFree, changeAt, changeOf}
 use Rattle.label_events.specs.declared.Change.{Change}
 use Rattle.label_events.specs.declared.Change.the-variants.{Put}
+use Rattle.label_events.specs.Change.{ChangeIn, takeFree, changeAt, changeOf}
 
 -- A change writes inside the list where the places that it was given are inside.
 take-in : (words : List ℕ) (g : Found) (w : ℕ) → FoundIn words g → ChangeIn words (takeFree g w)

@@ -2,19 +2,19 @@
 use Prim.Native.Nat.{ℕ}
 use mathlib.Core.List.{List}
 use Rattle.octets.specs.Pick.{pick}
-use Rattle.label_list.specs.Word.{listable}
-use Rattle.label_list.specs.Rules.{sentSide, codeAccepted}
-use Rattle.label_events.specs.Change.{codeAt, changeOf, changed}
 use Rattle.label_list.specs.declared.LabelMessage.{LabelMessage}
-use Rattle.label_list.specs.declared.Side.{Side}
 use Rattle.label_list.specs.declared.Next.{Next}
 use Rattle.label_list.specs.declared.Next.the-variants.{Code, NotAllowed as Never}
+use Rattle.label_list.specs.declared.Side.{Side}
+use Rattle.label_list.specs.Rules.{sentSide, codeAccepted}
+use Rattle.label_list.specs.Word.{listable}
+use Rattle.label_events.specs.declared.Acceptance.{Acceptance}
+use Rattle.label_events.specs.declared.Acceptance.the-variants.{Taken, NotAllowed, NoRoom}
 use Rattle.label_events.specs.declared.Change.{Change}
 use Rattle.label_events.specs.declared.Change.the-variants.{Keep, Put, NoRoom as Full}
 use Rattle.label_events.specs.declared.Plan.{Plan}
 use Rattle.label_events.specs.declared.Plan.the-variants.{Allowed, Refused}
-use Rattle.label_events.specs.declared.Acceptance.{Acceptance}
-use Rattle.label_events.specs.declared.Acceptance.the-variants.{Taken, NotAllowed, NoRoom}
+use Rattle.label_events.specs.Change.{codeAt, changeOf, changed}
 
 -- 01's answers: 6 "label code doesn't allow it, label below 16", 13 "Mapping that needs a word, none free"
 abbrev pub acceptanceNumber : Acceptance → ℕ

@@ -4,11 +4,11 @@ use mathlib.Core.List.{List}
 use lib.Dec.{eqb}
 use lib.ListN.{length, getD, set}
 use Rattle.octets.specs.Pick.{pick}
-use Rattle.label_list.specs.Word.{codeOf, wordOf, isFree, standsFor}
-use Rattle.label_list.specs.Find.{findOf}
-use Rattle.label_list.specs.declared.Side.{Side}
 use Rattle.label_list.specs.declared.Found.{Found}
 use Rattle.label_list.specs.declared.Found.the-variants.{At, Nowhere}
+use Rattle.label_list.specs.declared.Side.{Side}
+use Rattle.label_list.specs.Find.{findOf}
+use Rattle.label_list.specs.Word.{codeOf, wordOf, isFree, standsFor}
 use Rattle.label_events.specs.declared.Change.{Change}
 use Rattle.label_events.specs.declared.Change.the-variants.{Keep, Put, NoRoom}
 

@@ -3,15 +3,15 @@ use Prim.Native.Nat.{ℕ}
 use mathlib.Core.Bool.{Bool, true, false}
 use mathlib.Core.List.{List}
 use Rattle.octets.specs.Pick.{pick}
-use Rattle.label_list.specs.Rules.{receivedSide}
-use Rattle.label_list.specs.Protection.{codeProtection, protectedOn}
-use Rattle.label_list.specs.Find.{any}
 use Rattle.label_list.specs.declared.LabelMessage.{LabelMessage}
 use Rattle.label_list.specs.declared.Protection.{Protection}
 use Rattle.label_list.specs.declared.Protection.the-variants.{Right, Missing, Wrong}
-use Rattle.label_events.specs.Change.{codeAt}
+use Rattle.label_list.specs.Find.{any}
+use Rattle.label_list.specs.Protection.{codeProtection, protectedOn}
+use Rattle.label_list.specs.Rules.{receivedSide}
 use Rattle.label_events.specs.declared.Touched.{Touched}
 use Rattle.label_events.specs.declared.Touched.the-variants.{Label, Every, Nothing}
+use Rattle.label_events.specs.Change.{codeAt}
 
 -- 01's answers: 32, 33 "protection wrong, missing"
 abbrev pub protectionNumber : Protection → ℕ

@@ -3,22 +3,22 @@ use Prim.Native.Nat.{ℕ}
 use mathlib.Core.Bool.{Bool}
 use mathlib.Core.List.{List}
 use Rattle.octets.specs.Pick.{pick}
-use Rattle.label_list.specs.Word.{listable, standsFor}
-use Rattle.label_list.specs.Rules.{receivedSide, codeReceived}
-use Rattle.label_list.specs.Find.{findOf}
-use Rattle.label_list.specs.Sweep.{sweptOf}
-use Rattle.label_events.specs.Change.{codeAt, changeOf, changed}
-use Rattle.label_list.specs.declared.LabelMessage.{LabelMessage}
-use Rattle.label_list.specs.declared.LabelMessage.the-variants.{Mapping, Withdraw, Release}
 use Rattle.label_list.specs.declared.Found.{Found}
 use Rattle.label_list.specs.declared.Found.the-variants.{Nowhere}
+use Rattle.label_list.specs.declared.LabelMessage.{LabelMessage}
+use Rattle.label_list.specs.declared.LabelMessage.the-variants.{Mapping, Withdraw, Release}
 use Rattle.label_list.specs.declared.SweepRule.the-variants.{WithdrawAll, ReleaseAll}
-use Rattle.label_events.specs.declared.Touched.{Touched}
-use Rattle.label_events.specs.declared.Touched.the-variants.{Label, Every, Nothing}
+use Rattle.label_list.specs.Find.{findOf}
+use Rattle.label_list.specs.Rules.{receivedSide, codeReceived}
+use Rattle.label_list.specs.Sweep.{sweptOf}
+use Rattle.label_list.specs.Word.{listable, standsFor}
 use Rattle.label_events.specs.declared.Change.{Change}
 use Rattle.label_events.specs.declared.Change.the-variants.{Keep, Put, NoRoom as Full}
 use Rattle.label_events.specs.declared.Reception.{Reception}
 use Rattle.label_events.specs.declared.Reception.the-variants.{Taken, NoRoom}
+use Rattle.label_events.specs.declared.Touched.{Touched}
+use Rattle.label_events.specs.declared.Touched.the-variants.{Label, Every, Nothing}
+use Rattle.label_events.specs.Change.{codeAt, changeOf, changed}
 
 -- 01's answer 21: "Mapping received that needs a word, none free"
 abbrev pub receptionNumber : Reception → ℕ

@@ -47,7 +47,7 @@ fn acceptance(change: Change) -> Acceptance
     }
 }
 
-// Accepts the message for sending; a refusal leaves the list as it was. The change says which word is another now.
+// Accepts the message for sending; a refusal, NotAllowed (6) or NoRoom (13), leaves the list as it was. The change says which word is another now.
 pub fn accept(words: &mut [u32], message: LabelMessage, label: u32) -> Accepted
     ensures { λ r. ⌜ (r .acceptance ≡ acceptedOf (now (words .entry)) message label .0) × (now (words .exit) ≡ acceptedOf (now (words .entry)) message label .1) × (now (words .exit) ≡ changed (now (words .entry)) (r .change)) × ChangeIn (now (words .entry)) (r .change) ⌝ }
 {
@@ -66,7 +66,7 @@ pub fn accept(words: &mut [u32], message: LabelMessage, label: u32) -> Accepted
     }
 }
 
-// An ACK releases a message of that kind and label.
+// The list after an ACK has released a message of that kind and label.
 pub fn release_by_ack(words: &mut [u32], message: LabelMessage, label: u32)
     ensures { λ _. ⌜ now (words .exit) ≡ ackedOf (now (words .entry)) message label ⌝ }
 {

@@ -1,8 +1,8 @@
 // The change of one label's word: planned on the lent words, then written.
-ghost use mathlib.Core.Path.{_≡_};
 ghost use Prim.Native.Nat.{_<_};
-ghost use Rattle.label_list.specs.Word.{labelCount, isFree};
+ghost use mathlib.Core.Path.{_≡_};
 ghost use Rattle.label_list.specs.Find.{findOf, FoundIn};
+ghost use Rattle.label_list.specs.Word.{labelCount, isFree};
 ghost use Rattle.label_events.specs.Change.{ChangeIn, codeIn, changeAt, changed};
 use crate::Change;
 use label_list::Found;

@@ -1,8 +1,8 @@
 // Whether a received message bears the protection that the labels it touches demand.
 ghost use mathlib.Core.Path.{_≡_};
+ghost use Rattle.label_events.specs.declared.Touched.the-variants.{Every};
 ghost use Rattle.label_events.specs.Protect.{protectionOf};
 ghost use Rattle.label_events.specs.Receive.{receivedPlace};
-ghost use Rattle.label_events.specs.declared.Touched.the-variants.{Every};
 use crate::Touched;
 use crate::changing::code_at;
 use label_list::Found;
@@ -25,7 +25,8 @@ fn protection_of_every(words: &[u32], message: LabelMessage, protected: bool) ->
     }
 }
 
-// The verdict on the protection of a received message, whose label was found at that place, as the list stands before it acts.
+// The verdict on the protection of a received message, whose label was found at that place, as the list stands before it acts: right,
+// missing (33) or wrong (32), for a named label, for every label, or for none.
 pub fn judge_protection(
     words: &[u32],
     place: Found,

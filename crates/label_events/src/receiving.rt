@@ -1,7 +1,7 @@
 // Messages of the peer's: what they make of the list.
 ghost use mathlib.Core.Path.{_≡_};
-ghost use Rattle.label_events.specs.Receive.{receivedPlace, receivedChange, receptionOf, everyReceived, receivedOf};
 ghost use Rattle.label_events.specs.declared.Touched.the-variants.{Label};
+ghost use Rattle.label_events.specs.Receive.{receivedPlace, receivedChange, receptionOf, everyReceived, receivedOf};
 use crate::Change;
 use crate::Reception;
 use crate::Touched;
@@ -18,7 +18,8 @@ use label_list::find_label;
 use label_list::received_side;
 use label_list::sweep;
 
-// The place of the label that a received message names: found once, for its protection and for its change.
+// The place of the label that a received message names, on the message's own side; none where it names none. Found once, for its
+// protection and for its change.
 pub fn received_place(words: &[u32], message: LabelMessage, touched: Touched) -> Found
     ensures { λ r. ⌜ r ≡ receivedPlace (now (words .entry)) message touched ⌝ }
 {
@@ -69,7 +70,7 @@ fn receive_every(words: &mut [u32], message: LabelMessage)
     }
 }
 
-// Receives the message, whose label was found at that place; where there is no room the list stays as it was.
+// Receives the message, whose label was found at that place; where there is no room (21) the list stays as it was.
 pub fn receive(
     words: &mut [u32],
     place: Found,

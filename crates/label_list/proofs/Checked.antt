@@ -1,19 +1,19 @@
 -- Laws of validity: a check that has come down to word i. Assumes nothing.
-use mathlib.Core.Path.{_≡_, sym, _∙_}
+use Prim.Native.Nat.{ℕ, zero, suc, _-_, _≤_, _<_}
 use mathlib.Core.Bool.{true, false, false≢true}
 use mathlib.Core.List.{List, [], _∷_}
 use mathlib.Core.Logic.{_≢_}
-use Prim.Native.Nat.{ℕ, zero, suc, _-_, _≤_, _<_}
+use mathlib.Core.Path.{_≡_, sym, _∙_}
 use native.Mathlib.Omega.{arith}
 use lib.ListN.{length, getD, drop, take, length-drop}
 use lib.Seq.{drop-cons, drop-length, take-all}
 use borrow.Author.Tests.{le-leb, lt-leb, eq-eqb, ne-eqb}
 use Rattle.octets.specs.Pick.{both}
 use Rattle.octets.proofs.Choice.{both-true, by-test}
-use Rattle.label_list.specs.Word.{labelOf, codeOf, isFree, onSide}
-use Rattle.label_list.specs.Valid.{absent, validWord, validOf}
-use Rattle.label_list.specs.Marks.{Marked}
 use Rattle.label_list.specs.declared.Side.the-variants.{Given, Used}
+use Rattle.label_list.specs.Marks.{Marked}
+use Rattle.label_list.specs.Valid.{absent, validWord, validOf}
+use Rattle.label_list.specs.Word.{labelOf, codeOf, isFree, onSide}
 use Rattle.label_list.proofs.Marks.{marked-none}
 
 -- The words from index i on are valid and marked.

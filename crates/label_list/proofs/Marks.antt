@@ -1,20 +1,20 @@
 -- Laws of the table of marks: one more word is passed. Assumes nothing.
-use mathlib.Core.Path.{_≡_, refl, sym, ap, _∙_}
+use Prim.Native.Nat.{ℕ, _<_}
 use mathlib.Core.Bool.{true, not}
 use mathlib.Core.List.{List, [], _∷_}
 use mathlib.Core.Logic.{_≢_}
-use Prim.Native.Nat.{ℕ, _<_}
+use mathlib.Core.Path.{_≡_, refl, sym, ap, _∙_}
 use native.Mathlib.Omega.{arith}
 use lib.ListN.{length, getD, set, length-set}
 use lib.Seq.{getD-set-same, getD-set-other}
 use Rattle.octets.proofs.Choice.{by-test}
-use Rattle.label_list.specs.Word.{labelOf, codeOf, onSide, standsFor}
-use Rattle.label_list.specs.Find.{any}
-use Rattle.label_list.specs.Valid.{absent}
-use Rattle.label_list.specs.Marks.{placeOf, Marked}
 use Rattle.label_list.specs.declared.Side.{Side}
-use Rattle.label_list.proofs.Standing.{one-side, stands-parts, free-stands}
+use Rattle.label_list.specs.Find.{any}
+use Rattle.label_list.specs.Marks.{placeOf, Marked}
+use Rattle.label_list.specs.Valid.{absent}
+use Rattle.label_list.specs.Word.{labelOf, codeOf, onSide, standsFor}
 use Rattle.label_list.proofs.Sought.{any-cons}
+use Rattle.label_list.proofs.Standing.{one-side, stands-parts, free-stands}
 
 -- Before the first word no place is marked.
 pub marked-none : {marks : List ℕ} → length marks ≡ 512 → Marked [] marks

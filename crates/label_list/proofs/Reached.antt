@@ -1,15 +1,15 @@
--- Laws of what a search finds: a word inside the list that passes. Assumes nothing.
-use mathlib.Core.Path.{_≡_, refl, sym, _∙_}
+-- Laws of what a search finds: a word inside the list that passes, and the first that does. Assumes nothing.
+use Prim.Native.Nat.{ℕ, zero, suc, _+_, _-_, _≤_, _<_}
 use mathlib.Core.Bool.{Bool, true, false}
 use mathlib.Core.List.{List, [], _∷_}
-use Prim.Native.Nat.{ℕ, suc, _+_, _-_, _≤_, _<_}
+use mathlib.Core.Path.{_≡_, refl, sym, _∙_}
 use native.Mathlib.Omega.{arith}
 use lib.ListN.{length, getD}
 use Rattle.octets.specs.Pick.{pick}
 use Rattle.octets.proofs.Choice.{pick-all}
-use Rattle.label_list.specs.Find.{findFrom, findOf, FoundIn}
 use Rattle.label_list.specs.declared.Found.{Found}
 use Rattle.label_list.specs.declared.Found.the-variants.{At, Nowhere}
+use Rattle.label_list.specs.Find.{findFrom, findOf, FoundIn}
 
 -- The index found is one of a word that passes.
 abbrev Below : ℕ → Found → Type 0
@@ -64,3 +64,29 @@ unfolding findOf
 found-passes test words i e g =
     let same : i - 0 ≡ i = omega arith in
     rw same at (passes-from test 0 words i (sym e ∙ g) .1)
+
+-- No word before the one found passes, and none at all where nothing was found: `ended` says how far the search went in a list that ends at n.
+abbrev pub ended : ℕ → Found → ℕ
+ended n (At i) = i
+ended n Nowhere = n
+
+over-pick : (test : ℕ → Bool) (k w : ℕ) (ws : List ℕ) (f : Found) (b : Bool) → test w ≡ b
+    → ((j : ℕ) → suc k + j < ended (suc k + length ws) f → test (getD ws j 0) ≡ false)
+    → (j : ℕ) → k + j < ended (k + suc (length ws)) (pick b (At k) f) → test (getD (w ∷ ws) j 0) ≡ false
+over-pick test k w ws f true t rest j h = absurd (omega arith)
+over-pick test k w ws f false t rest zero h = t
+over-pick test k w ws f false t rest (suc j) h =
+    let next : k + suc j ≡ suc k + j = omega arith in
+    let size : k + suc (length ws) ≡ suc k + length ws = omega arith in
+    rest j (rw (next, size) at h)
+
+over-from : (test : ℕ → Bool) (k : ℕ) (words : List ℕ) (j : ℕ) → k + j < ended (k + length words) (findFrom test k words) → test (getD words j 0) ≡ false
+over-from test k [] j h = absurd (omega arith)
+over-from test k (w ∷ ws) j h = over-pick test k w ws (findFrom test (suc k) ws) (test w) refl (over-from test (suc k) ws) j h
+
+pub passed-over : (test : ℕ → Bool) (words : List ℕ) {f : Found} → f ≡ findOf test words → (j : ℕ) → j < ended (length words) f → test (getD words j 0) ≡ false
+unfolding findOf
+passed-over test words e j h =
+    let start : 0 + j ≡ j = omega arith in
+    let size : 0 + length words ≡ length words = omega arith in
+    over-from test 0 words j (rw (start, size, ← e) h)

@@ -1,16 +1,16 @@
 -- A code that a rule gives has room in a word of 32 bits, as the code before it had. Assumes nothing.
-use mathlib.Core.Bool.{Bool, true, false}
 use Prim.Native.Nat.{ℕ, _<_}
+use mathlib.Core.Bool.{Bool, true, false}
 use lib.Dec.{lit<, leb, eqb}
 use Rattle.octets.proofs.Choice.{pick-all}
-use Rattle.label_list.specs.Word.{within}
-use Rattle.label_list.specs.Rules.{codeAccepted, codeAcked, codeReceived, codeSwept}
 use Rattle.label_list.specs.declared.LabelMessage.{LabelMessage}
 use Rattle.label_list.specs.declared.LabelMessage.the-variants.{Mapping, Withdraw, Release}
 use Rattle.label_list.specs.declared.Next.{Next}
 use Rattle.label_list.specs.declared.Next.the-variants.{Code, NotAllowed}
 use Rattle.label_list.specs.declared.SweepRule.{SweepRule}
 use Rattle.label_list.specs.declared.SweepRule.the-variants.{WithdrawAll, ReleaseAll, AfterBreak}
+use Rattle.label_list.specs.Rules.{codeAccepted, codeAcked, codeReceived, codeSwept}
+use Rattle.label_list.specs.Word.{within, withoutProtection}
 
 abbrev pub Small : ℕ → Type 0
 Small code = code < 4096
@@ -35,11 +35,11 @@ pub received-small : (m : LabelMessage) (p : Bool) (c : ℕ) → Small c → Sma
 unfolding codeReceived
 received-small Mapping true c h = pick-all Small (eqb c 0) (lit< tt) (pick-all Small (eqb c 5) (lit< tt) h)
 received-small Mapping false c h = pick-all Small (eqb c 0) (lit< tt) h
-received-small Withdraw p c h = pick-all Small (eqb c 3) (lit< tt) (pick-all Small (eqb c 6) (lit< tt) h)
+received-small Withdraw p c h = pick-all Small (eqb c 3) (lit< tt) (pick-all Small (eqb c withoutProtection) (lit< tt) h)
 received-small Release p c h = pick-all Small (within 1 2 c) (lit< tt) h
 
 pub swept-small : (r : SweepRule) (c : ℕ) → Small c → Small (codeSwept r c)
 unfolding codeSwept
 swept-small WithdrawAll c h = received-small Withdraw true c h
 swept-small ReleaseAll c h = received-small Release true c h
-swept-small AfterBreak c h = pick-all Small (eqb c 6) (lit< tt) h
+swept-small AfterBreak c h = pick-all Small (eqb c withoutProtection) (lit< tt) h

@@ -1,9 +1,9 @@
 -- Laws of the searches: a loop that has passed i words, and what was found. Assumes nothing.
-use mathlib.Core.Path.{_≡_, refl, sym, _∙_}
+use Prim.Native.Nat.{ℕ, zero, suc, _+_, _-_, _≤_, _<_}
 use mathlib.Core.Bool.{Bool, true, false}
 use mathlib.Core.List.{List, [], _∷_}
 use mathlib.Core.Logic.{_≢_}
-use Prim.Native.Nat.{ℕ, zero, suc, _+_, _-_, _≤_, _<_}
+use mathlib.Core.Path.{_≡_, refl, sym, _∙_}
 use native.Mathlib.Numerals.{add-one}
 use native.Mathlib.Omega.{arith}
 use lib.ListN.{length, getD, drop, drop-of-length-le}
@@ -11,10 +11,10 @@ use lib.Seq.{drop-cons}
 use borrow.Author.Tests.{ne-eqb}
 use Rattle.octets.specs.Pick.{pick}
 use Rattle.octets.proofs.Choice.{by-test, no}
-use Rattle.label_list.specs.Word.{isFree}
-use Rattle.label_list.specs.Find.{findOf, findFrom, nextOf, any, countOf}
 use Rattle.label_list.specs.declared.Found.{Found}
 use Rattle.label_list.specs.declared.Found.the-variants.{At, Nowhere}
+use Rattle.label_list.specs.Find.{findOf, findFrom, nextOf, any, countOf}
+use Rattle.label_list.specs.Word.{isFree}
 
 -- A search is one from the first word on.
 pub find-next : (test : ℕ → Bool) (words : List ℕ) → findOf test words ≡ nextOf test words 0

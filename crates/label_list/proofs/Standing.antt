@@ -1,15 +1,16 @@
 -- Laws of one label word: ranges of codes, sides, and the label that a word stands for. Assumes nothing.
-use mathlib.Core.Path.{_≡_, refl}
-use mathlib.Core.Bool.{true, false}
 use Prim.Native.Nat.{ℕ, _≤_, _<_}
+use mathlib.Core.Bool.{true, false, false≢true}
+use mathlib.Core.Logic.{_≢_}
+use mathlib.Core.Path.{_≡_, refl, _∙_}
 use native.Mathlib.Omega.{arith}
 use lib.Dec.{eqb, leb}
 use borrow.Author.Tests.{le-leb, lt-leb, leb-true, eq-eqb, eqb-true}
 use Rattle.octets.proofs.Choice.{both-true, both-commutes}
-use Rattle.label_list.specs.Word.{labelOf, codeOf, within, onSide, standsFor}
-use Rattle.label_list.specs.Find.{bears}
 use Rattle.label_list.specs.declared.Side.{Side}
 use Rattle.label_list.specs.declared.Side.the-variants.{Given, Used}
+use Rattle.label_list.specs.Find.{bears}
+use Rattle.label_list.specs.Word.{labelOf, codeOf, within, onSide, standsFor}
 
 module _ (low high n : ℕ) where
   pub within-in : low ≤ n → n ≤ high → true ≡ within low high n
@@ -36,6 +37,10 @@ pub off-high : (s : Side) (c : ℕ) → 6 < c → false ≡ onSide s c
 unfolding onSide
 off-high Given c h = within-above 1 2 c (omega arith) (omega arith)
 off-high Used c h = within-above 3 6 c (omega arith) h
+
+-- So a code of a side is not 0, which stands for an absent label.
+pub side-listed : (s : Side) (c : ℕ) → onSide s c ≡ true → c ≢ 0
+side-listed s c on z = false≢true (off-low s c (omega arith) ∙ on)
 
 -- A code stands on one side at most.
 pub one-side : (s t : Side) (c : ℕ) → onSide s c ≡ true → onSide t c ≡ true → s ≡ t

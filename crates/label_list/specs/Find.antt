@@ -5,12 +5,12 @@ use mathlib.Core.List.{List, [], _∷_}
 use lib.Dec.{eqb}
 use lib.ListN.{length, drop}
 use Rattle.octets.specs.Pick.{pick}
-use Rattle.label_list.specs.Word.{labelOf, isFree}
-use Rattle.label_list.specs.Protection.{protectedOn}
 use Rattle.label_list.specs.declared.Found.{Found}
 use Rattle.label_list.specs.declared.Found.the-variants.{At, Nowhere}
 use Rattle.label_list.specs.declared.Wanted.{Wanted}
 use Rattle.label_list.specs.declared.Wanted.the-variants.{Free, ProtectedOn}
+use Rattle.label_list.specs.Protection.{protectedOn}
+use Rattle.label_list.specs.Word.{labelOf, isFree}
 
 -- the test of what is looked for; of a label on a side it is `standsFor`
 abbrev pub passes : Wanted → ℕ → Bool

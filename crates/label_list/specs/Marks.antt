@@ -1,13 +1,13 @@
 -- The table of marks by which validity is judged in one pass: a side and a label whose place bears no mark stand in no word passed so far.
 use Prim.Native.Nat.{ℕ, _+_, _%_}
-use mathlib.Core.Path.{_≡_}
 use mathlib.Core.Bool.{false}
 use mathlib.Core.List.{List}
+use mathlib.Core.Path.{_≡_}
 use lib.ListN.{length, getD}
-use Rattle.label_list.specs.Word.{standsFor}
-use Rattle.label_list.specs.Find.{any}
 use Rattle.label_list.specs.declared.Side.{Side}
 use Rattle.label_list.specs.declared.Side.the-variants.{Given, Used}
+use Rattle.label_list.specs.Find.{any}
+use Rattle.label_list.specs.Word.{standsFor}
 
 -- 256 places for each side
 unfoldable pub placeOf : Side → ℕ → ℕ

@@ -1,24 +1,24 @@
 -- Whether a received message bears protection as the labels that it touches demand.
 use Prim.Native.Nat.{ℕ}
-use mathlib.Core.Bool.{Bool, true, false}
-use lib.Dec.{eqb, leb}
+use mathlib.Core.Bool.{Bool, true, false, not}
+use lib.Dec.{eqb}
 use Rattle.octets.specs.Pick.{pick, both}
-use Rattle.label_list.specs.Word.{codeOf, onSide}
-use Rattle.label_list.specs.Rules.{receivedSide}
-use Rattle.label_list.specs.declared.Side.{Side}
 use Rattle.label_list.specs.declared.LabelMessage.{LabelMessage}
 use Rattle.label_list.specs.declared.LabelMessage.the-variants.{Mapping, Withdraw, Release}
 use Rattle.label_list.specs.declared.Protection.{Protection}
 use Rattle.label_list.specs.declared.Protection.the-variants.{Right, Missing, Wrong}
+use Rattle.label_list.specs.declared.Side.{Side}
+use Rattle.label_list.specs.Rules.{receivedSide}
+use Rattle.label_list.specs.Word.{codeOf, withoutProtection, onSide}
 
--- 01: "Protection is missing (33) .. on a message touching codes 1 to 5 on its own side (Mapping and Withdraw 3-5, Release 1-2)"
+-- 01: "Protection is missing (33) .. on a message touching codes 1 to 5 on its own side (Mapping and Withdraw 3-5, Release 1-2)": any code of its side but 6
 unfoldable pub needsProtection : Side → ℕ → Bool
-needsProtection side code = both (leb code 5) (onSide side code)
+needsProtection side code = both (not (eqb code withoutProtection)) (onSide side code)
 
 -- "It is wrong (32) on a Mapping or Withdraw that names a label of code 6."
 unfoldable pub barsProtection : LabelMessage → ℕ → Bool
-barsProtection Mapping code = eqb code 6
-barsProtection Withdraw code = eqb code 6
+barsProtection Mapping code = eqb code withoutProtection
+barsProtection Withdraw code = eqb code withoutProtection
 barsProtection Release code = false
 
 -- the verdict on a message that names a label of that code; the Bool: whether it is protected

@@ -3,15 +3,15 @@ use Prim.Native.Nat.{ℕ}
 use mathlib.Core.Bool.{Bool, true, false}
 use lib.Dec.{eqb, leb}
 use Rattle.octets.specs.Pick.{pick}
-use Rattle.label_list.specs.Word.{within}
 use Rattle.label_list.specs.declared.LabelMessage.{LabelMessage}
 use Rattle.label_list.specs.declared.LabelMessage.the-variants.{Mapping, Withdraw, Release}
-use Rattle.label_list.specs.declared.Side.{Side}
-use Rattle.label_list.specs.declared.Side.the-variants.{Given, Used}
 use Rattle.label_list.specs.declared.Next.{Next}
 use Rattle.label_list.specs.declared.Next.the-variants.{Code, NotAllowed}
+use Rattle.label_list.specs.declared.Side.{Side}
+use Rattle.label_list.specs.declared.Side.the-variants.{Given, Used}
 use Rattle.label_list.specs.declared.SweepRule.{SweepRule}
 use Rattle.label_list.specs.declared.SweepRule.the-variants.{WithdrawAll, ReleaseAll, AfterBreak}
+use Rattle.label_list.specs.Word.{within, withoutProtection}
 
 -- the side of the label in a message that we send, and in one that we receive
 unfoldable pub sentSide : LabelMessage → Side
@@ -40,12 +40,12 @@ codeAcked Release code = pick (eqb code 5) 0 code
 -- Withdraw: 3 becomes 4; 4, 5 stay; 6 becomes free. Release: 1, 2 become free." The Bool: whether the message is protected.
 unfoldable pub codeReceived : LabelMessage → Bool → ℕ → ℕ
 codeReceived Mapping true code = pick (eqb code 0) 3 (pick (eqb code 5) 3 code)
-codeReceived Mapping false code = pick (eqb code 0) 6 code
-codeReceived Withdraw protected code = pick (eqb code 3) 4 (pick (eqb code 6) 0 code)
+codeReceived Mapping false code = pick (eqb code 0) withoutProtection code
+codeReceived Withdraw protected code = pick (eqb code 3) 4 (pick (eqb code withoutProtection) 0 code)
 codeReceived Release protected code = pick (within 1 2 code) 0 code
 
 -- 01: "Withdraw or Release of the wildcard FEC .. acts on every label"; "Connection failed ..: code 6 words are freed"
 unfoldable pub codeSwept : SweepRule → ℕ → ℕ
 codeSwept WithdrawAll code = codeReceived Withdraw true code
 codeSwept ReleaseAll code = codeReceived Release true code
-codeSwept AfterBreak code = pick (eqb code 6) 0 code
+codeSwept AfterBreak code = pick (eqb code withoutProtection) 0 code

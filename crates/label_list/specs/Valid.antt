@@ -4,10 +4,10 @@ use mathlib.Core.Bool.{Bool, true, not}
 use mathlib.Core.List.{List, [], _∷_}
 use lib.Dec.{leb}
 use Rattle.octets.specs.Pick.{pick, both}
-use Rattle.label_list.specs.Word.{firstLabel, labelOf, codeOf, isFree, onSide, standsFor}
-use Rattle.label_list.specs.Find.{any}
 use Rattle.label_list.specs.declared.Side.{Side}
 use Rattle.label_list.specs.declared.Side.the-variants.{Given, Used}
+use Rattle.label_list.specs.Find.{any}
+use Rattle.label_list.specs.Word.{firstLabel, labelOf, codeOf, isFree, onSide, standsFor}
 
 -- the label stands in none of these words on that side
 abbrev pub absent : Side → ℕ → List ℕ → Bool

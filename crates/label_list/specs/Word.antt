@@ -35,6 +35,10 @@ isFree w = eqb w 0
 abbrev pub within : ℕ → ℕ → ℕ → Bool
 within low high n = both (leb low n) (leb n high)
 
+-- 01: "Codes: .. 6 using without protection"; the rules that single it out name it by this
+abbrev pub withoutProtection : ℕ
+withoutProtection = 6
+
 -- "A label stands once among codes 1-2 and once among 3-6": the labels that we gave, and those that we use
 unfoldable pub onSide : Side → ℕ → Bool
 onSide Given code = within 1 2 code

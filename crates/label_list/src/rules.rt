@@ -1,7 +1,7 @@
 // What each event makes of a label's code; code 0 stands for a label that is absent.
 ghost use mathlib.Core.Path.{_≡_};
-ghost use Rattle.label_list.specs.Rules.{sentSide, receivedSide, codeAccepted, codeAcked, codeReceived, codeSwept};
 ghost use Rattle.label_list.specs.Protection.{needsProtection, barsProtection, codeProtection};
+ghost use Rattle.label_list.specs.Rules.{sentSide, receivedSide, codeAccepted, codeAcked, codeReceived, codeSwept};
 use crate::LabelMessage;
 use crate::Next;
 use crate::Protection;
@@ -9,7 +9,7 @@ use crate::Side;
 use crate::SweepRule;
 use crate::word::on_side;
 
-// A message of ours is accepted for sending.
+// The code of a label as a message of ours is accepted for sending, or that its code does not allow it.
 pub fn code_accepted(message: LabelMessage, code: u32) -> Next
     ensures { λ r. ⌜ r ≡ codeAccepted message code ⌝ }
 {
@@ -30,7 +30,7 @@ pub fn code_accepted(message: LabelMessage, code: u32) -> Next
     }
 }
 
-// A message of ours is released by an ACK.
+// The code of a label as a message of ours is released by an ACK.
 pub fn code_acked(message: LabelMessage, code: u32) -> u32
     ensures { λ r. ⌜ r ≡ codeAcked message code ⌝ }
 {
@@ -47,7 +47,7 @@ pub fn code_acked(message: LabelMessage, code: u32) -> u32
     }
 }
 
-// A message of the peer's is received.
+// The code of a label as a message of the peer's is received, protected or not.
 pub fn code_received(message: LabelMessage, protected: bool, code: u32) -> u32
     ensures { λ r. ⌜ r ≡ codeReceived message protected code ⌝ }
 {
@@ -135,7 +135,7 @@ fn bars_protection(message: LabelMessage, code: u32) -> bool
     }
 }
 
-// The verdict on a received message that names a label of that code.
+// The verdict on a received message that names a label of that code: right, missing (33) or wrong (32).
 pub fn code_protection(message: LabelMessage, protected: bool, code: u32) -> Protection
     ensures { λ r. ⌜ r ≡ codeProtection message protected code ⌝ }
 {

@@ -1,7 +1,7 @@
 // Searches of the label words.
 ghost use mathlib.Core.Path.{_≡_};
-ghost use Rattle.label_list.specs.Word.{standsFor};
 ghost use Rattle.label_list.specs.Find.{passes, bears, nextOf, findOf, countOf};
+ghost use Rattle.label_list.specs.Word.{standsFor};
 use crate::Found;
 use crate::Side;
 use crate::Wanted;
@@ -18,7 +18,7 @@ fn is_wanted(wanted: Wanted, word: u32) -> bool
     }
 }
 
-// The first word that is wanted.
+// The first word that is wanted: a free one, or one of a code on a side that needs protection.
 pub fn find(words: &[u32], wanted: Wanted) -> Found
     ensures { λ r. ⌜ r ≡ findOf (passes wanted) (now (words .entry)) ⌝ }
 {
@@ -67,7 +67,7 @@ pub fn find_label(words: &[u32], side: Side, label: u32) -> Found
     Found::Nowhere
 }
 
-// How many words are not free.
+// How many words are not free, those of code 6 included.
 pub fn count_listed(words: &[u32]) -> usize
     ensures { λ r. ⌜ r ≡ countOf (now (words .entry)) ⌝ }
 {

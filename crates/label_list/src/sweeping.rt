@@ -12,7 +12,7 @@ fn word_swept(rule: SweepRule, word: u32) -> u32
     word_of(word % LABEL_COUNT, code_swept(rule, word / LABEL_COUNT))
 }
 
-// A Withdraw or a Release of the wildcard FEC is received, or a connection has ended.
+// Every word after a rule for all labels: a Withdraw or a Release of the wildcard FEC is received, or a connection has ended (code 6 is freed).
 pub fn sweep(words: &mut [u32], rule: SweepRule)
     ensures { λ _. ⌜ now (words .exit) ≡ sweptOf (now (words .entry)) rule ⌝ }
 {

@@ -1,13 +1,13 @@
 // Validity of the label words, in one pass from the last word to the first.
 //
 // A table of marks answers for most words that their label stands in no later word of its side; only a label whose place is marked already costs a search.
-ghost use mathlib.Core.Path.{_≡_};
+ghost use Prim.Native.Nat.{ℕ, _<_};
 ghost use mathlib.Core.Bool.{true};
 ghost use mathlib.Core.List.{_∷_};
-ghost use Prim.Native.Nat.{ℕ, _<_};
-ghost use Rattle.label_list.specs.Word.{standsFor};
-ghost use Rattle.label_list.specs.Valid.{absent, validWord, validOf};
+ghost use mathlib.Core.Path.{_≡_};
 ghost use Rattle.label_list.specs.Marks.{placeOf, Marked};
+ghost use Rattle.label_list.specs.Valid.{absent, validWord, validOf};
+ghost use Rattle.label_list.specs.Word.{standsFor};
 use crate::Found;
 use crate::Side;
 use crate::search::find_label;
@@ -70,7 +70,8 @@ fn mark_word(word: u32, later: &[u32], marks: &mut [u8]) -> bool
     false
 }
 
-// Restore's rule for the label words.
+// Restore's rule for the label words: each is 0 or has a label from 16 up and a code from 1 to 6; no label stands twice among
+// codes 1-2 nor twice among 3-6.
 pub fn valid(words: &[u32]) -> bool
     ensures { λ r. ⌜ r ≡ validOf (now (words .entry)) ⌝ }
 {

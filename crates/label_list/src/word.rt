@@ -1,6 +1,6 @@
 // One label word: its label, its code, and the side on which it stands.
-ghost use mathlib.Core.Path.{_≡_};
 ghost use Prim.Native.Nat.{_<_};
+ghost use mathlib.Core.Path.{_≡_};
 ghost use Rattle.label_list.specs.Word.{labelCount, wordOf, onSide};
 use crate::Side;
 
@@ -30,7 +30,7 @@ pub fn on_side(side: Side, code: u32) -> bool
     }
 }
 
-// The word of a label under a code; under code 0 a free word.
+// The word of a label under a code, label + 1,048,576 x code; under code 0 a free word.
 pub fn word_of(label: u32, code: u32) -> u32
     requires { ⌜ (label < labelCount) × (code < 4096) ⌝ }
     ensures { λ r. ⌜ r ≡ wordOf label code ⌝ }

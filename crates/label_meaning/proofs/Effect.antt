@@ -1,29 +1,29 @@
 -- A change that writes one label's word keeps the list valid, gives that label its code and leaves every other. Assumes nothing.
-use mathlib.Core.Path.{_≡_, refl, sym, _∙_}
+use Prim.Native.Nat.{ℕ, _+_, _*_, _≤_, _<_}
 use mathlib.Core.Bool.{true, false, true≢false}
 use mathlib.Core.List.{List}
 use mathlib.Core.Logic.{_≢_, _⊎_, inl, inr, ⊎-elim}
-use Prim.Native.Nat.{ℕ, _+_, _*_, _≤_, _<_}
+use mathlib.Core.Path.{_≡_, refl, sym, _∙_}
 use native.Mathlib.Omega.{arith}
+use lib.Dec.{eqb}
 use lib.ListN.{length, getD, set}
 use lib.Seq.{getD-set-same, getD-set-other}
-use lib.Dec.{eqb}
 use borrow.Author.Tests.{eqb-true, eqb-false, eq-eqb, ne-eqb}
 use Rattle.octets.proofs.Choice.{by-test}
-use Rattle.label_list.specs.Word.{labelCount, labelOf, codeOf, wordOf, isFree, onSide, standsFor}
-use Rattle.label_list.specs.Find.{findOf}
-use Rattle.label_list.specs.declared.Side.{Side}
 use Rattle.label_list.specs.declared.Found.{Found}
 use Rattle.label_list.specs.declared.Found.the-variants.{At, Nowhere}
-use Rattle.label_list.proofs.Standing.{parts-stands, free-stands}
+use Rattle.label_list.specs.declared.Side.{Side}
+use Rattle.label_list.specs.Find.{findOf}
+use Rattle.label_list.specs.Word.{labelCount, labelOf, codeOf, wordOf, isFree, onSide, standsFor}
 use Rattle.label_list.proofs.Reached.{found-in, found-place, found-passes}
-use Rattle.label_events.specs.Change.{takeFree, changeAt, changeOf, changed}
+use Rattle.label_list.proofs.Standing.{side-listed, parts-stands, free-stands}
 use Rattle.label_events.specs.declared.Change.the-variants.{NoRoom}
+use Rattle.label_events.specs.Change.{takeFree, changeAt, changeOf, changed}
 use Rattle.label_meaning.specs.Valid.{InRange, IsValid}
 use Rattle.label_meaning.specs.View.{CodeIs, listed, absent, Effect}
-use Rattle.label_meaning.proofs.Meaning.{stands-same, side-range}
-use Rattle.label_meaning.proofs.View.{found-none}
+use Rattle.label_meaning.proofs.Meaning.{stands-same}
 use Rattle.label_meaning.proofs.Proper.{Proper}
+use Rattle.label_meaning.proofs.View.{found-none}
 
 -- A word that may be written for a label under a code: free for code 0, else one that lists it under that code.
 pub record Lists (s : Side) (l c w : ℕ) : Type 0 where
@@ -40,15 +40,14 @@ word-written s l c low high =
     ⊎-elim
     (λ (z : c ≡ 0). inl (rw (eq-eqb c 0 z), z))
     (λ (on : onSide s c ≡ true).
-    let range : (1 ≤ c) × (c ≤ 6) = side-range s c on in
-    let listed : c ≢ 0 = omega arith in
+    let listed : c ≢ 0 = side-listed s c on in
     let label : labelOf (l + labelCount * c) ≡ l = omega arith in
     let code : codeOf (l + labelCount * c) ≡ c = omega arith in
     inr (rw (ne-eqb c 0 listed)
     (record {
       stands = parts-stands s l (l + labelCount * c) (rw code on) label;
       code = code;
-      range = record { label = omega arith; low = omega arith; high = omega arith };
+      range = record { label = omega arith; side = s; on = rw code on };
     })))
 
 -- One word is written, at an index where a free word or one for that label stood.
@@ -141,7 +140,7 @@ module _ (words : List ℕ) (v : IsValid words) (s : Side) (l c i w : ℕ) (insi
 pub keep-effect : (words : List ℕ) → IsValid words → (s : Side) (l c : ℕ) → ((j : ℕ) → standsFor s l (getD words j 0) ≡ false) → c ≡ 0 → Effect words words s l c
 keep-effect words v s l c none z = record { valid = v; there = rw z (absent none); elsewhere = λ t k d other code. code }
 
-free-word : (words : List ℕ) {g : Found} (j : ℕ) → g ≡ findOf isFree words → g ≡ At j → getD words j 0 ≡ 0
+pub free-word : (words : List ℕ) {g : Found} (j : ℕ) → g ≡ findOf isFree words → g ≡ At j → getD words j 0 ≡ 0
 unfolding isFree
 free-word words j e h = eqb-true (getD words j 0) 0 (found-passes isFree words j e h)
 
@@ -163,7 +162,7 @@ module _ (words : List ℕ) (v : IsValid words) (s : Side) (l c : ℕ) (low : 16
       ⊎-elim
       (λ (z : c ≡ 0). rw (eq-eqb c 0 z) (λ room. keep-effect words v s l c (found-none words s l (sym e)) z))
       (λ (on : onSide s c ≡ true).
-      let listed : c ≢ 0 = omega (arith, side-range s c on) in
+      let listed : c ≢ 0 = side-listed s c on in
       rw (ne-eqb c 0 listed) (effect-free g (sym e) h))
       proper
 

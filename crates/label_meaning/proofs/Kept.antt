@@ -1,29 +1,29 @@
 -- Every event keeps the list's length; all but the wildcard and the end of a connection keep all words but one. Assumes nothing.
-use mathlib.Core.Path.{_≡_, refl}
+use Prim.Native.Nat.{ℕ}
 use mathlib.Core.Bool.{Bool}
 use mathlib.Core.List.{List}
-use Prim.Native.Nat.{ℕ}
+use mathlib.Core.Path.{_≡_, refl}
 use lib.ListN.{length, set, length-set, length-map}
 use lib.Seq.{getD-set-other}
-use Rattle.label_list.specs.Word.{standsFor}
-use Rattle.label_list.specs.Rules.{sentSide}
-use Rattle.label_list.specs.Find.{findOf}
-use Rattle.label_list.specs.Sweep.{wordSwept}
 use Rattle.label_list.specs.declared.Found.{Found}
 use Rattle.label_list.specs.declared.Found.the-variants.{At, Nowhere}
 use Rattle.label_list.specs.declared.LabelMessage.{LabelMessage}
 use Rattle.label_list.specs.declared.LabelMessage.the-variants.{Mapping, Withdraw, Release}
 use Rattle.label_list.specs.declared.SweepRule.the-variants.{WithdrawAll, ReleaseAll, AfterBreak}
-use Rattle.label_events.specs.Change.{changed}
-use Rattle.label_events.specs.Accept.{planOf, acceptedBy, acceptedOf}
-use Rattle.label_events.specs.Ack.{ackedAt}
-use Rattle.label_events.specs.Receive.{receivedChange, everyReceived, receivedOf}
+use Rattle.label_list.specs.Find.{findOf}
+use Rattle.label_list.specs.Rules.{sentSide}
+use Rattle.label_list.specs.Sweep.{wordSwept}
+use Rattle.label_list.specs.Word.{standsFor}
 use Rattle.label_events.specs.declared.Change.{Change}
 use Rattle.label_events.specs.declared.Change.the-variants.{Keep, Put, NoRoom}
 use Rattle.label_events.specs.declared.Plan.{Plan}
 use Rattle.label_events.specs.declared.Plan.the-variants.{Allowed, Refused}
 use Rattle.label_events.specs.declared.Touched.{Touched}
 use Rattle.label_events.specs.declared.Touched.the-variants.{Label, Every, Nothing}
+use Rattle.label_events.specs.Accept.{planOf, acceptedBy, acceptedOf}
+use Rattle.label_events.specs.Ack.{ackedAt}
+use Rattle.label_events.specs.Change.{changed}
+use Rattle.label_events.specs.Receive.{receivedChange, everyReceived, receivedOf}
 use Rattle.label_meaning.specs.Event.{Event, Accepted, Acked, Received, Broken, step}
 use Rattle.label_meaning.specs.Keep.{OneWord, OneLabel}
 

@@ -8,3 +8,4 @@ pub mod Step
 pub mod Moved
 pub mod Life
 pub mod Protected
+pub mod Room

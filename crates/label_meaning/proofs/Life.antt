@@ -1,31 +1,32 @@
 -- The life of a label in a valid list. Assumes nothing.
-use mathlib.Core.Path.{_≡_, refl, _∙_}
+use Prim.Native.Nat.{ℕ}
 use mathlib.Core.Bool.{Bool, true}
 use mathlib.Core.List.{List}
 use mathlib.Core.Logic.{_≢_, _⊎_, inl, inr, ⊎-elim}
-use Prim.Native.Nat.{ℕ, _≤_}
+use mathlib.Core.Path.{_≡_, refl, sym, _∙_}
 use native.Mathlib.Omega.{arith}
-use Rattle.label_list.specs.Rules.{sentSide, receivedSide, codeAccepted, codeAcked, codeReceived, codeSwept}
-use Rattle.label_list.specs.Sweep.{sweptOf}
-use Rattle.label_list.specs.declared.Side.{Side}
-use Rattle.label_list.specs.declared.Side.the-variants.{Given, Used}
 use Rattle.label_list.specs.declared.LabelMessage.{LabelMessage}
 use Rattle.label_list.specs.declared.LabelMessage.the-variants.{Mapping, Withdraw, Release}
 use Rattle.label_list.specs.declared.Next.the-variants.{Code}
+use Rattle.label_list.specs.declared.Side.{Side}
+use Rattle.label_list.specs.declared.Side.the-variants.{Given, Used}
 use Rattle.label_list.specs.declared.SweepRule.{SweepRule}
 use Rattle.label_list.specs.declared.SweepRule.the-variants.{WithdrawAll, ReleaseAll, AfterBreak}
-use Rattle.label_events.specs.Change.{codeAt}
-use Rattle.label_events.specs.Receive.{everyReceived, receivedOf}
+use Rattle.label_list.specs.Rules.{sentSide, receivedSide, codeAccepted, codeAcked, codeReceived, codeSwept}
+use Rattle.label_list.specs.Sweep.{sweptOf}
+use Rattle.label_list.specs.Word.{withoutProtection}
 use Rattle.label_events.specs.declared.Touched.{Touched}
 use Rattle.label_events.specs.declared.Touched.the-variants.{Label}
-use Rattle.label_meaning.specs.Valid.{IsValid}
-use Rattle.label_meaning.specs.View.{Effect}
+use Rattle.label_events.specs.Change.{codeAt}
+use Rattle.label_events.specs.Receive.{everyReceived, receivedOf}
 use Rattle.label_meaning.specs.Event.{Event, Accepted, Acked, Received, step, Touches, named, every, Moves, given, withdrawn, released, returned, withdraw-acked, release-acked, taken, taken-again, taken-bare, asked-back, bare-withdrawn, given-back, withdrawn-back, bare-lost}
 use Rattle.label_meaning.specs.Life.{EndsWithdrawal, by-ack, by-release, Frees, release-of-given, release-of-withdrawing, ack-of-withdraw, our-release, ack-of-release}
-use Rattle.label_meaning.proofs.View.{code-is, is-code}
-use Rattle.label_meaning.proofs.Swept.{sweep-valid, sweep-code}
-use Rattle.label_meaning.proofs.Step.{accepted-listed, received-listed, acked-effect}
+use Rattle.label_meaning.specs.Valid.{IsValid}
+use Rattle.label_meaning.specs.View.{Effect}
 use Rattle.label_meaning.proofs.Moved.{every-move}
+use Rattle.label_meaning.proofs.Step.{accepted-listed, received-listed, acked-effect}
+use Rattle.label_meaning.proofs.Swept.{sweep-valid, sweep-code}
+use Rattle.label_meaning.proofs.View.{code-is, is-code}
 
 -- The moves from one code, taken apart.
 ends : {e : Event} {k c d : ℕ} → c ≡ 2 → Moves e Given k c d → (d ≡ 0) × EndsWithdrawal e k
@@ -46,21 +47,21 @@ gives-back z (asked-back touches) = absurd (omega arith)
 gives-back z (bare-withdrawn touches) = absurd (omega arith)
 gives-back z bare-lost = absurd (omega arith)
 
-frees : {e : Event} {s : Side} {k c d : ℕ} → d ≡ 0 → 1 ≤ c → c ≤ 5 → Moves e s k c d → Frees e s k c
-frees z l h given = absurd (omega arith)
-frees z l h withdrawn = absurd (omega arith)
-frees z l h released = absurd (omega arith)
-frees z l h returned = our-release
-frees z l h withdraw-acked = ack-of-withdraw
-frees z l h release-acked = ack-of-release
-frees z l h taken = absurd (omega arith)
-frees z l h taken-again = absurd (omega arith)
-frees z l h taken-bare = absurd (omega arith)
-frees z l h (asked-back touches) = absurd (omega arith)
-frees z l h (bare-withdrawn touches) = absurd (omega arith)
-frees z l h (given-back touches) = release-of-given touches
-frees z l h (withdrawn-back touches) = release-of-withdrawing touches
-frees z l h bare-lost = absurd (omega arith)
+frees : {e : Event} {s : Side} {k c d : ℕ} → d ≡ 0 → c ≢ withoutProtection → Moves e s k c d → Frees e s k c
+frees z kept given = absurd (omega arith)
+frees z kept withdrawn = absurd (omega arith)
+frees z kept released = absurd (omega arith)
+frees z kept returned = our-release
+frees z kept withdraw-acked = ack-of-withdraw
+frees z kept release-acked = ack-of-release
+frees z kept taken = absurd (omega arith)
+frees z kept taken-again = absurd (omega arith)
+frees z kept taken-bare = absurd (omega arith)
+frees z kept (asked-back touches) = absurd (omega arith)
+frees z kept (bare-withdrawn touches) = absurd (omega arith)
+frees z kept (given-back touches) = release-of-given touches
+frees z kept (withdrawn-back touches) = release-of-withdrawing touches
+frees z kept bare-lost = absurd (omega arith)
 
 module _ (words : List ℕ) (v : IsValid words) where
   -- A withdrawn label stays withdrawing until the first of Release and ACK, which frees it.
@@ -81,12 +82,12 @@ module _ (words : List ℕ) (v : IsValid words) where
       (λ (move : Moves e Used k (codeAt words Used k) (codeAt (step words e) Used k)). inr (gives-back four move))
       (every-move words v e Used k)
 
-  -- A label of codes 1 to 5 vanishes only by the message that 01 names.
-  pub freed-by : (e : Event) (s : Side) (k : ℕ) → 1 ≤ codeAt words s k → codeAt words s k ≤ 5 → codeAt (step words e) s k ≡ 0 → Frees e s k (codeAt words s k)
-  freed-by e s k low high gone =
+  -- A listed label of any code but 6 vanishes only by the message that 01 names.
+  pub freed-by : (e : Event) (s : Side) (k : ℕ) → codeAt words s k ≢ 0 → codeAt words s k ≢ withoutProtection → codeAt (step words e) s k ≡ 0 → Frees e s k (codeAt words s k)
+  freed-by e s k listed kept gone =
       ⊎-elim
-      (λ (same : codeAt (step words e) s k ≡ codeAt words s k). absurd (omega arith))
-      (λ (move : Moves e s k (codeAt words s k) (codeAt (step words e) s k)). frees gone low high move)
+      (λ (same : codeAt (step words e) s k ≡ codeAt words s k). absurd (listed (sym same ∙ gone)))
+      (λ (move : Moves e s k (codeAt words s k) (codeAt (step words e) s k)). frees gone kept move)
       (every-move words v e s k)
 
   -- What 01 says of a listed label happens.
@@ -132,10 +133,10 @@ module _ (words : List ℕ) (v : IsValid words) where
   move-happens (taken-again {k}) h e = receive-happens Mapping true k 5 3 e h refl
   move-happens taken-bare h e = absurd (h refl)
   move-happens (asked-back {p} {t} {k} touches) h e = withdraw-happens p t k 3 4 touches e h (λ q. refl)
-  move-happens (bare-withdrawn {p} {t} {k} touches) h e = withdraw-happens p t k 6 0 touches e h (λ q. refl)
+  move-happens (bare-withdrawn {p} {t} {k} touches) h e = withdraw-happens p t k withoutProtection 0 touches e h (λ q. refl)
   move-happens (given-back {p} {t} {k} touches) h e = release-happens p t k 1 0 touches e h (λ q. refl)
   move-happens (withdrawn-back {p} {t} {k} touches) h e = release-happens p t k 2 0 touches e h (λ q. refl)
-  move-happens (bare-lost {k}) h e = sweep-happens AfterBreak Used k 6 0 e refl
+  move-happens (bare-lost {k}) h e = sweep-happens AfterBreak Used k withoutProtection 0 e refl
 
   -- So both the ACK and a Release free a withdrawn label.
   pub withdrawal-ends : (e : Event) (k : ℕ) → codeAt words Given k ≡ 2 → EndsWithdrawal e k → codeAt (step words e) Given k ≡ 0

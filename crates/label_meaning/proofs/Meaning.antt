@@ -1,22 +1,22 @@
 -- Validity means what it says: `validOf` holds exactly if `IsValid` does. Assumes nothing.
-use mathlib.Core.Path.{_≡_, refl, sym, ap, _∙_}
+use Prim.Native.Nat.{ℕ, zero, suc, _*_, _≤_, _<_}
 use mathlib.Core.Bool.{Bool, true, false, not, false≢true, true≢false}
 use mathlib.Core.List.{List, [], _∷_}
-use mathlib.Core.Logic.{_≢_}
-use Prim.Native.Nat.{ℕ, zero, suc, _*_, _≤_, _<_}
+use mathlib.Core.Logic.{_≢_, ⊎-elim}
+use mathlib.Core.Path.{_≡_, refl, sym, ap, _∙_}
 use native.Mathlib.Omega.{arith}
-use lib.ListN.{getD}
 use lib.Dec.{eqb, leb}
-use borrow.Author.Tests.{eqb-true, eqb-false, ne-eqb, leb-true, leb-false}
+use lib.ListN.{getD}
+use borrow.Author.Tests.{eqb-true, eqb-false, ne-eqb, leb-true}
 use Rattle.octets.specs.Pick.{pick, both}
-use Rattle.octets.proofs.Choice.{by-test, both-true}
-use Rattle.label_list.specs.Word.{labelCount, labelOf, codeOf, isFree, onSide, standsFor}
-use Rattle.label_list.specs.Find.{any}
-use Rattle.label_list.specs.Valid.{absent, standsOnce, validWord, validOf}
+use Rattle.octets.proofs.Choice.{by-test, both-true, below-or-not}
 use Rattle.label_list.specs.declared.Side.{Side}
 use Rattle.label_list.specs.declared.Side.the-variants.{Given, Used}
-use Rattle.label_list.proofs.Standing.{within-range, within-in, one-side, stands-parts, parts-stands, free-stands}
+use Rattle.label_list.specs.Find.{any}
+use Rattle.label_list.specs.Valid.{absent, standsOnce, validWord, validOf}
+use Rattle.label_list.specs.Word.{labelCount, labelOf, codeOf, isFree, onSide, standsFor}
 use Rattle.label_list.proofs.Checked.{word-free, word-given, word-used}
+use Rattle.label_list.proofs.Standing.{off-high, side-listed, one-side, stands-parts, parts-stands, free-stands}
 use Rattle.label_meaning.specs.Valid.{InRange, IsValid}
 
 -- No word passes a test exactly if none does at any index.
@@ -42,26 +42,14 @@ stands-same s t l k w p q =
     let second : (onSide t (codeOf w) ≡ true) × (labelOf w ≡ k) = stands-parts t k w q in
     (one-side s t (codeOf w) (first .0) (second .0), sym (first .1) ∙ second .1)
 
--- A code from 1 to 6 is of one of the two sides, and a code of a side is from 1 to 6.
-pub used-else : (c : ℕ) → 1 ≤ c → c ≤ 6 → onSide Given c ≡ false → onSide Used c ≡ true
-unfolding onSide
-used-else c l h e =
-    by-test
-    (leb c 2)
-    (λ p. absurd (false≢true (sym e ∙ sym (within-in 1 2 c l (leb-true c 2 p)))))
-    (λ p. let more : 3 ≤ c = leb-false c 2 p in sym (within-in 3 6 c more h))
-
-pub side-range : (s : Side) (c : ℕ) → onSide s c ≡ true → (1 ≤ c) × (c ≤ 6)
-unfolding onSide
-side-range Given c e = let r : (1 ≤ c) × (c ≤ 2) = within-range 1 2 c e in (omega arith, omega arith)
-side-range Used c e = let r : (3 ≤ c) × (c ≤ 6) = within-range 3 6 c e in (omega arith, omega arith)
+-- A listed word has not code 0.
+pub range-listed : {w : ℕ} → InRange w → codeOf w ≢ 0
+range-listed {w} range = side-listed (range .side) (codeOf w) (range .on)
 
 -- What the check of one word says, where the word is listed.
 record Stands (w : ℕ) (later : List ℕ) : Type 0 where
-  pub side : Side
-  pub on : onSide side (codeOf w) ≡ true
-  pub high : 16 ≤ labelOf w
-  pub alone : any (standsFor side (labelOf w)) later ≡ false
+  pub range : InRange w
+  pub alone : any (standsFor (range .side) (labelOf w)) later ≡ false
 
 not-any : (b : Bool) → not b ≡ true → b ≡ false
 not-any true e = absurd (false≢true e)
@@ -69,10 +57,10 @@ not-any false e = refl
 
 once-stands : (w : ℕ) (later : List ℕ) (b : Bool) → onSide Given (codeOf w) ≡ b → 16 ≤ labelOf w
     → pick b (absent Given (labelOf w) later) (both (onSide Used (codeOf w)) (absent Used (labelOf w) later)) ≡ true → Stands w later
-once-stands w later true on high e = record { side = Given; on = on; high = high; alone = not-any _ e }
+once-stands w later true on high e = record { range = record { label = high; side = Given; on = on }; alone = not-any _ e }
 once-stands w later false on high e =
     let parts : (onSide Used (codeOf w) ≡ true) × (absent Used (labelOf w) later ≡ true) = both-true (onSide Used (codeOf w)) (absent Used (labelOf w) later) e in
-    record { side = Used; on = parts .0; high = high; alone = not-any _ (parts .1) }
+    record { range = record { label = high; side = Used; on = parts .0 }; alone = not-any _ (parts .1) }
 
 word-stands : (w : ℕ) (later : List ℕ) → validWord w later ≡ true → w ≢ 0 → Stands w later
 unfolding validWord isFree
@@ -84,13 +72,18 @@ word-stands w later e listed =
 -- A listed word does not stand again later.
 stands-alone : (w : ℕ) (later : List ℕ) → Stands w later → (s : Side) (l j : ℕ) → standsFor s l w ≡ true → standsFor s l (getD later j 0) ≡ true → ⊥
 stands-alone w later st s l j p q =
-    let same : (s ≡ st .side) × (l ≡ labelOf w) = stands-same s (st .side) l (labelOf w) w p (parts-stands (st .side) (labelOf w) w (st .on) refl) in
-    let none : standsFor (st .side) (labelOf w) (getD later j 0) ≡ false =
-    any-none (standsFor (st .side) (labelOf w)) later (st .alone) (free-stands (st .side) (labelOf w)) j in
+    let t : Side = st .range .side in
+    let same : (s ≡ t) × (l ≡ labelOf w) = stands-same s t l (labelOf w) w p (parts-stands t (labelOf w) w (st .range .on) refl) in
+    let none : standsFor t (labelOf w) (getD later j 0) ≡ false = any-none (standsFor t (labelOf w)) later (st .alone) (free-stands t (labelOf w)) j in
     true≢false (sym (rw (same .0, same .1) at q) ∙ none)
 
 listed-word : (s : Side) (l w : ℕ) → standsFor s l w ≡ true → w ≢ 0
 listed-word s l w e z = true≢false (sym e ∙ rw z (free-stands s l))
+
+-- A code of some side that is not one of a label given is one of a label used.
+unless-given : (s : Side) (c : ℕ) → onSide s c ≡ true → onSide Given c ≡ false → onSide Used c ≡ true
+unless-given Given c on off = absurd (true≢false (sym on ∙ off))
+unless-given Used c on off = on
 
 suc-same : {i j : ℕ} → suc i ≡ suc j → i ≡ j
 suc-same e = omega arith
@@ -98,10 +91,7 @@ suc-same e = omega arith
 -- One word more.
 module _ (w : ℕ) (ws : List ℕ) where
   cons-each : validWord w ws ≡ true → IsValid ws → (i : ℕ) → getD (w ∷ ws) i 0 ≢ 0 → InRange (getD (w ∷ ws) i 0)
-  cons-each e v zero h =
-      let st : Stands w ws = word-stands w ws e h in
-      let range : (1 ≤ codeOf w) × (codeOf w ≤ 6) = side-range (st .side) (codeOf w) (st .on) in
-      record { label = st .high; low = range .0; high = range .1 }
+  cons-each e v zero h = word-stands w ws e h .range
   cons-each e v (suc i) h = v .each i h
 
   cons-once : validWord w ws ≡ true → IsValid ws → (s : Side) (l i j : ℕ) → standsFor s l (getD (w ∷ ws) i 0) ≡ true → standsFor s l (getD (w ∷ ws) j 0) ≡ true → i ≡ j
@@ -134,9 +124,10 @@ module _ (w : ℕ) (ws : List ℕ) where
       (onSide Given (codeOf w))
       (λ on. later-absent v Given on ∙ word-given w ws listed (range .label) on)
       (λ off.
-      let on : onSide Used (codeOf w) ≡ true = used-else (codeOf w) (range .low) (range .high) off in
+      let on : onSide Used (codeOf w) ≡ true = unless-given (range .side) (codeOf w) (range .on) off in
       later-absent v Used on ∙ word-used w ws listed (range .label) off on))
 
+-- every word but 0 has a label from 16 up and a code of a side, and two indices that list one label on one side are one
 pub valid-means : (words : List ℕ) → validOf words ≡ true → IsValid words
 unfolding validOf
 valid-means [] e = record { each = λ i h. absurd (h refl); once = λ side label i j p q. absurd (true≢false (sym p ∙ free-stands side label)) }
@@ -145,6 +136,7 @@ valid-means (w ∷ ws) e =
     let rest : IsValid ws = valid-means ws (parts .1) in
     record { each = cons-each w ws (parts .0) rest; once = cons-once w ws (parts .0) rest }
 
+-- and exactly then it is valid
 pub means-valid : (words : List ℕ) → IsValid words → validOf words ≡ true
 unfolding validOf
 means-valid [] v = refl
@@ -156,4 +148,10 @@ valid-range {words} v i =
     by-test
     (eqb (getD words i 0) 0)
     (λ z. omega (arith, eqb-true (getD words i 0) 0 z))
-    (λ z. omega (arith, v .each i (eqb-false (getD words i 0) 0 z) .high))
+    (λ z.
+    let range : InRange (getD words i 0) = v .each i (eqb-false (getD words i 0) 0 z) in
+    let code : ℕ = codeOf (getD words i 0) in
+    ⊎-elim
+    (λ (high : 6 < code). absurd (false≢true (off-high (range .side) code high ∙ range .on)))
+    (λ (fits : code ≤ 6). omega arith)
+    (below-or-not 6 code))

@@ -1,37 +1,37 @@
 -- A label's code changes by the moves that 01 names, and by nothing else. Assumes nothing.
-use mathlib.Core.Path.{_≡_, refl}
+use Prim.Native.Nat.{ℕ, _≤_}
 use mathlib.Core.Bool.{Bool, true, false}
 use mathlib.Core.List.{List}
 use mathlib.Core.Logic.{_≢_, _⊎_, inl, inr, ⊎-elim}
-use Prim.Native.Nat.{ℕ, _≤_}
+use mathlib.Core.Path.{_≡_, refl}
 use native.Mathlib.Omega.{arith}
 use lib.Dec.{eqb, leb}
 use borrow.Author.Tests.{eqb-true, eqb-false, leb-true}
 use Rattle.octets.proofs.Choice.{by-test}
-use Rattle.label_list.specs.Word.{within, onSide}
-use Rattle.label_list.specs.Rules.{sentSide, receivedSide, codeAccepted, codeAcked, codeReceived, codeSwept}
-use Rattle.label_list.specs.Sweep.{sweptOf}
-use Rattle.label_list.specs.declared.Side.{Side}
-use Rattle.label_list.specs.declared.Side.the-variants.{Given, Used}
 use Rattle.label_list.specs.declared.LabelMessage.{LabelMessage}
 use Rattle.label_list.specs.declared.LabelMessage.the-variants.{Mapping, Withdraw, Release}
 use Rattle.label_list.specs.declared.Next.the-variants.{Code}
+use Rattle.label_list.specs.declared.Side.{Side}
+use Rattle.label_list.specs.declared.Side.the-variants.{Given, Used}
 use Rattle.label_list.specs.declared.SweepRule.{SweepRule}
 use Rattle.label_list.specs.declared.SweepRule.the-variants.{WithdrawAll, ReleaseAll, AfterBreak}
+use Rattle.label_list.specs.Rules.{sentSide, receivedSide, codeAccepted, codeAcked, codeReceived, codeSwept}
+use Rattle.label_list.specs.Sweep.{sweptOf}
+use Rattle.label_list.specs.Word.{within, withoutProtection, onSide}
 use Rattle.label_list.proofs.Standing.{within-range}
-use Rattle.label_events.specs.Change.{codeAt}
-use Rattle.label_events.specs.Accept.{acceptedOf}
-use Rattle.label_events.specs.Receive.{everyReceived, receivedOf}
 use Rattle.label_events.specs.declared.Touched.{Touched}
 use Rattle.label_events.specs.declared.Touched.the-variants.{Label, Every, Nothing}
-use Rattle.label_meaning.specs.Valid.{IsValid}
-use Rattle.label_meaning.specs.View.{Effect}
+use Rattle.label_events.specs.Accept.{acceptedOf}
+use Rattle.label_events.specs.Change.{codeAt}
+use Rattle.label_events.specs.Receive.{everyReceived, receivedOf}
 use Rattle.label_meaning.specs.Event.{Event, Accepted, Acked, Received, Broken, step, Touches, named, every, Moves, given, withdrawn, released, returned, withdraw-acked, release-acked, taken, taken-again, taken-bare, asked-back, bare-withdrawn, given-back, withdrawn-back, bare-lost}
 use Rattle.label_meaning.specs.Life.{Moved}
-use Rattle.label_meaning.proofs.View.{code-is, is-code}
-use Rattle.label_meaning.proofs.Proper.{Proper}
-use Rattle.label_meaning.proofs.Swept.{sweep-valid, sweep-code}
+use Rattle.label_meaning.specs.Valid.{IsValid}
+use Rattle.label_meaning.specs.View.{Effect}
+use Rattle.label_meaning.proofs.Proper.{Proper, proper-side}
 use Rattle.label_meaning.proofs.Step.{Accepts, code-proper, accepted-outcome, acked-effect, received-outcome}
+use Rattle.label_meaning.proofs.Swept.{sweep-valid, sweep-code}
+use Rattle.label_meaning.proofs.View.{code-is, is-code}
 
 -- The rules, as moves of one code: it stays, or it is a move.
 abbrev Move : Event → Side → ℕ → ℕ → ℕ → Type 0
@@ -80,17 +80,6 @@ acked-move Mapping k c = inl refl
 acked-move Withdraw k c = by-test (eqb c 2) (λ p. let two : c ≡ 2 = eqb-true c 2 p in inr (rw two withdraw-acked)) (λ p. inl (rw p))
 acked-move Release k c = by-test (eqb c 5) (λ p. let five : c ≡ 5 = eqb-true c 5 p in inr (rw five release-acked)) (λ p. inl (rw p))
 
--- A code from 3 up is of the used side, and one from 1 to 2 of the given side.
-used-side : (s : Side) (c : ℕ) → 3 ≤ c → Proper s c → s ≡ Used
-unfolding onSide
-used-side Given c l h = ⊎-elim (λ (z : c ≡ 0). absurd (omega arith)) (λ (e : within 1 2 c ≡ true). absurd (omega (arith, within-range 1 2 c e))) h
-used-side Used c l h = refl
-
-given-side : (s : Side) (c : ℕ) → 1 ≤ c → c ≤ 2 → Proper s c → s ≡ Given
-unfolding onSide
-given-side Given c l u h = refl
-given-side Used c l u h = ⊎-elim (λ (z : c ≡ 0). absurd (omega arith)) (λ (e : within 3 6 c ≡ true). absurd (omega (arith, within-range 3 6 c e))) h
-
 mapping-move : (p : Bool) (k c : ℕ) → Move (Received Mapping p (Label k)) Used k c (codeReceived Mapping p c)
 unfolding codeReceived
 mapping-move true k c =
@@ -102,43 +91,42 @@ mapping-move false k c = by-test (eqb c 0) (λ z. let none : c ≡ 0 = eqb-true 
 
 module _ (s : Side) (k c : ℕ) (proper : Proper s c) where
   withdraw-move : (p q : Bool) (t : Touched) → Touches t k → Move (Received Withdraw p t) s k c (codeReceived Withdraw q c)
-  unfolding codeReceived
+  unfolding codeReceived onSide
   withdraw-move p q t touches =
       by-test
       (eqb c 3)
       (λ z.
       let three : c ≡ 3 = eqb-true c 3 z in
-      inr (rw (used-side s c (omega arith) proper, three) (asked-back touches)))
+      inr (rw (proper-side s Used c proper (rw three), three) (asked-back touches)))
       (λ z. by-test
-      (eqb c 6)
+      (eqb c withoutProtection)
       (λ y.
-      let six : c ≡ 6 = eqb-true c 6 y in
-      inr (rw (used-side s c (omega arith) proper, six) (bare-withdrawn touches)))
+      let bare : c ≡ withoutProtection = eqb-true c withoutProtection y in
+      inr (rw (proper-side s Used c proper (rw bare), bare) (bare-withdrawn touches)))
       (λ y. inl (rw (z, y))))
 
   release-move : (p q : Bool) (t : Touched) → Touches t k → Move (Received Release p t) s k c (codeReceived Release q c)
-  unfolding codeReceived
+  unfolding codeReceived onSide
   release-move p q t touches =
       by-test
       (within 1 2 c)
       (λ z.
       let range : (1 ≤ c) × (c ≤ 2) = within-range 1 2 c z in
-      let side : s ≡ Given = given-side s c (range .0) (range .1) proper in
       by-test
       (eqb c 1)
-      (λ y. let one : c ≡ 1 = eqb-true c 1 y in inr (rw (side, one) (given-back touches)))
+      (λ y. let one : c ≡ 1 = eqb-true c 1 y in inr (rw (proper-side s Given c proper (rw one), one) (given-back touches)))
       (λ y.
       let apart : c ≢ 1 = eqb-false c 1 y in
       let two : c ≡ 2 = omega arith in
-      inr (rw (side, two) (withdrawn-back touches))))
+      inr (rw (proper-side s Given c proper (rw two), two) (withdrawn-back touches))))
       (λ z. inl (rw z))
 
   break-move : Move Broken s k c (codeSwept AfterBreak c)
-  unfolding codeSwept
+  unfolding codeSwept onSide
   break-move =
       by-test
-      (eqb c 6)
-      (λ y. let six : c ≡ 6 = eqb-true c 6 y in inr (rw (used-side s c (omega arith) proper, six) bare-lost))
+      (eqb c withoutProtection)
+      (λ y. let bare : c ≡ withoutProtection = eqb-true c withoutProtection y in inr (rw (proper-side s Used c proper (rw bare), bare) bare-lost))
       (λ y. inl (rw y))
 
 -- By whether two places of the map are one.

@@ -1,26 +1,30 @@
 -- Each rule leaves a label on its side: the code becomes 0 or one of the same side. Assumes nothing.
-use mathlib.Core.Path.{_≡_, refl}
-use mathlib.Core.Bool.{Bool, true, false, false≢true}
-use mathlib.Core.Logic.{_⊎_, inl, inr, ⊎-elim}
 use Prim.Native.Nat.{ℕ}
-use native.Mathlib.Omega.{arith}
+use mathlib.Core.Bool.{Bool, true, false}
+use mathlib.Core.Logic.{_⊎_, inl, inr, ⊎-elim}
+use mathlib.Core.Path.{_≡_, refl}
 use lib.Dec.{eqb, leb}
 use borrow.Author.Tests.{eqb-true}
 use Rattle.octets.proofs.Choice.{by-test, pick-all}
-use Rattle.label_list.specs.Word.{within, onSide}
-use Rattle.label_list.specs.Rules.{sentSide, receivedSide, codeAccepted, codeAcked, codeReceived, codeSwept}
-use Rattle.label_list.specs.declared.Side.{Side}
-use Rattle.label_list.specs.declared.Side.the-variants.{Given, Used}
 use Rattle.label_list.specs.declared.LabelMessage.{LabelMessage}
 use Rattle.label_list.specs.declared.LabelMessage.the-variants.{Mapping, Withdraw, Release}
 use Rattle.label_list.specs.declared.Next.{Next}
 use Rattle.label_list.specs.declared.Next.the-variants.{Code, NotAllowed}
+use Rattle.label_list.specs.declared.Side.{Side}
+use Rattle.label_list.specs.declared.Side.the-variants.{Given, Used}
 use Rattle.label_list.specs.declared.SweepRule.{SweepRule}
 use Rattle.label_list.specs.declared.SweepRule.the-variants.{WithdrawAll, ReleaseAll, AfterBreak}
+use Rattle.label_list.specs.Rules.{sentSide, receivedSide, codeAccepted, codeAcked, codeReceived, codeSwept}
+use Rattle.label_list.specs.Word.{within, withoutProtection, onSide}
+use Rattle.label_list.proofs.Standing.{side-listed, one-side}
 
 -- A code that a label can have on a side: 0, absent, or one of the side.
 abbrev pub Proper : Side → ℕ → Type 0
 Proper s c = (c ≡ 0) ⊎ (onSide s c ≡ true)
+
+-- A label that has a code of a side is on that side.
+pub proper-side : (s t : Side) (c : ℕ) → Proper s c → onSide t c ≡ true → s ≡ t
+proper-side s t c h on = ⊎-elim (λ (z : c ≡ 0). absurd (side-listed t c on z)) (λ (e : onSide s c ≡ true). one-side s t c e on) h
 
 abbrev ProperNext : Side → Next → Type 0
 ProperNext s (Code c) = Proper s c
@@ -44,8 +48,7 @@ acked-proper Release c h = pick-all (Proper (sentSide Release)) (eqb c 5) (inl r
 -- code 4 is of the side of code 3
 four-proper : (s : Side) → Proper s 3 → Proper s 4
 unfolding onSide
-four-proper Given h = ⊎-elim (λ (z : _≡_ {A = ℕ} 3 0). absurd (omega arith)) (λ (e : false ≡ true). absurd (false≢true e)) h
-four-proper Used h = inr refl
+four-proper s h = rw (proper-side s Used 3 h refl) (inr refl)
 
 withdraw-proper : (p : Bool) (s : Side) (c : ℕ) → Proper s c → Proper s (codeReceived Withdraw p c)
 unfolding codeReceived
@@ -53,7 +56,7 @@ withdraw-proper p s c h =
     by-test
     (eqb c 3)
     (λ e. let three : c ≡ 3 = eqb-true c 3 e in rw e (four-proper s (rw three at h)))
-    (λ e. rw e (pick-all (Proper s) (eqb c 6) (inl refl) h))
+    (λ e. rw e (pick-all (Proper s) (eqb c withoutProtection) (inl refl) h))
 
 release-proper : (p : Bool) (s : Side) (c : ℕ) → Proper s c → Proper s (codeReceived Release p c)
 unfolding codeReceived
@@ -70,4 +73,4 @@ pub swept-proper : (r : SweepRule) (s : Side) (c : ℕ) → Proper s c → Prope
 unfolding codeSwept
 swept-proper WithdrawAll s c h = withdraw-proper true s c h
 swept-proper ReleaseAll s c h = release-proper true s c h
-swept-proper AfterBreak s c h = pick-all (Proper s) (eqb c 6) (inl refl) h
+swept-proper AfterBreak s c h = pick-all (Proper s) (eqb c withoutProtection) (inl refl) h

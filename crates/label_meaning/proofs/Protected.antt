@@ -1,37 +1,37 @@
--- The verdict on protection and the transitions agree: where protection is right, an unprotected message changes no label of codes 1 to 5. Assumes nothing.
-use mathlib.Core.Path.{_≡_, refl, sym, _∙_}
-use mathlib.Core.Bool.{Bool, true, false, true≢false, false≢true}
+-- The verdict on protection and the transitions agree: where protection is right, an unprotected message changes no listed label but those of code 6. Assumes nothing.
+use Prim.Native.Nat.{ℕ, suc}
+use mathlib.Core.Bool.{Bool, true, false, not, true≢false, false≢true}
 use mathlib.Core.List.{List, [], _∷_}
-use mathlib.Core.Logic.{_≢_, _⊎_, ⊎-elim}
-use Prim.Native.Nat.{ℕ, suc, _≤_}
+use mathlib.Core.Logic.{_≢_, ⊎-elim}
+use mathlib.Core.Path.{_≡_, refl, sym, _∙_}
 use native.Mathlib.Omega.{arith}
+use lib.Dec.{eqb}
 use lib.ListN.{getD}
-use lib.Dec.{eqb, leb}
 use borrow.Author.Tests.{eqb-false}
 use Rattle.octets.specs.Pick.{pick}
 use Rattle.octets.proofs.Choice.{by-test, both-true}
-use Rattle.label_list.specs.Word.{labelOf, codeOf, onSide, standsFor}
-use Rattle.label_list.specs.Rules.{receivedSide}
-use Rattle.label_list.specs.Protection.{needsProtection, barsProtection, codeProtection, protectedOn}
-use Rattle.label_list.specs.Find.{any}
-use Rattle.label_list.specs.declared.Side.{Side}
-use Rattle.label_list.specs.declared.Side.the-variants.{Given, Used}
 use Rattle.label_list.specs.declared.LabelMessage.{LabelMessage}
 use Rattle.label_list.specs.declared.LabelMessage.the-variants.{Mapping, Withdraw, Release}
 use Rattle.label_list.specs.declared.Protection.{Protection}
 use Rattle.label_list.specs.declared.Protection.the-variants.{Right, Missing, Wrong}
+use Rattle.label_list.specs.declared.Side.{Side}
+use Rattle.label_list.specs.declared.Side.the-variants.{Given, Used}
+use Rattle.label_list.specs.Find.{any}
+use Rattle.label_list.specs.Protection.{needsProtection, barsProtection, codeProtection, protectedOn}
+use Rattle.label_list.specs.Rules.{receivedSide}
+use Rattle.label_list.specs.Word.{labelOf, codeOf, withoutProtection, onSide, standsFor}
 use Rattle.label_list.proofs.Standing.{parts-stands}
-use Rattle.label_events.specs.Change.{codeAt}
-use Rattle.label_events.specs.Protect.{protectionOf}
 use Rattle.label_events.specs.declared.Touched.{Touched}
 use Rattle.label_events.specs.declared.Touched.the-variants.{Label, Every, Nothing}
-use Rattle.label_meaning.specs.Valid.{IsValid}
-use Rattle.label_meaning.specs.View.{CodeIs, listed, absent}
+use Rattle.label_events.specs.Change.{codeAt}
+use Rattle.label_events.specs.Protect.{protectionOf}
 use Rattle.label_meaning.specs.Event.{Received, step, Touches, named, every, Moves, taken-bare, asked-back, bare-withdrawn, given-back, withdrawn-back}
 use Rattle.label_meaning.specs.Protected.{TouchesProtected}
+use Rattle.label_meaning.specs.Valid.{IsValid}
+use Rattle.label_meaning.specs.View.{CodeIs, listed, absent}
 use Rattle.label_meaning.proofs.Meaning.{any-none}
-use Rattle.label_meaning.proofs.View.{code-is, is-code}
 use Rattle.label_meaning.proofs.Moved.{every-move}
+use Rattle.label_meaning.proofs.View.{code-is, is-code}
 
 -- A listed label whose code needs protection makes some word one that may not be touched.
 needs-none : (s : Side) → needsProtection s 0 ≡ false
@@ -53,14 +53,14 @@ touched-missing words m t k every needs = rw (some-protected words (receivedSide
 right-missing : {verdict : Protection} → verdict ≡ Right → verdict ≡ Missing → ⊥
 right-missing p q = let z : _≡_ {A = ℕ} 0 1 = cc in omega arith
 
--- No move of a code from 1 to 5 by an unprotected message agrees with a verdict that its protection is right.
-no-move : (words : List ℕ) {m : LabelMessage} {t : Touched} {s : Side} {k c d : ℕ} → codeAt words s k ≡ c → 1 ≤ c → c ≤ 5 → protectionOf words m false t ≡ Right → Moves (Received m false t) s k c d → ⊥
+-- No move of a listed label of any code but 6 by an unprotected message agrees with a verdict that its protection is right.
+no-move : (words : List ℕ) {m : LabelMessage} {t : Touched} {s : Side} {k c d : ℕ} → codeAt words s k ≡ c → c ≢ 0 → c ≢ withoutProtection → protectionOf words m false t ≡ Right → Moves (Received m false t) s k c d → ⊥
 unfolding receivedSide needsProtection onSide
-no-move words e l h right taken-bare = omega arith
-no-move words e l h right (asked-back {k = k} touches) = right-missing right (touched-missing words Withdraw _ k touches (rw e))
-no-move words e l h right (bare-withdrawn touches) = omega arith
-no-move words e l h right (given-back {k = k} touches) = right-missing right (touched-missing words Release _ k touches (rw e))
-no-move words e l h right (withdrawn-back {k = k} touches) = right-missing right (touched-missing words Release _ k touches (rw e))
+no-move words e there kept right taken-bare = there refl
+no-move words e there kept right (asked-back {k = k} touches) = right-missing right (touched-missing words Withdraw _ k touches (rw e))
+no-move words e there kept right (bare-withdrawn touches) = kept refl
+no-move words e there kept right (given-back {k = k} touches) = right-missing right (touched-missing words Release _ k touches (rw e))
+no-move words e there kept right (withdrawn-back {k = k} touches) = right-missing right (touched-missing words Release _ k touches (rw e))
 
 -- Protection is missing exactly if the message touches such a label.
 record Passed (test : ℕ → Bool) (words : List ℕ) : Type 0 where
@@ -78,12 +78,13 @@ any-some test (w ∷ ws) e =
 
 needs-side : (s : Side) (c : ℕ) → needsProtection s c ≡ true → onSide s c ≡ true
 unfolding needsProtection
-needs-side s c e = both-true (leb c 5) (onSide s c) e .1
+needs-side s c e = both-true (not (eqb c withoutProtection)) (onSide s c) e .1
 
 missing-if : (b : Bool) → pick b Missing Right ≡ Missing → b ≡ true
 missing-if true e = refl
 missing-if false e = absurd (right-missing refl e)
 
+-- In a valid list protection is missing only so.
 pub missing-touches : (words : List ℕ) → IsValid words → (m : LabelMessage) (t : Touched) → protectionOf words m false t ≡ Missing → TouchesProtected words m t
 unfolding protectionOf codeProtection
 missing-touches words v m (Label l) e = record { label = l; touches = named; needs = missing-if (needsProtection (receivedSide m) (codeAt words (receivedSide m) l)) e }
@@ -101,17 +102,18 @@ right-if : (b : Bool) → pick b Wrong Right ≡ Right → b ≡ false
 right-if true e = let z : _≡_ {A = ℕ} 0 1 = cc in absurd (omega arith)
 right-if false e = refl
 
-pub protected-names : (words : List ℕ) (m : LabelMessage) (l : ℕ) → receivedSide m ≡ Used → protectionOf words m true (Label l) ≡ Right → codeAt words Used l ≢ 6
+-- A protected Mapping or Withdraw whose protection is right names no label of code 6.
+pub protected-names : (words : List ℕ) (m : LabelMessage) (l : ℕ) → receivedSide m ≡ Used → protectionOf words m true (Label l) ≡ Right → codeAt words Used l ≢ withoutProtection
 unfolding protectionOf codeProtection barsProtection receivedSide
-protected-names words Mapping l u e six = eqb-false (codeAt words Used l) 6 (right-if (eqb (codeAt words Used l) 6) e) six
-protected-names words Withdraw l u e six = eqb-false (codeAt words Used l) 6 (right-if (eqb (codeAt words Used l) 6) e) six
-protected-names words Release l u e six = let z : _≡_ {A = ℕ} 0 1 = cc in omega arith
+protected-names words Mapping l u e = eqb-false (codeAt words Used l) withoutProtection (right-if (eqb (codeAt words Used l) withoutProtection) e)
+protected-names words Withdraw l u e = eqb-false (codeAt words Used l) withoutProtection (right-if (eqb (codeAt words Used l) withoutProtection) e)
+protected-names words Release l u e = λ bare. let z : _≡_ {A = ℕ} 0 1 = cc in omega arith
 
 -- What is right never loses a protected label to an unprotected message.
 pub unprotected-harmless : (words : List ℕ) → IsValid words → (m : LabelMessage) (t : Touched) → protectionOf words m false t ≡ Right
-    → (s : Side) (k : ℕ) → 1 ≤ codeAt words s k → codeAt words s k ≤ 5 → codeAt (step words (Received m false t)) s k ≡ codeAt words s k
-unprotected-harmless words v m t right s k low high =
+    → (s : Side) (k : ℕ) → codeAt words s k ≢ 0 → codeAt words s k ≢ withoutProtection → codeAt (step words (Received m false t)) s k ≡ codeAt words s k
+unprotected-harmless words v m t right s k there kept =
     ⊎-elim
     (λ (same : codeAt (step words (Received m false t)) s k ≡ codeAt words s k). same)
-    (λ (move : Moves (Received m false t) s k (codeAt words s k) (codeAt (step words (Received m false t)) s k)). absurd (no-move words refl low high right move))
+    (λ (move : Moves (Received m false t) s k (codeAt words s k) (codeAt (step words (Received m false t)) s k)). absurd (no-move words refl there kept right move))
     (every-move words v (Received m false t) s k)

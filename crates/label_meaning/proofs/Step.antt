@@ -1,42 +1,42 @@
 -- Each event changes one label's code by its rule, or takes every label through a rule; a valid list stays valid. Assumes nothing.
-use mathlib.Core.Path.{_≡_, refl, sym, _∙_}
+use Prim.Native.Nat.{ℕ, _≤_, _<_}
 use mathlib.Core.Bool.{Bool, true, true≢false}
 use mathlib.Core.List.{List}
 use mathlib.Core.Logic.{_≢_, _⊎_, inl, inr, ⊎-elim}
-use Prim.Native.Nat.{ℕ, _≤_, _<_}
+use mathlib.Core.Path.{_≡_, refl, sym, _∙_}
 use native.Mathlib.Omega.{arith}
 use lib.ListN.{getD, set}
 use Rattle.octets.proofs.Choice.{by-test}
-use Rattle.label_list.specs.Word.{labelCount, labelOf, codeOf, wordOf, isFree, listable, onSide, standsFor}
-use Rattle.label_list.specs.Rules.{sentSide, receivedSide, codeAccepted, codeAcked, codeReceived}
-use Rattle.label_list.specs.Find.{findOf}
-use Rattle.label_list.specs.Valid.{validOf}
-use Rattle.label_list.specs.declared.Side.{Side}
 use Rattle.label_list.specs.declared.Found.{Found}
 use Rattle.label_list.specs.declared.Found.the-variants.{At, Nowhere}
 use Rattle.label_list.specs.declared.LabelMessage.{LabelMessage}
 use Rattle.label_list.specs.declared.LabelMessage.the-variants.{Mapping, Withdraw, Release}
 use Rattle.label_list.specs.declared.Next.{Next}
 use Rattle.label_list.specs.declared.Next.the-variants.{Code, NotAllowed}
+use Rattle.label_list.specs.declared.Side.{Side}
 use Rattle.label_list.specs.declared.SweepRule.the-variants.{WithdrawAll, ReleaseAll, AfterBreak}
-use Rattle.label_list.proofs.Standing.{within-in, within-range, stands-parts, free-stands}
+use Rattle.label_list.specs.Find.{findOf}
+use Rattle.label_list.specs.Rules.{sentSide, receivedSide, codeAccepted, codeAcked, codeReceived}
+use Rattle.label_list.specs.Valid.{validOf}
+use Rattle.label_list.specs.Word.{labelCount, labelOf, codeOf, wordOf, isFree, listable, onSide, standsFor}
 use Rattle.label_list.proofs.Reached.{found-passes}
-use Rattle.label_events.specs.Change.{codeIn, codeAt, changeAt, changeOf, changed}
-use Rattle.label_events.specs.Accept.{planBy, planOf, acceptedBy, acceptedOf}
-use Rattle.label_events.specs.Ack.{ackedAt, ackedOf}
-use Rattle.label_events.specs.Receive.{receivedChange, everyReceived, receivedOf}
+use Rattle.label_list.proofs.Standing.{within-in, within-range, stands-parts, free-stands}
 use Rattle.label_events.specs.declared.Change.{Change}
 use Rattle.label_events.specs.declared.Change.the-variants.{Keep, Put, NoRoom}
 use Rattle.label_events.specs.declared.Touched.{Touched}
 use Rattle.label_events.specs.declared.Touched.the-variants.{Label, Every, Nothing}
+use Rattle.label_events.specs.Accept.{planBy, planOf, acceptedBy, acceptedOf}
+use Rattle.label_events.specs.Ack.{ackedAt, ackedOf}
+use Rattle.label_events.specs.Change.{codeIn, codeAt, changeAt, changeOf, changed}
+use Rattle.label_events.specs.Receive.{receivedChange, everyReceived, receivedOf}
+use Rattle.label_meaning.specs.Event.{Event, Accepted, Acked, Received, Broken, step}
 use Rattle.label_meaning.specs.Valid.{InRange, IsValid}
 use Rattle.label_meaning.specs.View.{CodeIs, listed, absent, Effect}
-use Rattle.label_meaning.specs.Event.{Event, Accepted, Acked, Received, Broken, step}
-use Rattle.label_meaning.proofs.Meaning.{valid-means, means-valid}
-use Rattle.label_meaning.proofs.View.{found-none, code-is}
-use Rattle.label_meaning.proofs.Proper.{Proper, accepted-proper, acked-proper, received-proper}
 use Rattle.label_meaning.proofs.Effect.{keep-effect, effect-found, change-effect}
+use Rattle.label_meaning.proofs.Meaning.{valid-means, means-valid}
+use Rattle.label_meaning.proofs.Proper.{Proper, accepted-proper, acked-proper, received-proper}
 use Rattle.label_meaning.proofs.Swept.{sweep-valid}
+use Rattle.label_meaning.proofs.View.{found-none, code-is}
 
 -- The code of a label on a side is 0 or one of that side.
 is-proper : {words : List ℕ} {s : Side} {l c : ℕ} → CodeIs words s l c → Proper s c

@@ -1,45 +1,32 @@
 -- A rule for every word keeps the list valid and takes each label's code through the rule. Assumes nothing.
-use mathlib.Core.Path.{_≡_, refl, sym, _∙_}
+use Prim.Native.Nat.{ℕ}
 use mathlib.Core.Bool.{true, true≢false}
 use mathlib.Core.List.{List}
-use mathlib.Core.Logic.{_≢_, _⊎_, inr, ⊎-elim}
-use Prim.Native.Nat.{ℕ}
+use mathlib.Core.Logic.{_≢_, inr, ⊎-elim}
+use mathlib.Core.Path.{_≡_, refl, sym, _∙_}
 use native.Mathlib.Omega.{arith}
-use lib.ListN.{getD, List·getD-map}
 use lib.Dec.{eqb}
+use lib.ListN.{getD, List·getD-map}
 use borrow.Author.Tests.{eqb-true, eqb-false}
 use Rattle.octets.proofs.Choice.{by-test}
-use Rattle.label_list.specs.Word.{labelOf, codeOf, wordOf, onSide, standsFor}
-use Rattle.label_list.specs.Rules.{codeReceived, codeSwept}
-use Rattle.label_list.specs.Sweep.{wordSwept, sweptOf}
 use Rattle.label_list.specs.declared.Side.{Side}
-use Rattle.label_list.specs.declared.Side.the-variants.{Given, Used}
 use Rattle.label_list.specs.declared.SweepRule.{SweepRule}
 use Rattle.label_list.specs.declared.SweepRule.the-variants.{WithdrawAll, ReleaseAll, AfterBreak}
+use Rattle.label_list.specs.Rules.{codeReceived, codeSwept}
+use Rattle.label_list.specs.Sweep.{wordSwept, sweptOf}
+use Rattle.label_list.specs.Word.{labelOf, codeOf, wordOf, onSide, standsFor}
 use Rattle.label_list.proofs.Standing.{stands-parts, parts-stands, free-stands}
 use Rattle.label_meaning.specs.Valid.{InRange, IsValid}
 use Rattle.label_meaning.specs.View.{CodeIs, listed, absent}
-use Rattle.label_meaning.proofs.Meaning.{stands-same, used-else}
-use Rattle.label_meaning.proofs.Proper.{swept-proper}
 use Rattle.label_meaning.proofs.Effect.{Lists, Written, word-written}
+use Rattle.label_meaning.proofs.Meaning.{stands-same}
+use Rattle.label_meaning.proofs.Proper.{swept-proper}
 
 rule-none : (r : SweepRule) → codeSwept r 0 ≡ 0
 unfolding codeSwept codeReceived
 rule-none WithdrawAll = refl
 rule-none ReleaseAll = refl
 rule-none AfterBreak = refl
-
--- A listed word stands on some side.
-record OnSome (w : ℕ) : Type 0 where
-  pub side : Side
-  pub on : onSide side (codeOf w) ≡ true
-
-side-of : {w : ℕ} → InRange w → OnSome w
-side-of {w} range =
-    by-test
-    (onSide Given (codeOf w))
-    (λ on. record { side = Given; on = on })
-    (λ off. record { side = Used; on = used-else (codeOf w) (range .low) (range .high) off })
 
 module _ (r : SweepRule) where
   -- a free word stays free
@@ -59,16 +46,16 @@ module _ (r : SweepRule) where
       by-test
       (eqb w 0)
       (λ z. absurd (true≢false (sym p ∙ rw (eqb-true w 0 z, swept-free) (free-stands s l))))
-      (λ z. by-side (ranged (eqb-false w 0 z)) (side-of (ranged (eqb-false w 0 z))))
+      (λ z. listed-back (ranged (eqb-false w 0 z)))
     where
-      by-side : InRange w → OnSome w → standsFor s l w ≡ true
-      by-side range some =
+      listed-back : InRange w → standsFor s l w ≡ true
+      listed-back range =
           ⊎-elim
           (λ (e : (wordSwept r w ≡ 0) × (codeSwept r (codeOf w) ≡ 0)). absurd (true≢false (sym p ∙ rw (e .0) (free-stands s l))))
-          (λ (new : Lists (some .side) (labelOf w) (codeSwept r (codeOf w)) (wordSwept r w)).
-          let same : (s ≡ some .side) × (l ≡ labelOf w) = stands-same s (some .side) l (labelOf w) (wordSwept r w) p (new .stands) in
-          rw (same .0, same .1) (parts-stands (some .side) (labelOf w) w (some .on) refl))
-          (swept-written (some .side) w range (some .on))
+          (λ (new : Lists (range .side) (labelOf w) (codeSwept r (codeOf w)) (wordSwept r w)).
+          let same : (s ≡ range .side) × (l ≡ labelOf w) = stands-same s (range .side) l (labelOf w) (wordSwept r w) p (new .stands) in
+          rw (same .0, same .1) (parts-stands (range .side) (labelOf w) w (range .on) refl))
+          (swept-written (range .side) w range (range .on))
 
 module _ (words : List ℕ) (v : IsValid words) (r : SweepRule) where
   ranged : (i : ℕ) → getD words i 0 ≢ 0 → InRange (getD words i 0)
@@ -86,13 +73,13 @@ module _ (words : List ℕ) (v : IsValid words) (r : SweepRule) where
   swept-each i h =
       let listed : getD words i 0 ≢ 0 = λ z. h (at i ∙ rw (z, swept-free r)) in
       let range : InRange (getD words i 0) = v .each i listed in
-      let some : OnSome (getD words i 0) = side-of range in
       rw (at i)
       (⊎-elim
       (λ (e : (wordSwept r (getD words i 0) ≡ 0) × (codeSwept r (codeOf (getD words i 0)) ≡ 0)). absurd (h (at i ∙ e .0)))
-      (λ (new : Lists (some .side) (labelOf (getD words i 0)) (codeSwept r (codeOf (getD words i 0))) (wordSwept r (getD words i 0))). new .range)
-      (swept-written r (some .side) (getD words i 0) range (some .on)))
+      (λ (new : Lists (range .side) (labelOf (getD words i 0)) (codeSwept r (codeOf (getD words i 0))) (wordSwept r (getD words i 0))). new .range)
+      (swept-written r (range .side) (getD words i 0) range (range .on)))
 
+  -- A sweep leaves a valid list valid,
   pub sweep-valid : IsValid (sweptOf words r)
   sweep-valid = record { each = swept-each; once = λ s l i j p q. v .once s l i j (back s l i p) (back s l j q) }
 
@@ -115,6 +102,7 @@ module _ (words : List ℕ) (v : IsValid words) (r : SweepRule) where
       rw (at i, new .code) at found)
       (swept-written r s (getD words i 0) (v .each i listed-i) (parts .0))
 
+  -- and takes the code of each label on each side through the rule.
   pub sweep-code : (s : Side) (k c : ℕ) → CodeIs words s k c → CodeIs (sweptOf words r) s k (codeSwept r c)
   sweep-code s k c (listed i p) = swept-listed s k i p
   sweep-code s k c (absent p) =

@@ -1,17 +1,17 @@
 -- In a valid list a label has one code on one side, that of `codeAt`. Assumes nothing.
-use mathlib.Core.Path.{_≡_, refl, sym, ap, _∙_}
+use Prim.Native.Nat.{ℕ}
 use mathlib.Core.Bool.{false, true≢false}
 use mathlib.Core.List.{List}
-use Prim.Native.Nat.{ℕ}
+use mathlib.Core.Path.{_≡_, refl, sym, ap, _∙_}
 use lib.ListN.{getD}
-use Rattle.label_list.specs.Word.{codeOf, standsFor}
-use Rattle.label_list.specs.Find.{findOf}
-use Rattle.label_list.specs.declared.Side.{Side}
 use Rattle.label_list.specs.declared.Found.{Found}
 use Rattle.label_list.specs.declared.Found.the-variants.{At, Nowhere}
-use Rattle.label_list.proofs.Standing.{free-stands}
-use Rattle.label_list.proofs.Sought.{found-any}
+use Rattle.label_list.specs.declared.Side.{Side}
+use Rattle.label_list.specs.Find.{findOf}
+use Rattle.label_list.specs.Word.{codeOf, standsFor}
 use Rattle.label_list.proofs.Reached.{found-passes}
+use Rattle.label_list.proofs.Sought.{found-any}
+use Rattle.label_list.proofs.Standing.{free-stands}
 use Rattle.label_events.specs.Change.{codeIn, codeAt}
 use Rattle.label_meaning.specs.Valid.{IsValid}
 use Rattle.label_meaning.specs.View.{CodeIs, listed, absent}
@@ -27,6 +27,7 @@ module _ (words : List ℕ) (s : Side) (l : ℕ) where
   code-found (At i) e = listed i (found-passes (standsFor s l) words i e refl)
   code-found Nowhere e = absent (found-none (sym e))
 
+  -- In any list this is a code of the label on the side,
   pub code-is : CodeIs words s l (codeAt words s l)
   code-is = code-found (findOf (standsFor s l) words) refl
 
@@ -36,5 +37,6 @@ module _ (words : List ℕ) (s : Side) (l : ℕ) where
   code-unique v (absent p) (listed j q) = absurd (true≢false (sym q ∙ p j))
   code-unique v (absent p) (absent q) = refl
 
+  -- and in a valid one the only one.
   pub is-code : {c : ℕ} → IsValid words → CodeIs words s l c → codeAt words s l ≡ c
   is-code v d = code-unique v code-is d

@@ -2,17 +2,18 @@
 use Prim.Native.Nat.{ℕ}
 use mathlib.Core.Bool.{Bool, true, false}
 use mathlib.Core.List.{List}
-use Rattle.label_list.specs.Sweep.{sweptOf}
-use Rattle.label_list.specs.declared.Side.{Side}
-use Rattle.label_list.specs.declared.Side.the-variants.{Given, Used}
 use Rattle.label_list.specs.declared.LabelMessage.{LabelMessage}
 use Rattle.label_list.specs.declared.LabelMessage.the-variants.{Mapping, Withdraw, Release}
+use Rattle.label_list.specs.declared.Side.{Side}
+use Rattle.label_list.specs.declared.Side.the-variants.{Given, Used}
 use Rattle.label_list.specs.declared.SweepRule.the-variants.{AfterBreak}
+use Rattle.label_list.specs.Sweep.{sweptOf}
+use Rattle.label_list.specs.Word.{withoutProtection}
+use Rattle.label_events.specs.declared.Touched.{Touched}
+use Rattle.label_events.specs.declared.Touched.the-variants.{Label, Every}
 use Rattle.label_events.specs.Accept.{acceptedOf}
 use Rattle.label_events.specs.Ack.{ackedOf}
 use Rattle.label_events.specs.Receive.{receivedOf}
-use Rattle.label_events.specs.declared.Touched.{Touched}
-use Rattle.label_events.specs.declared.Touched.the-variants.{Label, Every}
 
 -- a message of ours is accepted for sending or released by an ACK, one of the peer's is received (the Bool: protected), a connection ends
 pub data Event : Type 0 where
@@ -45,12 +46,12 @@ pub data Moves : Event → Side → ℕ → ℕ → ℕ → Type 0 where
   -- "Received: Mapping protected, absent or 3 or 5 becomes 3 ..; unprotected, absent becomes 6"
   taken : {k : ℕ} → Moves (Received Mapping true (Label k)) Used k 0 3
   taken-again : {k : ℕ} → Moves (Received Mapping true (Label k)) Used k 5 3
-  taken-bare : {k : ℕ} → Moves (Received Mapping false (Label k)) Used k 0 6
+  taken-bare : {k : ℕ} → Moves (Received Mapping false (Label k)) Used k 0 withoutProtection
   -- "Withdraw: 3 becomes 4; .. 6 becomes free"
   asked-back : {p : Bool} {t : Touched} {k : ℕ} → Touches t k → Moves (Received Withdraw p t) Used k 3 4
-  bare-withdrawn : {p : Bool} {t : Touched} {k : ℕ} → Touches t k → Moves (Received Withdraw p t) Used k 6 0
+  bare-withdrawn : {p : Bool} {t : Touched} {k : ℕ} → Touches t k → Moves (Received Withdraw p t) Used k withoutProtection 0
   -- "Release: 1, 2 become free"
   given-back : {p : Bool} {t : Touched} {k : ℕ} → Touches t k → Moves (Received Release p t) Given k 1 0
   withdrawn-back : {p : Bool} {t : Touched} {k : ℕ} → Touches t k → Moves (Received Release p t) Given k 2 0
   -- "code 6 words are freed"
-  bare-lost : {k : ℕ} → Moves Broken Used k 6 0
+  bare-lost : {k : ℕ} → Moves Broken Used k withoutProtection 0

@@ -1,8 +1,8 @@
 -- What an event keeps: the list's length, its validity, and all but one of its words.
 use Prim.Native.Nat.{ℕ}
-use mathlib.Core.Path.{_≡_}
 use mathlib.Core.List.{List}
 use mathlib.Core.Logic.{_≢_}
+use mathlib.Core.Path.{_≡_}
 use lib.ListN.{getD}
 use Rattle.label_events.specs.declared.Touched.{Touched}
 use Rattle.label_events.specs.declared.Touched.the-variants.{Label, Every, Nothing}

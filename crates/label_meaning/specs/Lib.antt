@@ -4,3 +4,4 @@ pub mod Event
 pub mod Keep
 pub mod Life
 pub mod Protected
+pub mod Room

@@ -1,14 +1,14 @@
 -- The life of a label: by which events its code can change, and which of them free it.
 use Prim.Native.Nat.{ℕ}
-use mathlib.Core.Path.{_≡_}
 use mathlib.Core.Bool.{Bool}
 use mathlib.Core.List.{List}
 use mathlib.Core.Logic.{_⊎_}
+use mathlib.Core.Path.{_≡_}
+use Rattle.label_list.specs.declared.LabelMessage.the-variants.{Withdraw, Release}
 use Rattle.label_list.specs.declared.Side.{Side}
 use Rattle.label_list.specs.declared.Side.the-variants.{Given, Used}
-use Rattle.label_list.specs.declared.LabelMessage.the-variants.{Withdraw, Release}
-use Rattle.label_events.specs.Change.{codeAt}
 use Rattle.label_events.specs.declared.Touched.{Touched}
+use Rattle.label_events.specs.Change.{codeAt}
 use Rattle.label_meaning.specs.Event.{Event, Accepted, Acked, Received, step, Touches, Moves}
 
 -- the event leaves the label's code on that side, or moves it as 01 says
@@ -21,7 +21,7 @@ pub data EndsWithdrawal : Event → ℕ → Type 0 where
   by-ack : {k : ℕ} → EndsWithdrawal (Acked Withdraw k) k
   by-release : {p : Bool} {t : Touched} {k : ℕ} → Touches t k → EndsWithdrawal (Received Release p t) k
 
--- the events that free a label of codes 1 to 5, and from which code
+-- the events that free a label of any code but 6, and from which code
 pub data Frees : Event → Side → ℕ → ℕ → Type 0 where
   release-of-given : {p : Bool} {t : Touched} {k : ℕ} → Touches t k → Frees (Received Release p t) Given k 1
   release-of-withdrawing : {p : Bool} {t : Touched} {k : ℕ} → Touches t k → Frees (Received Release p t) Given k 2

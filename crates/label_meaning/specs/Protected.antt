@@ -1,13 +1,13 @@
 -- A label that a received message touches and may not touch without protection.
 use Prim.Native.Nat.{ℕ}
-use mathlib.Core.Path.{_≡_}
 use mathlib.Core.Bool.{true}
 use mathlib.Core.List.{List}
-use Rattle.label_list.specs.Rules.{receivedSide}
-use Rattle.label_list.specs.Protection.{needsProtection}
+use mathlib.Core.Path.{_≡_}
 use Rattle.label_list.specs.declared.LabelMessage.{LabelMessage}
-use Rattle.label_events.specs.Change.{codeAt}
+use Rattle.label_list.specs.Protection.{needsProtection}
+use Rattle.label_list.specs.Rules.{receivedSide}
 use Rattle.label_events.specs.declared.Touched.{Touched}
+use Rattle.label_events.specs.Change.{codeAt}
 use Rattle.label_meaning.specs.Event.{Touches}
 
 -- 01: "on a message touching codes 1 to 5 on its own side .., a named label or any under a wildcard"

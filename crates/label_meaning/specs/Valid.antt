@@ -1,18 +1,18 @@
 -- What it means that the label words are valid, over indices; past the end of the list a word counts as free.
 use Prim.Native.Nat.{ℕ, _≤_}
-use mathlib.Core.Path.{_≡_}
 use mathlib.Core.Bool.{true}
 use mathlib.Core.List.{List}
 use mathlib.Core.Logic.{_≢_}
+use mathlib.Core.Path.{_≡_}
 use lib.ListN.{getD}
-use Rattle.label_list.specs.Word.{labelOf, codeOf, standsFor}
 use Rattle.label_list.specs.declared.Side.{Side}
+use Rattle.label_list.specs.Word.{labelOf, codeOf, onSide, standsFor}
 
--- 01: "Codes: 1 given, .. 6 using without protection"; "Labels 0 to 15 are never listed"
+-- "Labels 0 to 15 are never listed"; the code is one of a side
 pub record InRange (w : ℕ) : Type 0 where
   pub label : 16 ≤ labelOf w
-  pub low : 1 ≤ codeOf w
-  pub high : codeOf w ≤ 6
+  pub side : Side
+  pub on : onSide side (codeOf w) ≡ true
 
 pub record IsValid (words : List ℕ) : Type 0 where
   -- "0 is free, and no other word has code 0"

@@ -1,11 +1,11 @@
 -- The list seen as a map from side and label to code, and what an event changes in it.
 use Prim.Native.Nat.{ℕ}
-use mathlib.Core.Path.{_≡_}
 use mathlib.Core.Bool.{true, false}
 use mathlib.Core.List.{List}
+use mathlib.Core.Path.{_≡_}
 use lib.ListN.{getD}
-use Rattle.label_list.specs.Word.{codeOf, standsFor}
 use Rattle.label_list.specs.declared.Side.{Side}
+use Rattle.label_list.specs.Word.{codeOf, standsFor}
 use Rattle.label_meaning.specs.Valid.{IsValid}
 
 -- the label's code on that side: that of a word which lists it, or 0 where no word does

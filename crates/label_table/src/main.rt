@@ -1,7 +1,7 @@
 // Runs every event on a list that holds label 16 under each code, and prints a row for each event.
 // A cell gives the answer's number and the codes of the first two words afterwards. The expected rows are made by tests/labels/make.py.
-ghost use mathlib.Core.Path.{_≡_};
 ghost use Prim.Native.Nat.{_<_};
+ghost use mathlib.Core.Path.{_≡_};
 ghost use lib.ListN.{length};
 ghost use Rattle.label_list.specs.Word.{wordCount};
 ghost use Rattle.label_events.specs.Accept.{acceptanceNumber};

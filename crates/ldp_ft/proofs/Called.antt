@@ -1,25 +1,22 @@
 -- The returns of the session's calls: the premises are what the callees ensure. Assumes nothing.
-use mathlib.Core.Path.{_≡_, refl, sym, ap, _∙_}
+use Prim.Native.Nat.{ℕ}
 use mathlib.Core.Bool.{true, false, true≢false}
 use mathlib.Core.List.{List}
-use Prim.Native.Nat.{ℕ}
+use mathlib.Core.Path.{_≡_, refl, sym, ap, _∙_}
 use native.Mathlib.Omega.{arith}
-use Rattle.image.specs.Verdict.{verdict}
-use Rattle.image.specs.declared.Verdict
 use Rattle.image.specs.declared.Verdict.{Verdict}
-use Rattle.calls.specs.declared.Answer
-use Rattle.calls.specs.declared.Answer.{Answer}
+use Rattle.image.specs.Verdict.{verdict}
+use Rattle.protocol.specs.declared.Answer.{Answer}
+use Rattle.protocol.specs.declared.Phase.{Phase}
+use Rattle.protocol.specs.Answers.{isDone}
 use Rattle.calls.specs.declared.Outcome.{Outcome}
-use Rattle.calls.specs.declared.Phase
-use Rattle.calls.specs.declared.Phase.{Phase}
-use Rattle.calls.specs.Outcomes.{After, after, isDone, refusal, checked}
+use Rattle.calls.specs.Outcomes.{After, after, refusal, checked}
 use Rattle.calls.proofs.Settled.{checks-sound}
-use Rattle.ldp_ft.specs.declared.Given
 use Rattle.ldp_ft.specs.declared.Given.{Given}
 use Rattle.ldp_ft.specs.declared.OutcomeNumbers.{OutcomeNumbers}
 use Rattle.ldp_ft.specs.declared.SessionNumbers.{SessionNumbers}
-use Rattle.ldp_ft.specs.Session.{givenOf}
 use Rattle.ldp_ft.specs.Outcome.{Narrow, numbersOf, shown, shownFrom, unknownPhase, called}
+use Rattle.ldp_ft.specs.Session.{givenOf}
 use Rattle.ldp_ft.proofs.Named.{none, checked-named}
 use Rattle.ldp_ft.proofs.Narrow.{unchanged-narrow}
 

@@ -1,15 +1,14 @@
 -- A label word of an image. Assumes nothing.
-use mathlib.Core.Path.{_≡_, refl, sym, _∙_}
-use mathlib.Core.List.{List}
 use Prim.Native.Nat.{ℕ, _≤_, _<_}
-use borrow.Author.Tests.{lt-ltb, le-ltb}
+use mathlib.Core.List.{List}
+use mathlib.Core.Path.{_≡_, refl, sym, _∙_}
 use lib.ListN.{length, getD}
+use borrow.Author.Tests.{lt-ltb, le-ltb}
 use Rattle.label_list.specs.Word.{wordCount}
+use Rattle.image.specs.declared.Verdict.{Verdict}
 use Rattle.image.specs.Sizes.{imageSize}
 use Rattle.image.specs.State.{decode}
 use Rattle.image.specs.Verdict.{verdict, verdictNumber}
-use Rattle.image.specs.declared.Verdict
-use Rattle.image.specs.declared.Verdict.{Verdict}
 use Rattle.image.proofs.Scans.{number-sound}
 use Rattle.image.proofs.Sound.{sound-parts}
 use Rattle.ldp_ft.specs.Numbers.{none, labelBy, labelAt}

@@ -1,38 +1,85 @@
 -- What a call writes is a message of at most 504 bytes. Assumes nothing.
-use mathlib.Core.Path.{refl}
+use Prim.Native.Nat.{ℕ, _≤_}
 use mathlib.Core.Bool.{Bool}
 use mathlib.Core.List.{List}
-use Prim.Native.Nat.{ℕ, _≤_}
+use mathlib.Core.Path.{_≡_, refl, ap}
 use native.Mathlib.Omega.{arith}
 use lib.ListN.{length}
+use Rattle.octets.proofs.Choice.{pick-all}
 use Rattle.ft_number.specs.declared.MessageId.{MessageId}
-use Rattle.tlv.specs.declared.FtField
+use Rattle.ft_number.specs.Timeout.{proposedOf}
 use Rattle.tlv.specs.declared.FtField.{FtField}
-use Rattle.message_writer.specs.Forms.{ackTlv, ftTlvs, initBytes, keepaliveBytes}
+use Rattle.message.specs.declared.Reading.{Reading}
+use Rattle.message.specs.Reading.{readingOf}
 use Rattle.message_writer.specs.declared.OwnParameters.{OwnParameters}
+use Rattle.message_writer.specs.Forms.{ackTlv, ftTlvs, initBytes, keepaliveBytes}
 use Rattle.message_writer.proofs.Puts.{length-raised}
-use Rattle.image.specs.State.{decode}
-use Rattle.calls.specs.declared.Phase.{Phase}
-use Rattle.send.specs.Rule.{sentOf, nextMessage, numberAt, ackAsked, sendBytes}
-use Rattle.send.proofs.Judged.{Sendable, sendable-sound}
+use Rattle.image.specs.Verdict.{IsSound}
+use Rattle.image.proofs.Queue.{queue-length}
+use Rattle.protocol.specs.declared.Answer.{Answer}
+use Rattle.protocol.specs.declared.Phase.{Phase}
+use Rattle.protocol.specs.Answers.{isDone}
+use Rattle.protocol.specs.Calls.{Call, formats, restores, fails, opens, greets, passes, submits, sends, keeps-alive, receives, step}
+use Rattle.protocol.specs.Judged.{judged, done}
+use Rattle.protocol.specs.KeepAlive.{aliveAck}
+use Rattle.protocol.specs.Open.{keptAck}
+use Rattle.protocol.specs.Phases.{sentOf}
+use Rattle.protocol.specs.Receive.{takenAs}
+use Rattle.protocol.specs.Send.{nextMessage, numberAt, ackAsked, sendBytes, sendRule}
+use Rattle.protocol.specs.State.{State}
+use Rattle.protocol.specs.Step.{Step, roomFor}
+use Rattle.protocol.specs.TimePassed.{expired}
+use Rattle.protocol.proofs.Sends.{Sendable, sendable}
+use Rattle.protocol.proofs.Settles.{ends}
+use Rattle.protocol.proofs.Settling.{admitted-done}
+use Rattle.calls.specs.State.{stateOf}
 use Rattle.send.proofs.Acts.{next-fits}
 
 ack-short : (ack : FtField) → length (ackTlv ack) ≤ 8
 ack-short FtField.Absent = omega arith
 ack-short (FtField.Number a) = omega arith
 
-pub init-short : (id : MessageId) (p : OwnParameters) (seconds : ℕ) (ack : FtField) → length (initBytes id p seconds ack) ≤ 504
+init-short : (id : MessageId) (p : OwnParameters) (seconds : ℕ) (ack : FtField) → length (initBytes id p seconds ack) ≤ 504
 init-short id p seconds FtField.Absent = omega arith
 init-short id p seconds (FtField.Number a) = omega arith
 
-pub alive-short : (id : MessageId) (ack : FtField) → length (keepaliveBytes id ack) ≤ 504
+alive-short : (id : MessageId) (ack : FtField) → length (keepaliveBytes id ack) ≤ 504
 alive-short id FtField.Absent = omega arith
 alive-short id (FtField.Number a) = omega arith
 
--- a held message has 480 bytes at most, and two TLVs of 8 are added
-pub sent-short : (im : List ℕ) (ph : Phase) (ask : Bool) → Sendable im ph → length (sendBytes (decode im) (sentOf ph) ask) ≤ 504
-unfolding sendBytes
-sent-short im ph ask d =
-    let f = next-fits im (sentOf ph) (sendable-sound d) (d .some) refl in
-    let t : List ℕ = ftTlvs (numberAt (decode im .header) (sentOf ph)) (ackAsked ask (decode im .header)) in
-    omega (arith, f, length-raised (nextMessage (decode im) (sentOf ph)) (f .0) t, ack-short (ackAsked ask (decode im .header)))
+-- nothing is written to what is received
+taken-short : (s : State) (ph : Phase) (r : Reading) → length (takenAs s ph r .output) ≤ 504
+taken-short s Phase.Idle r = omega arith
+taken-short s (Phase.InitWait v) r = omega arith
+taken-short s (Phase.UpFT u) Reading.Malformed = omega arith
+taken-short s (Phase.UpFT u) (Reading.Whole g) = omega arith
+taken-short s Phase.UpPlain r = omega arith
+taken-short s Phase.Failed r = omega arith
+
+module _ (im : List ℕ) (ph : Phase) (sound : IsSound im) where
+  -- a held message has 480 bytes at most, and two TLVs of 8 are added
+  sent-short : (ask : Bool) → Sendable (stateOf im) ph → length (sendBytes (stateOf im) (sentOf ph) ask) ≤ 504
+  unfolding sendBytes
+  sent-short ask d =
+      let f = next-fits im (sentOf ph) sound (omega (arith, d .some, queue-length im)) refl in
+      let t : List ℕ = ftTlvs (numberAt (stateOf im) (sentOf ph)) (ackAsked ask (stateOf im)) in
+      omega (arith, f, length-raised (nextMessage (stateOf im) (sentOf ph)) (f .0) t, ack-short (ackAsked ask (stateOf im)))
+
+  done-short : (c : Call) (room : ℕ) → judged c (stateOf im) ph room ≡ Answer.Done → length (done c (stateOf im) ph .output) ≤ 504
+  unfolding judged done
+  done-short formats room e = omega arith
+  done-short restores room e = omega arith
+  done-short fails room e = omega arith
+  done-short (opens id own proposal) room e = init-short id own (proposedOf proposal) (keptAck (stateOf im))
+  done-short (greets m) room e = omega arith
+  done-short (passes elapsed) room e = pick-all (λ (x : Step). length (x .output) ≤ 504) (expired (stateOf im) elapsed) (omega arith) (omega arith)
+  done-short (submits m) room e = omega arith
+  done-short (sends ask) room e =
+      let own = roomFor (sendBytes (stateOf im) (sentOf ph) ask) room in
+      sent-short ask (sendable (stateOf im) ph own (admitted-done (stateOf im) ph (sendRule (stateOf im) ph own) (ap isDone e)))
+  done-short (keeps-alive id) room e = alive-short id (aliveAck ph (stateOf im .secured))
+  done-short (receives m) room e = taken-short (stateOf im) ph (readingOf m)
+
+  pub step-short : (c : Call) (room : ℕ) → length (step c (stateOf im) ph room .output) ≤ 504
+  step-short c room =
+      ends c (stateOf im) ph room (λ (x : Step). length (x .output) ≤ 504) (λ e. omega arith) (λ e. omega arith) (λ e. omega arith) (done-short c room)

@@ -1,23 +1,21 @@
 -- A message's parts, and those of a PDU, as numbers. Assumes nothing.
-use mathlib.Core.Path.{_≡_}
-use mathlib.Core.List.{List}
 use Prim.Native.Nat.{ℕ, _≤_}
+use mathlib.Core.List.{List}
+use mathlib.Core.Path.{_≡_}
 use native.Mathlib.Omega.{arith}
+use Rattle.octets.specs.Bytes.{Bytes}
 use Rattle.octets.proofs.Be.{beAt-lt}
-use Rattle.pdu.specs.Pdu.{placeOf}
-use Rattle.pdu.specs.declared.Place
 use Rattle.pdu.specs.declared.Place.{Place}
+use Rattle.pdu.specs.Pdu.{placeOf}
 use Rattle.pdu.proofs.Message.{place-within}
-use Rattle.tlv.specs.Value.{partAt}
 use Rattle.tlv.specs.declared.Found.{Found}
 use Rattle.tlv.specs.declared.Part.{Part}
+use Rattle.tlv.specs.Value.{partAt}
 use Rattle.tlv.proofs.Values.{InMessage}
-use Rattle.message.specs.Reading.{messageOf, readingOf}
 use Rattle.message.specs.declared.Message.{Message}
-use Rattle.message.specs.declared.Reading
 use Rattle.message.specs.declared.Reading.{Reading}
+use Rattle.message.specs.Reading.{messageOf, readingOf}
 use Rattle.message.proofs.Laws.{whole-length, whole-fec}
-use Rattle.octets.specs.Bytes.{Bytes}
 use Rattle.ldp_ft.specs.Reading.{NarrowMessage}
 
 -- a message is no longer than its length field can say

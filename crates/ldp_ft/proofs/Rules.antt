@@ -1,115 +1,95 @@
 -- The calls' own tests name no block. Assumes nothing.
-use mathlib.Core.List.{List}
 use Prim.Native.Nat.{ℕ}
-use lib.Dec.{eqb, leb, ltb}
+use mathlib.Core.Bool.{Bool, not}
+use mathlib.Core.List.{List}
+use lib.Dec.{leb, ltb}
 use lib.ListN.{length}
-use Rattle.octets.specs.Pick.{both}
-use Rattle.ft_number.specs.declared.Ack
-use Rattle.ft_number.specs.declared.Ack.{Ack}
-use Rattle.message.specs.Submission.{bearsFt, submissionOf}
-use Rattle.message.specs.declared.Message.{Message}
-use Rattle.message.specs.declared.Reading
-use Rattle.message.specs.declared.Reading.{Reading}
-use Rattle.message.specs.declared.Submission
-use Rattle.message.specs.declared.Submission.{Submission}
-use Rattle.label_list.specs.declared.Protection
-use Rattle.label_list.specs.declared.Protection.{Protection}
+use Rattle.octets.specs.Pick.{pick}
 use Rattle.octets.proofs.Choice.{pick-all}
-use Rattle.label_events.specs.declared.Acceptance
-use Rattle.label_events.specs.declared.Acceptance.{Acceptance}
-use Rattle.label_events.specs.declared.Reception
-use Rattle.label_events.specs.declared.Reception.{Reception}
-use Rattle.block0.specs.declared.Header.{Header}
-use Rattle.block0.specs.Layout.{slotCount}
-use Rattle.slot.specs.Layout.{shortest, longest}
-use Rattle.image.specs.State.{State}
-use Rattle.calls.specs.declared.Answer.{Answer}
-use Rattle.calls.specs.declared.Phase
-use Rattle.calls.specs.declared.Phase.{Phase}
-use Rattle.calls.specs.Outcomes.{roomFor}
-use Rattle.calls.specs.Received.{isInit}
-use Rattle.submit.specs.Labels.{isBarred, acceptedAs}
-use Rattle.submit.specs.Rule.{acceptanceRule, kindRule, submissionRule, submitRule}
-use Rattle.send.specs.Rule.{isUpFT, sentOf, sendRule}
-use Rattle.init.specs.declared.Start.{Start}
-use Rattle.init.specs.Judged.{startOf, startAnswer}
-use Rattle.init.specs.Cases.{Case, malformed, another, without-parameters, without-ack, plain, peer-clear, ours-clear, changed, wrong-ack, resumes}
-use Rattle.init.proofs.Cases.{cases}
-use Rattle.receive.specs.Labels.{labelEffect, isProtected, protectionRule, effectReception}
-use Rattle.receive.specs.Rule.{isFatal, messageRule, plainRule, isZero, inTurn, receptionRule, protectedRule, labelsRule, ackRule, ackOn, ftRule, readRule, receiveRule}
-use Rattle.ldp_ft.proofs.Named.{Named, none}
+use Rattle.message.specs.declared.Reading.{Reading}
+use Rattle.message.specs.Reading.{readingOf}
+use Rattle.protocol.specs.declared.Answer.{Answer}
+use Rattle.protocol.specs.declared.Phase.{Phase}
+use Rattle.protocol.specs.declared.Start.{Start}
+use Rattle.protocol.specs.Calls.{Call, formats, restores, fails, opens, greets, passes, submits, sends, keeps-alive, receives, step}
+use Rattle.protocol.specs.Cases.{Case, wrong-phase, malformed, an-init, fatal, ft-tlv, passed-on, zero-number, wrong-ack, missing, wrong, out-of-turn, no-word, taken}
+use Rattle.protocol.specs.Init.{startAnswer}
+use Rattle.protocol.specs.InitCases.{StartCase, unread, another-type, without-parameters, without-ack, without-session, peer-clear, ours-clear, parameters-changed, sequence-error, resumes}
+use Rattle.protocol.specs.Judged.{judged}
+use Rattle.protocol.specs.KeepAlive.{aliveBytes}
+use Rattle.protocol.specs.Open.{openBytes}
+use Rattle.protocol.specs.Phases.{connected, waiting, mayOpen, awaits, isUp, isUpFT, sentOf, proposalOf}
+use Rattle.protocol.specs.Send.{sendBytes, sendRule}
+use Rattle.protocol.specs.State.{State, held}
+use Rattle.protocol.specs.Step.{roomFor}
+use Rattle.protocol.specs.SubmitCases.{SubmitCase, not-kept, too-short, too-long, malformed-submission, not-sent, still-held, code-forbids, no-free-word, store-full, queues}
+use Rattle.protocol.proofs.Cases.{cases}
+use Rattle.protocol.proofs.InitCases.{start-cases}
+use Rattle.protocol.proofs.Settles.{step-answer}
+use Rattle.protocol.proofs.SubmitCases.{submit-cases}
+use Rattle.ldp_ft.proofs.Named.{Named, none, admitted-named}
 
-pub room-named : (bytes : List ℕ) (room : ℕ) → Named (roomFor bytes room)
+room-named : (bytes : List ℕ) (room : ℕ) → Named (roomFor bytes room)
 room-named bytes room = pick-all Named (ltb room (length bytes)) none none
 
-pub submit-named : (s : State) (m : List ℕ) → Named (submitRule s m)
-unfolding submitRule kindRule
-submit-named s m =
-    pick-all Named (eqb (s .header .kept) 1)
-    (pick-all Named (both (leb shortest (length m)) (leb (length m) longest)) (judged (submissionOf m)) none)
-    none
-  where
-    accepted : (a : Acceptance) → Named (acceptanceRule s a)
-    accepted Acceptance.Taken = pick-all Named (ltb (s .header .held) slotCount) none none
-    accepted Acceptance.NotAllowed = none
-    accepted Acceptance.NoRoom = none
+may-named : (may : Bool) (a : Answer) → Named a → Named (pick (not may) Answer.WrongPhase a)
+may-named may a n = pick-all Named (not may) none n
 
-    judged : (q : Submission) → Named (submissionRule s q)
-    judged Submission.Malformed = none
-    judged Submission.Refused = none
-    judged (Submission.Accepted kind label) = pick-all Named (isBarred (s .queue) kind label) none (accepted (acceptedAs (s .labels) kind label .0))
-
-pub send-named : (s : State) (ph : Phase) (a : Answer) → Named a → Named (sendRule s ph a)
+send-named : (s : State) (ph : Phase) (a : Answer) → Named a → Named (sendRule s ph a)
 unfolding sendRule
-send-named s ph a n = pick-all Named (isUpFT ph) (pick-all Named (ltb (sentOf ph) (s .header .held)) n none) none
+send-named s ph a n = may-named (isUpFT ph) _ (pick-all Named (leb (held s) (sentOf ph)) none n)
 
-case-named : {h : Header} {p : ℕ} {rd : Reading} {st : Start} → Case h p rd st → Named (startAnswer st)
-case-named malformed = none
-case-named (another i) = none
-case-named (without-parameters i e) = none
-case-named (without-ack i s e) = none
-case-named (plain i e) = none
-case-named (peer-clear i e) = none
-case-named (ours-clear i s e k) = none
-case-named (changed b e) = none
-case-named (wrong-ack b e q) = none
-case-named (resumes b e q) = none
+submit-named : {s : State} {m : List ℕ} {a : Answer} → SubmitCase s m a → Named a
+submit-named (not-kept k) = none
+submit-named (too-short k l) = none
+submit-named (too-long k l) = none
+submit-named (malformed-submission f e) = none
+submit-named (not-sent f e) = none
+submit-named (still-held f e b) = none
+submit-named (code-forbids u e) = none
+submit-named (no-free-word u e) = none
+submit-named (store-full u e l) = none
+submit-named (queues u e l) = none
 
-pub start-named : (h : Header) (p : ℕ) (rd : Reading) → Named (startAnswer (startOf h p rd))
-start-named h p rd = case-named (cases h p rd)
+start-named : {s : State} {p : ℕ} {rd : Reading} {st : Start} → StartCase s p rd st → Named (startAnswer st)
+start-named unread = none
+start-named (another-type i) = none
+start-named (without-parameters i e) = none
+start-named (without-ack i e a) = none
+start-named (without-session i e) = none
+start-named (peer-clear i e) = none
+start-named (ours-clear i e a k) = none
+start-named (parameters-changed b e) = none
+start-named (sequence-error b e q) = none
+start-named (resumes b e q) = none
 
-message-named : (g : Message) (a : Answer) → Named a → Named (messageRule g a)
-unfolding messageRule
-message-named g a n = pick-all Named (isInit (g .typename)) none (pick-all Named (isFatal (g .status)) none n)
+receive-named : {s : State} {ph : Phase} {rd : Reading} {a : Answer} → Case s ph rd a → Named a
+receive-named (wrong-phase m) = none
+receive-named (malformed m) = none
+receive-named (an-init m i) = none
+receive-named (fatal m i e) = none
+receive-named (ft-tlv h e) = none
+receive-named (passed-on h e) = none
+receive-named (zero-number h e) = none
+receive-named (wrong-ack h z e) = none
+receive-named (missing a e) = none
+receive-named (wrong a e) = none
+receive-named (out-of-turn p e) = none
+receive-named (no-word t e) = none
+receive-named (taken t) = none
 
-labels-named : (ls : List ℕ) (s : ℕ) (g : Message) → Named (labelsRule ls s g)
-unfolding labelsRule
-labels-named ls s g = judged (protectionRule ls g)
-  where
-    taken : (r : Reception) → Named (receptionRule r)
-    taken Reception.Taken = none
-    taken Reception.NoRoom = none
+judged-named : (c : Call) (s : State) (ph : Phase) (room : ℕ) → Named (judged c s ph room)
+unfolding judged
+judged-named formats s ph room = none
+judged-named restores s ph room = none
+judged-named fails s ph room = admitted-named s ph _ (may-named (connected ph) Answer.Done none)
+judged-named (opens id own proposal) s ph room = admitted-named s ph _ (may-named (mayOpen ph) _ (room-named (openBytes s id own proposal) room))
+judged-named (greets m) s ph room = admitted-named s ph _ (may-named (awaits ph) _ (start-named (start-cases s (proposalOf ph) (readingOf m))))
+judged-named (passes elapsed) s ph room = admitted-named s ph _ (may-named (waiting ph) Answer.Done none)
+judged-named (submits m) s ph room = admitted-named s ph _ (submit-named (submit-cases s m))
+judged-named (sends ask) s ph room = admitted-named s ph _ (send-named s ph _ (room-named (sendBytes s (sentOf ph) ask) room))
+judged-named (keeps-alive id) s ph room = admitted-named s ph _ (may-named (isUp ph) _ (room-named (aliveBytes s ph id) room))
+judged-named (receives m) s ph room = admitted-named s ph _ (receive-named (cases s ph (readingOf m)))
 
-    judged : (p : Protection) → Named (protectedRule ls s g p)
-    judged Protection.Missing = none
-    judged Protection.Wrong = none
-    judged Protection.Right = pick-all Named (inTurn s (g .protection)) (taken (effectReception ls (isProtected (g .protection)) (labelEffect g))) none
-
-ft-named : (s : State) (g : Message) → Named (ftRule s g)
-unfolding ftRule
-ft-named s g = message-named g _ (pick-all Named (isZero (g .protection)) none (acked (ackOn (s .header) g)))
-  where
-    acked : (a : Ack) → Named (ackRule s g a)
-    acked (Ack.Releases k) = labels-named _ (s .header .secured .0) g
-    acked Ack.SequenceError = none
-
-read-named : (rd : Reading) (rule : Message → Answer) → ((g : Message) → Named (rule g)) → Named (readRule rd rule)
-read-named Reading.Malformed rule n = none
-read-named (Reading.Whole g) rule n = n g
-
-pub receive-named : (s : State) (ph : Phase) (rd : Reading) → Named (receiveRule s ph rd)
-receive-named s Phase.Idle rd = none
-receive-named s (Phase.InitWait t) rd = none
-receive-named s (Phase.UpFT sent) rd = read-named rd (ftRule s) (ft-named s)
-receive-named s Phase.UpPlain rd = read-named rd plainRule (λ g. message-named g _ (pick-all Named (bearsFt (g .found)) none none))
-receive-named s Phase.Failed rd = none
+pub step-named : (c : Call) (s : State) (ph : Phase) (room : ℕ) → Named (step c s ph room .answer)
+step-named c s ph room = rw (step-answer c s ph room) (judged-named c s ph room)

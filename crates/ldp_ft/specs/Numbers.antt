@@ -5,18 +5,14 @@ use lib.Dec.{ltb}
 use lib.IntN.{pos}
 use lib.ListN.{getD}
 use Rattle.octets.specs.Pick.{pick}
-use Rattle.ft_number.specs.declared.Distance
-use Rattle.ft_number.specs.declared.Distance.{Distance}
-use Rattle.block.specs.declared.BlockCheck
 use Rattle.block.specs.declared.BlockCheck.{BlockCheck}
+use Rattle.ft_number.specs.declared.Distance.{Distance}
 use Rattle.label_list.specs.Word.{wordCount}
+use Rattle.image.specs.declared.Verdict.{Verdict}
 use Rattle.image.specs.State.{decode}
 use Rattle.image.specs.Verdict.{verdict}
-use Rattle.image.specs.declared.Verdict
-use Rattle.image.specs.declared.Verdict.{Verdict}
-use Rattle.calls.specs.declared.Answer
-use Rattle.calls.specs.declared.Answer.{Answer}
-use Rattle.calls.specs.Answers.{answerNumber}
+use Rattle.protocol.specs.declared.Answer.{Answer}
+use Rattle.protocol.specs.Answers.{answerNumber}
 use Rattle.ldp_ft.specs.declared.DistanceNumbers.{DistanceNumbers}
 
 -- "answer 0 or 2; steps 0 with 2"

@@ -3,26 +3,18 @@ use Prim.Native.Nat.{ℕ, _+_, _≤_}
 use mathlib.Core.Bool.{true, false}
 use lib.Dec.{eqb, ltb}
 use Rattle.octets.specs.Pick.{pick}
-use Rattle.pdu.specs.declared.Opened
 use Rattle.pdu.specs.declared.Opened.{Opened}
-use Rattle.pdu.specs.declared.Place
 use Rattle.pdu.specs.declared.Place.{Place}
-use Rattle.tlv.specs.declared.Field
 use Rattle.tlv.specs.declared.Field.{Field}
 use Rattle.tlv.specs.declared.Found.{Found}
-use Rattle.tlv.specs.declared.FtField
 use Rattle.tlv.specs.declared.FtField.{FtField}
-use Rattle.tlv.specs.declared.Parameters
 use Rattle.tlv.specs.declared.Parameters.{Parameters}
-use Rattle.tlv.specs.declared.Session
 use Rattle.tlv.specs.declared.Session.{Session}
-use Rattle.message.specs.Kinds.{kindOf, kindNumber}
 use Rattle.message.specs.declared.Message.{Message}
-use Rattle.message.specs.declared.Reading
 use Rattle.message.specs.declared.Reading.{Reading}
-use Rattle.calls.specs.declared.Answer
-use Rattle.calls.specs.declared.Answer.{Answer}
-use Rattle.calls.specs.Answers.{answerNumber}
+use Rattle.message.specs.Kinds.{kindOf, kindNumber}
+use Rattle.protocol.specs.declared.Answer.{Answer}
+use Rattle.protocol.specs.Answers.{answerNumber}
 use Rattle.ldp_ft.specs.declared.MessageNumbers.{MessageNumbers}
 use Rattle.ldp_ft.specs.declared.PartNumbers.{PartNumbers}
 use Rattle.ldp_ft.specs.declared.PduNumbers.{PduNumbers}

@@ -5,31 +5,29 @@ use mathlib.Core.List.{List, [], _∷_}
 use lib.Dec.{ltb}
 use Rattle.octets.specs.Pick.{pick}
 use Rattle.tlv.specs.Table.{lookup}
-use Rattle.calls.specs.declared.Effect
-use Rattle.calls.specs.declared.Effect.{Effect}
-use Rattle.calls.specs.declared.Phase
-use Rattle.calls.specs.declared.Phase.{Phase}
-use Rattle.ldp_ft.specs.declared.Given
+use Rattle.protocol.specs.declared.Effect.{Effect}
+use Rattle.protocol.specs.declared.Phase.{Phase}
+use Rattle.protocol.specs.Phases.{waitingFor, upWith}
 use Rattle.ldp_ft.specs.declared.Given.{Given}
 use Rattle.ldp_ft.specs.declared.SessionNumbers.{SessionNumbers}
 
 -- the numbers of a phase
 abbrev pub sessionOf : Phase → SessionNumbers
 sessionOf Phase.Idle = record { phase = 0; value = 0 }
-sessionOf (Phase.InitWait seconds) = record { phase = 1; value = seconds }
-sessionOf (Phase.UpFT sent) = record { phase = 2; value = sent }
+sessionOf (Phase.InitWait v) = record { phase = 1; value = v .timeout }
+sessionOf (Phase.UpFT u) = record { phase = 2; value = u .sent }
 sessionOf Phase.UpPlain = record { phase = 3; value = 0 }
 sessionOf Phase.Failed = record { phase = 4; value = 0 }
 
 -- "A phase above 4, or InitWait with a value above 65,535, is a phase the image rules out"
 unfoldable pub awaitingOf : ℕ → Given
-awaitingOf value = pick (ltb 65535 value) Given.Unknown (Given.Known (Phase.InitWait value))
+awaitingOf value = pick (ltb 65535 value) Given.Unknown (Given.Known (waitingFor value))
 
 abbrev pub phases : ℕ → List (ℕ × Given)
 phases value =
     (0, Given.Known Phase.Idle)
     ∷ (1, awaitingOf value)
-    ∷ (2, Given.Known (Phase.UpFT value))
+    ∷ (2, Given.Known (upWith value))
     ∷ (3, Given.Known Phase.UpPlain)
     ∷ (4, Given.Known Phase.Failed)
     ∷ []
@@ -48,7 +46,7 @@ sessionLeft Effect.Act s ph = sessionOf ph
 -- a proposed timeout has 16 bits; no other phase bears one
 abbrev pub Fits16 : Phase → Type 0
 Fits16 Phase.Idle = Unit {0}
-Fits16 (Phase.InitWait seconds) = seconds ≤ 65535
-Fits16 (Phase.UpFT sent) = Unit {0}
+Fits16 (Phase.InitWait v) = v .timeout ≤ 65535
+Fits16 (Phase.UpFT u) = Unit {0}
 Fits16 Phase.UpPlain = Unit {0}
 Fits16 Phase.Failed = Unit {0}

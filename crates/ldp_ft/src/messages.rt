@@ -1,6 +1,6 @@
 // PDUs and messages, read.
-ghost use mathlib.Core.Path.{_≡_};
 ghost use Prim.Native.Nat.{_≤_};
+ghost use mathlib.Core.Path.{_≡_};
 ghost use Rattle.pdu.specs.Pdu.{placeOf, openedOf};
 ghost use Rattle.message.specs.Reading.{readingOf};
 ghost use Rattle.ldp_ft.specs.Reading.{pduNumbers, partOf, partNumbers, messageNumbers};
@@ -13,7 +13,7 @@ use pdu::Opened;
 use pdu::Place;
 use tlv::walk::Walk;
 
-// A whole PDU, judged.
+// A whole PDU, judged: 0 and the count of its messages, or 4 and 0.
 #[no_mangle]
 pub extern "C" fn ldp_ft_pdu_open(pdu: &[u8]) -> PduNumbers
     ensures { λ r. ⌜ r ≡ pduNumbers (openedOf (now (pdu .entry))) ⌝ }
@@ -49,7 +49,7 @@ fn part_numbers(start: usize, end: usize) -> PartNumbers
     }
 }
 
-// Where the message lies that starts at `at`.
+// Where the message lies that starts at `at`: 0 and its place, or 4 and zeros; 4 too where 32 bits do not name its end.
 #[no_mangle]
 pub extern "C" fn ldp_ft_pdu_message(pdu: &[u8], at: usize) -> PartNumbers
     ensures { λ r. ⌜ r ≡ partNumbers (placeOf (now (pdu .entry)) at) ⌝ }
@@ -64,7 +64,7 @@ pub extern "C" fn ldp_ft_pdu_message(pdu: &[u8], at: usize) -> PartNumbers
     }
 }
 
-// A message, read.
+// A message, read: each field, 0 where it is not borne; 22 and zeros where malformed.
 #[no_mangle]
 pub extern "C" fn ldp_ft_message_read(msg: &[u8]) -> MessageNumbers
     ensures { λ r. ⌜ r ≡ messageNumbers (readingOf (now (msg .entry))) ⌝ }

@@ -8,7 +8,7 @@ use crate::DistanceNumbers;
 use ft_number::Distance;
 use ft_number::FtNumber;
 
-// The shorter way from one number to another.
+// The shorter way from one number to another; 2 and 0 where one is zero.
 #[no_mangle]
 pub extern "C" fn ldp_ft_distance(from: u32, to: u32) -> DistanceNumbers
     ensures { λ r. ⌜ r ≡ distanceNumbers (distanceOf from to) ⌝ }

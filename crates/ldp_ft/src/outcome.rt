@@ -1,7 +1,7 @@
 // An outcome as numbers.
-ghost use mathlib.Core.Path.{_≡_};
 ghost use Prim.Native.Nat.{_≤_};
-ghost use Rattle.calls.specs.Answers.{answerBlock};
+ghost use mathlib.Core.Path.{_≡_};
+ghost use Rattle.protocol.specs.Answers.{answerBlock};
 ghost use Rattle.ldp_ft.specs.Outcome.{bitOf, Narrow, numbersOf, unknownPhase};
 use crate::OutcomeNumbers;
 use crate::SessionNumbers;

@@ -5,6 +5,8 @@ use crate::Given;
 use crate::SessionNumbers;
 use calls::Effect;
 use calls::Phase;
+use calls::Progress;
+use calls::Waiting;
 
 // The numbers of a phase.
 pub fn session_of(phase: Phase) -> SessionNumbers
@@ -12,13 +14,13 @@ pub fn session_of(phase: Phase) -> SessionNumbers
 {
     match phase {
         Phase::Idle => SessionNumbers { phase: 0, value: 0 },
-        Phase::InitWait(seconds) => SessionNumbers {
+        Phase::InitWait(v) => SessionNumbers {
             phase: 1,
-            value: seconds as u32,
+            value: v.timeout as u32,
         },
-        Phase::UpFT(sent) => SessionNumbers {
+        Phase::UpFT(u) => SessionNumbers {
             phase: 2,
-            value: sent,
+            value: u.sent,
         },
         Phase::UpPlain => SessionNumbers { phase: 3, value: 0 },
         Phase::Failed => SessionNumbers { phase: 4, value: 0 },
@@ -31,7 +33,9 @@ fn awaiting(value: u32) -> Given
     if 65535 < value {
         return Given::Unknown;
     }
-    Given::Known(Phase::InitWait(value as u16))
+    Given::Known(Phase::InitWait(Waiting {
+        timeout: value as u16,
+    }))
 }
 
 // The phase that the numbers stand for.
@@ -42,7 +46,7 @@ pub fn phase_given(s: SessionNumbers) -> Given
     match phase {
         0 => Given::Known(Phase::Idle),
         1 => awaiting(s.value),
-        2 => Given::Known(Phase::UpFT(s.value)),
+        2 => Given::Known(Phase::UpFT(Progress { sent: s.value })),
         3 => Given::Known(Phase::UpPlain),
         4 => Given::Known(Phase::Failed),
         _ => Given::Unknown,

@@ -1,13 +1,13 @@
 // A session that has begun: messages submitted, sent and received, KeepAlives, and the two events.
-ghost use mathlib.Core.Path.{_≡_};
 ghost use mathlib.Core.List.{[]};
+ghost use mathlib.Core.Path.{_≡_};
 ghost use Rattle.connect.specs.Writers.{keepaliveOf};
+ghost use Rattle.receive.specs.Call.{receiveOf};
+ghost use Rattle.send.specs.Send.{sendOf};
+ghost use Rattle.submit.specs.Call.{submitOf};
 ghost use Rattle.timers.specs.Events.{connectionFailedOf, timePassedOf};
-ghost use Rattle.submit.specs.Act.{submitOf};
-ghost use Rattle.send.specs.Rule.{sendOf};
-ghost use Rattle.receive.specs.Rule.{receiveOf};
-ghost use Rattle.ldp_ft.specs.Outcome.{shown, called};
 ghost use Rattle.ldp_ft.specs.Opening.{idOf};
+ghost use Rattle.ldp_ft.specs.Outcome.{shown, called};
 use crate::Given;
 use crate::OutcomeNumbers;
 use crate::SessionNumbers;
@@ -23,7 +23,7 @@ pub extern "C" fn ldp_ft_connection_failed(image: &mut [u8], s: SessionNumbers) 
 {
     match phase_given(s) {
         Given::Known(phase) => {
-            let o = session::connection_failed(image, phase);
+            let o = timers::connection_failed(image, phase);
             outcome_numbers(s, o)
         }
         Given::Unknown => refuse_unknown(image, s),
@@ -41,7 +41,7 @@ pub extern "C" fn ldp_ft_time_passed(
 {
     match phase_given(s) {
         Given::Known(phase) => {
-            let o = session::time_passed(image, phase, elapsed);
+            let o = timers::time_passed(image, phase, elapsed);
             outcome_numbers(s, o)
         }
         Given::Unknown => refuse_unknown(image, s),
@@ -55,7 +55,7 @@ pub extern "C" fn ldp_ft_submit(image: &mut [u8], s: SessionNumbers, msg: &[u8])
 {
     match phase_given(s) {
         Given::Known(phase) => {
-            let o = session::submit(image, phase, msg);
+            let o = submit::submit(image, phase, msg);
             outcome_numbers(s, o)
         }
         Given::Unknown => refuse_unknown(image, s),
@@ -74,7 +74,7 @@ pub extern "C" fn ldp_ft_send_next(
 {
     match phase_given(s) {
         Given::Known(phase) => {
-            let o = session::send_next(image, phase, ack, out);
+            let o = send::send_next(image, phase, ack, out);
             outcome_numbers(s, o)
         }
         Given::Unknown => refuse_unknown(image, s),
@@ -93,7 +93,7 @@ pub extern "C" fn ldp_ft_keepalive(
 {
     match phase_given(s) {
         Given::Known(phase) => {
-            let o = session::keepalive(image, phase, MessageId(id), out);
+            let o = connect::keepalive(image, phase, MessageId(id), out);
             outcome_numbers(s, o)
         }
         Given::Unknown => refuse_unknown(image, s),
@@ -107,7 +107,7 @@ pub extern "C" fn ldp_ft_receive(image: &mut [u8], s: SessionNumbers, msg: &[u8]
 {
     match phase_given(s) {
         Given::Known(phase) => {
-            let o = session::receive(image, phase, msg);
+            let o = receive::receive(image, phase, msg);
             outcome_numbers(s, o)
         }
         Given::Unknown => refuse_unknown(image, s),

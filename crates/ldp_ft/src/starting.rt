@@ -1,11 +1,11 @@
 // How a session begins: a new image, a restored one, our Init and the peer's.
-ghost use mathlib.Core.Path.{_≡_};
 ghost use mathlib.Core.List.{[]};
+ghost use mathlib.Core.Path.{_≡_};
 ghost use Rattle.connect.specs.Start.{formatOf, restoreOf};
 ghost use Rattle.connect.specs.Writers.{openOf};
-ghost use Rattle.init.specs.Begun.{initReceivedOf};
-ghost use Rattle.ldp_ft.specs.Outcome.{shown, shownFrom, idle, called};
+ghost use Rattle.init.specs.Received.{initReceivedOf};
 ghost use Rattle.ldp_ft.specs.Opening.{idOf, parametersOf, proposalOf};
+ghost use Rattle.ldp_ft.specs.Outcome.{shown, shownFrom, idle, called};
 use crate::Given;
 use crate::OutcomeNumbers;
 use crate::SessionNumbers;
@@ -23,7 +23,7 @@ use message_writer::OwnParameters;
 pub extern "C" fn ldp_ft_format(image: &mut [u8]) -> OutcomeNumbers
     ensures { λ r. ⌜ shown r (now (image .exit)) [] ≡ shownFrom idle (formatOf (now (image .entry))) ⌝ }
 {
-    let o = session::format(image);
+    let o = connect::format(image);
     outcome_numbers(session_of(Phase::Idle), o)
 }
 
@@ -32,7 +32,7 @@ pub extern "C" fn ldp_ft_format(image: &mut [u8]) -> OutcomeNumbers
 pub extern "C" fn ldp_ft_restore(image: &mut [u8]) -> OutcomeNumbers
     ensures { λ r. ⌜ shown r (now (image .exit)) [] ≡ shownFrom idle (restoreOf (now (image .entry))) ⌝ }
 {
-    let o = session::restore(image);
+    let o = connect::restore(image);
     outcome_numbers(session_of(Phase::Idle), o)
 }
 
@@ -70,7 +70,7 @@ pub extern "C" fn ldp_ft_open(
     let proposal = proposal_of(given, seconds);
     match phase_given(s) {
         Given::Known(phase) => {
-            let o = session::open_session(image, phase, MessageId(id), parameters, proposal, out);
+            let o = connect::open_session(image, phase, MessageId(id), parameters, proposal, out);
             outcome_numbers(s, o)
         }
         Given::Unknown => refuse_unknown(image, s),
@@ -88,7 +88,7 @@ pub extern "C" fn ldp_ft_init_received(
 {
     match phase_given(s) {
         Given::Known(phase) => {
-            let o = session::init_received(image, phase, msg);
+            let o = init::init_received(image, phase, msg);
             outcome_numbers(s, o)
         }
         Given::Unknown => refuse_unknown(image, s),

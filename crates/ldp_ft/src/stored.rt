@@ -7,7 +7,7 @@ use block::BlockCheck;
 // What stands for no number: no check and no label word is so large.
 const NONE: u32 = 4294967295;
 
-// The check of a block's first 508 bytes.
+// The check of a block's first 508 bytes; 0xFFFFFFFF where there are fewer.
 #[no_mangle]
 pub extern "C" fn ldp_ft_block_check(block: &[u8]) -> u32
     ensures { λ r. ⌜ r ≡ checkNumber (blockCheckOf (now (block .entry))) ⌝ }
@@ -18,7 +18,7 @@ pub extern "C" fn ldp_ft_block_check(block: &[u8]) -> u32
     }
 }
 
-// A label word of an image that passes restore's checks.
+// A label word of an image that passes restore's checks; 0xFFFFFFFF where they refuse, or there is no such place.
 #[no_mangle]
 pub extern "C" fn ldp_ft_label(image: &[u8], place: u32) -> u32
     ensures { λ r. ⌜ r ≡ labelAt (now (image .entry)) place ⌝ }

@@ -5,21 +5,17 @@ use mathlib.Core.List.{List, [], _∷_, map}
 use lib.IntN.{pos, negℤ}
 use lib.ListN.{replicate}
 use Rattle.octets.specs.Be.{bytes}
-use Rattle.ft_number.specs.Ack.{ackOf}
+use Rattle.block.specs.Check.{checkAt, checkOf}
+use Rattle.ft_number.specs.declared.Ack.{Ack}
+use Rattle.ft_number.specs.declared.Distance.{Distance}
 use Rattle.ft_number.specs.Distance.{distanceOf}
 use Rattle.ft_number.specs.Timeout.{lesserOf}
-use Rattle.ft_number.specs.declared.Ack
-use Rattle.ft_number.specs.declared.Ack.{Ack}
-use Rattle.ft_number.specs.declared.Distance
-use Rattle.ft_number.specs.declared.Distance.{Distance}
-use Rattle.tlv.specs.declared.FtField
 use Rattle.tlv.specs.declared.FtField.{FtField}
 use Rattle.message.specs.declared.Message.{Message}
 use Rattle.message_writer.specs.Forms.{sessionValue, sessionTlv, ftTlvs}
-use Rattle.block.specs.Check.{checkAt, checkOf}
-use Rattle.image.specs.State.{State}
-use Rattle.calls.specs.Answers.{answerNumber}
-use Rattle.receive.specs.Rule.{ackRule}
+use Rattle.protocol.specs.Answers.{answerNumber}
+use Rattle.protocol.specs.Receive.{ackOn, ackRule}
+use Rattle.protocol.specs.State.{State, withReleased, withIssued}
 
 -- what a case is about
 pub data Result : Type 0 where
@@ -36,11 +32,35 @@ pub record Marked : Type 0 where
 abbrev case : Result → Result → Marked
 case d p = record { defined = d; paper = p }
 
--- what acknowledging a does, with R=0xFFFFFFFE and I=1
-abbrev acks : ℕ → Ack
-acks a = ackOf 0xFFFFFFFE 1 a
+-- "R=0xFFFFFFFE, I=1", whatever else the state is
+abbrev between : State → State
+between s = withIssued (withReleased s (record { 0 = 0xFFFFFFFE })) (record { 0 = 1 })
 
--- s and g: an ACK that is a sequence error is answered so whatever the state and the rest of the message
+-- a message that acknowledges a, whatever else it bears
+abbrev bearing : Message → ℕ → Message
+bearing g a = record {
+  typename = g .typename;
+  typenumber = g .typenumber;
+  id = g .id;
+  found = g .found;
+  fec = g .fec;
+  fecvalue = g .fecvalue;
+  label = g .label;
+  status = g .status;
+  parameters = g .parameters;
+  parametersvalue = g .parametersvalue;
+  session = g .session;
+  protection = g .protection;
+  ack = FtField.Number (record { 0 = a });
+}
+
+-- what acknowledging a does, and how a message is answered that is judged by its ACK
+abbrev acks : State → Message → ℕ → Ack
+acks s g a = ackOn (between s) (bearing g a)
+
+abbrev answered : State → Message → ℕ → ℕ
+answered s g a = answerNumber (ackRule (between s) (bearing g a) (acks s g a))
+
 abbrev pub cases : State → Message → List Marked
 cases s g =
     -- P1 to P3: "lesser of 0 and 5 is 5; 0 and 0 is 0; 65,535 and 0 is 65,535"
@@ -48,10 +68,10 @@ cases s g =
     ∷ case (seconds (lesserOf 0 0)) (seconds 0)
     ∷ case (seconds (lesserOf 65535 0)) (seconds 65535)
     -- P4 to P7: "ACK 1 releases 2; ACK 0 is 34; ACK 2 is 34; ACK 0xFFFFFFFE releases none"
-    ∷ case (acknowledges (acks 1)) (acknowledges (Ack.Releases 2))
-    ∷ case (answers (answerNumber (ackRule s g (acks 0)))) (answers 34)
-    ∷ case (answers (answerNumber (ackRule s g (acks 2)))) (answers 34)
-    ∷ case (acknowledges (acks 0xFFFFFFFE)) (acknowledges (Ack.Releases 0))
+    ∷ case (acknowledges (acks s g 1)) (acknowledges (Ack.Releases 2))
+    ∷ case (answers (answered s g 0)) (answers 34)
+    ∷ case (answers (answered s g 2)) (answers 34)
+    ∷ case (acknowledges (acks s g 0xFFFFFFFE)) (acknowledges (Ack.Releases 0))
     -- P8, P9: "Distance 0xFFFFFFFF to 1 is 1; 1 to 0x80000001 is -2,147,483,647"
     ∷ case (lies (distanceOf 0xFFFFFFFF 1)) (lies (Distance.Steps (pos 1)))
     ∷ case (lies (distanceOf 1 0x80000001)) (lies (Distance.Steps (negℤ (pos 2147483647))))

@@ -1,34 +1,29 @@
 -- What a whole reading and an accepted submission tell their callers. Assumes nothing.
 use Prim.Native.Nat.{ℕ, _+_, _≤_, _<_}
-use mathlib.Core.Path.{_≡_, refl, sym, _∙_, ap}
 use mathlib.Core.Bool.{Bool, true, false}
 use mathlib.Core.List.{List}
+use mathlib.Core.Path.{_≡_, refl, sym, _∙_, ap}
 use native.Mathlib.Omega.{arith}
-use borrow.Author.Tests.{eqb-true, not-false}
-use lib.ListN.{length}
 use lib.Dec.{eqb}
+use lib.ListN.{length}
+use borrow.Author.Tests.{eqb-true, not-false}
 use Rattle.octets.specs.Be.{beAt}
 use Rattle.octets.specs.Pick.{pick, both}
-use Rattle.tlv.specs.Tlv.{largestLabel}
-use Rattle.tlv.specs.Walk.{headSize, tlvsOf}
-use Rattle.tlv.specs.Value.{Places}
-use Rattle.tlv.specs.declared.Field
 use Rattle.tlv.specs.declared.Field.{Field}
 use Rattle.tlv.specs.declared.Found.{Found}
-use Rattle.tlv.specs.declared.walk.Walk
 use Rattle.tlv.specs.declared.walk.Walk.{Walk}
+use Rattle.tlv.specs.Tlv.{largestLabel}
+use Rattle.tlv.specs.Value.{Places}
+use Rattle.tlv.specs.Walk.{headSize, tlvsOf}
 use Rattle.tlv.proofs.Places.{whole-tlvs, found-lies, places}
 use Rattle.tlv.proofs.Values.{InMessage, part-in, field-low}
+use Rattle.message.specs.declared.Kind.{Kind}
+use Rattle.message.specs.declared.Message.{Message}
+use Rattle.message.specs.declared.Reading.{Reading}
+use Rattle.message.specs.declared.Submission.{Submission}
 use Rattle.message.specs.Kinds.{kindOf, kindNumber}
 use Rattle.message.specs.Reading.{typeOf, numberIn, idIn, bearsOf, placesBy, placesOf, messageOf, readingBy, readingOf}
 use Rattle.message.specs.Submission.{bearsFt, noLabel, labelledAs, acceptedAs, judged, submissionOf}
-use Rattle.message.specs.declared.Kind
-use Rattle.message.specs.declared.Kind.{Kind}
-use Rattle.message.specs.declared.Message.{Message}
-use Rattle.message.specs.declared.Reading
-use Rattle.message.specs.declared.Reading.{Reading}
-use Rattle.message.specs.declared.Submission
-use Rattle.message.specs.declared.Submission.{Submission}
 
 -- a message that is read whole
 pub record Whole (m : List ℕ) (g : Message) : Type 0 where
@@ -57,6 +52,7 @@ module _ (m : List ℕ) (g : Message) (e : readingOf m ≡ Reading.Whole g) wher
   pub whole-head : headSize ≤ length m
   whole-head = whole-tlvs m (g .found) (whole m g e .tlvs) .head
 
+  -- its length is that of the bytes after it
   pub whole-length : beAt 2 m 2 + 4 ≡ length m
   whole-length = whole-tlvs m (g .found) (whole m g e .tlvs) .adds
 
@@ -64,10 +60,12 @@ module _ (m : List ℕ) (g : Message) (e : readingOf m ≡ Reading.Whole g) wher
   pub whole-places : Places m (g .found)
   whole-places = places m (g .found) (whole m g e .tlvs)
 
+  -- its message ID is that of the head
   pub whole-id : g .id ≡ idIn m
   unfolding messageOf
   whole-id = ap (λ (x : Message). x .id) (whole m g e .is)
 
+  -- and so is its type number
   pub whole-number : g .typenumber ≡ numberIn m
   unfolding messageOf
   whole-number = ap (λ (x : Message). x .typenumber) (whole m g e .is)
@@ -77,6 +75,7 @@ module _ (m : List ℕ) (g : Message) (e : readingOf m ≡ Reading.Whole g) wher
   unfolding messageOf
   whole-fec = rw (ap (λ (x : Message). x .fecvalue) (whole m g e .is)) (part-in m (g .found .fec) (whole-places .fec))
 
+  -- so do the parameters
   pub whole-parameters : InMessage m (g .parametersvalue)
   unfolding messageOf
   whole-parameters = rw (ap (λ (x : Message). x .parametersvalue) (whole m g e .is)) (part-in m (g .found .parameters) (whole-places .parametersvalue))
@@ -146,6 +145,7 @@ pub record Accepted (m : List ℕ) (k : Kind) (l : ℕ) : Type 0 where
   pub kind : kindOf message ≡ k
   pub labelled : Labelled message k l
 
+-- a submission that is accepted: the message was read, bears no FT TLV, has that kind, and the label by the kind's number
 pub accepted : (m : List ℕ) (k : Kind) (l : ℕ) → submissionOf m ≡ Submission.Accepted k l → Accepted m k l
 unfolding submissionOf
 accepted m k l e = by-reading (readingOf m) refl e

@@ -1,22 +1,20 @@
 -- A message read, by the tests and the calls of the code. Assumes nothing.
 use Prim.Native.Nat.{ℕ, _≤_}
-use mathlib.Core.Path.{_≡_, refl, sym, _∙_, ap}
 use mathlib.Core.Bool.{Bool, true, false, not}
 use mathlib.Core.List.{List}
-use borrow.Author.Tests.{not-true, not-false}
+use mathlib.Core.Path.{_≡_, refl, sym, _∙_, ap}
 use lib.ListN.{length}
+use borrow.Author.Tests.{not-true, not-false}
 use Rattle.octets.proofs.Choice.{no, passed}
+use Rattle.tlv.specs.declared.Found.{Found}
+use Rattle.tlv.specs.declared.walk.Walk.{Walk}
 use Rattle.tlv.specs.Value.{Places}
 use Rattle.tlv.specs.Walk.{headSize, tlvsOf}
-use Rattle.message.specs.Reading.{typeOf, numberIn, bearsOf, placesBy, placesOf, messageOf, readingBy, readingOf}
-use Rattle.tlv.specs.declared.Found.{Found}
+use Rattle.tlv.proofs.Places.{places}
 use Rattle.message.specs.declared.Message.{Message}
 use Rattle.message.specs.declared.MessageType.{MessageType}
-use Rattle.message.specs.declared.Reading
 use Rattle.message.specs.declared.Reading.{Reading}
-use Rattle.tlv.specs.declared.walk.Walk
-use Rattle.tlv.specs.declared.walk.Walk.{Walk}
-use Rattle.tlv.proofs.Places.{places}
+use Rattle.message.specs.Reading.{typeOf, numberIn, bearsOf, placesBy, placesOf, messageOf, readingBy, readingOf}
 
 -- the places of a well-formed message's TLVs
 module _ (m : List ℕ) (w : Walk) (wq : w ≡ tlvsOf m) where

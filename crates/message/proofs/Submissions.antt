@@ -1,31 +1,27 @@
 -- A message's kind and a submission judged, by the tests and the calls of the code. Assumes nothing.
 use Prim.Native.Nat.{ℕ, _+_, _≤_, _<_, _^_}
-use mathlib.Core.Path.{_≡_, refl, sym, _∙_}
 use mathlib.Core.Bool.{Bool, true, false, not}
 use mathlib.Core.List.{List}
+use mathlib.Core.Path.{_≡_, refl, sym, _∙_}
 use native.Mathlib.Omega.{arith}
+use lib.Dec.{eqb, ltb}
+use lib.ListN.{length}
+use borrow.Author.Tests.{eq-eqb, ne-eqb, lt-ltb, le-ltb, not-true, not-false}
 use mir.Syntax.{w64}
 use mir.Val.{Fits}
-use borrow.Author.Tests.{eq-eqb, ne-eqb, lt-ltb, le-ltb, not-true, not-false}
-use lib.ListN.{length}
-use lib.Dec.{eqb, ltb}
 use Rattle.octets.specs.Be.{beAt}
 use Rattle.octets.specs.Pick.{pick}
-use Rattle.message.specs.Kinds.{fatalOf, codeOf, resourcesAvailable, notificationKind, kindFor, kindOf, kindNumber}
-use Rattle.message.specs.Reading.{typeOf, numberIn, bearsOf, placesOf, messageOf, readingOf}
-use Rattle.message.specs.Submission.{bearsFt, noLabel, labelledAs, acceptedAs, submissionOf}
-use Rattle.tlv.specs.declared.Field
 use Rattle.tlv.specs.declared.Field.{Field}
 use Rattle.tlv.specs.declared.Found.{Found}
-use Rattle.tlv.specs.declared.walk.Walk
 use Rattle.tlv.specs.declared.walk.Walk.{Walk}
 use Rattle.tlv.specs.Value.{Within, fieldAt}
 use Rattle.tlv.specs.Walk.{tlvsOf}
-use Rattle.message.specs.declared.Kind
 use Rattle.message.specs.declared.Kind.{Kind}
 use Rattle.message.specs.declared.MessageType.{MessageType}
-use Rattle.message.specs.declared.Submission
 use Rattle.message.specs.declared.Submission.{Submission}
+use Rattle.message.specs.Kinds.{fatalOf, codeOf, resourcesAvailable, notificationKind, kindFor, kindOf, kindNumber}
+use Rattle.message.specs.Reading.{typeOf, numberIn, bearsOf, placesOf, messageOf, readingOf}
+use Rattle.message.specs.Submission.{bearsFt, noLabel, labelledAs, acceptedAs, submissionOf}
 use Rattle.message.proofs.Readings.{tlvs-head, tlvs-places}
 
 -- the kind of a Notification

@@ -1,25 +1,20 @@
 -- The numbers that a message of bytes bears have their widths. Assumes nothing.
-use mathlib.Core.Path.{_≡_}
+use Prim.Native.Nat.{ℕ, _<_}
 use mathlib.Core.Bool.{Bool}
 use mathlib.Core.List.{List}
-use Prim.Native.Nat.{ℕ, _<_}
+use mathlib.Core.Path.{_≡_}
 use Rattle.octets.specs.Bytes.{Bytes}
 use Rattle.octets.proofs.Choice.{no}
 use Rattle.ft_number.specs.declared.FtNumber.{FtNumber}
 use Rattle.tlv.specs.declared.Found.{Found}
-use Rattle.tlv.specs.declared.FtField
 use Rattle.tlv.specs.declared.FtField.{FtField}
-use Rattle.tlv.specs.declared.Parameters
 use Rattle.tlv.specs.declared.Parameters.{Parameters}
-use Rattle.tlv.specs.declared.Session
 use Rattle.tlv.specs.declared.Session.{Session}
-use Rattle.tlv.specs.declared.walk.Walk
 use Rattle.tlv.specs.declared.walk.Walk.{Walk}
 use Rattle.tlv.proofs.Values.{number-width, parameters-width, session-width}
-use Rattle.message.specs.Reading.{placesOf, messageOf, readingBy, readingOf}
 use Rattle.message.specs.declared.Message.{Message}
-use Rattle.message.specs.declared.Reading
 use Rattle.message.specs.declared.Reading.{Reading}
+use Rattle.message.specs.Reading.{placesOf, messageOf, readingBy, readingOf}
 
 pub record Widths (g : Message) : Type 0 where
   pub ack : (a : FtNumber) → g .ack ≡ FtField.Number a → a .0 < 4294967296

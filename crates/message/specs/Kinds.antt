@@ -5,13 +5,10 @@ use Prim.Native.Nat.{ℕ, _%_}
 use mathlib.Core.Bool.{Bool}
 use lib.Dec.{eqb}
 use Rattle.octets.specs.Pick.{pick}
-use Rattle.tlv.specs.Value.{topBit}
-use Rattle.tlv.specs.declared.Field
 use Rattle.tlv.specs.declared.Field.{Field}
-use Rattle.message.specs.declared.Kind
+use Rattle.tlv.specs.Value.{topBit}
 use Rattle.message.specs.declared.Kind.{Kind}
 use Rattle.message.specs.declared.Message.{Message}
-use Rattle.message.specs.declared.MessageType
 use Rattle.message.specs.declared.MessageType.{MessageType}
 
 -- the number of a kind in the stored image; 0 is no kind

@@ -1,3 +1,4 @@
 pub mod Reading
 pub mod Kinds
 pub mod Submission
+pub mod Storable

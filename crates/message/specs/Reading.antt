@@ -1,23 +1,20 @@
 -- What a message is: malformed, or its type, its message ID and what its TLVs say.
 -- 01: "Message: U bit and type (2), length (2, bytes after it), message ID (4), TLVs."
 use Prim.Native.Nat.{ℕ, _%_}
-use mathlib.Core.List.{List, [], _∷_}
 use mathlib.Core.Bool.{Bool, true, not}
+use mathlib.Core.List.{List, [], _∷_}
 use lib.Dec.{eqb}
 use Rattle.octets.specs.Be.{beAt}
 use Rattle.octets.specs.Pick.{pick, both}
 use Rattle.ft_number.specs.declared.MessageId.{MessageId}
-use Rattle.tlv.specs.Table.{lookup}
-use Rattle.tlv.specs.Walk.{tlvsOf}
-use Rattle.tlv.specs.Value.{partAt, fecAt, fieldAt, numberAt, parametersAt, sessionAt}
 use Rattle.tlv.specs.declared.Found.{Found}
-use Rattle.message.specs.declared.Message.{Message}
-use Rattle.message.specs.declared.MessageType
-use Rattle.message.specs.declared.MessageType.{MessageType}
-use Rattle.message.specs.declared.Reading
-use Rattle.message.specs.declared.Reading.{Reading}
-use Rattle.tlv.specs.declared.walk.Walk
 use Rattle.tlv.specs.declared.walk.Walk.{Walk}
+use Rattle.tlv.specs.Table.{lookup}
+use Rattle.tlv.specs.Value.{partAt, fecAt, fieldAt, numberAt, parametersAt, sessionAt}
+use Rattle.tlv.specs.Walk.{tlvsOf}
+use Rattle.message.specs.declared.Message.{Message}
+use Rattle.message.specs.declared.MessageType.{MessageType}
+use Rattle.message.specs.declared.Reading.{Reading}
 
 abbrev pub initializationNumber : ℕ
 initializationNumber = 0x0200

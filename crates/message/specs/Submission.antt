@@ -1,21 +1,17 @@
 -- Submit's answers 4 and 5 as one judgement.
 -- 01: "4: malformed submission or PDU. 5: submitted kind not 1 to 6, FT TLV present, or kinds 1-3 without a label".
 use Prim.Native.Nat.{ℕ}
-use mathlib.Core.List.{List}
 use mathlib.Core.Bool.{Bool, not}
+use mathlib.Core.List.{List}
 use lib.Dec.{eqb}
 use Rattle.octets.specs.Pick.{pick, both}
-use Rattle.message.specs.Kinds.{kindOf}
-use Rattle.message.specs.Reading.{readingOf}
-use Rattle.tlv.specs.declared.Field
 use Rattle.tlv.specs.declared.Field.{Field}
 use Rattle.tlv.specs.declared.Found.{Found}
-use Rattle.message.specs.declared.Kind
 use Rattle.message.specs.declared.Kind.{Kind}
-use Rattle.message.specs.declared.Reading
 use Rattle.message.specs.declared.Reading.{Reading}
-use Rattle.message.specs.declared.Submission
 use Rattle.message.specs.declared.Submission.{Submission}
+use Rattle.message.specs.Kinds.{kindOf}
+use Rattle.message.specs.Reading.{readingOf}
 
 -- an FT TLV is present: FT Session, FT Protection or FT ACK
 unfoldable pub bearsFt : Found → Bool

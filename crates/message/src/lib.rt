@@ -1,4 +1,12 @@
 // One LDP message: its type, its message ID and what its TLVs say, or that it is malformed; and whether it may be submitted.
+ghost use Prim.Native.Nat.{_≤_};
+ghost use mathlib.Core.Path.{_≡_};
+ghost use lib.ListN.{length};
+ghost use Rattle.tlv.specs.Value.{Places};
+ghost use Rattle.tlv.specs.Walk.{headSize};
+ghost use Rattle.message.specs.Kinds.{fatalOf, codeOf, notificationKind, kindFor, kindOf, kindNumber};
+ghost use Rattle.message.specs.Reading.{typeOf, numberIn, idIn, bearsOf, placesOf, messageOf, readingOf};
+ghost use Rattle.message.specs.Submission.{bearsFt, submissionOf};
 use ft_number::MessageId;
 pub use tlv::Fec;
 pub use tlv::Field;
@@ -9,14 +17,6 @@ pub use tlv::Part;
 pub use tlv::Session;
 use tlv::value;
 use tlv::walk;
-ghost use mathlib.Core.Path.{_≡_};
-ghost use Prim.Native.Nat.{_≤_};
-ghost use lib.ListN.{length};
-ghost use Rattle.tlv.specs.Walk.{headSize};
-ghost use Rattle.tlv.specs.Value.{Places};
-ghost use Rattle.message.specs.Reading.{typeOf, numberIn, idIn, bearsOf, placesOf, messageOf, readingOf};
-ghost use Rattle.message.specs.Kinds.{fatalOf, codeOf, notificationKind, kindFor, kindOf, kindNumber};
-ghost use Rattle.message.specs.Submission.{bearsFt, submissionOf};
 
 // The message types; Other is every number that has no name here.
 pub enum MessageType {
@@ -149,7 +149,7 @@ fn message_at(m: &[u8], found: Found) -> Message
     }
 }
 
-// The places of a well-formed message's TLVs.
+// Where the TLVs of a message stand, or that it is malformed: what `read_message` says, without the values.
 pub fn places_in(m: &[u8]) -> walk::Walk
     ensures { λ r. ⌜ r ≡ placesOf (now (m .entry)) ⌝ }
 {
@@ -164,7 +164,8 @@ pub fn places_in(m: &[u8]) -> walk::Walk
     }
 }
 
-// Reads one message.
+// Reads one message: type, type number without U, message ID, and what each listed TLV says. Malformed is what the walk refuses, a
+// Mapping without FEC or label, and a Withdraw or a Release without FEC.
 pub fn read_message(m: &[u8]) -> Reading
     ensures { λ r. ⌜ r ≡ readingOf (now (m .entry)) ⌝ }
 {
@@ -248,6 +249,7 @@ pub fn kind_number(kind: Kind) -> u8
     }
 }
 
+// Whether FT Session, FT Protection or FT ACK stands among the places found.
 pub fn bears_ft(found: Found) -> bool
     ensures { λ r. ⌜ r ≡ bearsFt found ⌝ }
 {
@@ -260,7 +262,8 @@ pub fn bears_ft(found: Found) -> bool
     found.ack != 0
 }
 
-// Submit's answers 4 and 5. Of what the message says only its type, its status and its label are read; the label of kinds 1 to 3.
+// Submit's answers 4 (malformed) and 5 (no kind 1 to 6, an FT TLV, or kinds 1 to 3 without a label), else its kind and label, 0xFFFFFFFF for
+// kinds 4 to 6. Of what the message says only its type, its status and its label are read. Its length is Submit's own test (3).
 pub fn judge_submission(m: &[u8]) -> Submission
     ensures { λ r. ⌜ r ≡ submissionOf (now (m .entry)) ⌝ }
 {

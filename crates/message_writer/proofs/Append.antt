@@ -1,27 +1,24 @@
 -- The walk over two runs of TLVs: the second starts where the first ends, with what the first found. Assumes nothing.
 use Prim.Native.Nat.{ℕ, _+_, _-_, _≤_, _<_, _%_}
-use mathlib.Core.Path.{_≡_, refl, sym, _∙_, ap}
 use mathlib.Core.Bool.{Bool, true, false}
 use mathlib.Core.List.{List, [], _∷_, _++_}
+use mathlib.Core.Path.{_≡_, refl, sym, _∙_, ap}
 use native.Mathlib.Nat.{add-zero}
 use native.Mathlib.Omega.{arith}
-use borrow.Author.Tests.{ne-eqb, le-ltb, eqb-true}
+use lib.Dec.{eqb, ltb}
 use lib.ListN.{length, drop, length-drop, length-append}
 use lib.Seq.{drop-append-le}
-use lib.Dec.{eqb, ltb}
+use borrow.Author.Tests.{ne-eqb, le-ltb, eqb-true}
 use Rattle.octets.specs.Be.{beAt}
 use Rattle.octets.specs.Pick.{pick}
+use Rattle.octets.proofs.Bytes.{beAt-append}
 use Rattle.octets.proofs.Fix.{size-ind}
+use Rattle.tlv.specs.declared.Found.{Found}
+use Rattle.tlv.specs.declared.walk.Tlv.{Tlv}
+use Rattle.tlv.specs.declared.walk.Turn.{Turn}
+use Rattle.tlv.specs.declared.walk.Walk.{Walk}
 use Rattle.tlv.specs.Tlv.{tlvOf, lengthFits, headOf, sizeOf, labelIn, largestLabel}
 use Rattle.tlv.specs.Walk.{placeOf, placedOf, notedOf, takenOf, turnOf, Rest, leftOf, onTurn, walkOf}
-use Rattle.tlv.specs.declared.Found.{Found}
-use Rattle.tlv.specs.declared.walk.Tlv
-use Rattle.tlv.specs.declared.walk.Tlv.{Tlv}
-use Rattle.tlv.specs.declared.walk.Turn
-use Rattle.tlv.specs.declared.walk.Turn.{Turn}
-use Rattle.tlv.specs.declared.walk.Walk
-use Rattle.tlv.specs.declared.walk.Walk.{Walk}
-use Rattle.octets.proofs.Bytes.{beAt-append}
 use Rattle.tlv.proofs.Turns.{Goes, goes, walkRest, walk-step}
 
 nil : (ts : List ℕ) → length ts ≡ 0 → ts ≡ []
@@ -108,5 +105,6 @@ walk-rest-append us = size-ind leftOf (Appends us) step
             ∙ ih (record { at = r .at + n; bytes = drop n (r .bytes); found = f }) (omega arith) g h
             ∙ ap (λ (x : ℕ). walkOf x us g) a
 
+-- the walk over two runs of TLVs is that over the first, then over the second with what the first found
 pub walk-append : (at : ℕ) (ts us : List ℕ) (f g : Found) → walkOf at ts f ≡ Walk.Whole g → walkOf at (ts ++ us) f ≡ walkOf (at + length ts) us g
 walk-append at ts us f g e = walk-rest-append us (record { at = at; bytes = ts; found = f }) g e

@@ -1,35 +1,30 @@
 -- A message less its FT TLVs: of a message that had none, sent with them, it is the message. Assumes nothing.
 use Prim.Native.Nat.{ℕ, _+_, _-_, _/_, _%_, _^_, _≤_, _<_}
-use mathlib.Core.Path.{_≡_, refl, sym, ap, _∙_}
 use mathlib.Core.Bool.{Bool, true, false}
 use mathlib.Core.List.{List, [], _∷_, _++_, append-assoc, append-nil}
+use mathlib.Core.Path.{_≡_, refl, sym, ap, _∙_}
 use native.Mathlib.Omega.{arith}
-use borrow.Author.Tests.{le-ltb, ltb-false}
+use lib.Dec.{ltb}
 use lib.ListN.{length, getD, take, drop, length-drop, length-append, take-append-drop}
 use lib.Seq.{drop-append-le, take-append-le, drop-drop, drop-cons}
-use lib.Dec.{ltb}
+use borrow.Author.Tests.{le-ltb, ltb-false}
 use Rattle.octets.specs.Be.{beAt, bytes}
 use Rattle.octets.specs.Fix.{fix, steps}
 use Rattle.octets.specs.Pick.{pick}
 use Rattle.octets.proofs.Fix.{fix-step, size-ind, Shrinks}
 use Rattle.ft_number.specs.declared.FtNumber.{FtNumber}
+use Rattle.tlv.specs.declared.Found.{Found}
+use Rattle.tlv.specs.declared.FtField.{FtField}
+use Rattle.tlv.specs.declared.walk.Tlv.{Tlv}
+use Rattle.tlv.specs.declared.walk.Turn.{Turn}
+use Rattle.tlv.specs.declared.walk.Walk.{Walk}
 use Rattle.tlv.specs.Tlv.{tlvOf, headOf, sizeOf}
 use Rattle.tlv.specs.Walk.{noneFound, placeOf, placedOf, turnOf, Rest, leftOf, onTurn, walkOf}
-use Rattle.tlv.specs.declared.Found.{Found}
-use Rattle.tlv.specs.declared.FtField
-use Rattle.tlv.specs.declared.FtField.{FtField}
-use Rattle.tlv.specs.declared.walk.Tlv
-use Rattle.tlv.specs.declared.walk.Tlv.{Tlv}
-use Rattle.tlv.specs.declared.walk.Turn
-use Rattle.tlv.specs.declared.walk.Turn.{Turn}
-use Rattle.tlv.specs.declared.walk.Walk
-use Rattle.tlv.specs.declared.walk.Walk.{Walk}
 use Rattle.tlv.proofs.Places.{noted, Each, each-placed, walk-keeps, WholeTlvs, whole-tlvs}
 use Rattle.tlv.proofs.Turns.{Goes, goes, walkRest, walk-step}
-use Rattle.message.specs.Reading.{readingOf}
 use Rattle.message.specs.declared.Message.{Message}
-use Rattle.message.specs.declared.Reading
 use Rattle.message.specs.declared.Reading.{Reading}
+use Rattle.message.specs.Reading.{readingOf}
 use Rattle.message.proofs.Laws.{NoFt, whole}
 use Rattle.message_writer.specs.Forms.{raised, ftTlvs, protectedBytes}
 use Rattle.message_writer.specs.Payload.{isFt, keepStep, keptOf, payloadOf}

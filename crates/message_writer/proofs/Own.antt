@@ -6,24 +6,24 @@ use borrow.Author.Tests.{le-leb, lt-leb}
 use Rattle.octets.specs.Be.{beAt, bytes}
 use Rattle.octets.specs.Fix.{fix, steps}
 use Rattle.ft_number.specs.declared.MessageId.{MessageId}
-use Rattle.tlv.specs.Tlv.{tlvOf}
-use Rattle.tlv.specs.Walk.{notedOf, turnOf, walkOf, tlvsOf}
-use Rattle.tlv.specs.Value.{partAt, fecAt, fieldAt, numberAt, parametersAt, sessionAt}
-use Rattle.tlv.specs.declared.FtField
 use Rattle.tlv.specs.declared.FtField.{FtField}
-use Rattle.message.specs.Reading.{typeOf, messageOf, placesOf, readingOf}
-use Rattle.message.specs.declared.Reading
+use Rattle.tlv.specs.Tlv.{tlvOf}
+use Rattle.tlv.specs.Value.{partAt, fecAt, fieldAt, numberAt, parametersAt, sessionAt}
+use Rattle.tlv.specs.Walk.{notedOf, turnOf, walkOf, tlvsOf}
 use Rattle.message.specs.declared.Reading.{Reading}
+use Rattle.message.specs.Reading.{typeOf, messageOf, placesOf, readingOf}
+use Rattle.message_writer.specs.declared.OwnParameters.{OwnParameters}
 use Rattle.message_writer.specs.Forms.{initBytes, keepaliveBytes}
 use Rattle.message_writer.specs.ReadBack.{AckFits, InitFits, initMessage, keepaliveMessage}
 use Rattle.message_writer.proofs.Raised.{spelled}
-use Rattle.message_writer.specs.declared.OwnParameters.{OwnParameters}
 
+-- our KeepAlive is read back as what was written
 pub keepalive-reads : (id : MessageId) (ack : FtField) → id .0 < 256 ^ 4 → AckFits ack → readingOf (keepaliveBytes id ack) ≡ Reading.Whole (keepaliveMessage id ack)
 unfolding readingOf placesOf messageOf tlvsOf walkOf turnOf notedOf tlvOf typeOf fix steps partAt fecAt fieldAt numberAt parametersAt sessionAt
 keepalive-reads id FtField.Absent small fits = simp (spelled 4 (id .0) small)
 keepalive-reads id (FtField.Number a) small fits = simp (spelled 4 (id .0) small, spelled 4 (a .0) fits)
 
+-- so is our Init
 pub init-reads : (id : MessageId) (p : OwnParameters) (seconds : ℕ) (ack : FtField) → InitFits id p seconds ack
     → readingOf (initBytes id p seconds ack) ≡ Reading.Whole (initMessage id p seconds ack)
 unfolding readingOf placesOf messageOf tlvsOf walkOf turnOf notedOf tlvOf typeOf fix steps partAt fecAt fieldAt numberAt parametersAt sessionAt

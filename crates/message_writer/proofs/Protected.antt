@@ -1,40 +1,32 @@
 -- A message with its FT TLVs behind it is read as the message was, with that number and that ACK. Assumes nothing.
 use Prim.Native.Nat.{ℕ, _+_, _-_, _%_, _^_, _≤_, _<_}
-use mathlib.Core.Path.{_≡_, refl, sym, ap, _∙_}
 use mathlib.Core.Bool.{Bool, true, false}
 use mathlib.Core.List.{List, [], _++_}
+use mathlib.Core.Path.{_≡_, refl, sym, ap, _∙_}
 use native.Mathlib.Nat.{add-zero}
 use native.Mathlib.Omega.{arith}
-use borrow.Author.Tests.{eq-eqb, ne-eqb, eqb-true}
-use lib.ListN.{length}
 use lib.Dec.{eqb}
+use lib.ListN.{length}
+use borrow.Author.Tests.{eq-eqb, ne-eqb, eqb-true}
 use Rattle.octets.specs.Be.{beAt, bytes}
 use Rattle.octets.specs.Pick.{pick}
+use Rattle.octets.proofs.Bytes.{beAt-behind}
 use Rattle.octets.proofs.Choice.{where-same}
 use Rattle.ft_number.specs.declared.FtNumber.{FtNumber}
-use Rattle.tlv.specs.Tlv.{tlvOf, lengthFits, headOf, labelIn, protectionNumber, ackNumber}
-use Rattle.tlv.specs.Walk.{placeOf, placedOf, notedOf, turnOf, walkOf, headSize, tlvsOf}
-use Rattle.tlv.specs.Value.{Within, Places, partAt, fecAt, fieldAt, numberAt, parametersAt, sessionAt}
-use Rattle.tlv.specs.declared.Fec
 use Rattle.tlv.specs.declared.Fec.{Fec}
-use Rattle.tlv.specs.declared.Field
 use Rattle.tlv.specs.declared.Field.{Field}
 use Rattle.tlv.specs.declared.Found.{Found}
-use Rattle.tlv.specs.declared.FtField
 use Rattle.tlv.specs.declared.FtField.{FtField}
-use Rattle.tlv.specs.declared.Parameters.{Parameters}
-use Rattle.tlv.specs.declared.Session.{Session}
-use Rattle.tlv.specs.declared.walk.Tlv
 use Rattle.tlv.specs.declared.walk.Tlv.{Tlv}
-use Rattle.tlv.specs.declared.walk.Walk
 use Rattle.tlv.specs.declared.walk.Walk.{Walk}
-use Rattle.octets.proofs.Bytes.{beAt-behind}
+use Rattle.tlv.specs.Tlv.{tlvOf, lengthFits, headOf, labelIn, protectionNumber, ackNumber}
+use Rattle.tlv.specs.Value.{Within, Places, partAt, fecAt, fieldAt, numberAt, parametersAt, sessionAt}
+use Rattle.tlv.specs.Walk.{placeOf, placedOf, notedOf, turnOf, walkOf, headSize, tlvsOf}
 use Rattle.tlv.proofs.Places.{Each, Lies, found-lies, places}
 use Rattle.tlv.proofs.Turns.{walk-step}
-use Rattle.message.specs.Reading.{typeOf, numberIn, bearsOf, messageOf, placesOf, readingOf}
 use Rattle.message.specs.declared.Message.{Message}
-use Rattle.message.specs.declared.Reading
 use Rattle.message.specs.declared.Reading.{Reading}
+use Rattle.message.specs.Reading.{typeOf, numberIn, bearsOf, messageOf, placesOf, readingOf}
 use Rattle.message.proofs.Laws.{Whole, whole, whole-head, NoFt}
 use Rattle.message_writer.specs.Forms.{tlvBytes, ackTlv, raisedTo, raised, ftTlvs, protectedBytes}
 use Rattle.message_writer.specs.ReadBack.{AckFits, ftPlaces, protectedPlaces, withFt, protectedMessage}

@@ -1,7 +1,7 @@
 -- What the stores of a head, of TLVs and of whole messages leave: the premises are what the calls ensure. Assumes nothing.
 use Prim.Native.Nat.{ℕ, _+_, _-_, _≤_, _<_}
-use mathlib.Core.Path.{_≡_, refl, sym, ap, _∙_}
 use mathlib.Core.List.{List, _++_, append-assoc}
+use mathlib.Core.Path.{_≡_, refl, sym, ap, _∙_}
 use native.Mathlib.Nat.{add-zero, zero-add}
 use native.Mathlib.Omega.{arith}
 use lib.ListN.{length, take, drop, length-append}
@@ -13,15 +13,13 @@ use Rattle.octets.proofs.Laid.{Laid, laid-start, then-part, then-put, laid-putB
 use Rattle.octets.proofs.Part.{length-withPart}
 use Rattle.ft_number.specs.declared.FtNumber.{FtNumber}
 use Rattle.ft_number.specs.declared.MessageId.{MessageId}
-use Rattle.tlv.specs.Tlv.{protectionNumber}
-use Rattle.tlv.specs.declared.FtField
 use Rattle.tlv.specs.declared.FtField.{FtField}
+use Rattle.tlv.specs.Tlv.{protectionNumber}
 use Rattle.message.specs.Reading.{initializationNumber}
+use Rattle.message_writer.specs.declared.OwnParameters.{OwnParameters}
+use Rattle.message_writer.specs.declared.Written.{Written}
 use Rattle.message_writer.specs.Forms.{tlvBytes, headBytes, parametersTlv, sessionTlv, initHead, ackTlv, raisedTo, raised, ftTlvs, protectedBytes}
 use Rattle.message_writer.specs.Written.{writtenOf}
-use Rattle.message_writer.specs.declared.Written
-use Rattle.message_writer.specs.declared.Written.{Written}
-use Rattle.message_writer.specs.declared.OwnParameters.{OwnParameters}
 use Rattle.message_writer.proofs.Room.{written-whole, written-short}
 
 module _ (m : List ℕ) (head : 8 ≤ length m) where

@@ -1,21 +1,20 @@
 -- A message with TLVs behind it and its length raised: its fields, and the walk over it. Assumes nothing.
 use Prim.Native.Nat.{ℕ, _+_, _-_, _^_, _≤_, _<_}
-use mathlib.Core.Path.{_≡_, refl, sym, ap, _∙_}
 use mathlib.Core.List.{List, _++_}
+use mathlib.Core.Path.{_≡_, refl, sym, ap, _∙_}
 use native.Mathlib.Nat.{add-zero, mod-eq-of-lt}
 use native.Mathlib.Omega.{arith}
-use borrow.Author.Tests.{eq-eqb, le-ltb}
-use borrow.Rule.Slice.PartMut.{take-put, drop-put}
 use lib.ListN.{length, take, drop, length-drop}
 use lib.Seq.{length-take-le, take-append-le, drop-append-le, drop-drop}
+use borrow.Author.Tests.{eq-eqb, le-ltb}
+use borrow.Rule.Slice.PartMut.{take-put, drop-put}
 use Rattle.octets.specs.Be.{beAt, bytes}
 use Rattle.octets.proofs.Be.{beAt-part}
-use Rattle.octets.proofs.Part.{part-after}
-use Rattle.tlv.specs.Walk.{noneFound, walkOf, headSize, tlvsOf}
-use Rattle.tlv.specs.declared.Found.{Found}
-use Rattle.tlv.specs.declared.walk.Walk
-use Rattle.tlv.specs.declared.walk.Walk.{Walk}
 use Rattle.octets.proofs.Bytes.{beAt-append, beAt-behind, beAt-bytes}
+use Rattle.octets.proofs.Part.{part-after}
+use Rattle.tlv.specs.declared.Found.{Found}
+use Rattle.tlv.specs.declared.walk.Walk.{Walk}
+use Rattle.tlv.specs.Walk.{noneFound, walkOf, headSize, tlvsOf}
 use Rattle.tlv.proofs.Places.{WholeTlvs, whole-tlvs}
 use Rattle.message_writer.specs.Forms.{raisedTo, raised}
 use Rattle.message_writer.proofs.Append.{walk-append}

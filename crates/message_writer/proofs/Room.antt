@@ -1,18 +1,17 @@
 -- What a writer answered and left, by the room. Assumes nothing.
 use Prim.Native.Nat.{ℕ, _≤_, _<_}
-use mathlib.Core.Path.{_≡_, sym, ap, _∙_}
 use mathlib.Core.Bool.{true, false}
 use mathlib.Core.List.{List, _++_}
+use mathlib.Core.Path.{_≡_, sym, ap, _∙_}
 use native.Mathlib.Nat.{zero-add}
 use native.Mathlib.Omega.{arith}
-use borrow.Author.Tests.{lt-ltb, le-ltb}
 use lib.Dec.{ltb}
 use lib.ListN.{length, drop}
+use borrow.Author.Tests.{lt-ltb, le-ltb}
 use Rattle.octets.specs.Part.{laid, overlaid}
 use Rattle.octets.proofs.Choice.{passed, cleared}
-use Rattle.message_writer.specs.Written.{writtenOf}
-use Rattle.message_writer.specs.declared.Written
 use Rattle.message_writer.specs.declared.Written.{Written}
+use Rattle.message_writer.specs.Written.{writtenOf}
 
 -- a message laid from the start is written
 pub written-whole : (out p y : List ℕ) → y ≡ laid out 0 p → length p ≤ length out → (n : ℕ) → n ≡ length p → (Written.Bytes n, y) ≡ writtenOf out p

@@ -2,26 +2,24 @@
 -- The bounds: the number and the ACK have 32 bits; the raised length has 16 (a stored message has 480 bytes at most); and the low byte of
 -- the submitted message's length is a byte.
 use Prim.Native.Nat.{ℕ, _+_, _^_, _<_}
-use mathlib.Core.Path.{_≡_, _∙_, ap}
 use mathlib.Core.List.{List}
+use mathlib.Core.Path.{_≡_, _∙_, ap}
 use lib.ListN.{length, getD}
 use Rattle.ft_number.specs.declared.FtNumber.{FtNumber}
 use Rattle.tlv.specs.declared.FtField.{FtField}
+use Rattle.message.specs.declared.Kind.{Kind}
+use Rattle.message.specs.declared.Message.{Message}
+use Rattle.message.specs.declared.Reading.{Reading}
+use Rattle.message.specs.declared.Submission.{Submission}
 use Rattle.message.specs.Kinds.{kindOf}
 use Rattle.message.specs.Reading.{readingOf}
 use Rattle.message.specs.Submission.{submissionOf}
-use Rattle.message.specs.declared.Kind.{Kind}
-use Rattle.message.specs.declared.Message.{Message}
-use Rattle.message.specs.declared.Reading
-use Rattle.message.specs.declared.Reading.{Reading}
-use Rattle.message.specs.declared.Submission
-use Rattle.message.specs.declared.Submission.{Submission}
-use Rattle.message.proofs.Laws.{Accepted, accepted}
+use Rattle.message.proofs.Laws.{accepted}
 use Rattle.message_writer.specs.Forms.{protectedBytes}
 use Rattle.message_writer.specs.Payload.{payloadOf}
 use Rattle.message_writer.specs.ReadBack.{AckFits, protectedMessage}
-use Rattle.message_writer.proofs.Protected.{protected-reads}
 use Rattle.message_writer.proofs.Kept.{protected-payload}
+use Rattle.message_writer.proofs.Protected.{protected-reads}
 
 module _ (m : List ℕ) (k : Kind) (l : ℕ) (e : submissionOf m ≡ Submission.Accepted k l) (n : FtNumber) (ack : FtField) (short : length m + 12 < 256 ^ 2) where
   -- the message as it was submitted

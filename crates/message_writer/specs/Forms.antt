@@ -9,9 +9,8 @@ use Rattle.octets.specs.Be.{bytes}
 use Rattle.octets.specs.Part.{withPart}
 use Rattle.ft_number.specs.declared.FtNumber.{FtNumber}
 use Rattle.ft_number.specs.declared.MessageId.{MessageId}
-use Rattle.tlv.specs.Tlv.{parametersNumber, sessionNumber, protectionNumber, ackNumber}
-use Rattle.tlv.specs.declared.FtField
 use Rattle.tlv.specs.declared.FtField.{FtField}
+use Rattle.tlv.specs.Tlv.{parametersNumber, sessionNumber, protectionNumber, ackNumber}
 use Rattle.message.specs.Reading.{initializationNumber, keepaliveNumber}
 use Rattle.message_writer.specs.declared.OwnParameters.{OwnParameters}
 

@@ -1,17 +1,16 @@
 -- A message less its FT TLVs.
 use Prim.Native.Nat.{ℕ, _+_}
-use mathlib.Core.List.{List, [], _++_}
 use mathlib.Core.Bool.{Bool, true, false}
-use lib.ListN.{length, take, drop}
+use mathlib.Core.List.{List, [], _++_}
 use lib.Dec.{ltb}
+use lib.ListN.{length, take, drop}
 use Rattle.octets.specs.Be.{bytes}
 use Rattle.octets.specs.Fix.{fix}
 use Rattle.octets.specs.Part.{part}
 use Rattle.octets.specs.Pick.{pick}
+use Rattle.tlv.specs.declared.walk.Tlv.{Tlv}
 use Rattle.tlv.specs.Tlv.{headOf, sizeOf}
 use Rattle.tlv.specs.Walk.{headSize}
-use Rattle.tlv.specs.declared.walk.Tlv
-use Rattle.tlv.specs.declared.walk.Tlv.{Tlv}
 
 -- 01: "FT Session .., FT Protection .., FT ACK ..: the last three are the FT TLVs"
 abbrev pub isFt : Tlv → Bool

@@ -3,25 +3,18 @@ use Prim.Native.Nat.{ℕ, _+_, _^_, _<_}
 use mathlib.Core.Bool.{Bool, true, false}
 use Rattle.ft_number.specs.declared.FtNumber.{FtNumber}
 use Rattle.ft_number.specs.declared.MessageId.{MessageId}
-use Rattle.tlv.specs.Walk.{noneFound, placedOf, headSize}
-use Rattle.tlv.specs.declared.Fec
 use Rattle.tlv.specs.declared.Fec.{Fec}
-use Rattle.tlv.specs.declared.Field
 use Rattle.tlv.specs.declared.Field.{Field}
 use Rattle.tlv.specs.declared.Found.{Found}
-use Rattle.tlv.specs.declared.FtField
 use Rattle.tlv.specs.declared.FtField.{FtField}
-use Rattle.tlv.specs.declared.Parameters
 use Rattle.tlv.specs.declared.Parameters.{Parameters}
 use Rattle.tlv.specs.declared.Part.{Part}
-use Rattle.tlv.specs.declared.Session
 use Rattle.tlv.specs.declared.Session.{Session}
-use Rattle.tlv.specs.declared.walk.Tlv
 use Rattle.tlv.specs.declared.walk.Tlv.{Tlv}
-use Rattle.message.specs.Reading.{initializationNumber, keepaliveNumber}
+use Rattle.tlv.specs.Walk.{noneFound, placedOf, headSize}
 use Rattle.message.specs.declared.Message.{Message}
-use Rattle.message.specs.declared.MessageType
 use Rattle.message.specs.declared.MessageType.{MessageType}
+use Rattle.message.specs.Reading.{initializationNumber, keepaliveNumber}
 use Rattle.message_writer.specs.declared.OwnParameters.{OwnParameters}
 
 -- an ACK that is given has 32 bits

@@ -1,11 +1,10 @@
 -- What a writer leaves: 01: "9: output too short: nothing"; "0 writes the message from the start and no byte after it".
 use Prim.Native.Nat.{ℕ}
 use mathlib.Core.List.{List}
-use lib.ListN.{length}
 use lib.Dec.{ltb}
+use lib.ListN.{length}
 use Rattle.octets.specs.Part.{overlaid}
 use Rattle.octets.specs.Pick.{pick}
-use Rattle.message_writer.specs.declared.Written
 use Rattle.message_writer.specs.declared.Written.{Written}
 
 -- the answer and the output after the message p is written to `out`; exact room is enough

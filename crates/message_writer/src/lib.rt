@@ -1,16 +1,16 @@
 // The messages that we write: our Init, KeepAlive, and a stored message with its FT TLVs.
-use ft_number::FtNumber;
-use ft_number::MessageId;
-use tlv::FtField;
-ghost use mathlib.Core.Path.{_≡_};
 ghost use Prim.Native.Nat.{_+_, _-_, _≤_};
 ghost use mathlib.Core.List.{_++_};
+ghost use mathlib.Core.Path.{_≡_};
 ghost use lib.ListN.{length};
 ghost use Rattle.octets.specs.Be.{bytes};
 ghost use Rattle.octets.specs.Part.{laid};
 ghost use Rattle.tlv.specs.Tlv.{protectionNumber};
 ghost use Rattle.message_writer.specs.Forms.{tlvBytes, headBytes, parametersTlv, initHead, initBytes, keepaliveBytes, raisedTo, protectedBytes};
 ghost use Rattle.message_writer.specs.Written.{writtenOf};
+use ft_number::FtNumber;
+use ft_number::MessageId;
+use tlv::FtField;
 
 // What our Init proposes: KeepAlive time, maximum PDU length, and the receiver's LDP identifier (LSR ID and label space).
 pub struct OwnParameters {
@@ -70,7 +70,8 @@ fn put_init(out: &mut [u8], size: u16, id: MessageId, p: OwnParameters, session:
     put_tlv(out, 26, 0x8503, session);
 }
 
-// Writes our Init: with an ACK R is set, without one it is clear.
+// Writes our Init: with an ACK R is set and it has 42 bytes, without one R is clear and it has 34. Where the output is too short (9) no byte
+// is written; else it stands at its start, and no byte after it changes. Exact room is enough.
 pub fn write_init(
     out: &mut [u8],
     id: MessageId,
@@ -99,7 +100,7 @@ pub fn write_init(
     }
 }
 
-// Writes a KeepAlive, with FT ACK where one is given.
+// Writes a KeepAlive, with FT ACK where one is given: 8 or 16 bytes, by the same rule for the room.
 pub fn write_keepalive(out: &mut [u8], id: MessageId, ack: FtField) -> Written
     ensures { λ r. ⌜ (r, now (out .exit)) ≡ writtenOf (now (out .entry)) (keepaliveBytes id ack) ⌝ }
 {
@@ -132,7 +133,8 @@ fn put_protected(out: &mut [u8], m: &[u8], added: usize, number: u32)
     put_tlv(out, m.len(), 0x0203, number);
 }
 
-// Writes a stored message with its FT number, and FT ACK where one is given. Only Send calls it, with a stored message.
+// Writes a stored message with FT Protection behind it, then FT ACK where one is given, and its length raised, by the same rule for the
+// room. Only Send calls it, with a stored message.
 pub fn write_protected(out: &mut [u8], m: &[u8], number: FtNumber, ack: FtField) -> Written
     requires { ⌜ (8 ≤ length (now m)) × (length (now m) ≤ 480) ⌝ }
     ensures { λ r. ⌜ (r, now (out .exit)) ≡ writtenOf (now (out .entry)) (protectedBytes (now (m .entry)) number ack) ⌝ }

@@ -1,15 +1,15 @@
 -- A signed 32-bit number printed as a sign and a size: the casts lose nothing. Assumes nothing.
-use mathlib.Core.Path.{_≡_}
-use mathlib.Core.Bool.{true, false}
 use Prim.Native.Nat.{ℕ, zero, suc}
+use mathlib.Core.Bool.{true, false}
+use mathlib.Core.Path.{_≡_}
 use native.Mathlib.Omega.{arith}
 use lib.Dec.{T}
 use lib.IntN.{ℤ, pos, negsuc, negℤ, natAbs, _-ℤ_, +ℤ-idl}
 use lib.Signed.{nonNeg, ltZ}
 use borrow.Author.Tests.{ltb-true}
+use mir.Facts.{toZ-ofZ}
 use mir.Syntax.{w32, w64}
 use mir.Val.{SFits, Fits, toZ, ofZ}
-use mir.Facts.{toZ-ofZ}
 
 wider : (z : ℤ) → SFits w32 z → SFits w64 z
 wider z f = record { sfits = omega (arith, f .sfits) }

@@ -1,7 +1,7 @@
 -- Fields of joined lists, and the bytes that spell a number, each once over the width. Assumes nothing.
-use mathlib.Core.Path.{_≡_, refl, sym, ap, _∙_}
-use mathlib.Core.List.{List, [], _∷_, _++_}
 use Prim.Native.Nat.{ℕ, zero, suc, _+_, _/_, _%_, _^_, _≤_, _<_}
+use mathlib.Core.List.{List, [], _∷_, _++_}
+use mathlib.Core.Path.{_≡_, refl, sym, ap, _∙_}
 use native.Mathlib.Nat.{add-assoc, pow-suc, mod-eq-of-lt, mod-one}
 use native.Mathlib.Omega.{arith}
 use lib.Arith.{mod-mul}

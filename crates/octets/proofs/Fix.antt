@@ -15,6 +15,7 @@ module _ {S R : Type 0} (size : S → ℕ) (step : (S → R) → S → R) (beyon
   enough (suc j) zero s p q = shrinks (steps step beyond j) (λ x. beyond) s (λ t l. absurd (omega arith))
   enough (suc j) (suc k) s p q = shrinks (steps step beyond j) (steps step beyond k) s (λ t l. enough j k t (omega arith) (omega arith))
 
+  -- a recursion by steps is one step and itself
   pub fix-step : (s : S) → fix size step beyond s ≡ step (fix size step beyond) s
   unfolding fix steps
   fix-step s =

@@ -1,7 +1,7 @@
 -- Parts of lists: a part that is replaced, and the parts beside it. Assumes nothing.
-use mathlib.Core.Path.{_≡_, sym, ap, _∙_}
-use mathlib.Core.List.{List, _++_}
 use Prim.Native.Nat.{ℕ, _+_, _-_, _≤_, _<_}
+use mathlib.Core.List.{List, _++_}
+use mathlib.Core.Path.{_≡_, sym, ap, _∙_}
 use native.Mathlib.Omega.{arith}
 use lib.ListN.{length, getD, take, drop, length-take, length-drop}
 use lib.Seq.{getD-take, getD-drop, ext-getD, drop-drop, take-at, drop-at, length-take-le}
@@ -35,6 +35,7 @@ part-drop s n a e h =
     let start : n + (a - n) ≡ a = omega arith in
     rw (size, drop-drop (a - n) n s, start)
 
+-- what stands before it is as it was
 pub part-before : (s : List ℕ) (a e : ℕ) (p : List ℕ) (b f : ℕ) → a ≤ e → e ≤ length s → length p ≡ e - a → b ≤ f → f ≤ a → part (withPart s a e p) b f ≡ part s b f
 part-before s a e p b f h g l k m =
     let long : length (withPart s a e p) ≡ length s = length-withPart s a e p g l in
@@ -42,6 +43,7 @@ part-before s a e p b f h g l k m =
     ∙ ap (λ (x : List ℕ). part x b f) (take-put a (e - a) s p (omega arith))
     ∙ sym (part-take s a b f k m (omega arith))
 
+-- and what stands behind it
 pub part-after : (s : List ℕ) (a e : ℕ) (p : List ℕ) (b f : ℕ) → a ≤ e → e ≤ length s → length p ≡ e - a → e ≤ b → part (withPart s a e p) b f ≡ part s b f
 part-after s a e p b f h g l k =
     part-drop (withPart s a e p) e b f k

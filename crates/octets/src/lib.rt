@@ -1,10 +1,10 @@
 // Big-endian fields of 8, 16 and 32 bits at a place of lent bytes, and runs of bytes copied or cleared.
-ghost use mathlib.Core.Path.{_≡_};
 ghost use Prim.Native.Nat.{_+_, _≤_, _<_};
+ghost use mathlib.Core.Path.{_≡_};
 ghost use lib.ListN.{length};
 ghost use Rattle.octets.specs.Be.{beAt, putBe};
-ghost use Rattle.octets.specs.Fill.{copied, zeroed};
 ghost use Rattle.octets.specs.Differ.{differ};
+ghost use Rattle.octets.specs.Fill.{copied, zeroed};
 
 fn wide16(x: u8) -> u16
     ensures { λ r. ⌜ (r ≡ x) × (r < 256) ⌝ }
@@ -26,7 +26,7 @@ pub fn get_u8(s: &[u8], at: usize) -> u8
     s[at]
 }
 
-// The 16-bit number at `at`.
+// The big-endian 16-bit number at `at`.
 pub fn get_u16(s: &[u8], at: usize) -> u16
     requires { ⌜ at + 2 ≤ length (now s) ⌝ }
     ensures { λ r. ⌜ r ≡ beAt 2 (now (s .entry)) at ⌝ }
@@ -34,7 +34,7 @@ pub fn get_u16(s: &[u8], at: usize) -> u16
     wide16(s[at]) * 256 + wide16(s[at + 1])
 }
 
-// The 32-bit number at `at`.
+// The big-endian 32-bit number at `at`.
 pub fn get_u32(s: &[u8], at: usize) -> u32
     requires { ⌜ at + 4 ≤ length (now s) ⌝ }
     ensures { λ r. ⌜ r ≡ beAt 4 (now (s .entry)) at ⌝ }
@@ -42,7 +42,7 @@ pub fn get_u32(s: &[u8], at: usize) -> u32
     ((wide32(s[at]) * 256 + wide32(s[at + 1])) * 256 + wide32(s[at + 2])) * 256 + wide32(s[at + 3])
 }
 
-// Writes the byte at `at`.
+// Writes the byte at `at`; every other byte stays.
 pub fn put_u8(s: &mut [u8], at: usize, v: u8)
     requires { ⌜ at + 1 ≤ length (now s) ⌝ }
     ensures { λ _. ⌜ now (s .exit) ≡ putBe 1 (now (s .entry)) at v ⌝ }
@@ -50,7 +50,7 @@ pub fn put_u8(s: &mut [u8], at: usize, v: u8)
     s[at] = v;
 }
 
-// Writes the 16-bit number at `at`.
+// Writes the 16-bit number at `at`, big-endian; every other byte stays.
 pub fn put_u16(s: &mut [u8], at: usize, v: u16)
     requires { ⌜ at + 2 ≤ length (now s) ⌝ }
     ensures { λ _. ⌜ now (s .exit) ≡ putBe 2 (now (s .entry)) at v ⌝ }
@@ -59,7 +59,7 @@ pub fn put_u16(s: &mut [u8], at: usize, v: u16)
     s[at + 1] = (v % 256) as u8;
 }
 
-// Writes the 32-bit number at `at`.
+// Writes the 32-bit number at `at`, big-endian; every other byte stays.
 pub fn put_u32(s: &mut [u8], at: usize, v: u32)
     requires { ⌜ at + 4 ≤ length (now s) ⌝ }
     ensures { λ _. ⌜ now (s .exit) ≡ putBe 4 (now (s .entry)) at v ⌝ }
@@ -70,7 +70,7 @@ pub fn put_u32(s: &mut [u8], at: usize, v: u32)
     s[at + 3] = (v % 256) as u8;
 }
 
-// Copies `m` into `s` from `at` on.
+// Copies `m` into `s` from `at` on; every other byte stays.
 pub fn copy_to(s: &mut [u8], at: usize, m: &[u8])
     requires { ⌜ at + length (now m) ≤ length (now s) ⌝ }
     ensures { λ _. ⌜ now (s .exit) ≡ copied (now (s .entry)) at (now (m .entry)) ⌝ }
@@ -82,7 +82,7 @@ pub fn copy_to(s: &mut [u8], at: usize, m: &[u8])
     }
 }
 
-// Writes `n` zeros into `s` from `at` on.
+// Writes `n` zeros into `s` from `at` on; every other byte stays.
 pub fn zero_to(s: &mut [u8], at: usize, n: usize)
     requires { ⌜ at + n ≤ length (now s) ⌝ }
     ensures { λ _. ⌜ now (s .exit) ≡ zeroed (now (s .entry)) at n ⌝ }
@@ -94,7 +94,7 @@ pub fn zero_to(s: &mut [u8], at: usize, n: usize)
     }
 }
 
-// Whether two runs of bytes are not the same.
+// Whether two runs of bytes, also of other lengths, are not the same.
 pub fn bytes_differ(a: &[u8], b: &[u8]) -> bool
     ensures { λ r. ⌜ r ≡ differ (now (a .entry)) (now (b .entry)) ⌝ }
 {

@@ -1,19 +1,17 @@
 -- The laws of `countedFrom` and `openedOf`: one turn over the messages, and each answer from its tests. Assumes nothing.
-use Prim.Native.Nat.{ℕ, _+_, _-_, _≤_, _<_}
-use mathlib.Core.Path.{_≡_, refl, sym, _∙_}
+use Prim.Native.Nat.{ℕ, _+_, _≤_, _<_}
 use mathlib.Core.List.{List}
+use mathlib.Core.Path.{_≡_, refl, sym, _∙_}
 use native.Mathlib.Omega.{arith}
-use borrow.Author.Tests.{eq-eqb, ne-eqb, lt-ltb, le-ltb}
-use lib.ListN.{length}
 use lib.Dec.{eqb}
+use lib.ListN.{length}
+use borrow.Author.Tests.{eq-eqb, ne-eqb, lt-ltb, le-ltb}
 use Rattle.octets.specs.Be.{beAt}
 use Rattle.octets.specs.Pick.{pick}
 use Rattle.octets.proofs.Fix.{Shrinks, fix-step}
-use Rattle.pdu.specs.Pdu.{placeOf, onPlace, countStep, bytesLeft, countedFrom, openedOf}
-use Rattle.pdu.specs.declared.Opened
 use Rattle.pdu.specs.declared.Opened.{Opened}
-use Rattle.pdu.specs.declared.Place
 use Rattle.pdu.specs.declared.Place.{Place}
+use Rattle.pdu.specs.Pdu.{placeOf, onPlace, countStep, bytesLeft, countedFrom, openedOf}
 use Rattle.pdu.proofs.Message.{Within, place-within}
 
 -- a turn asks only of what lies past a message

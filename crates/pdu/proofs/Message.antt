@@ -1,17 +1,16 @@
 -- The laws of `placeOf`: each answer from its tests, and where a message lies that is found. Assumes nothing.
 use Prim.Native.Nat.{ℕ, _+_, _-_, _≤_, _<_}
-use mathlib.Core.Path.{_≡_, refl}
 use mathlib.Core.Bool.{Bool, true, false}
 use mathlib.Core.List.{List}
+use mathlib.Core.Path.{_≡_, refl}
 use native.Mathlib.Omega.{arith}
-use borrow.Author.Tests.{ltb-false, lt-ltb, le-ltb}
-use lib.ListN.{length}
 use lib.Dec.{ltb}
+use lib.ListN.{length}
+use borrow.Author.Tests.{ltb-false, lt-ltb, le-ltb}
 use Rattle.octets.specs.Be.{beAt}
 use Rattle.octets.specs.Pick.{pick}
-use Rattle.pdu.specs.Pdu.{placeOf}
-use Rattle.pdu.specs.declared.Place
 use Rattle.pdu.specs.declared.Place.{Place}
+use Rattle.pdu.specs.Pdu.{placeOf}
 
 -- where a message lies that was found, and what its length says
 pub record Within (pdu : List ℕ) (at start end : ℕ) : Type 0 where

@@ -1,28 +1,26 @@
 -- A PDU is taken exactly where it is a head and whole messages, and these are what is handed out: nothing is skipped or shown twice. Assumes nothing.
 use Prim.Native.Nat.{ℕ, suc, _+_, _-_, _≤_, _<_}
-use mathlib.Core.Path.{_≡_, refl, sym, ap, _∙_}
 use mathlib.Core.Bool.{Bool, true, false}
 use mathlib.Core.List.{List, [], _∷_, _++_, flatten}
+use mathlib.Core.Path.{_≡_, refl, sym, ap, _∙_}
 use native.Mathlib.Nat.{add-zero, sub-zero}
 use native.Mathlib.Omega.{arith}
-use borrow.Author.Tests.{eqb-true, eqb-false, ltb-false}
+use lib.Dec.{eqb, ltb}
 use lib.ListN.{length, take, drop, getD, length-append, length-drop, take-append-drop, List·getD-append}
 use lib.Seq.{take-at, drop-at, drop-drop, getD-drop, drop-length, length-take-le}
-use lib.Dec.{eqb, ltb}
+use borrow.Author.Tests.{eqb-true, eqb-false, ltb-false}
 use Rattle.octets.specs.Be.{beAt}
 use Rattle.octets.specs.Part.{part}
 use Rattle.octets.specs.Pick.{pick}
 use Rattle.octets.proofs.Be.{beAt-same, beAt-part}
 use Rattle.octets.proofs.Fix.{size-ind}
 use Rattle.octets.proofs.Part.{length-part}
+use Rattle.pdu.specs.declared.Opened.{Opened}
+use Rattle.pdu.specs.declared.Place.{Place}
 use Rattle.pdu.specs.Pdu.{placeOf, messageOf, countedFrom, openedOf}
 use Rattle.pdu.specs.Split.{handedOut, thenFrom, IsMessage, AreMessages, none, one, IsPdu}
-use Rattle.pdu.specs.declared.Opened
-use Rattle.pdu.specs.declared.Opened.{Opened}
-use Rattle.pdu.specs.declared.Place
-use Rattle.pdu.specs.declared.Place.{Place}
-use Rattle.pdu.proofs.Message.{Within, place-within, place-whole}
 use Rattle.pdu.proofs.Count.{count-end, count-next, count-none, opened-counted}
+use Rattle.pdu.proofs.Message.{Within, place-within, place-whole}
 
 -- k messages from `at` on are whole, they are k, and they reach to the PDU's end
 pub record Reach (pdu : List ℕ) (at k : ℕ) : Type 0 where
@@ -176,6 +174,7 @@ pub record Next (pdu : List ℕ) (at k : ℕ) (m : List ℕ) : Type 0 where
   pub handed : handedOut pdu (suc k) at ≡ m ∷ handedOut pdu k (at + length m)
   pub rest : Reach pdu (at + length m) k
 
+-- what a caller knows that hands the messages out one by one
 pub reach-next : (pdu : List ℕ) (at k : ℕ) → Reach pdu at (suc k) → Next pdu at k (messageOf pdu (placeOf pdu at))
 unfolding flatten
 reach-next pdu at k r = go (placeOf pdu at) refl (r .whole) (r .count) (r .joined)

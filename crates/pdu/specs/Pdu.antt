@@ -3,15 +3,13 @@
 -- Message: U bit and type (2), length (2, bytes after it), message ID (4), TLVs."
 use Prim.Native.Nat.{ℕ, _+_, _-_}
 use mathlib.Core.List.{List, []}
-use lib.ListN.{length}
 use lib.Dec.{ltb, eqb}
+use lib.ListN.{length}
 use Rattle.octets.specs.Be.{beAt}
 use Rattle.octets.specs.Fix.{fix}
 use Rattle.octets.specs.Part.{part}
 use Rattle.octets.specs.Pick.{pick}
-use Rattle.pdu.specs.declared.Opened
 use Rattle.pdu.specs.declared.Opened.{Opened}
-use Rattle.pdu.specs.declared.Place
 use Rattle.pdu.specs.declared.Place.{Place}
 
 -- the message that starts at `at`: its type and length, at least the message ID after them, and as many bytes as its length says

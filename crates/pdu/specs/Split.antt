@@ -1,13 +1,12 @@
 -- What a PDU splits into: its head and whole messages, and the messages as they are handed out one after the other.
 use Prim.Native.Nat.{ℕ, zero, suc, _+_, _≤_}
-use mathlib.Core.Path.{_≡_}
 use mathlib.Core.List.{List, [], _∷_, _++_, flatten}
+use mathlib.Core.Path.{_≡_}
 use lib.ListN.{length, take}
 use Rattle.octets.specs.Be.{beAt}
 use Rattle.octets.specs.Part.{part}
-use Rattle.pdu.specs.Pdu.{placeOf}
-use Rattle.pdu.specs.declared.Place
 use Rattle.pdu.specs.declared.Place.{Place}
+use Rattle.pdu.specs.Pdu.{placeOf}
 
 -- the message at a place, and then what `rest` says of where it ends; nothing where there is no message
 abbrev pub thenFrom : List ℕ → (ℕ → List (List ℕ)) → Place → List (List ℕ)

@@ -1,6 +1,6 @@
 // Reads one LDP PDU: the whole of it is judged first, then each message is handed out as that very part of the caller's slice.
-ghost use mathlib.Core.Path.{_≡_};
 ghost use Prim.Native.Nat.{_+_, _≤_, _<_};
+ghost use mathlib.Core.Path.{_≡_};
 ghost use lib.ListN.{length};
 ghost use Rattle.pdu.specs.Pdu.{placeOf, messageOf, startOf, countedFrom, openedOf};
 
@@ -16,7 +16,8 @@ pub enum Place {
     None,
 }
 
-// Judges the whole PDU: its version, its length and the lengths of all its messages.
+// Takes a PDU of version 1 whose length counts exactly the bytes after it, at least 6, and whose messages, each with a length of at
+// least 4, end exactly where it ends, with their count, 0 too. Every other one is malformed.
 pub fn open_pdu(pdu: &[u8]) -> Opened
     ensures { λ r. ⌜ r ≡ openedOf (now (pdu .entry)) ⌝ }
 {
@@ -76,7 +77,7 @@ pub fn message_at(pdu: &[u8], at: usize) -> Place
     Place::Message(at, at + 4 + n)
 }
 
-// The message that starts at `at`, as that very part of the PDU; an empty part where none does.
+// The message that starts at `at`, as that very part of the PDU; the empty part at the PDU's start where none does.
 pub fn message_part(pdu: &[u8], at: usize) -> &[u8]
     ensures bytes { λ r. ⌜ now r ≡ messageOf (now (pdu .entry)) (placeOf (now (pdu .entry)) at) ⌝ }
     ensures place { λ r. ⌜ (r .ptr .0 ≡ pdu .entry .ptr .0) × (r .ptr .1 ≡ startOf (placeOf (now (pdu .entry)) at) + pdu .entry .ptr .1) ⌝ }

@@ -1,36 +1,38 @@
 -- The answer to a message, test by test; the premises are what the functions ensure and the tests of the code. Assumes nothing.
-use mathlib.Core.Path.{_≡_, refl, sym, ap, _∙_}
+use Prim.Native.Nat.{ℕ, _≤_}
 use mathlib.Core.Bool.{Bool, true, false, not, false≢true}
 use mathlib.Core.List.{List}
-use Prim.Native.Nat.{ℕ, _≤_}
+use mathlib.Core.Path.{_≡_, refl, ap, _∙_}
 use native.Mathlib.Omega.{arith}
 use lib.ListN.{take}
 use Rattle.octets.specs.Pick.{pick, both}
 use Rattle.octets.proofs.Choice.{by-test, both-true}
-use Rattle.ft_number.specs.Ack.{ackOf}
-use Rattle.ft_number.specs.declared.Ack
 use Rattle.ft_number.specs.declared.Ack.{Ack}
 use Rattle.ft_number.specs.declared.FtNumber.{FtNumber}
-use Rattle.message.specs.Kinds.{kindOf}
-use Rattle.message.specs.Submission.{bearsFt}
-use Rattle.message.specs.declared.Message.{Message}
-use Rattle.label_events.specs.declared.Reception.{Reception}
-use Rattle.label_list.specs.declared.Protection
+use Rattle.ft_number.specs.Ack.{ackOf}
 use Rattle.label_list.specs.declared.Protection.{Protection}
 use Rattle.block0.specs.declared.Header.{Header}
-use Rattle.image.specs.State.{State, decode}
+use Rattle.label_events.specs.declared.Reception.{Reception}
+use Rattle.tlv.specs.declared.FtField.{FtField}
+use Rattle.message.specs.declared.Message.{Message}
+use Rattle.message.specs.Kinds.{kindOf}
+use Rattle.message.specs.Submission.{bearsFt}
+use Rattle.image.specs.State.{decode}
 use Rattle.image.specs.Verdict.{IsSound}
-use Rattle.image.proofs.Sound.{sound-valid}
-use Rattle.calls.specs.Acked.{ackBorne, releasedLabels, freesNone, acked}
-use Rattle.calls.specs.Outcomes.{isDone}
-use Rattle.calls.specs.Received.{isInit}
-use Rattle.call_meaning.proofs.Released.{ack-held}
-use Rattle.calls.specs.declared.Answer
-use Rattle.calls.specs.declared.Answer.{Answer}
-use Rattle.receive.specs.declared.LabelEffect
-use Rattle.receive.specs.declared.LabelEffect.{LabelEffect}
-use Rattle.receive.specs.Labels.{labelEffect, isProtected, protectionRule, effectReception, effectLabels, touchesNone, alwaysProtected}
-use Rattle.receive.specs.Rule.{isFatal, messageRule, plainRule, isZero, inTurn, receptionRule, protectedRule, labelsRule, ackRule, ackOn, ftRule, ackCount, labelsStay, messageLabels, taken, receivedState}
+use Rattle.image.proofs.Queue.{queue-length}
+use Rattle.protocol.specs.declared.Answer.{Answer}
+use Rattle.protocol.specs.declared.LabelEffect.{LabelEffect}
+use Rattle.protocol.specs.Acked.{ackBorne, releasedLabels, acked}
+use Rattle.protocol.specs.Answers.{isDone}
+use Rattle.protocol.specs.Labels.{labelEffect, isProtected, protectionRule, effectReception, effectLabels, alwaysProtected}
+use Rattle.protocol.specs.Receive.{isFatal, messageRule, plainRule, isZero, inTurn, receptionRule, protectedRule, labelsRule, ackRule, ackOn, ftRule, ackCount, messageLabels, taken, receivedState}
+use Rattle.protocol.specs.Received.{isInit}
+use Rattle.protocol.specs.State.{State}
+use Rattle.protocol.proofs.Queues.{count-held}
+use Rattle.calls.specs.Freeing.{freesNone}
+use Rattle.calls.specs.State.{numbersOf, stateOf}
+use Rattle.call_meaning.proofs.Putting.{image-window}
+use Rattle.receive.specs.Speed.{touchesNone, labelsStay}
 
 -- an answer that is not Done tells nothing of the words
 pub never : {P : Type 0} (a : Answer) → isDone a ≡ false → a ≡ Answer.Done → P
@@ -82,38 +84,54 @@ labels-unseen ls ls′ s g none = by (labelEffect g) refl
     by LabelEffect.Nothing e = by-test (both (not (isProtected (g .protection))) (alwaysProtected (kindOf g))) (λ t. rw t) (λ n. simp (n, e))
     by (LabelEffect.Change m t) e = absurd (false≢true (rw e at none))
 
--- the ACK as it was decided
-pub ack-on : (h : Header) (g : Message) {x : Ack} {n : FtNumber} → x ≡ ackOf (h .released .0) (h .issued .0) (n .0) → n .0 ≡ ackBorne h (g .ack) → x ≡ ackOn h g
+-- the ACK as it was decided, of the numbers that the image says
+pub borne-read : (im : List ℕ) (f : FtField) {h : Header} → h ≡ decode im .header → ackBorne (numbersOf h) f ≡ ackBorne (stateOf im) f
+borne-read im FtField.Absent eh = rw eh
+borne-read im (FtField.Number n) eh = refl
+
+pub ack-read : (im : List ℕ) (g : Message) {h : Header} → h ≡ decode im .header → ackOn (numbersOf h) g ≡ ackOn (stateOf im) g
 unfolding ackOn
-ack-on h g e q = rw (← q) e
+ack-read im g eh = rw (borne-read im (g .ack) eh, eh)
 
--- it releases no more than is held
-pub ack-within : (im : List ℕ) (h : Header) (a k : ℕ) {x : Ack} → IsSound im → h ≡ decode im .header → x ≡ ackOf (h .released .0) (h .issued .0) a → x ≡ Ack.Releases k → k ≤ decode im .header .held
-ack-within im h a k s eh e t = ack-held (decode im .header) a k (sound-valid im s .window) (rw (← eh) (sym e ∙ t))
+pub ack-on : (s : State) (g : Message) {x : Ack} {n : FtNumber} → x ≡ ackOf (s .released .0) (s .issued .0) (n .0) → n .0 ≡ ackBorne s (g .ack) → x ≡ ackOn s g
+unfolding ackOn
+ack-on s g e q = rw (← q) e
 
-module _ (s : State) (g : Message) (h : Header) {x : Ack} (e : x ≡ ackOn h g) where
-  pub ack-error : {ws : List ℕ} → x ≡ Ack.SequenceError → (Answer.AckSequenceError ≡ ackRule s g (ackOn h g)) × (Answer.AckSequenceError ≡ Answer.Done → labelsStay s (ackCount (ackOn h g)) g ≡ false → ws ≡ receivedState s g .labels)
+pub ack-told : (im : List ℕ) (g : Message) {h : Header} {x : Ack} {n : FtNumber} → h ≡ decode im .header → x ≡ ackOf (h .released .0) (h .issued .0) (n .0)
+    → n .0 ≡ ackBorne (numbersOf h) (g .ack) → x ≡ ackOn (stateOf im) g
+ack-told im g {h} eh e q = ack-on (numbersOf h) g e q ∙ ack-read im g eh
+
+-- it releases no more than is held, whatever it is
+pub count-within : (im : List ℕ) (g : Message) → IsSound im → ackCount (ackOn (stateOf im) g) ≤ decode im .header .held
+count-within im g s = rw (queue-length im) at (count-held (stateOf im) (image-window im s) g)
+
+pub ack-within : (im : List ℕ) (g : Message) {x : Ack} {k : ℕ} → IsSound im → x ≡ ackOn (stateOf im) g → x ≡ Ack.Releases k → k ≤ decode im .header .held
+ack-within im g s e t = rw (← e, t) at (count-within im g s)
+
+module _ (s : State) (g : Message) {x : Ack} (e : x ≡ ackOn s g) where
+  pub ack-error : {ws : List ℕ} → x ≡ Ack.SequenceError → (Answer.AckSequenceError ≡ ackRule s g (ackOn s g))
+      × (Answer.AckSequenceError ≡ Answer.Done → labelsStay s (ackCount (ackOn s g)) g ≡ false → ws ≡ receivedState s g .table .words)
   ack-error t = (rw (← e, t), never Answer.AckSequenceError refl)
 
-  pub ack-right : {k : ℕ} {ws ws₂ : List ℕ} {r : Answer} → h ≡ s .header → x ≡ Ack.Releases k
-      → (labelsStay s k g ≡ false → ws ≡ releasedLabels (take k (s .queue)) (s .labels))
-      → (r ≡ labelsRule ws (h .secured .0) g) × (r ≡ Answer.Done → ws₂ ≡ messageLabels ws g)
-      → (r ≡ ackRule s g (ackOn h g)) × (r ≡ Answer.Done → labelsStay s (ackCount (ackOn h g)) g ≡ false → ws₂ ≡ receivedState s g .labels)
+  pub ack-right : {k : ℕ} {ws ws₂ : List ℕ} {r : Answer} {n : FtNumber} → n ≡ s .secured → x ≡ Ack.Releases k
+      → (labelsStay s k g ≡ false → ws ≡ releasedLabels (take k (s .queue)) (s .table .words))
+      → (r ≡ labelsRule ws (n .0) g) × (r ≡ Answer.Done → ws₂ ≡ messageLabels ws g)
+      → (r ≡ ackRule s g (ackOn s g)) × (r ≡ Answer.Done → labelsStay s (ackCount (ackOn s g)) g ≡ false → ws₂ ≡ receivedState s g .table .words)
   unfolding acked taken receivedState
-  ack-right {k} {ws} eh t ew er = (
-    rw (← e, t) (er .0 ∙ judged ∙ ap (λ (y : Header). labelsRule (releasedLabels (take k (s .queue)) (s .labels)) (y .secured .0) g) eh),
-    λ d n. er .1 d ∙ ap (λ (l : List ℕ). messageLabels l g) (rw (← eh, ← e, t) (ew (rw (← e, t) at n))),
+  ack-right {k} {ws} {n = n} en t ew er = (
+    rw (← e, t) (er .0 ∙ judged ∙ ap (λ (y : FtNumber). labelsRule (releasedLabels (take k (s .queue)) (s .table .words)) (y .0) g) en),
+    λ d f. er .1 d ∙ ap (λ (l : List ℕ). messageLabels l g) (rw (← e, t) (ew (rw (← e, t) at f))),
   )
     where
-      judged : labelsRule ws (h .secured .0) g ≡ labelsRule (releasedLabels (take k (s .queue)) (s .labels)) (h .secured .0) g
-      judged = by-test (labelsStay s k g) (λ y. labels-unseen ws _ (h .secured .0) g (both-true (touchesNone (labelEffect g)) (freesNone (take k (s .queue))) y .0)) (λ y. ap (λ (l : List ℕ). labelsRule l (h .secured .0) g) (ew y))
+      judged : labelsRule ws (n .0) g ≡ labelsRule (releasedLabels (take k (s .queue)) (s .table .words)) (n .0) g
+      judged = by-test (labelsStay s k g) (λ y. labels-unseen ws _ (n .0) g (both-true (touchesNone (labelEffect g)) (freesNone (take k (s .queue))) y .0)) (λ y. ap (λ (l : List ℕ). labelsRule l (n .0) g) (ew y))
 
-module _ (s : State) (g : Message) (h : Header) {ws : List ℕ} where
-  -- a test before the ACK refuses
-  pub ft-refused : {x : Answer} → isDone x ≡ false → x ≡ ftRule s g → (x ≡ ftRule s g) × (x ≡ Answer.Done → labelsStay s (ackCount (ackOn h g)) g ≡ false → ws ≡ receivedState s g .labels)
-  ft-refused {x} n e = (e, never x n)
+-- a test before the ACK refuses
+pub ft-refused : (s : State) (g : Message) {ws : List ℕ} {x : Answer} → isDone x ≡ false → x ≡ ftRule s g
+    → (x ≡ ftRule s g) × (x ≡ Answer.Done → labelsStay s (ackCount (ackOn s g)) g ≡ false → ws ≡ receivedState s g .table .words)
+ft-refused s g {x = x} n e = (e, never x n)
 
-pub ft-is : (s : State) (g : Message) {x : Answer} → x ≡ messageRule g (pick (isZero (g .protection)) Answer.ZeroNumber (ackRule s g (ackOn (s .header) g))) → x ≡ ftRule s g
+pub ft-is : (s : State) (g : Message) {x : Answer} → x ≡ messageRule g (pick (isZero (g .protection)) Answer.ZeroNumber (ackRule s g (ackOn s g))) → x ≡ ftRule s g
 unfolding ftRule
 ft-is s g e = e
 
@@ -122,9 +140,9 @@ module _ (s : State) (g : Message) {b f z : Bool} (eb : b ≡ isInit (g .typenam
   unfolding ftRule
   ft-zero t = message-rest g _ eb nb ef nf (rw (← ez, t))
 
-  pub ft-rest : {h : Header} {r : Answer} → z ≡ false → h ≡ s .header → r ≡ ackRule s g (ackOn h g) → r ≡ ftRule s g
+  pub ft-rest : {r : Answer} → z ≡ false → r ≡ ackRule s g (ackOn s g) → r ≡ ftRule s g
   unfolding ftRule
-  ft-rest t eh e = message-rest g _ eb nb ef nf (rw (← ez, t) (e ∙ ap (λ (k : Header). ackRule s g (ackOn k g)) eh))
+  ft-rest t e = message-rest g _ eb nb ef nf (rw (← ez, t) e)
 
-pub count-is : (h : Header) (g : Message) {x y : Ack} → x ≡ ackOn h g → x ≡ y → ackCount y ≡ ackCount (ackOn h g)
-count-is h g e t = rw (← e, t)
+pub count-is : (s : State) (g : Message) {x y : Ack} → x ≡ ackOn s g → x ≡ y → ackCount y ≡ ackCount (ackOn s g)
+count-is s g e t = rw (← e, t)

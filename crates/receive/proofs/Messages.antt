@@ -1,17 +1,16 @@
 -- What a message does, by its parts. Assumes nothing.
-use mathlib.Core.Path.{_≡_, ap, _∙_}
+use Prim.Native.Nat.{ℕ}
 use mathlib.Core.Bool.{Bool, true, false, not}
 use mathlib.Core.List.{List}
-use Prim.Native.Nat.{ℕ}
+use mathlib.Core.Path.{_≡_, ap, _∙_}
 use Rattle.octets.specs.Pick.{both}
-use Rattle.message.specs.Kinds.{kindOf}
+use Rattle.label_list.specs.declared.Protection.{Protection}
+use Rattle.label_events.specs.declared.Touched.{Touched}
 use Rattle.message.specs.declared.Kind.{Kind}
 use Rattle.message.specs.declared.Message.{Message}
-use Rattle.label_events.specs.declared.Touched.{Touched}
-use Rattle.label_list.specs.declared.Protection
-use Rattle.label_list.specs.declared.Protection.{Protection}
-use Rattle.receive.specs.declared.LabelEffect.{LabelEffect}
-use Rattle.receive.specs.Labels.{touchedBy, effectOn, labelEffect, isProtected, alwaysProtected, effectProtection, protectionRule}
+use Rattle.message.specs.Kinds.{kindOf}
+use Rattle.protocol.specs.declared.LabelEffect.{LabelEffect}
+use Rattle.protocol.specs.Labels.{touchedBy, effectOn, labelEffect, isProtected, alwaysProtected, effectProtection, protectionRule}
 
 pub effect-is : (g : Message) {t : Touched} {e : LabelEffect} → t ≡ touchedBy (g .label) (g .fec) → e ≡ effectOn (g .typename) t → e ≡ labelEffect g
 unfolding labelEffect

@@ -1,4 +1,2 @@
-pub mod Labels
-pub mod Rule
-pub mod Cases
-pub mod Meaning
+pub mod Speed
+pub mod Call

@@ -1,14 +1,15 @@
 // The answer to a message that was read, in 01's order.
-ghost use mathlib.Core.Path.{_≡_};
-ghost use mathlib.Core.Bool.{false};
 ghost use Prim.Native.Nat.{_≤_};
+ghost use mathlib.Core.Bool.{false};
+ghost use mathlib.Core.Path.{_≡_};
 ghost use lib.ListN.{length, take};
 ghost use Rattle.label_list.specs.Word.{wordCount};
 ghost use Rattle.image.specs.State.{decode};
 ghost use Rattle.image.specs.Verdict.{IsSound};
-ghost use Rattle.calls.specs.declared.Answer;
-ghost use Rattle.calls.specs.Acked.{releasedLabels};
-ghost use Rattle.receive.specs.Rule.{plainRule, labelsRule, ackOn, ackCount, ackRule, ftRule, labelsStay, messageLabels, receivedState};
+ghost use Rattle.protocol.specs.Acked.{releasedLabels};
+ghost use Rattle.protocol.specs.Receive.{plainRule, labelsRule, ackOn, ackCount, ackRule, ftRule, messageLabels, receivedState};
+ghost use Rattle.calls.specs.State.{stateOf};
+ghost use Rattle.receive.specs.Speed.{labelsStay};
 use crate::labels::change_labels;
 use crate::labels::effect_place;
 use crate::labels::judge_protection;
@@ -74,7 +75,7 @@ fn judge_labels(words: &mut [u32], secured: FtNumber, g: Message) -> Answer
 // The label words as an ACK leaves them that releases so many messages; where nothing changes they are not read.
 fn load_acked(image: &[u8], count: u32, g: Message, words: &mut [u32])
     requires { ⌜ IsSound (now image) × (count ≤ decode (now image) .header .held) × (length (now words) ≡ wordCount) ⌝ }
-    ensures { λ _. ⌜ (labelsStay (decode (now (image .entry))) count g ≡ false → now (words .exit) ≡ releasedLabels (take count (decode (now (image .entry)) .queue)) (decode (now (image .entry)) .labels)) ⌝ }
+    ensures { λ _. ⌜ (labelsStay (stateOf (now (image .entry))) count g ≡ false → now (words .exit) ≡ releasedLabels (take count (decode (now (image .entry)) .queue)) (decode (now (image .entry)) .labels)) ⌝ }
 {
     if labels_stay(image, count, g) {
         return;
@@ -86,7 +87,7 @@ fn load_acked(image: &[u8], count: u32, g: Message, words: &mut [u32])
 // 34 and later: the ACK, and then the message. Where the answer is Done and a label may have changed, the words are those that both leave.
 fn judge_ack(image: &[u8], h: Header, g: Message, words: &mut [u32]) -> Answer
     requires { ⌜ IsSound (now image) × (h ≡ decode (now image) .header) × (length (now words) ≡ wordCount) ⌝ }
-    ensures { λ r. ⌜ (r ≡ ackRule (decode (now (image .entry))) g (ackOn h g)) × (r ≡ Answer.Done → labelsStay (decode (now (image .entry))) (ackCount (ackOn h g)) g ≡ false → now (words .exit) ≡ receivedState (decode (now (image .entry))) g .labels) ⌝ }
+    ensures { λ r. ⌜ (r ≡ ackRule (stateOf (now (image .entry))) g (ackOn (stateOf (now (image .entry))) g)) × (r ≡ Answer.Done → labelsStay (stateOf (now (image .entry))) (ackCount (ackOn (stateOf (now (image .entry))) g)) g ≡ false → now (words .exit) ≡ receivedState (stateOf (now (image .entry))) g .table .words) ⌝ }
 {
     let ack = g.ack;
     match ft_number::acknowledge(h.released, h.issued, ack_borne(h, ack)) {
@@ -101,7 +102,7 @@ fn judge_ack(image: &[u8], h: Header, g: Message, words: &mut [u32]) -> Answer
 // 22, 36, 30, and then the ACK: a message in UpFT.
 pub fn judge_ft(image: &[u8], h: Header, g: Message, words: &mut [u32]) -> Answer
     requires { ⌜ IsSound (now image) × (h ≡ decode (now image) .header) × (length (now words) ≡ wordCount) ⌝ }
-    ensures { λ r. ⌜ (r ≡ ftRule (decode (now (image .entry))) g) × (r ≡ Answer.Done → labelsStay (decode (now (image .entry))) (ackCount (ackOn h g)) g ≡ false → now (words .exit) ≡ receivedState (decode (now (image .entry))) g .labels) ⌝ }
+    ensures { λ r. ⌜ (r ≡ ftRule (stateOf (now (image .entry))) g) × (r ≡ Answer.Done → labelsStay (stateOf (now (image .entry))) (ackCount (ackOn (stateOf (now (image .entry))) g)) g ≡ false → now (words .exit) ≡ receivedState (stateOf (now (image .entry))) g .table .words) ⌝ }
 {
     let t = g.typename;
     if calls::is_init(t) {

@@ -1,13 +1,13 @@
 // What a received message does to the label words, and whether it is protected as they demand.
-ghost use mathlib.Core.Path.{_≡_};
-ghost use mathlib.Core.Bool.{not};
 ghost use Prim.Native.Nat.{_≤_};
+ghost use mathlib.Core.Bool.{not};
+ghost use mathlib.Core.Path.{_≡_};
 ghost use Rattle.octets.specs.Pick.{both};
 ghost use Rattle.image.specs.State.{decode};
 ghost use Rattle.image.specs.Verdict.{IsSound};
-ghost use Rattle.receive.specs.Labels.{touchedBy, effectOn, labelEffect, effectPlace, alwaysProtected, effectProtection, protectionRule, effectReception, effectLabels};
-ghost use Rattle.receive.specs.Rule.{labelsStay};
-use crate::LabelEffect;
+ghost use Rattle.protocol.specs.Labels.{touchedBy, effectOn, labelEffect, effectPlace, alwaysProtected, effectProtection, protectionRule, effectReception, effectLabels};
+ghost use Rattle.calls.specs.State.{stateOf};
+ghost use Rattle.receive.specs.Speed.{labelsStay};
 use crate::reading::is_protected;
 use label_events::Reception;
 use label_events::Touched;
@@ -19,6 +19,7 @@ use message::Field;
 use message::Kind;
 use message::Message;
 use message::MessageType;
+use protocol::LabelEffect;
 
 // The labels that a message touches.
 fn touched_by(label: Field, fec: Fec) -> Touched
@@ -75,7 +76,7 @@ pub fn effect_place(words: &[u32], effect: LabelEffect) -> Found
 // Whether an ACK that releases so many messages, and then the message, leave every label word as it is: told without a look at the words.
 pub fn labels_stay(image: &[u8], count: u32, g: Message) -> bool
     requires { ⌜ IsSound (now image) × (count ≤ decode (now image) .header .held) ⌝ }
-    ensures { λ r. ⌜ r ≡ labelsStay (decode (now (image .entry))) count g ⌝ }
+    ensures { λ r. ⌜ r ≡ labelsStay (stateOf (now (image .entry))) count g ⌝ }
 {
     match label_effect(g) {
         LabelEffect::Nothing => calls::frees_none(image, count as usize),

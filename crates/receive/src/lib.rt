@@ -5,9 +5,3 @@ mod reading;
 mod taking;
 
 pub use taking::receive;
-
-// What a message does to the labels.
-pub enum LabelEffect {
-    Nothing,
-    Change(label_list::LabelMessage, label_events::Touched),
-}

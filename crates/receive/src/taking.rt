@@ -1,16 +1,20 @@
 // The public call, and what a message leaves that is taken.
-ghost use mathlib.Core.Path.{_≡_};
-ghost use mathlib.Core.List.{[]};
 ghost use Prim.Native.Nat.{_-_, _≤_, _<_};
-ghost use Rattle.message.specs.Reading.{readingOf};
+ghost use mathlib.Core.List.{[]};
+ghost use mathlib.Core.Path.{_≡_};
 ghost use Rattle.octets.specs.Differ.{differ};
-ghost use Rattle.image.specs.Sizes.{block};
-ghost use Rattle.image.specs.State.{decode, store};
+ghost use Rattle.block0.specs.Updates.{headerReleased, headerSecured};
+ghost use Rattle.message.specs.Reading.{readingOf};
+ghost use Rattle.image.specs.Sizes.{block, slotAt};
+ghost use Rattle.image.specs.State.{decode};
 ghost use Rattle.image.specs.Verdict.{IsSound};
-ghost use Rattle.calls.specs.declared.Phase;
-ghost use Rattle.calls.specs.Acked.{ackBorne, withReleased};
+ghost use Rattle.protocol.specs.Acked.{ackBorne};
+ghost use Rattle.protocol.specs.Phases.{upWith};
+ghost use Rattle.protocol.specs.Receive.{ackOn, ackCount, securedBy, receivedState, readRule, ftRule, plainRule};
 ghost use Rattle.calls.specs.Outcomes.{after, settleOf};
-ghost use Rattle.receive.specs.Rule.{ackOn, ackCount, securedBy, withSecured, receivedState, Taken, takenFt, takenAs, readRule, ftRule, plainRule, receiveOf};
+ghost use Rattle.calls.specs.State.{stateOf, numbersOf};
+ghost use Rattle.calls.specs.Storing.{fewer, stored};
+ghost use Rattle.receive.specs.Call.{Taken, takenFt, receiveOf, takenOn};
 use crate::judging::judge_ft;
 use crate::judging::judge_plain;
 use crate::labels::labels_stay;
@@ -19,6 +23,7 @@ use block0::Header;
 use calls::Answer;
 use calls::Outcome;
 use calls::Phase;
+use calls::Progress;
 use ft_number::Ack;
 use ft_number::FtNumber;
 use message::FtField;
@@ -27,7 +32,7 @@ use message::Reading;
 
 // How many messages the ACK releases.
 fn ack_count(h: Header, g: Message) -> u32
-    ensures { λ r. ⌜ r ≡ ackCount (ackOn h g) ⌝ }
+    ensures { λ r. ⌜ r ≡ ackCount (ackOn (numbersOf h) g) ⌝ }
 {
     let ack = g.ack;
     match ft_number::acknowledge(h.released, h.issued, ack_borne(h, ack)) {
@@ -59,7 +64,7 @@ fn lowered(sent: u32, k: u32) -> u32
 // Block 0's numbers after the ACK and the message.
 fn next_header(h: Header, k: u32, g: Message) -> Header
     requires { ⌜ k ≤ h .held ⌝ }
-    ensures { λ r. ⌜ r ≡ withSecured (withReleased h k (ackBorne h (g .ack))) (securedBy (h .secured) (g .protection)) ⌝ }
+    ensures { λ r. ⌜ r ≡ headerSecured (headerReleased h (record { 0 = ackBorne (numbersOf h) (g .ack) }) (slotAt (h .first) k) (h .held - k)) (securedBy (h .secured) (g .protection)) ⌝ }
 {
     let ack = g.ack;
     let number = g.protection;
@@ -70,8 +75,8 @@ fn next_header(h: Header, k: u32, g: Message) -> Header
 
 // Stores what a message leaves whose ACK releases so many: the numbers alone where the label words stay. Whether block 0 changed.
 fn store_taken(image: &mut [u8], h: Header, k: u32, g: Message, words: &[u32]) -> bool
-    requires { ⌜ Taken (now image) g (now words) × (h ≡ decode (now image) .header) × (k ≡ ackCount (ackOn h g)) ⌝ }
-    ensures { λ r. ⌜ (now (image .exit) ≡ store (now (image .entry)) (receivedState (decode (now (image .entry))) g)) × (r ≡ differ (block (now (image .entry)) 0) (block (now (image .exit)) 0)) ⌝ }
+    requires { ⌜ Taken (now image) g (now words) × (h ≡ decode (now image) .header) × (k ≡ ackCount (ackOn (stateOf (now image)) g)) ⌝ }
+    ensures { λ r. ⌜ (now (image .exit) ≡ stored (now (image .entry)) (fewer (ackCount (ackOn (stateOf (now (image .entry))) g))) (receivedState (stateOf (now (image .entry))) g)) × (r ≡ differ (block (now (image .entry)) 0) (block (now (image .exit)) 0)) ⌝ }
 {
     let next = next_header(h, k, g);
     if labels_stay(image, k, g) {
@@ -90,7 +95,7 @@ fn take_ft(image: &mut [u8], sent: u32, g: Message, words: &[u32]) -> Outcome
     let changed = store_taken(image, h, k, g, words);
     Outcome {
         answer: Answer::Done,
-        phase: Phase::UpFT(lowered(sent, k)),
+        phase: Phase::UpFT(Progress { sent: lowered(sent, k) }),
         written: 0,
         slot: 0,
         block0: changed,
@@ -100,22 +105,22 @@ fn take_ft(image: &mut [u8], sent: u32, g: Message, words: &[u32]) -> Outcome
 // A well-formed message in UpFT.
 fn receive_ft(image: &mut [u8], sent: u32, g: Message) -> Outcome
     requires { ⌜ IsSound (now image) ⌝ }
-    ensures { λ r. ⌜ after r (now (image .exit)) [] ≡ settleOf (ftRule (decode (now (image .entry))) g) (Phase.UpFT sent) (now (image .entry)) [] (takenFt (now (image .entry)) sent g) ⌝ }
+    ensures { λ r. ⌜ after r (now (image .exit)) [] ≡ settleOf (ftRule (stateOf (now (image .entry))) g) (upWith sent) (now (image .entry)) [] (takenFt (now (image .entry)) sent g) ⌝ }
 {
     let mut words = [0u32; label_list::WORD_COUNT];
     let a = judge_ft(image, image::header_of(image), g, &mut words);
     if !calls::is_done(a) {
-        return calls::settle(image, a, Phase::UpFT(sent));
+        return calls::settle(image, a, Phase::UpFT(Progress { sent: sent }));
     }
     take_ft(image, sent, g, &words)
 }
 
 fn receive_up(image: &mut [u8], sent: u32, msg: &[u8]) -> Outcome
     requires { ⌜ IsSound (now image) ⌝ }
-    ensures { λ r. ⌜ after r (now (image .exit)) [] ≡ settleOf (readRule (readingOf (now (msg .entry))) (ftRule (decode (now (image .entry))))) (Phase.UpFT sent) (now (image .entry)) [] (takenAs (now (image .entry)) (Phase.UpFT sent) (readingOf (now (msg .entry)))) ⌝ }
+    ensures { λ r. ⌜ after r (now (image .exit)) [] ≡ settleOf (readRule (readingOf (now (msg .entry))) (ftRule (stateOf (now (image .entry))))) (upWith sent) (now (image .entry)) [] (takenOn (now (image .entry)) (upWith sent) (readingOf (now (msg .entry)))) ⌝ }
 {
     match message::read_message(msg) {
-        Reading::Malformed => calls::settle(image, Answer::MalformedReceived, Phase::UpFT(sent)),
+        Reading::Malformed => calls::settle(image, Answer::MalformedReceived, Phase::UpFT(Progress { sent: sent })),
         Reading::Whole(g) => receive_ft(image, sent, g),
     }
 }
@@ -123,7 +128,7 @@ fn receive_up(image: &mut [u8], sent: u32, msg: &[u8]) -> Outcome
 // In UpPlain a message is passed on: nothing changes where it is taken.
 fn receive_plain(image: &mut [u8], msg: &[u8]) -> Outcome
     requires { ⌜ IsSound (now image) ⌝ }
-    ensures { λ r. ⌜ after r (now (image .exit)) [] ≡ settleOf (readRule (readingOf (now (msg .entry))) plainRule) Phase.UpPlain (now (image .entry)) [] (takenAs (now (image .entry)) Phase.UpPlain (readingOf (now (msg .entry)))) ⌝ }
+    ensures { λ r. ⌜ after r (now (image .exit)) [] ≡ settleOf (readRule (readingOf (now (msg .entry))) plainRule) Phase.UpPlain (now (image .entry)) [] (takenOn (now (image .entry)) Phase.UpPlain (readingOf (now (msg .entry)))) ⌝ }
 {
     match message::read_message(msg) {
         Reading::Malformed => calls::settle(image, Answer::MalformedReceived, Phase::UpPlain),
@@ -142,7 +147,7 @@ pub fn receive(image: &mut [u8], phase: Phase, msg: &[u8]) -> Outcome
     match phase {
         Phase::Idle => calls::refuse(Answer::WrongPhase, phase),
         Phase::InitWait(_) => calls::refuse(Answer::WrongPhase, phase),
-        Phase::UpFT(sent) => receive_up(image, sent, msg),
+        Phase::UpFT(u) => receive_up(image, u.sent, msg),
         Phase::UpPlain => receive_plain(image, msg),
         Phase::Failed => calls::refuse(Answer::WrongPhase, phase),
     }

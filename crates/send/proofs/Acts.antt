@@ -1,48 +1,60 @@
 -- What Send next writes and stores; the premises are what the callees ensure. Assumes nothing.
-use mathlib.Core.Path.{_≡_, refl, sym, _∙_}
+use Prim.Native.Nat.{ℕ, _+_, _≤_, _<_}
 use mathlib.Core.Bool.{Bool, true, false}
 use mathlib.Core.List.{List, []}
-use Prim.Native.Nat.{ℕ, _+_, _≤_, _<_}
-use borrow.Author.Tests.{lt-ltb, le-ltb}
+use mathlib.Core.Path.{_≡_, refl, sym, ap, _∙_}
 use lib.Dec.{ltb}
 use lib.ListN.{length, getD}
+use borrow.Author.Tests.{lt-ltb, le-ltb}
+use Rattle.octets.specs.Bytes.{Bytes}
 use Rattle.octets.specs.Differ.{differ}
 use Rattle.octets.specs.Part.{overlaid}
 use Rattle.octets.proofs.Differ.{differ-self}
-use Rattle.ft_number.specs.Circle.{after as successors}
 use Rattle.ft_number.specs.declared.FtNumber.{FtNumber}
+use Rattle.ft_number.specs.Circle.{after as successors}
+use Rattle.block0.specs.declared.Header.{Header}
+use Rattle.block0.specs.Updates.{headerIssued}
 use Rattle.tlv.specs.declared.FtField.{FtField}
+use Rattle.message.specs.Storable.{shortest, longest, Storable}
+use Rattle.message_writer.specs.declared.Written.{Written}
 use Rattle.message_writer.specs.Forms.{protectedBytes}
 use Rattle.message_writer.specs.Written.{writtenOf}
-use Rattle.message_writer.specs.declared.Written
-use Rattle.message_writer.specs.declared.Written.{Written}
 use Rattle.message_writer.proofs.Room.{too-short, long-enough}
-use Rattle.block0.specs.declared.Header.{Header}
-use Rattle.slot.specs.Layout.{shortest, longest}
-use Rattle.slot.specs.Held.{Storable}
 use Rattle.image.specs.Sizes.{block}
 use Rattle.image.specs.State.{decode, store0}
 use Rattle.image.specs.Verdict.{IsSound}
 use Rattle.image.proofs.Queue.{queue-storable}
-use Rattle.calls.specs.declared.Answer
-use Rattle.calls.specs.declared.Answer.{Answer}
+use Rattle.protocol.specs.declared.Answer.{Answer}
+use Rattle.protocol.specs.declared.Phase.{Phase}
+use Rattle.protocol.specs.Answers.{effectOf, isDone}
+use Rattle.protocol.specs.Phases.{issuedCount, sentOf, upWith}
+use Rattle.protocol.specs.Send.{numberAt, ackAsked, sendBytes, sendRule, numbered, sentState, sendNext}
+use Rattle.protocol.specs.State.{State}
+use Rattle.protocol.specs.Step.{Step, roomFor, stepped}
 use Rattle.calls.specs.declared.Outcome.{Outcome}
-use Rattle.calls.specs.declared.Phase
-use Rattle.calls.specs.declared.Phase.{Phase}
-use Rattle.calls.specs.Answers.{effectOf}
-use Rattle.calls.specs.Phases.{issuedCount}
-use Rattle.calls.specs.Outcomes.{after, refusal}
-use Rattle.calls.proofs.Ends.{settle-refusal, settle-done, unchanged-is}
-use Rattle.send.specs.Rule.{sentOf, numberAt, ackAsked, sendBytes, sendAnswer, withIssued, numbered, sendImage, sendOf}
-use Rattle.send.proofs.Judged.{Sendable, sendable-answer}
+use Rattle.calls.specs.Outcomes.{After, after, refusal, admittedOn, settleOf, stepStored}
+use Rattle.calls.specs.State.{stateOf, numbersOf}
+use Rattle.calls.specs.Storing.{stay, stored}
+use Rattle.calls.proofs.Called.{call-is}
+use Rattle.calls.proofs.Ends.{settle-done}
+use Rattle.calls.proofs.Putting.{header-same, put-same}
+use Rattle.call_meaning.proofs.Calling.{own-refused}
+use Rattle.send.specs.Send.{sendOf}
+use Rattle.send.proofs.Judged.{Sendable, judged-refused, sendable-rule}
 
 -- ---- the number and the ACK
-pub number-is : (h : Header) (sent : ℕ) {n : FtNumber} → n .0 ≡ successors (sent + 1) (h .released .0) → n ≡ numberAt h sent
+pub number-is : (s : State) (sent : ℕ) {n : FtNumber} → n .0 ≡ successors (sent + 1) (s .released .0) → n ≡ numberAt s sent
 unfolding numberAt
-number-is h sent e = λ i. record { 0 = e i }
+number-is s sent e = λ i. record { 0 = e i }
 
-pub ack-is : (h : Header) {ask b : Bool} → ask ≡ b → ackAsked b h ≡ ackAsked ask h
-ack-is h e = rw e
+pub ack-is : (s : State) {ask b : Bool} → ask ≡ b → ackAsked b s ≡ ackAsked ask s
+ack-is s e = rw e
+
+-- block 0's numbers say it alone
+ack-alone : (im : List ℕ) (ask : Bool) → ackAsked ask (numbersOf (decode im .header)) ≡ ackAsked ask (stateOf im)
+unfolding ackAsked
+ack-alone im true = refl
+ack-alone im false = refl
 
 -- ---- the message written
 -- a held message has a length that the writer takes
@@ -51,42 +63,62 @@ pub next-fits : (im : List ℕ) (sent : ℕ) {m : List ℕ} → IsSound im → s
 next-fits im sent s l e = let f : Storable (getD (decode im .queue) sent []) = queue-storable im s sent l in rw e (f .low, f .short)
 
 pub next-written : (im : List ℕ) (sent : ℕ) (ask : Bool) (o : List ℕ) {h : Header} {m o′ : List ℕ} {n : FtNumber} {a : FtField} {w : Written}
-    → h ≡ decode im .header → m ≡ getD (decode im .queue) sent [] → n ≡ numberAt h sent → a ≡ ackAsked ask h
-    → (w, o′) ≡ writtenOf o (protectedBytes m n a) → (w, o′) ≡ writtenOf o (sendBytes (decode im) sent ask)
-unfolding sendBytes
-next-written im sent ask o eh em en ea e = e ∙ (rw (ea, en, em, eh))
+    → h ≡ decode im .header → m ≡ getD (decode im .queue) sent [] → n ≡ numberAt (numbersOf h) sent → a ≡ ackAsked ask (numbersOf h)
+    → (w, o′) ≡ writtenOf o (protectedBytes m n a) → (w, o′) ≡ writtenOf o (sendBytes (stateOf im) sent ask)
+unfolding sendBytes numberAt
+next-written im sent ask o eh em en ea e = e ∙ (rw (ea, en, em, eh, ack-alone im ask))
 
 -- ---- the number stored
-module _ (im : List ℕ) (sent : ℕ) {h : Header} {k : ℕ} (eh : h ≡ decode im .header) (ek : k ≡ issuedCount h) where
-  pub has-number : sent < k → (false ≡ differ (block im 0) (block im 0)) × (im ≡ sendImage im sent)
-  unfolding sendImage
-  has-number l = (sym (differ-self (block im 0)), rw (← eh, ← ek, lt-ltb sent k l))
+module _ (im : List ℕ) (sent : ℕ) (s : IsSound im) {h : Header} {k : ℕ} (eh : h ≡ decode im .header) (ek : k ≡ issuedCount (numbersOf h)) where
+  issued : k ≡ issuedCount (stateOf im)
+  unfolding issuedCount
+  issued = ek ∙ (rw eh)
 
-  pub has-none : {im′ : List ℕ} {n : FtNumber} {b : Bool} → k ≤ sent → n ≡ numberAt h sent
-      → (im′ ≡ store0 im (withIssued h n) (decode im .labels)) × (b ≡ differ (block im 0) (block im′ 0)) → (b ≡ differ (block im 0) (block im′ 0)) × (im′ ≡ sendImage im sent)
-  unfolding sendImage numbered
-  has-none l en e = (e .1, e .0 ∙ (rw (← eh, ← ek, le-ltb sent k l, en)))
+  pub has-number : Bytes im → sent < k → (false ≡ differ (block im 0) (block im 0)) × (im ≡ stored im stay (sentState (stateOf im) sent))
+  unfolding sentState
+  has-number byte l = (sym (differ-self (block im 0)), rw (← issued, lt-ltb sent k l) (sym (put-same im s byte)))
+
+  pub has-none : {im′ : List ℕ} {n : FtNumber} {b : Bool} → k ≤ sent → n ≡ numberAt (numbersOf h) sent
+      → (im′ ≡ store0 im (headerIssued h n) (decode im .labels)) × (b ≡ differ (block im 0) (block im′ 0))
+      → (b ≡ differ (block im 0) (block im′ 0)) × (im′ ≡ stored im stay (sentState (stateOf im) sent))
+  unfolding sentState numbered numberAt
+  has-none l en e =
+      (e .1, e .0 ∙ (rw (← issued, le-ltb sent k l, en, eh) (ap (λ (x : Header). store0 im (headerIssued x (numberAt (stateOf im) sent)) (decode im .labels)) (sym (header-same im s)))))
 
 -- ---- the call
-module _ (im : List ℕ) (ph : Phase) (ask : Bool) (o : List ℕ) (d : Sendable im ph) {sent : ℕ} {w : Written} {o′ : List ℕ} (es : sent ≡ sentOf ph)
-    (ew : (w, o′) ≡ writtenOf o (sendBytes (decode im) sent ask)) where
+module _ (im : List ℕ) (ph : Phase) (ask : Bool) (o : List ℕ) where
   abbrev bytes : List ℕ
-  bytes = sendBytes (decode im) (sentOf ph) ask
+  bytes = sendBytes (stateOf im) (sentOf ph) ask
 
-  written : (w, o′) ≡ writtenOf o bytes
-  written = rw es at ew
+  abbrev step : Step
+  step = stepped Answer.Done (sentState (stateOf im) (sentOf ph)) (upWith (sentOf ph + 1)) bytes
 
-  pub send-short : {x : Outcome} → w ≡ Written.TooShort → x ≡ refusal Answer.OutputTooShort ph → after x im o′ ≡ sendOf im ph ask o
-  unfolding sendOf effectOf
-  send-short t ex =
-      let p : (ltb (length o) (length bytes) ≡ true) × (o′ ≡ o) = too-short o bytes written t in
-      let short : sendAnswer im ph ask (length o) ≡ Answer.OutputTooShort = sendable-answer d ask (length o) ∙ (rw (p .0)) in
-      rw (short, p .1) (unchanged-is Answer.OutputTooShort ph im o ex ∙ sym (settle-refusal Answer.OutputTooShort ph im o _ refl))
+  send-settles : settleOf (admittedOn im ph (sendRule (stateOf im) ph (roomFor bytes (length o)))) ph im o (stepStored im stay step o) ≡ sendOf im ph ask o
+  unfolding sendOf sendNext
+  send-settles = sym (call-is im ph o stay (sendRule (stateOf im) ph (roomFor bytes (length o))) step refl)
 
-  pub send-acts : {n : ℕ} {b : Bool} {im′ : List ℕ} → w ≡ Written.Bytes n → (b ≡ differ (block im 0) (block im′ 0)) × (im′ ≡ sendImage im sent)
-      → after (record { answer = Answer.Done; phase = Phase.UpFT (sent + 1); written = n; slot = 0; block0 = b }) im′ o′ ≡ sendOf im ph ask o
-  unfolding sendOf
-  send-acts {n} {b} {im′} t q =
-      let p : (ltb (length o) (length bytes) ≡ false) × ((n ≡ length bytes) × (o′ ≡ overlaid o bytes)) = long-enough o bytes written t in
-      let done : sendAnswer im ph ask (length o) ≡ Answer.Done = sendable-answer d ask (length o) ∙ (rw (p .0)) in
-      rw (done, settle-done, q .0, q .1, p .1 .0, p .1 .1, es)
+  pub send-refused : {r : Answer} {x : Outcome} → r ≡ admittedOn im ph (sendRule (stateOf im) ph Answer.Done) → isDone r ≡ false → x ≡ refusal r ph
+      → after x im o ≡ sendOf im ph ask o
+  send-refused e n ex = judged-refused im ph (roomFor bytes (length o)) o (stepStored im stay step o) e n ex ∙ send-settles
+
+  module _ (d : Sendable im ph) {sent : ℕ} {w : Written} {o′ : List ℕ} (es : sent ≡ sentOf ph)
+      (ew : (w, o′) ≡ writtenOf o (sendBytes (stateOf im) sent ask)) where
+    written : (w, o′) ≡ writtenOf o bytes
+    written = rw es at ew
+
+    -- the answer that the room leads to
+    answered : (a : Answer) {x : After} → roomFor bytes (length o) ≡ a → x ≡ settleOf a ph im o (stepStored im stay step o) → x ≡ sendOf im ph ask o
+    answered a e p = p ∙ (rw (← e, ← sendable-rule d (roomFor bytes (length o))) send-settles)
+
+    pub send-short : {x : Outcome} → w ≡ Written.TooShort → x ≡ refusal Answer.OutputTooShort ph → after x im o′ ≡ sendOf im ph ask o
+    unfolding effectOf
+    send-short t ex =
+        let p : (ltb (length o) (length bytes) ≡ true) × (o′ ≡ o) = too-short o bytes written t in
+        rw (p .1) (answered Answer.OutputTooShort (rw (p .0)) (own-refused Answer.OutputTooShort ph im o (stepStored im stay step o) refl ex))
+
+    pub send-acts : {n : ℕ} {b : Bool} {im′ : List ℕ} → w ≡ Written.Bytes n
+        → (b ≡ differ (block im 0) (block im′ 0)) × (im′ ≡ stored im stay (sentState (stateOf im) sent))
+        → after (record { answer = Answer.Done; phase = upWith (sent + 1); written = n; slot = 0; block0 = b }) im′ o′ ≡ sendOf im ph ask o
+    send-acts {n} {b} {im′} t q =
+        let p : (ltb (length o) (length bytes) ≡ false) × ((n ≡ length bytes) × (o′ ≡ overlaid o bytes)) = long-enough o bytes written t in
+        answered Answer.Done (rw (p .0)) (rw (settle-done, q .0, q .1, p .1 .0, p .1 .1, es))

@@ -1,18 +1,22 @@
 // Send next: the oldest held message not sent on this connection, with its FT number.
-ghost use mathlib.Core.Path.{_≡_};
 ghost use Prim.Native.Nat.{_<_};
+ghost use mathlib.Core.Path.{_≡_};
 ghost use Rattle.octets.specs.Differ.{differ};
 ghost use Rattle.message_writer.specs.Written.{writtenOf};
 ghost use Rattle.image.specs.Sizes.{block};
 ghost use Rattle.image.specs.State.{decode};
 ghost use Rattle.image.specs.Verdict.{IsSound};
-ghost use Rattle.calls.specs.declared.Answer;
-ghost use Rattle.calls.specs.Outcomes.{after, admitted};
-ghost use Rattle.send.specs.Rule.{isUpFT, sentOf, numberAt, ackAsked, sendBytes, sendRule, sendImage, sendOf};
+ghost use Rattle.protocol.specs.Phases.{isUpFT, sentOf};
+ghost use Rattle.protocol.specs.Send.{numberAt, ackAsked, sendBytes, sendRule, sentState};
+ghost use Rattle.calls.specs.Outcomes.{after, admittedOn};
+ghost use Rattle.calls.specs.State.{stateOf, numbersOf};
+ghost use Rattle.calls.specs.Storing.{stay, stored};
+ghost use Rattle.send.specs.Send.{sendOf};
 use block0::Header;
 use calls::Answer;
 use calls::Outcome;
 use calls::Phase;
+use calls::Progress;
 use ft_number::FtNumber;
 use message_writer::Written;
 use tlv::FtField;
@@ -37,7 +41,7 @@ fn sent_of(phase: Phase) -> u32
     match phase {
         Phase::Idle => 0,
         Phase::InitWait(_) => 0,
-        Phase::UpFT(sent) => sent,
+        Phase::UpFT(u) => u.sent,
         Phase::UpPlain => 0,
         Phase::Failed => 0,
     }
@@ -45,7 +49,7 @@ fn sent_of(phase: Phase) -> u32
 
 // 12, 1, 8: all tests but that of the room.
 fn judge_send(image: &[u8], phase: Phase) -> Answer
-    ensures { λ r. ⌜ r ≡ admitted (now (image .entry)) phase (sendRule (decode (now (image .entry))) phase Answer.Done) ⌝ }
+    ensures { λ r. ⌜ r ≡ admittedOn (now (image .entry)) phase (sendRule (stateOf (now (image .entry))) phase Answer.Done) ⌝ }
 {
     let a = calls::admit(image, phase);
     if !calls::is_done(a) {
@@ -64,14 +68,14 @@ fn judge_send(image: &[u8], phase: Phase) -> Answer
 // The number of the message at a place of the queue.
 fn number_at(h: Header, sent: u32) -> FtNumber
     requires { ⌜ sent < 65536 ⌝ }
-    ensures { λ r. ⌜ r ≡ numberAt h sent ⌝ }
+    ensures { λ r. ⌜ r ≡ numberAt (numbersOf h) sent ⌝ }
 {
     ft_number::advance(h.released, sent + 1)
 }
 
 // The FT ACK to write.
 fn ack_asked(ack: bool, h: Header) -> FtField
-    ensures { λ r. ⌜ r ≡ ackAsked ack h ⌝ }
+    ensures { λ r. ⌜ r ≡ ackAsked ack (numbersOf h) ⌝ }
 {
     let secured = h.secured;
     if ack {
@@ -83,7 +87,7 @@ fn ack_asked(ack: bool, h: Header) -> FtField
 // Writes the message at a place of the queue, with its number; the writer tests the room (9).
 fn write_next(image: &[u8], sent: u32, ack: bool, out: &mut [u8]) -> Written
     requires { ⌜ IsSound (now image) × (sent < decode (now image) .header .held) ⌝ }
-    ensures { λ r. ⌜ (r, now (out .exit)) ≡ writtenOf (now (out .entry)) (sendBytes (decode (now (image .entry))) sent ack) ⌝ }
+    ensures { λ r. ⌜ (r, now (out .exit)) ≡ writtenOf (now (out .entry)) (sendBytes (stateOf (now (image .entry))) sent ack) ⌝ }
 {
     let h = image::header_of(image);
     let m = image::held_message(image, sent as usize);
@@ -93,7 +97,7 @@ fn write_next(image: &[u8], sent: u32, ack: bool, out: &mut [u8]) -> Written
 // Numbers the message at a place of the queue, if it has no number. Whether block 0 changed.
 fn issue(image: &mut [u8], sent: u32) -> bool
     requires { ⌜ IsSound (now image) × (sent < 65536) ⌝ }
-    ensures { λ r. ⌜ (r ≡ differ (block (now (image .entry)) 0) (block (now (image .exit)) 0)) × (now (image .exit) ≡ sendImage (now (image .entry)) sent) ⌝ }
+    ensures { λ r. ⌜ (r ≡ differ (block (now (image .entry)) 0) (block (now (image .exit)) 0)) × (now (image .exit) ≡ stored (now (image .entry)) stay (sentState (stateOf (now (image .entry))) sent)) ⌝ }
 {
     let h = image::header_of(image);
     if sent < calls::issued_count(h) {
@@ -117,7 +121,7 @@ pub fn send_next(image: &mut [u8], phase: Phase, ack: bool, out: &mut [u8]) -> O
         Written::TooShort => calls::refuse(Answer::OutputTooShort, phase),
         Written::Bytes(n) => Outcome {
             answer: Answer::Done,
-            phase: Phase::UpFT(sent + 1),
+            phase: Phase::UpFT(Progress { sent: sent + 1 }),
             written: n,
             slot: 0,
             block0: issue(image, sent),

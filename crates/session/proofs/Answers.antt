@@ -1,85 +1,84 @@
 -- What the answer says of every call: a refusal changes nothing, only Done writes output, and what the others leave. Assumes nothing.
-use mathlib.Core.Path.{_≡_, refl, sym, ap, _∙_}
+use Prim.Native.Nat.{ℕ, _≤_}
+use mathlib.Core.Bool.{Bool, true, false}
 use mathlib.Core.List.{List}
 use mathlib.Core.Logic.{_≢_}
-use Prim.Native.Nat.{ℕ, _≤_}
+use mathlib.Core.Path.{_≡_, refl, sym, ap, _∙_}
 use native.Mathlib.Omega.{arith}
-use Rattle.octets.proofs.Choice.{pick-all}
-use Rattle.message.specs.Reading.{readingOf}
-use Rattle.image.specs.State.{decode}
-use Rattle.calls.specs.declared.Answer
-use Rattle.calls.specs.declared.Answer.{Answer}
-use Rattle.calls.specs.declared.Phase.{Phase}
-use Rattle.calls.specs.Answers.{answerNumber}
-use Rattle.calls.specs.Outcomes.{After, unchanged, failedWith, releasedWith}
+use Rattle.octets.specs.Pick.{pick}
+use Rattle.protocol.specs.declared.Answer.{Answer}
+use Rattle.protocol.specs.declared.Phase.{Phase}
+use Rattle.protocol.specs.Answers.{answerNumber}
+use Rattle.protocol.specs.Calls.{Call}
+use Rattle.protocol.specs.Judged.{done}
+use Rattle.protocol.proofs.Settles.{done-answer}
+use Rattle.calls.specs.Outcomes.{After, failedOn, releasedOn, untouched, stepStored}
+use Rattle.calls.specs.State.{stateOf}
+use Rattle.call_meaning.specs.Ended.{ReleasedIdle, Unapplied}
 use Rattle.call_meaning.specs.Standing.{Standing}
-use Rattle.call_meaning.specs.Ended.{Unapplied, ReleasedIdle}
-use Rattle.call_meaning.proofs.Answered.{settled-says, answered-nothing, answered-failed, answered-released, failed-unapplied, released-idle}
-use Rattle.timers.specs.Events.{expired}
-use Rattle.init.specs.Begun.{begunAs}
-use Rattle.submit.specs.Act.{queued}
-use Rattle.receive.proofs.Meaning.{taken-says}
-use Rattle.session.specs.Call.{Call, format, restore, connection-failed, open-session, init-received, time-passed, submit, send-next, keepalive, receive, leaves, given, lent, judged, done}
-use Rattle.session.proofs.Settles.{settles, ends}
+use Rattle.call_meaning.proofs.Answered.{answered-failed, answered-nothing, answered-released, failed-unapplied, released-idle, settled-says}
+use Rattle.connect.specs.Start.{formatted}
+use Rattle.session.specs.Call.{given, leaves, lent, makesImage, slotsOf}
+use Rattle.session.proofs.Settles.{answerOn, doneOn, ends, settles-on}
 
 -- what is done is answered Done
-done-says : (c : Call) (im : List ℕ) (ph : Phase) → done c im ph .outcome .answer ≡ Answer.Done
-unfolding done failedWith releasedWith begunAs queued
-done-says format im ph = refl
-done-says restore im ph = refl
-done-says connection-failed im ph = refl
-done-says (open-session id own proposal out) im ph = refl
-done-says (init-received m) im ph = refl
-done-says (time-passed elapsed) im ph = pick-all (λ (x : After). x .outcome .answer ≡ Answer.Done) (expired (decode im .header) elapsed) refl refl
-done-says (submit m) im ph = refl
-done-says (send-next ask out) im ph = refl
-done-says (keepalive id out) im ph = refl
-done-says (receive m) im ph = taken-says im ph (readingOf m)
+done-says : (c : Call) (im : List ℕ) (ph : Phase) (out : List ℕ) → doneOn c im ph out .outcome .answer ≡ Answer.Done
+unfolding doneOn
+done-says c im ph out = by (makesImage c)
+  where
+    by : (b : Bool) → pick b formatted (stepStored im (slotsOf c (stateOf im) ph) (done c (stateOf im) ph) (lent c out)) .outcome .answer ≡ Answer.Done
+    by true = refl
+    by false = done-answer c (stateOf im) ph
 
-module _ (c : Call) (im : List ℕ) (ph : Phase) where
+module _ (c : Call) (im : List ℕ) (ph : Phase) (out : List ℕ) where
   -- the answer of a call is that of its tests
-  pub answer-is : leaves c im ph .outcome .answer ≡ judged c im ph
-  answer-is = ap (λ (x : After). x .outcome .answer) (settles c im ph) ∙ settled-says (judged c im ph) (given c ph) im (lent c) (done c im ph) (done-says c im ph)
+  pub answer-is : leaves c im ph out .outcome .answer ≡ answerOn c im ph out
+  answer-is =
+      ap (λ (x : After). x .outcome .answer) (settles-on c im ph out)
+      ∙ settled-says (answerOn c im ph out) (given c ph) im (lent c out) (doneOn c im ph out) (done-says c im ph out)
 
-  number-is : answerNumber (leaves c im ph .outcome .answer) ≡ answerNumber (judged c im ph)
+  abbrev said : Answer
+  said = leaves c im ph out .outcome .answer
+
+  number-is : answerNumber said ≡ answerNumber (answerOn c im ph out)
   number-is = ap (λ (a : Answer). answerNumber a) answer-is
 
   -- "1 .. 13: nothing changed": neither the image, nor the phase, nor the output
-  pub refusal-changes-nothing : 1 ≤ answerNumber (leaves c im ph .outcome .answer) → answerNumber (leaves c im ph .outcome .answer) ≤ 13
-      → leaves c im ph ≡ unchanged (leaves c im ph .outcome .answer) (given c ph) im (lent c)
+  pub refusal-changes-nothing : 1 ≤ answerNumber said → answerNumber said ≤ 13 → leaves c im ph out ≡ untouched said (given c ph) im (lent c out)
   refusal-changes-nothing l u =
-      settles c im ph
-      ∙ answered-nothing (judged c im ph) (given c ph) im (lent c) (done c im ph) (omega (arith, number-is)) (omega (arith, number-is))
-      ∙ ap (λ (a : Answer). unchanged a (given c ph) im (lent c)) (sym answer-is)
+      settles-on c im ph out
+      ∙ answered-nothing (answerOn c im ph out) (given c ph) im (lent c out) (doneOn c im ph out) (omega (arith, number-is)) (omega (arith, number-is))
+      ∙ ap (λ (a : Answer). untouched a (given c ph) im (lent c out)) (sym answer-is)
 
   -- "20 .. 23: as connection failed, ACK unapplied": of the image as it was given
-  pub failure-is : 20 ≤ answerNumber (leaves c im ph .outcome .answer) → answerNumber (leaves c im ph .outcome .answer) ≤ 23
-      → leaves c im ph ≡ failedWith (leaves c im ph .outcome .answer) im (lent c)
+  pub failure-is : 20 ≤ answerNumber said → answerNumber said ≤ 23 → leaves c im ph out ≡ failedOn said im (lent c out)
   failure-is l u =
-      settles c im ph
-      ∙ answered-failed (judged c im ph) (given c ph) im (lent c) (done c im ph) (omega (arith, number-is)) (omega (arith, number-is))
-      ∙ ap (λ (a : Answer). failedWith a im (lent c)) (sym answer-is)
+      settles-on c im ph out
+      ∙ answered-failed (answerOn c im ph out) (given c ph) im (lent c out) (doneOn c im ph out) (omega (arith, number-is)) (omega (arith, number-is))
+      ∙ ap (λ (a : Answer). failedOn a im (lent c out)) (sym answer-is)
 
   -- "30 .. 36: released, Idle"
-  pub release-is : 30 ≤ answerNumber (leaves c im ph .outcome .answer) → leaves c im ph ≡ releasedWith (leaves c im ph .outcome .answer) im (lent c)
+  pub release-is : 30 ≤ answerNumber said → leaves c im ph out ≡ releasedOn said im (lent c out)
   release-is l =
-      settles c im ph
-      ∙ answered-released (judged c im ph) (given c ph) im (lent c) (done c im ph) (omega (arith, number-is))
-      ∙ ap (λ (a : Answer). releasedWith a im (lent c)) (sym answer-is)
+      settles-on c im ph out
+      ∙ answered-released (answerOn c im ph out) (given c ph) im (lent c out) (doneOn c im ph out) (omega (arith, number-is))
+      ∙ ap (λ (a : Answer). releasedOn a im (lent c out)) (sym answer-is)
 
-  -- the same, of the state
+  -- the same, of the image's own changes and of the state
   module _ (st : Standing im ph) where
-    pub failure-leaves : 20 ≤ answerNumber (leaves c im ph .outcome .answer) → answerNumber (leaves c im ph .outcome .answer) ≤ 23 → Unapplied im (leaves c im ph)
-    failure-leaves l u = rw (failure-is l u) (failed-unapplied im ph st (leaves c im ph .outcome .answer) (lent c))
+    -- what it leaves: the image before the call, as after a break
+    pub failure-leaves : 20 ≤ answerNumber said → answerNumber said ≤ 23 → Unapplied im (leaves c im ph out)
+    failure-leaves l u = rw (failure-is l u) (failed-unapplied im ph st said (lent c out))
 
-    pub release-leaves : 30 ≤ answerNumber (leaves c im ph .outcome .answer) → ReleasedIdle im (leaves c im ph)
-    release-leaves l = rw (release-is l) (released-idle im ph st (leaves c im ph .outcome .answer) (lent c))
+    -- what it leaves: block 0 with kept 0 and the slots' bytes, Idle
+    pub release-leaves : 30 ≤ answerNumber said → ReleasedIdle im (leaves c im ph out)
+    release-leaves l = rw (release-is l) (released-idle im ph st said (lent c out))
 
   -- "Every answer except 0 writes no output byte"
-  pub only-done-writes : answerNumber (leaves c im ph .outcome .answer) ≢ 0 → (leaves c im ph .out ≡ lent c) × (leaves c im ph .outcome .written ≡ 0)
-  unfolding failedWith releasedWith
+  pub only-done-writes : answerNumber said ≢ 0 → (leaves c im ph out .out ≡ lent c out) × (leaves c im ph out .outcome .written ≡ 0)
+  unfolding failedOn releasedOn
   only-done-writes other =
-      ends c im ph (λ (x : After). (x .out ≡ lent c) × (x .outcome .written ≡ 0))
+      ends c im ph out (λ (x : After). (x .out ≡ lent c out) × (x .outcome .written ≡ 0))
       (λ e. (refl, refl))
       (λ e. (refl, refl))
       (λ e. (refl, refl))

@@ -1,10 +1,17 @@
+-- each call is the protocol's step: what its answer leaves, what it keeps, what it stands for
 pub mod Settles
 pub mod Answers
+pub mod Puts
+pub mod Begin
+pub mod Refines
+pub mod Room
+-- what the owner stores
 pub mod Told
-pub mod Slots
-pub mod Cut
-pub mod Stands
+pub mod Queued
+pub mod Medium
+-- the wrong keepers, and the numbers of lower crates
 pub mod Sample
-pub mod Second
+pub mod Fresh
+pub mod Round
 pub mod Keepers
 pub mod Numbers

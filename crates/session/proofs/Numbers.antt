@@ -1,27 +1,10 @@
--- The numbers that lower crates give to their verdicts are those of the answers that the calls make of them. Assumes nothing.
+-- The numbers of restore's verdicts are those of the answers that the calls make of them. Assumes nothing.
 use mathlib.Core.Path.{_≡_, refl}
-use mathlib.Core.List.{List}
-use Prim.Native.Nat.{ℕ}
-use Rattle.message.specs.declared.Message.{Message}
-use Rattle.label_list.specs.declared.Protection
-use Rattle.label_list.specs.declared.Protection.{Protection}
-use Rattle.label_events.specs.Accept.{acceptanceNumber}
-use Rattle.label_events.specs.Protect.{protectionNumber}
-use Rattle.label_events.specs.Receive.{receptionNumber}
-use Rattle.label_events.specs.declared.Acceptance
-use Rattle.label_events.specs.declared.Acceptance.{Acceptance}
-use Rattle.label_events.specs.declared.Reception
-use Rattle.label_events.specs.declared.Reception.{Reception}
-use Rattle.image.specs.State.{State}
-use Rattle.image.specs.Verdict.{verdictNumber, verdictBlock}
-use Rattle.image.specs.declared.Verdict
 use Rattle.image.specs.declared.Verdict.{Verdict}
-use Rattle.calls.specs.declared.Answer
-use Rattle.calls.specs.declared.Answer.{Answer}
-use Rattle.calls.specs.Answers.{answerNumber, answerBlock}
+use Rattle.image.specs.Verdict.{verdictNumber, verdictBlock}
+use Rattle.protocol.specs.declared.Answer.{Answer}
+use Rattle.protocol.specs.Answers.{answerNumber, answerBlock}
 use Rattle.calls.specs.Outcomes.{checked}
-use Rattle.submit.specs.Rule.{acceptanceRule}
-use Rattle.receive.specs.Rule.{receptionRule, protectedRule}
 
 -- 12, 10 and 11, with the block
 pub checks-numbered : (v : Verdict) → (answerNumber (checked v Answer.Done) ≡ verdictNumber v) × (answerBlock (checked v Answer.Done) ≡ verdictBlock v)
@@ -29,18 +12,3 @@ checks-numbered Verdict.Sound = (refl, refl)
 checks-numbered Verdict.WrongSize = (refl, refl)
 checks-numbered (Verdict.BadBlock b) = (refl, refl)
 checks-numbered (Verdict.BadField b) = (refl, refl)
-
--- 6 and 13; what is taken goes on to the test of the room
-pub acceptance-numbered : (s : State) → (answerNumber (acceptanceRule s Acceptance.NotAllowed) ≡ acceptanceNumber Acceptance.NotAllowed)
-    × (answerNumber (acceptanceRule s Acceptance.NoRoom) ≡ acceptanceNumber Acceptance.NoRoom)
-acceptance-numbered s = (refl, refl)
-
--- 21
-pub reception-numbered : (r : Reception) → answerNumber (receptionRule r) ≡ receptionNumber r
-reception-numbered Reception.Taken = refl
-reception-numbered Reception.NoRoom = refl
-
--- 32 and 33; what is right goes on to the number's turn
-pub protection-numbered : (ls : List ℕ) (s : ℕ) (g : Message) → (answerNumber (protectedRule ls s g Protection.Wrong) ≡ protectionNumber Protection.Wrong)
-    × (answerNumber (protectedRule ls s g Protection.Missing) ≡ protectionNumber Protection.Missing)
-protection-numbered ls s g = (refl, refl)

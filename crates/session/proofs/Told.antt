@@ -1,59 +1,140 @@
--- Whether a call changed block 0: its outcome tells exactly that. Assumes nothing.
-use mathlib.Core.Path.{_≡_, refl, sym}
-use mathlib.Core.Bool.{false, true≢false}
-use mathlib.Core.List.{List, []}
-use Prim.Native.Nat.{ℕ}
+-- What a call tells its owner: whether block 0 changed, and the slot, which is not live; every other block keeps its bytes. Assumes nothing.
+use Prim.Native.Nat.{ℕ, _<_}
+use mathlib.Core.Bool.{Bool, true, false}
+use mathlib.Core.List.{List}
+use mathlib.Core.Logic.{_≢_}
+use mathlib.Core.Path.{_≡_, refl, sym, ap, _∙_}
+use native.Mathlib.Omega.{arith}
+use lib.ListN.{length}
 use Rattle.octets.specs.Differ.{differ}
+use Rattle.octets.specs.Pick.{pick}
+use Rattle.octets.proofs.Choice.{no}
 use Rattle.octets.proofs.Differ.{differ-self}
-use Rattle.octets.proofs.Choice.{pick-all}
-use Rattle.message.specs.Reading.{readingOf}
-use Rattle.message.specs.declared.Reading
+use Rattle.block0.specs.Layout.{slotCount}
 use Rattle.message.specs.declared.Reading.{Reading}
-use Rattle.image.specs.Sizes.{block}
-use Rattle.image.specs.State.{decode}
-use Rattle.calls.specs.declared.Answer
-use Rattle.calls.specs.declared.Answer.{Answer}
-use Rattle.calls.specs.declared.Phase
-use Rattle.calls.specs.declared.Phase.{Phase}
-use Rattle.calls.specs.Outcomes.{After, unchanged, failedWith, releasedWith}
-use Rattle.timers.specs.Events.{expired}
-use Rattle.init.specs.Begun.{begunAs}
-use Rattle.submit.specs.Act.{queued}
-use Rattle.receive.specs.Rule.{takenAs}
-use Rattle.session.specs.Call.{Call, format, restore, connection-failed, open-session, init-received, time-passed, submit, send-next, keepalive, receive, leaves, done, makesImage}
-use Rattle.session.proofs.Settles.{ends}
+use Rattle.message.specs.Reading.{readingOf}
+use Rattle.image.specs.declared.Verdict.{Verdict}
+use Rattle.image.specs.Sizes.{block, blockOf}
+use Rattle.image.specs.Verdict.{IsSound, verdict}
+use Rattle.image.proofs.Queue.{queue-length}
+use Rattle.image.proofs.Sound.{sound-parts}
+use Rattle.image.proofs.Stored.{Idle}
+use Rattle.protocol.specs.declared.Answer.{Answer}
+use Rattle.protocol.specs.declared.Effect.{Effect}
+use Rattle.protocol.specs.declared.Phase.{Phase}
+use Rattle.protocol.specs.declared.Start.{Start}
+use Rattle.protocol.specs.Answers.{effectOf}
+use Rattle.protocol.specs.Calls.{Call, formats, restores, fails, opens, greets, passes, submits, sends, keeps-alive, receives}
+use Rattle.protocol.specs.Init.{initStart}
+use Rattle.protocol.specs.Judged.{judged, done}
+use Rattle.protocol.specs.State.{State}
+use Rattle.protocol.specs.Step.{Step, failedWith, releasedWith}
+use Rattle.protocol.specs.Submit.{submitRule}
+use Rattle.protocol.specs.TimePassed.{expired}
+use Rattle.protocol.proofs.Effects.{done-is}
+use Rattle.protocol.proofs.Settling.{admitted-done}
+use Rattle.protocol.proofs.Submits.{done-accepted}
+use Rattle.calls.specs.Outcomes.{After, checked, failedOn, releasedOn, stepStored, untouched}
+use Rattle.calls.specs.State.{stateOf}
+use Rattle.calls.specs.Storing.{Slots, stay, empty}
+use Rattle.calls.proofs.Slots.{SlotFits, slot-idle, other-blocks}
+use Rattle.init.specs.Received.{startSlots}
+use Rattle.receive.specs.Call.{receivedSlots}
+use Rattle.session.specs.Call.{leaves, lent, makesImage, slotsOf}
+use Rattle.session.proofs.Settles.{answerOn, doneOn, ends}
 
-abbrev Told : List ℕ → After → Type 0
-Told im x = x .outcome .block0 ≡ differ (block im 0) (block (x .image) 0)
+-- ---- a message that is put into a slot may be held, and there is room: by a Submit that is done
+start-fits : (im : List ℕ) (s : Start) → SlotFits im (startSlots s)
+start-fits im (Start.Refused a) = tt
+start-fits im Start.Plain = tt
+start-fits im (Start.Fresh t) = tt
+start-fits im (Start.Resumed t k a) = tt
 
-taken-told : (im : List ℕ) (ph : Phase) (r : Reading) → Told im (takenAs im ph r)
-taken-told im Phase.Idle r = sym (differ-self (block im 0))
-taken-told im (Phase.InitWait t) r = sym (differ-self (block im 0))
-taken-told im (Phase.UpFT sent) Reading.Malformed = sym (differ-self (block im 0))
-taken-told im (Phase.UpFT sent) (Reading.Whole g) = refl
-taken-told im Phase.UpPlain r = sym (differ-self (block im 0))
-taken-told im Phase.Failed r = sym (differ-self (block im 0))
+taken-fits : (im : List ℕ) (s : State) (ph : Phase) (r : Reading) → SlotFits im (receivedSlots s ph r)
+taken-fits im s Phase.Idle r = tt
+taken-fits im s (Phase.InitWait v) r = tt
+taken-fits im s (Phase.UpFT u) Reading.Malformed = tt
+taken-fits im s (Phase.UpFT u) (Reading.Whole g) = tt
+taken-fits im s Phase.UpPlain r = tt
+taken-fits im s Phase.Failed r = tt
 
-done-told : (c : Call) (im : List ℕ) (ph : Phase) → makesImage c ≡ false → Told im (done c im ph)
-unfolding done failedWith releasedWith begunAs queued
-done-told format im ph other = absurd (true≢false other)
-done-told restore im ph other = refl
-done-told connection-failed im ph other = refl
-done-told (open-session id own proposal out) im ph other = refl
-done-told (init-received m) im ph other = refl
-done-told (time-passed elapsed) im ph other =
-    pick-all (Told im) (expired (decode im .header) elapsed) {x = releasedWith Answer.Done im []} {y = unchanged Answer.Done ph im []} refl (sym (differ-self (block im 0)))
-done-told (submit m) im ph other = refl
-done-told (send-next ask out) im ph other = refl
-done-told (keepalive id out) im ph other = refl
-done-told (receive m) im ph other = taken-told im ph (readingOf m)
+passed-fits : (im : List ℕ) (b : Bool) → SlotFits im (pick b empty stay)
+passed-fits im true = tt
+passed-fits im false = tt
 
--- `block0` is set exactly where block 0's bytes are others than before
-pub block0-told : (c : Call) (im : List ℕ) (ph : Phase) → makesImage c ≡ false → leaves c im ph .outcome .block0 ≡ differ (block im 0) (block (leaves c im ph .image) 0)
-unfolding failedWith releasedWith
-block0-told c im ph other =
-    ends c im ph (Told im)
-    (λ e. sym (differ-self (block im 0)))
-    (λ e. refl)
-    (λ e. refl)
-    (λ e. done-told c im ph other)
+slots-fit : (c : Call) (im : List ℕ) (ph : Phase) (room : ℕ) → judged c (stateOf im) ph room ≡ Answer.Done → SlotFits im (slotsOf c (stateOf im) ph)
+unfolding judged
+slots-fit formats im ph room d = tt
+slots-fit restores im ph room d = tt
+slots-fit fails im ph room d = tt
+slots-fit (opens id own proposal) im ph room d = tt
+slots-fit (greets m) im ph room d = start-fits im (initStart (stateOf im) ph m)
+slots-fit (passes elapsed) im ph room d = passed-fits im (expired (stateOf im) elapsed)
+slots-fit (submits m) im ph room d =
+    let a = done-accepted (stateOf im) m (done-is (submitRule (stateOf im) m) (admitted-done (stateOf im) ph (submitRule (stateOf im) m) (rw d))) in
+    (a .storable, rw (queue-length im) at (a .room))
+slots-fit (sends ask) im ph room d = tt
+slots-fit (keeps-alive id) im ph room d = tt
+slots-fit (receives m) im ph room d = taken-fits im (stateOf im) ph (readingOf m)
+
+-- ---- a call that does more than refuse was given a sound image
+checked-done : (v : Verdict) (a : Answer) → checked v a ≡ Answer.Done → (v ≡ Verdict.Sound) × (a ≡ Answer.Done)
+checked-done Verdict.Sound a e = (refl, e)
+checked-done Verdict.WrongSize a e = no (cc)
+checked-done (Verdict.BadBlock b) a e = no (cc)
+checked-done (Verdict.BadField b) a e = no (cc)
+
+checked-more : (v : Verdict) (a : Answer) → (effectOf (checked v a) ≡ Effect.Nothing → ⊥) → v ≡ Verdict.Sound
+unfolding effectOf
+checked-more Verdict.Sound a more = refl
+checked-more Verdict.WrongSize a more = absurd (more refl)
+checked-more (Verdict.BadBlock b) a more = absurd (more refl)
+checked-more (Verdict.BadField b) a more = absurd (more refl)
+
+-- what is stored for a step, and that block 0 is told as it is
+abbrev pub Tells : List ℕ → After → Type 0
+Tells im x = x .outcome .block0 ≡ differ (block im 0) (block (x .image) 0)
+
+-- every block but block 0 and the slot that the outcome names keeps its bytes
+abbrev pub Leaves : List ℕ → After → Type 0
+Leaves im x = (k : ℕ) → k ≢ 0 → k ≢ x .outcome .slot → block (x .image) k ≡ block im k
+
+-- what a call leaves that works on an image: as it was, or a state stored with a ring of slots
+module _ (c : Call) (im : List ℕ) (ph : Phase) (out : List ℕ) (other : makesImage c ≡ false) where
+  answer : Answer
+  answer = judged c (stateOf im) ph (length out)
+
+  answers : answerOn c im ph out ≡ checked (verdict im) answer
+  unfolding answerOn answer
+  answers = rw other
+
+  -- what holds of an image left as it was, and of a state stored where the slot may be written, holds of every call
+  pub every : (P : After → Type 0) → ((a : Answer) (q : Phase) (o : List ℕ) → P (untouched a q im o))
+      → ((slots : Slots) (x : Step) (o : List ℕ) → IsSound im → SlotFits im slots → P (stepStored im slots x o)) → P (leaves c im ph out)
+  unfolding failedOn releasedOn doneOn answer effectOf
+  every P still puts =
+      ends c im ph out P
+      (λ e. still _ _ _)
+      (λ e. puts stay (failedWith (answerOn c im ph out) (stateOf im)) (lent c out) (sound (λ n. let z : _≡_ {A = ℕ} 0 1 = (let q = sym e ∙ n in cc) in omega arith)) tt)
+      (λ e. puts empty (releasedWith (answerOn c im ph out)) (lent c out) (sound (λ n. let z : _≡_ {A = ℕ} 0 1 = (let q = sym e ∙ n in cc) in omega arith)) tt)
+      (λ d.
+      let q = checked-done (verdict im) (judged c (stateOf im) ph (length out)) (sym answers ∙ d) in
+      rw other (puts (slotsOf c (stateOf im) ph) (done c (stateOf im) ph) (lent c out) (sound-parts im (q .0)) (slots-fit c im ph (length out) (q .1))))
+    where
+      sound : (effectOf (answerOn c im ph out) ≡ Effect.Nothing → ⊥) → IsSound im
+      sound more = sound-parts im (checked-more (verdict im) (judged c (stateOf im) ph (length out)) (λ n. more (ap effectOf answers ∙ n)))
+
+  -- `block0` is set exactly where block 0's bytes are others than before
+  pub block0-told : Tells im (leaves c im ph out)
+  block0-told = every (Tells im) (λ a q o. sym (differ-self (block im 0))) (λ slots x o s f. refl)
+
+  -- "A call stores at most one slot": every block but that and block 0 keeps its bytes
+  pub others-kept : Leaves im (leaves c im ph out)
+  others-kept = every (Leaves im) (λ a q o k zero slot. refl) (λ slots x o s f. other-blocks im (s .size) (x .state) slots f)
+
+  -- ".. one that isn't live"
+  pub slot-not-live : (j : ℕ) → leaves c im ph out .outcome .slot ≡ blockOf j → (j < slotCount) × Idle im j
+  slot-not-live =
+      every (λ (x : After). (j : ℕ) → x .outcome .slot ≡ blockOf j → (j < slotCount) × Idle im j)
+      (λ a q o j e. absurd (omega arith))
+      (λ slots x o s f. slot-idle im (s .size) (x .state) slots f)

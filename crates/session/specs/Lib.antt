@@ -1,4 +1,2 @@
 pub mod Call
-pub mod Proper
-pub mod Window
 pub mod Keepers

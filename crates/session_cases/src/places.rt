@@ -1,6 +1,6 @@
 // Five places, 0 to 4, each with a cabinet: its image, its last output, and what its owner keeps beside them.
-ghost use mathlib.Core.Path.{_≡_};
 ghost use Prim.Native.Nat.{_+_, _≤_};
+ghost use mathlib.Core.Path.{_≡_};
 use crate::script::NONE;
 use crate::show::say;
 use calls::Phase;

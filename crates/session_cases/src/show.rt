@@ -40,8 +40,8 @@ fn show_answer(answer: Answer) {
 fn show_phase(phase: Phase) {
     match phase {
         Phase::Idle => say(b", Idle"),
-        Phase::InitWait(seconds) => number(b", InitWait ", seconds as u64),
-        Phase::UpFT(sent) => number(b", UpFT ", sent as u64),
+        Phase::InitWait(v) => number(b", InitWait ", v.timeout as u64),
+        Phase::UpFT(u) => number(b", UpFT ", u.sent as u64),
         Phase::UpPlain => say(b", UpPlain"),
         Phase::Failed => say(b", Failed"),
     }

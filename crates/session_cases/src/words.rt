@@ -2,6 +2,8 @@
 use crate::calling::Call;
 use crate::script::place_in;
 use calls::Phase;
+use calls::Progress;
+use calls::Waiting;
 
 // What a line asks for.
 pub enum Deed {
@@ -41,8 +43,10 @@ pub fn deed_of(word: &[u8], n: u32) -> Deed {
         12 => Deed::Copy,
         13 => Deed::Spoil,
         14 => Deed::Put(Phase::Idle),
-        15 => Deed::Put(Phase::InitWait((n % 65536) as u16)),
-        16 => Deed::Put(Phase::UpFT(n)),
+        15 => Deed::Put(Phase::InitWait(Waiting {
+            timeout: (n % 65536) as u16,
+        })),
+        16 => Deed::Put(Phase::UpFT(Progress { sent: n })),
         17 => Deed::Put(Phase::UpPlain),
         18 => Deed::Put(Phase::Failed),
         _ => Deed::Unknown,

@@ -1,30 +1,29 @@
 -- A slot with right fields, clause by clause. Assumes nothing.
-use mathlib.Core.Path.{_≡_, refl, sym, _∙_}
+use Prim.Native.Nat.{ℕ, _+_, _≤_, _<_}
 use mathlib.Core.Bool.{true}
 use mathlib.Core.List.{List}
 use mathlib.Core.Logic.{⊎-elim}
-use Prim.Native.Nat.{ℕ, _+_, _-_, _≤_, _<_}
+use mathlib.Core.Path.{_≡_, refl, sym, _∙_}
 use native.Mathlib.Omega.{arith}
-use borrow.Author.Tests.{leb-true, eqb-true, le-leb, eq-eqb}
 use lib.Dec.{leb, eqb}
 use lib.ListN.{length}
+use borrow.Author.Tests.{leb-true, eqb-true, le-leb, eq-eqb}
 use Rattle.octets.specs.Be.{beAt}
-use Rattle.octets.specs.Pick.{pick}
+use Rattle.octets.proofs.Choice.{no, both-true, below-or-not}
 use Rattle.octets.proofs.Part.{length-part}
-use Rattle.octets.proofs.Choice.{no, both-true, passed, below-or-not}
-use Rattle.message.specs.Kinds.{kindNumber}
+use Rattle.block.specs.Check.{blockSize, sound}
+use Rattle.block.specs.Zeros.{allZero}
+use Rattle.tlv.specs.Tlv.{largestLabel}
 use Rattle.message.specs.declared.Kind.{Kind}
 use Rattle.message.specs.declared.Submission.{Submission}
 use Rattle.message.specs.declared.Submission.the-variants.{Malformed, Refused, Accepted}
+use Rattle.message.specs.Kinds.{kindNumber}
+use Rattle.message.specs.Storable.{shortest, longest, bears, Storable, kindIn, labelIn}
 use Rattle.message.specs.Submission.{noLabel, submissionOf}
 use Rattle.message.proofs.Laws.{accepted, whole-label}
-use Rattle.tlv.specs.Tlv.{largestLabel}
-use Rattle.block.specs.Check.{blockSize, sound}
-use Rattle.block.specs.Zeros.{allZero}
-use Rattle.slot.specs.Layout.{shortest, longest, lengthOf, kindOf, labelOf, messageOf, paddingOf, slotBlock}
-use Rattle.slot.specs.Fields.{bears, slotOk, slotVerdict}
-use Rattle.slot.specs.declared.SlotVerdict.the-variants.{Good, BadCheck, BadFields}
-use Rattle.slot.specs.Held.{Storable, slotFor, kindIn, labelIn}
+use Rattle.slot.specs.Fields.{slotOk}
+use Rattle.slot.specs.Held.{slotFor}
+use Rattle.slot.specs.Layout.{lengthOf, kindOf, labelOf, messageOf, paddingOf, slotBlock}
 use Rattle.slot.proofs.Written.{length-slot, slot-sound, slot-length, slot-kind, slot-spare, slot-label, message-slot, padding-slot}
 
 -- the length lies within its range
@@ -42,18 +41,6 @@ length-message b long ok =
     let high : lengthOf b ≤ 480 = high-length b ok in
     length-part b 8 (8 + lengthOf b) (omega arith) ∙ omega arith
 
--- a verdict and its clauses
-pub good-parts : (b : List ℕ) → slotVerdict b ≡ Good → (sound b ≡ true) × (slotOk b ≡ true)
-unfolding slotVerdict
-good-parts b h =
-    let p = passed (sound b) (pick (slotOk b) Good BadFields) BadCheck Good (λ e. cc) h in
-    let q = passed (slotOk b) Good BadFields Good (λ e. cc) (p .1) in
-    (p .0, q .0)
-
-pub parts-good : (b : List ℕ) → sound b ≡ true → slotOk b ≡ true → slotVerdict b ≡ Good
-unfolding slotVerdict
-parts-good b s f = simp (s, f)
-
 -- what a slot with right fields holds: a message that Submit takes, with the slot's kind and label
 pub record Holds (b : List ℕ) : Type 0 where
   pub kind : Kind
@@ -69,6 +56,7 @@ borne b (Accepted k l) e h =
     let p = both-true (eqb (kindNumber k) (kindOf b)) (eqb l (labelOf b)) h in
     record { kind = k; label = l; accepted = e; kinded = eqb-true _ _ (p .0); labelled = eqb-true _ _ (p .1) }
 
+-- a slot with right fields holds a message that Submit takes
 pub slot-holds : (b : List ℕ) → slotOk b ≡ true → Holds b
 unfolding slotOk
 slot-holds b ok =
@@ -84,6 +72,7 @@ slot-holds b ok =
 pub holds-kind : (b : List ℕ) → slotOk b ≡ true → kindOf b ≡ kindIn (submissionOf (messageOf b))
 holds-kind b ok = let h = slot-holds b ok in rw (h .accepted) (sym (h .kinded))
 
+-- and so is its label
 pub holds-label : (b : List ℕ) → slotOk b ≡ true → labelOf b ≡ labelIn (submissionOf (messageOf b))
 holds-label b ok = let h = slot-holds b ok in rw (h .accepted) (sym (h .labelled))
 
@@ -139,6 +128,7 @@ module _ (b m : List ℕ) (long : length b ≡ blockSize) (s : Storable m) where
   pub length-slotFor : length (slotFor b m) ≡ blockSize
   length-slotFor = rw is-slot (length-slot b m n (s .label) long (s .short) fk fl)
 
+  -- a slot that was written has its check
   pub slotFor-sound : sound (slotFor b m) ≡ true
   slotFor-sound = rw is-slot (slot-sound b m n (s .label) long (s .short) fk fl)
 
@@ -146,6 +136,7 @@ module _ (b m : List ℕ) (long : length b ≡ blockSize) (s : Storable m) where
   pub slotFor-message : messageOf (slotFor b m) ≡ m
   slotFor-message = rw is-slot (message-slot b m n (s .label) long (s .short) fk fl)
 
+  -- its fields are right
   pub slotFor-ok : slotOk (slotFor b m) ≡ true
   unfolding slotOk n
   slotFor-ok =

@@ -1,23 +1,24 @@
 -- The answers of `bears` and `slotOk`, by the tests that lead to each. Assumes nothing.
-use mathlib.Core.Path.{_≡_, refl, sym, ap, _∙_}
+use Prim.Native.Nat.{ℕ, _+_, _≤_, _<_}
 use mathlib.Core.Bool.{Bool, true, false, not}
 use mathlib.Core.List.{List}
-use Prim.Native.Nat.{ℕ, _+_, _≤_, _<_}
-use borrow.Author.Tests.{le-leb, lt-leb, eq-eqb, ne-eqb, not-true, not-false}
+use mathlib.Core.Path.{_≡_, refl, sym, ap, _∙_}
 use lib.Dec.{eqb}
+use borrow.Author.Tests.{le-leb, lt-leb, eq-eqb, ne-eqb, not-true, not-false}
 use Rattle.octets.specs.Be.{beAt}
 use Rattle.octets.specs.Part.{part}
 use Rattle.octets.specs.Pick.{both}
-use Rattle.message.specs.Kinds.{kindNumber}
-use Rattle.message.specs.Submission.{submissionOf}
+use Rattle.block.specs.Check.{checkAt, sound}
+use Rattle.block.specs.Zeros.{allZero}
 use Rattle.message.specs.declared.Kind.{Kind}
 use Rattle.message.specs.declared.Submission.{Submission}
 use Rattle.message.specs.declared.Submission.the-variants.{Accepted}
-use Rattle.block.specs.Check.{checkAt, sound}
-use Rattle.block.specs.Zeros.{allZero}
-use Rattle.slot.specs.Layout.{shortest, longest, lengthOf, kindOf, labelOf, messageAt, messageOf, paddingOf}
-use Rattle.slot.specs.Fields.{bears, slotOk, Padded, slotVerdict}
+use Rattle.message.specs.Kinds.{kindNumber}
+use Rattle.message.specs.Storable.{shortest, longest, bears}
+use Rattle.message.specs.Submission.{submissionOf}
 use Rattle.slot.specs.declared.SlotVerdict.the-variants.{Good, BadCheck, BadFields}
+use Rattle.slot.specs.Fields.{slotOk, Padded, slotVerdict}
+use Rattle.slot.specs.Layout.{lengthOf, kindOf, labelOf, messageAt, messageOf, paddingOf}
 
 module _ (j : Submission) (k : Kind) (l : ℕ) (ej : j ≡ Accepted k l) (n kind : ℕ) (en : n ≡ kindNumber k) where
   pub bears-kind : (label : ℕ) → n ≡ kind → eqb l label ≡ bears j kind label

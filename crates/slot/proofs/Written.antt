@@ -1,8 +1,8 @@
 -- A slot that was written: it is sound, and holds what was written. Assumes nothing.
-use mathlib.Core.Path.{_≡_, refl, ap, _∙_}
+use Prim.Native.Nat.{ℕ, _+_, _-_, _^_, _≤_, _<_}
 use mathlib.Core.Bool.{true}
 use mathlib.Core.List.{List, [], _∷_}
-use Prim.Native.Nat.{ℕ, _+_, _-_, _^_, _≤_, _<_}
+use mathlib.Core.Path.{_≡_, refl, ap, _∙_}
 use native.Mathlib.Omega.{arith}
 use lib.ListN.{length, getD}
 use lib.Seq.{ext-getD}
@@ -13,8 +13,8 @@ use Rattle.octets.proofs.Part.{length-part, part-at}
 use Rattle.block.specs.Check.{sealed, sound}
 use Rattle.block.specs.Run.{getRun, putRun}
 use Rattle.block.specs.Zeros.{allZero}
-use Rattle.block.proofs.Sealed.{sealed-else, length-sealed, sealed-sound}
 use Rattle.block.proofs.Run.{none, one, length-putRun, getRun-putRun, getRun-same}
+use Rattle.block.proofs.Sealed.{sealed-else, length-sealed, sealed-sound}
 use Rattle.block.proofs.ZeroBytes.{bytes-zero}
 use Rattle.slot.specs.Layout.{headWidths, lengthOf, kindOf, labelOf, messageOf, paddingOf, slotBlock}
 

@@ -1,26 +1,18 @@
 -- A slot's fields: "length 8 to 480 (0-1), kind 1 to 6 (2), zero (3), .. zeros"; "a slot's message passes Submit's 4 and 5 and has the slot's kind and label".
 use Prim.Native.Nat.{ℕ, _+_, _≤_}
-use mathlib.Core.Path.{_≡_}
-use mathlib.Core.Bool.{Bool, true, false}
+use mathlib.Core.Bool.{Bool, true}
 use mathlib.Core.List.{List}
+use mathlib.Core.Path.{_≡_}
 use lib.Dec.{leb, eqb}
 use Rattle.octets.specs.Be.{beAt}
 use Rattle.octets.specs.Pick.{pick, both}
-use Rattle.message.specs.Kinds.{kindNumber}
-use Rattle.message.specs.Submission.{submissionOf}
-use Rattle.message.specs.declared.Submission.{Submission}
-use Rattle.message.specs.declared.Submission.the-variants.{Malformed, Refused, Accepted}
 use Rattle.block.specs.Check.{sound}
 use Rattle.block.specs.Zeros.{allZero}
+use Rattle.message.specs.Storable.{bears, longest, shortest}
+use Rattle.message.specs.Submission.{submissionOf}
 use Rattle.slot.specs.declared.SlotVerdict.{SlotVerdict}
 use Rattle.slot.specs.declared.SlotVerdict.the-variants.{Good, BadCheck, BadFields}
-use Rattle.slot.specs.Layout.{shortest, longest, lengthOf, kindOf, labelOf, messageAt, messageOf, paddingOf}
-
--- the message was accepted, with that kind and that label
-abbrev pub bears : Submission → ℕ → ℕ → Bool
-bears Malformed kind label = false
-bears Refused kind label = false
-bears (Accepted k l) kind label = both (eqb (kindNumber k) kind) (eqb l label)
+use Rattle.slot.specs.Layout.{lengthOf, kindOf, labelOf, messageAt, messageOf, paddingOf}
 
 unfoldable pub slotOk : List ℕ → Bool
 slotOk b =

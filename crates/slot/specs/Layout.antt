@@ -8,13 +8,6 @@ use Rattle.octets.specs.Part.{part}
 use Rattle.block.specs.Check.{checkAt, sealed}
 use Rattle.block.specs.Run.{putRun}
 
--- "length 8 to 480"
-abbrev pub shortest : ℕ
-shortest = 8
-
-abbrev pub longest : ℕ
-longest = 480
-
 -- length, kind, zero, label
 abbrev pub headWidths : List ℕ
 headWidths = 2 ∷ 1 ∷ 1 ∷ 4 ∷ []

@@ -1,14 +1,15 @@
 // A slot of the stored image: one held message with its length, kind and label.
-ghost use mathlib.Core.Path.{_≡_};
+ghost use Prim.Native.Nat.{_+_, _≤_, _<_};
 ghost use mathlib.Core.Bool.{true, false};
 ghost use mathlib.Core.List.{[], _∷_};
-ghost use Prim.Native.Nat.{_+_, _≤_, _<_};
+ghost use mathlib.Core.Path.{_≡_};
 ghost use lib.ListN.{length};
-ghost use Rattle.message.specs.Kinds.{kindNumber};
 ghost use Rattle.block.specs.Check.{blockSize};
 ghost use Rattle.block.specs.Run.{putRun};
-ghost use Rattle.slot.specs.Layout.{longest, headWidths, lengthOf, kindOf, labelOf, messageAt, messageOf, slotBlock};
-ghost use Rattle.slot.specs.Fields.{bears, slotOk, Padded, slotVerdict};
+ghost use Rattle.message.specs.Kinds.{kindNumber};
+ghost use Rattle.message.specs.Storable.{longest, bears};
+ghost use Rattle.slot.specs.Fields.{slotOk, Padded, slotVerdict};
+ghost use Rattle.slot.specs.Layout.{headWidths, lengthOf, kindOf, labelOf, messageAt, messageOf, slotBlock};
 use message::Kind;
 use message::Submission;
 
@@ -39,7 +40,7 @@ fn put_head(block: &mut [u8], n: u16, kind: u8, label: u32)
     octets::put_u32(block, 4, label);
 }
 
-// Writes the slot whole: its head, the message, zeros to the check, and the check.
+// Writes the slot whole: length, kind, a zero, label, the message, zeros to byte 507, and the check.
 pub fn write_slot(block: &mut [u8], m: &[u8], kind: Kind, label: u32)
     requires { ⌜ (length (now block) ≡ blockSize) × (length (now m) ≤ longest) ⌝ }
     ensures { λ _. ⌜ now (block .exit) ≡ slotBlock (now (block .entry)) (now (m .entry)) (kindNumber kind) label ⌝ }
@@ -120,7 +121,8 @@ fn judge_wrong(block: &[u8]) -> SlotVerdict
     SlotVerdict::BadCheck
 }
 
-// The slot's check, and then its fields. Zeros behind the message are looked at once, for both.
+// The slot's check, and then its fields: length 8 to 480, kind 1 to 6, byte 3 zero, padding zero, and a message that passes Submit's 4 and 5
+// with the slot's own kind and label. Zeros behind the message are looked at once, for both.
 pub fn judge_slot(block: &[u8]) -> SlotVerdict
     requires { ⌜ length (now block) ≡ blockSize ⌝ }
     ensures { λ r. ⌜ r ≡ slotVerdict (now (block .entry)) ⌝ }

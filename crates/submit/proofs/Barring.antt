@@ -1,24 +1,22 @@
 -- Whether a message of a kind and label is held: asked of one message after the other. Assumes nothing.
-use mathlib.Core.Path.{_≡_, refl, sym, ap, _∙_}
+use Prim.Native.Nat.{ℕ, _+_, _≤_, _<_}
 use mathlib.Core.Bool.{Bool, true, false}
 use mathlib.Core.List.{List, []}
-use Prim.Native.Nat.{ℕ, _+_, _≤_, _<_}
+use mathlib.Core.Path.{_≡_, refl, sym, ap, _∙_}
 use native.Mathlib.Numerals.{add-one}
 use native.Mathlib.Omega.{arith}
-use borrow.Author.Tests.{ne-eqb}
 use lib.Dec.{eqb}
 use lib.ListN.{length, getD, drop}
 use lib.Seq.{drop-cons, drop-length}
-use Rattle.message.specs.Kinds.{kindNumber}
-use Rattle.message.specs.Submission.{submissionOf}
-use Rattle.message.specs.declared.Submission
+use borrow.Author.Tests.{ne-eqb}
 use Rattle.message.specs.declared.Submission.{Submission}
-use Rattle.slot.specs.Fields.{bears}
-use Rattle.slot.specs.Held.{Storable, kindIn, labelIn}
+use Rattle.message.specs.Kinds.{kindNumber}
+use Rattle.message.specs.Storable.{bears, Storable, kindIn, labelIn}
+use Rattle.message.specs.Submission.{submissionOf}
 use Rattle.slot.proofs.Judged.{bears-kind, bears-other}
 use Rattle.image.specs.State.{decode}
 use Rattle.image.proofs.Queue.{queue-length}
-use Rattle.submit.specs.Labels.{isHeld}
+use Rattle.protocol.specs.Held.{isHeld}
 
 -- ---- one message, by the kind and the label that its slot gives
 module _ (m : List ℕ) (s : Storable m) (kind label : ℕ) {k : ℕ} (ek : k ≡ kindIn (submissionOf m)) where

@@ -3,5 +3,3 @@ pub mod Accepted
 pub mod Queueing
 pub mod Answered
 pub mod Settling
-pub mod Passing
-pub mod Meaning

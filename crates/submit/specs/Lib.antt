@@ -1,5 +1,1 @@
-pub mod Labels
-pub mod Rule
-pub mod Act
-pub mod Passed
-pub mod Store
+pub mod Call

@@ -1,15 +1,15 @@
 // Answers 6 and 13: what a message's kind and label are asked.
-ghost use mathlib.Core.Path.{_≡_};
-ghost use mathlib.Core.List.{[]};
 ghost use Prim.Native.Nat.{_<_};
+ghost use mathlib.Core.List.{[]};
+ghost use mathlib.Core.Path.{_≡_};
 ghost use lib.ListN.{getD};
-ghost use Rattle.message.specs.Submission.{submissionOf};
 ghost use Rattle.label_events.specs.Change.{ChangeIn, changed};
-ghost use Rattle.label_events.specs.declared.Change;
-ghost use Rattle.slot.specs.Fields.{bears};
+ghost use Rattle.message.specs.Storable.{bears};
+ghost use Rattle.message.specs.Submission.{submissionOf};
 ghost use Rattle.image.specs.State.{decode};
 ghost use Rattle.image.specs.Verdict.{IsSound};
-ghost use Rattle.submit.specs.Labels.{isHeld, isBarred, acceptedAs};
+ghost use Rattle.protocol.specs.Accepting.{isBarred, acceptedAs};
+ghost use Rattle.protocol.specs.Held.{isHeld};
 use label_events::Acceptance;
 use label_events::Accepted;
 use label_events::Change;

@@ -1,16 +1,16 @@
 // Submit: the message is judged, and queued as the newest one held. It gets its number when it is first sent.
-ghost use mathlib.Core.Path.{_≡_};
-ghost use mathlib.Core.List.{[]};
 ghost use Prim.Native.Nat.{_≤_};
+ghost use mathlib.Core.List.{[]};
+ghost use mathlib.Core.Path.{_≡_};
 ghost use lib.ListN.{length};
-ghost use Rattle.message.specs.Submission.{submissionOf};
 ghost use Rattle.message.specs.declared.Submission.the-variants.{Accepted};
-ghost use Rattle.slot.specs.Layout.{shortest, longest};
-ghost use Rattle.image.specs.State.{decode};
+ghost use Rattle.message.specs.Storable.{shortest, longest};
+ghost use Rattle.message.specs.Submission.{submissionOf};
 ghost use Rattle.image.specs.Verdict.{IsSound};
+ghost use Rattle.protocol.specs.Submit.{kindRule};
 ghost use Rattle.calls.specs.Outcomes.{after, settleOf};
-ghost use Rattle.submit.specs.Rule.{kindRule};
-ghost use Rattle.submit.specs.Act.{queued, submitOf};
+ghost use Rattle.calls.specs.State.{stateOf};
+ghost use Rattle.submit.specs.Call.{queued, submitOf};
 use calls::Answer;
 use calls::Outcome;
 use calls::Phase;
@@ -24,7 +24,7 @@ mod storing;
 // A message that passes 3, 4 and 5, with its kind and label: 6, 13 and 7 are asked, and it is queued.
 fn submit_accepted(image: &mut [u8], phase: Phase, msg: &[u8], kind: Kind, label: u32) -> Outcome
     requires { ⌜ IsSound (now image) × (shortest ≤ length (now msg)) × (length (now msg) ≤ longest) × (submissionOf (now msg) ≡ Accepted kind label) ⌝ }
-    ensures { λ r. ⌜ after r (now (image .exit)) [] ≡ settleOf (kindRule (decode (now (image .entry))) kind label) phase (now (image .entry)) [] (queued (now (image .entry)) phase (now (msg .entry))) ⌝ }
+    ensures { λ r. ⌜ after r (now (image .exit)) [] ≡ settleOf (kindRule (stateOf (now (image .entry))) kind label) phase (now (image .entry)) [] (queued (now (image .entry)) phase (now (msg .entry))) ⌝ }
 {
     if labels::is_barred(image, kind, label) {
         return calls::refuse(Answer::LabelNotAllowed, phase);

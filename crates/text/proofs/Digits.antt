@@ -1,19 +1,19 @@
 -- The laws of `decimal` and `hex`. Assumes nothing.
 use Prim.Native.Nat.{ℕ, zero, suc, _+_, _-_, _*_, _/_, _%_, _^_, _≤_, _<_}
-use mathlib.Core.Path.{_≡_, refl, sym, ap, _∙_}
 use mathlib.Core.Bool.{Bool, true, false}
 use mathlib.Core.List.{List, [], _∷_, _++_}
+use mathlib.Core.Path.{_≡_, refl, sym, ap, _∙_}
 use native.Mathlib.Nat.{mod-eq-of-lt, pow-suc, pow-le-pow-right}
 use native.Mathlib.Numerals.{add-one}
 use native.Mathlib.Omega.{arith, by-contra}
-use borrow.Author.Tests.{lt-ltb, le-ltb, ltb-false}
+use lib.Dec.{ltb}
 use lib.ListN.{length, take, getD, set}
 use lib.Seq.{take-suc, take-all, length-take-le}
-use lib.Dec.{ltb}
+use borrow.Author.Tests.{lt-ltb, le-ltb, ltb-false}
 use Rattle.io.specs.Digits.{glyph, digits, Fewest}
 use Rattle.octets.specs.Fill.{copied}
-use Rattle.octets.proofs.Fix.{Shrinks, fix-step}
 use Rattle.octets.proofs.Copied.{copied-append, copied-two}
+use Rattle.octets.proofs.Fix.{Shrinks, fix-step}
 use Rattle.text.specs.Text.{decimalStep, decimal, hex, Put}
 
 -- a number of at least one digit more has a smaller tenth

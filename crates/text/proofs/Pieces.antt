@@ -1,17 +1,18 @@
 -- Texts put one after the other are their join. Assumes nothing.
 use Prim.Native.Nat.{ℕ, _+_, _≤_}
-use mathlib.Core.Path.{_≡_, sym, ap, _∙_}
 use mathlib.Core.List.{List, [], _++_}
+use mathlib.Core.Path.{_≡_, sym, ap, _∙_}
 use native.Mathlib.Omega.{arith}
 use lib.ListN.{length, take, length-append}
 use Rattle.octets.specs.Fill.{copied}
-use Rattle.octets.proofs.Fill.{filled-none}
 use Rattle.octets.proofs.Copied.{copied-append, length-copied, take-copied}
+use Rattle.octets.proofs.Fill.{filled-none}
 use Rattle.text.specs.Text.{Put}
 
 pub put-none : (s : List ℕ) (at : ℕ) → Put s at [] s at
 put-none s at = record { bytes = sym (filled-none (λ i. 0) s at); ends = omega arith }
 
+-- texts put one after the other are their join
 pub put-then : {a t b u c : List ℕ} {at mid end : ℕ} → Put a at t b mid → Put b mid u c end → Put a at (t ++ u) c end
 put-then {a} {t} {b} {u} {c} {at} {mid} {end} p q =
     let next : c ≡ copied (copied a at t) (at + length t) u =

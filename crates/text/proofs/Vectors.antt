@@ -1,6 +1,6 @@
 -- Texts that compute: numbers of one digit and more, the largest label and the largest number of 32 bits, and bytes. Assumes nothing.
-use mathlib.Core.Path.{_≡_, refl}
 use mathlib.Core.List.{[], _∷_, map}
+use mathlib.Core.Path.{_≡_, refl}
 use Rattle.octets.specs.Fix.{fix, steps}
 use Rattle.text.specs.Text.{ascii, decimal, hex}
 

@@ -1,12 +1,12 @@
 -- Numbers, bytes and words as text in ASCII, and text put into bytes.
-use Prim.Native.Nat.{ℕ, _+_, _/_, _%_}
 use Prim.Native.Char.{code}
+use Prim.Native.Nat.{ℕ, _+_, _/_, _%_}
 use Prim.Native.String as S
 use Prim.Native.String.{String}
-use mathlib.Core.Path.{_≡_}
 use mathlib.Core.List.{List, [], _∷_, _++_}
-use lib.ListN.{length}
+use mathlib.Core.Path.{_≡_}
 use lib.Dec.{ltb}
+use lib.ListN.{length}
 use Rattle.io.specs.Digits.{glyph}
 use Rattle.octets.specs.Fill.{copied}
 use Rattle.octets.specs.Fix.{fix}

@@ -1,47 +1,24 @@
--- Connection failed and Time passed.
--- 01: "Connection failed (InitWait, UpFT, UpPlain): code 6 words are freed; Failed if kept, else Idle. Time passed (Failed): releases, then Idle,
--- if the timeout isn't zero and elapsed seconds are at least it; else nothing changes." Both answer in the order 12, 1.
+-- Connection failed and Time passed on an image: restore's checks, then the protocol's step on what the image stands for.
 use Prim.Native.Nat.{ℕ}
-use mathlib.Core.Bool.{Bool, true, false}
+use mathlib.Core.Bool.{Bool, not}
 use mathlib.Core.List.{List, []}
-use lib.Dec.{eqb, leb}
 use Rattle.octets.specs.Pick.{pick}
-use Rattle.block0.specs.declared.Header.{Header}
-use Rattle.image.specs.State.{decode}
-use Rattle.calls.specs.declared.Answer
-use Rattle.calls.specs.declared.Answer.{Answer}
-use Rattle.calls.specs.declared.Phase
-use Rattle.calls.specs.declared.Phase.{Phase}
-use Rattle.calls.specs.Outcomes.{After, unchanged, failedWith, releasedWith, settleOf, admitted}
+use Rattle.protocol.specs.declared.Answer.{Answer}
+use Rattle.protocol.specs.declared.Phase.{Phase}
+use Rattle.protocol.specs.ConnectionFailed.{connectionFailed}
+use Rattle.protocol.specs.TimePassed.{expired, timePassed}
+use Rattle.calls.specs.Outcomes.{After, callOf}
+use Rattle.calls.specs.State.{stateOf}
+use Rattle.calls.specs.Storing.{stay, empty}
 
--- the phases with a connection
-abbrev pub connected : Phase → Bool
-connected Phase.Idle = false
-connected (Phase.InitWait t) = true
-connected (Phase.UpFT sent) = true
-connected Phase.UpPlain = true
-connected Phase.Failed = false
-
--- the phase in which the timeout runs
-abbrev pub waiting : Phase → Bool
-waiting Phase.Idle = false
-waiting (Phase.InitWait t) = false
-waiting (Phase.UpFT sent) = false
-waiting Phase.UpPlain = false
-waiting Phase.Failed = true
-
--- "12, 1": restore's checks, the phase that the image rules out, and the phases in which the event may come
-unfoldable pub eventAnswer : List ℕ → Phase → Bool → Answer
-eventAnswer im ph may = admitted im ph (pick may Answer.Done Answer.WrongPhase)
-
+-- "Connection failed (InitWait, UpFT, UpPlain): code 6 words are freed; Failed if kept, else Idle."
 unfoldable pub connectionFailedOf : List ℕ → Phase → After
-connectionFailedOf im ph = settleOf (eventAnswer im ph (connected ph)) ph im [] (failedWith Answer.Done im [])
+connectionFailedOf im ph = callOf im ph [] stay (connectionFailed (stateOf im) ph)
 
--- the agreed timeout has passed; a timeout of zero never does
-unfoldable pub expired : Header → ℕ → Bool
-expired h elapsed = pick (eqb (h .timeout) 0) false (leb (h .timeout) elapsed)
-
+-- "Time passed (Failed): releases, then Idle, if the timeout isn't zero and elapsed seconds are at least it; else nothing changes."
 unfoldable pub timePassedOf : List ℕ → Phase → ℕ → After
-timePassedOf im ph elapsed =
-    settleOf (eventAnswer im ph (waiting ph)) ph im []
-    (pick (expired (decode im .header) elapsed) (releasedWith Answer.Done im []) (unchanged Answer.Done ph im []))
+timePassedOf im ph elapsed = callOf im ph [] (pick (expired (stateOf im) elapsed) empty stay) (timePassed (stateOf im) ph elapsed)
+
+-- the tests of either event past the first two: whether it may come in the phase
+unfoldable pub eventRule : Bool → Answer
+eventRule may = pick (not may) Answer.WrongPhase Answer.Done

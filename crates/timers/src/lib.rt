@@ -1,8 +1,11 @@
 // Connection failed and Time passed: the events that come without a message.
-ghost use mathlib.Core.Path.{_≡_};
 ghost use mathlib.Core.List.{[]};
-ghost use Rattle.calls.specs.Outcomes.{after};
-ghost use Rattle.timers.specs.Events.{connected, waiting, eventAnswer, connectionFailedOf, expired, timePassedOf};
+ghost use mathlib.Core.Path.{_≡_};
+ghost use Rattle.protocol.specs.Phases.{connected, waiting};
+ghost use Rattle.protocol.specs.TimePassed.{expired};
+ghost use Rattle.calls.specs.Outcomes.{after, admittedOn};
+ghost use Rattle.calls.specs.State.{numbersOf};
+ghost use Rattle.timers.specs.Events.{connectionFailedOf, timePassedOf, eventRule};
 use block0::Header;
 use calls::Answer;
 use calls::Outcome;
@@ -36,7 +39,7 @@ fn is_waiting(phase: Phase) -> bool
 
 // 12, 1: `may` says whether the event may come in the phase.
 fn judge_event(image: &[u8], phase: Phase, may: bool) -> Answer
-    ensures { λ r. ⌜ r ≡ eventAnswer (now (image .entry)) phase may ⌝ }
+    ensures { λ r. ⌜ r ≡ admittedOn (now (image .entry)) phase (eventRule may) ⌝ }
 {
     let a = calls::admit(image, phase);
     if !calls::is_done(a) {
@@ -50,7 +53,7 @@ fn judge_event(image: &[u8], phase: Phase, may: bool) -> Answer
 
 // Whether the agreed timeout has passed. A timeout of zero keeps the state for ever.
 fn has_expired(h: Header, elapsed: u32) -> bool
-    ensures { λ r. ⌜ r ≡ expired h elapsed ⌝ }
+    ensures { λ r. ⌜ r ≡ expired (numbersOf h) elapsed ⌝ }
 {
     if h.timeout == 0 {
         return false;

@@ -1,21 +1,19 @@
 -- What one TLV makes of the places found before it, and the head of a message, by the tests and the calls of the code. Assumes nothing.
 use Prim.Native.Nat.{ℕ, _+_, _-_, _≤_, _<_}
-use mathlib.Core.Path.{_≡_, sym, _∙_, ap}
 use mathlib.Core.Bool.{Bool, true, false, not}
 use mathlib.Core.List.{List}
+use mathlib.Core.Path.{_≡_, sym, _∙_, ap}
 use native.Mathlib.Omega.{arith}
-use borrow.Author.Tests.{eq-eqb, ne-eqb, lt-ltb, le-ltb, eqb-true, not-true, not-false}
 use lib.ListN.{length, take, drop}
 use lib.Seq.{take-all}
+use borrow.Author.Tests.{eq-eqb, ne-eqb, lt-ltb, le-ltb, eqb-true, not-true, not-false}
 use Rattle.octets.specs.Be.{beAt}
+use Rattle.octets.proofs.Bytes.{beAt-drop}
+use Rattle.tlv.specs.declared.Found.{Found}
+use Rattle.tlv.specs.declared.walk.Tlv.{Tlv}
+use Rattle.tlv.specs.declared.walk.Walk.{Walk}
 use Rattle.tlv.specs.Tlv.{lengthFits, labelIn, largestLabel}
 use Rattle.tlv.specs.Walk.{placeOf, placedOf, notedOf, walkOf, noneFound, headSize, tlvsOf}
-use Rattle.tlv.specs.declared.Found.{Found}
-use Rattle.tlv.specs.declared.walk.Tlv
-use Rattle.tlv.specs.declared.walk.Tlv.{Tlv}
-use Rattle.tlv.specs.declared.walk.Walk
-use Rattle.tlv.specs.declared.walk.Walk.{Walk}
-use Rattle.octets.proofs.Bytes.{beAt-drop}
 
 module _ (f : Found) (tlv : Tlv) (n at : ℕ) (ts : List ℕ) (fits : Bool) (fitsq : fits ≡ lengthFits tlv n) where
   pub noted-length : not fits ≡ true → Walk.Malformed ≡ notedOf f tlv n at ts

@@ -1,28 +1,25 @@
 -- Where the TLVs lie that a walk has found: each place bears its TLV, whole, with its length, and behind the head. Assumes nothing.
 use Prim.Native.Nat.{ℕ, _+_, _-_, _%_, _≤_, _<_}
-use mathlib.Core.Path.{_≡_, refl, sym, _∙_, ap}
 use mathlib.Core.Bool.{Bool, true, false}
 use mathlib.Core.List.{List}
+use mathlib.Core.Path.{_≡_, refl, sym, _∙_, ap}
 use native.Mathlib.Nat.{add-zero}
 use native.Mathlib.Omega.{arith}
-use borrow.Author.Tests.{eqb-true, ltb-false}
+use lib.Dec.{eqb, ltb}
 use lib.ListN.{length, drop, length-drop}
 use lib.Seq.{drop-drop}
-use lib.Dec.{eqb, ltb}
+use borrow.Author.Tests.{eqb-true, ltb-false}
 use Rattle.octets.specs.Be.{beAt}
 use Rattle.octets.specs.Pick.{pick}
-use Rattle.octets.proofs.Fix.{size-ind}
-use Rattle.tlv.specs.Tlv.{tlvOf, lengthFits, headOf, labelIn, largestLabel}
-use Rattle.tlv.specs.Walk.{noneFound, placeOf, placedOf, notedOf, turnOf, Rest, leftOf, onTurn, walkOf, headSize, tlvsOf}
-use Rattle.tlv.specs.Value.{Within, Places}
-use Rattle.tlv.specs.declared.Found.{Found}
-use Rattle.tlv.specs.declared.walk.Tlv
-use Rattle.tlv.specs.declared.walk.Tlv.{Tlv}
-use Rattle.tlv.specs.declared.walk.Turn
-use Rattle.tlv.specs.declared.walk.Turn.{Turn}
-use Rattle.tlv.specs.declared.walk.Walk
-use Rattle.tlv.specs.declared.walk.Walk.{Walk}
 use Rattle.octets.proofs.Bytes.{beAt-drop}
+use Rattle.octets.proofs.Fix.{size-ind}
+use Rattle.tlv.specs.declared.Found.{Found}
+use Rattle.tlv.specs.declared.walk.Tlv.{Tlv}
+use Rattle.tlv.specs.declared.walk.Turn.{Turn}
+use Rattle.tlv.specs.declared.walk.Walk.{Walk}
+use Rattle.tlv.specs.Tlv.{tlvOf, lengthFits, headOf, labelIn, largestLabel}
+use Rattle.tlv.specs.Value.{Within, Places}
+use Rattle.tlv.specs.Walk.{noneFound, placeOf, placedOf, notedOf, turnOf, Rest, leftOf, onTurn, walkOf, headSize, tlvsOf}
 use Rattle.tlv.proofs.Turns.{Goes, goes, walkRest, walk-step}
 
 -- a TLV that was noted: its length was right, it had not stood before, its label was no higher than the largest
@@ -94,6 +91,7 @@ module _ (s : List ℕ) (from : ℕ) (I : Found → Type 0) (keeps : (f g : Foun
               ih (record { at = r .at + n; bytes = drop n (r .bytes); found = f }) (omega arith) g (omega arith) (omega arith)
               (ap (drop n) b ∙ drop-drop n (r .at) s) k (keeps (r .found) f (r .at) n l h w′ i)
 
+  -- what every turn keeps, the walk keeps
   pub walk-keeps : from ≤ length s → (f g : Found) → walkOf from (drop from s) f ≡ Walk.Whole g → I f → I g
   walk-keeps h f g e i = keep (record { at = from; bytes = drop from s; found = f }) g (omega arith) h refl e i
 
@@ -129,6 +127,7 @@ pub record WholeTlvs (m : List ℕ) (f : Found) : Type 0 where
   pub adds : beAt 2 m 2 + 4 ≡ length m
   pub tlvs : walkOf headSize (drop headSize m) noneFound ≡ Walk.Whole f
 
+-- of a message that is not malformed the length is that of what follows
 pub whole-tlvs : (m : List ℕ) (f : Found) → tlvsOf m ≡ Walk.Whole f → WholeTlvs m f
 unfolding tlvsOf
 whole-tlvs m f e = go (ltb (length m) headSize) (eqb (beAt 2 m 2 + 4) (length m)) refl refl e
@@ -164,6 +163,7 @@ lies-within m tlv p n l long z = omega (arith, l z .within, long (beAt 2 m (p + 
 lies-whole : (m : List ℕ) (tlv : Tlv) (p : ℕ) → Lies m tlv p → Within m p (beAt 2 m (p + 2))
 lies-whole m tlv p l z = l z .within
 
+-- the TLVs found lie within the message: what the readers of values ask for
 pub places : (m : List ℕ) (f : Found) → tlvsOf m ≡ Walk.Whole f → Places m f
 places m f e =
     let l : Each (Lies m) f = found-lies m f e in

@@ -1,12 +1,12 @@
 -- What a TLV's place says: its part lies within the message, its label is one, its numbers have their widths. Assumes nothing.
 use Prim.Native.Nat.{ℕ, _+_, _≤_, _<_}
-use mathlib.Core.Path.{_≡_, refl}
 use mathlib.Core.Bool.{Bool, true, false}
 use mathlib.Core.List.{List}
+use mathlib.Core.Path.{_≡_, refl}
 use native.Mathlib.Omega.{arith}
-use borrow.Author.Tests.{eqb-false}
-use lib.ListN.{length, drop}
 use lib.Dec.{eqb}
+use lib.ListN.{length, drop}
+use borrow.Author.Tests.{eqb-false}
 use Rattle.octets.specs.Be.{beAt}
 use Rattle.octets.specs.Bytes.{Bytes}
 use Rattle.octets.specs.Pick.{pick}
@@ -14,19 +14,14 @@ use Rattle.octets.proofs.Be.{beAt-lt}
 use Rattle.octets.proofs.Bytes.{beAt-drop}
 use Rattle.octets.proofs.Choice.{cleared}
 use Rattle.ft_number.specs.declared.FtNumber.{FtNumber}
-use Rattle.tlv.specs.Tlv.{largestLabel}
-use Rattle.tlv.specs.Value.{Within, partAt, fieldAt, numberAt, parametersAt, sessionAt, topBit}
-use Rattle.tlv.specs.declared.Field
 use Rattle.tlv.specs.declared.Field.{Field}
-use Rattle.tlv.specs.declared.FtField
 use Rattle.tlv.specs.declared.FtField.{FtField}
-use Rattle.tlv.specs.declared.Parameters
 use Rattle.tlv.specs.declared.Parameters.{Parameters}
 use Rattle.tlv.specs.declared.Part.{Part}
-use Rattle.tlv.specs.declared.Session
 use Rattle.tlv.specs.declared.Session.{Session}
-use Rattle.tlv.specs.declared.walk.Tlv
 use Rattle.tlv.specs.declared.walk.Tlv.{Tlv}
+use Rattle.tlv.specs.Tlv.{largestLabel}
+use Rattle.tlv.specs.Value.{Within, partAt, fieldAt, numberAt, parametersAt, sessionAt, topBit}
 use Rattle.tlv.proofs.Places.{Lies}
 
 -- the value's part lies within the message

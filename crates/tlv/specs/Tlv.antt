@@ -2,13 +2,12 @@
 -- 01: "TLV: U, F, 14-bit type (2), length (2), value. TLVs: FEC 0x0100, Generic Label 0x0200 (length 4), Status 0x0300 (10, ..),
 -- Common Session Parameters 0x0500 (14), FT Session 0x0503 (4: ..), FT Protection 0x0203 (4), FT ACK 0x0504 (4). The last three are the FT TLVs."
 use Prim.Native.Nat.{ℕ, _+_, _%_}
-use mathlib.Core.List.{List, [], _∷_}
 use mathlib.Core.Bool.{Bool, true}
+use mathlib.Core.List.{List, [], _∷_}
 use lib.Dec.{eqb}
 use Rattle.octets.specs.Be.{beAt}
-use Rattle.tlv.specs.Table.{lookup}
-use Rattle.tlv.specs.declared.walk.Tlv
 use Rattle.tlv.specs.declared.walk.Tlv.{Tlv}
+use Rattle.tlv.specs.Table.{lookup}
 
 abbrev pub parametersNumber : ℕ
 parametersNumber = 0x0500

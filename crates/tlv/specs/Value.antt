@@ -1,25 +1,20 @@
 -- What the TLV at a place of a message says; the place is 0 where the TLV does not stand. A value begins 4 bytes after the place.
 use Prim.Native.Nat.{ℕ, _+_, _≤_}
-use mathlib.Core.Path.{_≡_}
 use mathlib.Core.Bool.{Bool}
 use mathlib.Core.List.{List}
-use lib.ListN.{length}
+use mathlib.Core.Path.{_≡_}
 use lib.Dec.{eqb, leb}
+use lib.ListN.{length}
 use Rattle.octets.specs.Be.{beAt}
 use Rattle.octets.specs.Pick.{pick}
-use Rattle.tlv.specs.Walk.{headSize}
-use Rattle.tlv.specs.declared.Fec
 use Rattle.tlv.specs.declared.Fec.{Fec}
-use Rattle.tlv.specs.declared.Field
 use Rattle.tlv.specs.declared.Field.{Field}
 use Rattle.tlv.specs.declared.Found.{Found}
-use Rattle.tlv.specs.declared.FtField
 use Rattle.tlv.specs.declared.FtField.{FtField}
-use Rattle.tlv.specs.declared.Parameters
 use Rattle.tlv.specs.declared.Parameters.{Parameters}
 use Rattle.tlv.specs.declared.Part.{Part}
-use Rattle.tlv.specs.declared.Session
 use Rattle.tlv.specs.declared.Session.{Session}
+use Rattle.tlv.specs.Walk.{headSize}
 
 -- n bytes of the value lie within the message
 abbrev pub Within : List ℕ → ℕ → ℕ → Type 0

@@ -2,19 +2,16 @@
 -- 01: "Malformed: .. lengths that don't add up exactly; a wrong length of a listed TLV; a listed TLV twice; a label above 1,048,575".
 use Prim.Native.Nat.{ℕ, _+_}
 use mathlib.Core.List.{List}
-use lib.ListN.{length, drop}
 use lib.Dec.{ltb, eqb}
+use lib.ListN.{length, drop}
 use Rattle.octets.specs.Be.{beAt}
 use Rattle.octets.specs.Fix.{fix}
 use Rattle.octets.specs.Pick.{pick}
-use Rattle.tlv.specs.Tlv.{lengthFits, headOf, sizeOf, labelIn, largestLabel}
 use Rattle.tlv.specs.declared.Found.{Found}
-use Rattle.tlv.specs.declared.walk.Tlv
 use Rattle.tlv.specs.declared.walk.Tlv.{Tlv}
-use Rattle.tlv.specs.declared.walk.Turn
 use Rattle.tlv.specs.declared.walk.Turn.{Turn}
-use Rattle.tlv.specs.declared.walk.Walk
 use Rattle.tlv.specs.declared.walk.Walk.{Walk}
+use Rattle.tlv.specs.Tlv.{lengthFits, headOf, sizeOf, labelIn, largestLabel}
 
 abbrev pub noneFound : Found
 noneFound = record { fec = 0; label = 0; status = 0; parameters = 0; session = 0; protection = 0; ack = 0 }

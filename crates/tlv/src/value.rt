@@ -1,4 +1,8 @@
 // What a TLV that was found says: its place is 0 where it does not stand, and its value lies within the message.
+ghost use Prim.Native.Nat.{_+_};
+ghost use mathlib.Core.Path.{_≡_};
+ghost use Rattle.octets.specs.Be.{beAt};
+ghost use Rattle.tlv.specs.Value.{Within, partAt, fecAt, fieldAt, numberAt, parametersAt, sessionAt};
 use crate::Fec;
 use crate::Field;
 use crate::FtField;
@@ -6,12 +10,8 @@ use crate::Parameters;
 use crate::Part;
 use crate::Session;
 use ft_number::FtNumber;
-ghost use mathlib.Core.Path.{_≡_};
-ghost use Rattle.octets.specs.Be.{beAt};
-ghost use Prim.Native.Nat.{_+_};
-ghost use Rattle.tlv.specs.Value.{Within, partAt, fecAt, fieldAt, numberAt, parametersAt, sessionAt};
 
-// The value's part of the message.
+// The value's part of the message; from 0 to 0 where the TLV does not stand.
 pub fn part_at(m: &[u8], place: usize) -> Part
     requires { ⌜ Within (now m) place (beAt 2 (now m) (place + 2)) ⌝ }
     ensures { λ r. ⌜ r ≡ partAt (now (m .entry)) place ⌝ }
@@ -26,6 +26,7 @@ pub fn part_at(m: &[u8], place: usize) -> Part
     }
 }
 
+// The FEC: absent, the wildcard (the value is the single byte 01), or another.
 pub fn fec_at(m: &[u8], place: usize) -> Fec
     requires { ⌜ Within (now m) place (beAt 2 (now m) (place + 2)) ⌝ }
     ensures { λ r. ⌜ r ≡ fecAt (now (m .entry)) place ⌝ }
@@ -42,6 +43,7 @@ pub fn fec_at(m: &[u8], place: usize) -> Fec
     Fec::Wildcard
 }
 
+// The first 32 bits of the value (label, status), or absent.
 pub fn field_at(m: &[u8], place: usize) -> Field
     requires { ⌜ Within (now m) place 4 ⌝ }
     ensures { λ r. ⌜ r ≡ fieldAt (now (m .entry)) place ⌝ }
@@ -52,6 +54,7 @@ pub fn field_at(m: &[u8], place: usize) -> Field
     Field::Value(octets::get_u32(m, place + 4))
 }
 
+// The FT number, or absent.
 pub fn number_at(m: &[u8], place: usize) -> FtField
     requires { ⌜ Within (now m) place 4 ⌝ }
     ensures { λ r. ⌜ r ≡ numberAt (now (m .entry)) place ⌝ }
@@ -62,7 +65,7 @@ pub fn number_at(m: &[u8], place: usize) -> FtField
     FtField::Number(FtNumber(octets::get_u32(m, place + 4)))
 }
 
-// The KeepAlive time and the maximum PDU length.
+// The KeepAlive time and the maximum PDU length, or absent.
 pub fn parameters_at(m: &[u8], place: usize) -> Parameters
     requires { ⌜ Within (now m) place 14 ⌝ }
     ensures { λ r. ⌜ r ≡ parametersAt (now (m .entry)) place ⌝ }
@@ -78,7 +81,7 @@ pub fn parameters_at(m: &[u8], place: usize) -> Parameters
     }
 }
 
-// The R bit and the seconds.
+// The R bit and the seconds, or absent.
 pub fn session_at(m: &[u8], place: usize) -> Session
     requires { ⌜ Within (now m) place 4 ⌝ }
     ensures { λ r. ⌜ r ≡ sessionAt (now (m .entry)) place ⌝ }

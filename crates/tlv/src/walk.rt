@@ -1,11 +1,11 @@
 // The walk over the TLVs of a message, left at the first fault.
-use crate::Found;
-ghost use mathlib.Core.Path.{_≡_};
-ghost use mathlib.Core.Bool.{true};
 ghost use Prim.Native.Nat.{_+_, _-_, _≤_};
+ghost use mathlib.Core.Bool.{true};
+ghost use mathlib.Core.Path.{_≡_};
 ghost use lib.ListN.{length, drop};
 ghost use Rattle.tlv.specs.Tlv.{tlvOf, lengthFits, labelIn};
 ghost use Rattle.tlv.specs.Walk.{placeOf, placedOf, notedOf, turnOf, walkOf, noneFound, tlvsOf};
+use crate::Found;
 
 // The listed TLVs, and any other.
 pub enum Tlv {
@@ -195,8 +195,10 @@ fn walk_whole(m: &[u8]) -> Walk
     walk_tlvs(m)
 }
 
-// The TLVs of a whole message, behind a head whose length says what follows. The bytes are lent on from their start: then the
-// compiler hands address and length over in registers, and no caller copies the pair through memory.
+// Where each listed TLV of a message stands, in every message type, or that it is malformed: a head cut off or whose length is not that of
+// what follows, a TLV cut off, a listed one with a wrong length or a second time, a label above 1,048,575. U and F of a TLV are ignored,
+// others than those listed skipped. The bytes are lent on from their start: then the compiler hands address and length over in registers,
+// and no caller copies the pair through memory.
 pub fn walk_message(m: &[u8]) -> Walk
     ensures { λ r. ⌜ r ≡ tlvsOf (now (m .entry)) ⌝ }
 {

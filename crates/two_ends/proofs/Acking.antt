@@ -1,29 +1,29 @@
 -- What is given is in use or asked back, as an acknowledgement comes or a connection ends. Assumes nothing.
 use Prim.Native.Nat.{ℕ}
-use native.Mathlib.Omega.{arith}
-use mathlib.Core.Path.{_≡_, refl}
 use mathlib.Core.Bool.{true}
 use mathlib.Core.List.{List, [], _∷_}
-use mathlib.Core.Logic.{_⊎_, ⊎-elim}
+use mathlib.Core.Logic.{⊎-elim}
+use mathlib.Core.Path.{_≡_, refl}
+use native.Mathlib.Omega.{arith}
 use lib.Dec.{eqb}
 use Rattle.octets.proofs.Choice.{pick-all}
-use Rattle.message.specs.Submission.{submissionOf}
-use Rattle.label_list.specs.Sweep.{sweptOf}
-use Rattle.label_list.specs.Valid.{validOf}
 use Rattle.label_list.specs.declared.LabelMessage.{LabelMessage}
 use Rattle.label_list.specs.declared.LabelMessage.the-variants.{Withdraw, Release}
 use Rattle.label_list.specs.declared.Side.{Side}
 use Rattle.label_list.specs.declared.Side.the-variants.{Given, Used}
 use Rattle.label_list.specs.declared.SweepRule.the-variants.{AfterBreak}
+use Rattle.label_list.specs.Sweep.{sweptOf}
+use Rattle.label_list.specs.Valid.{validOf}
 use Rattle.label_events.specs.Change.{codeAt}
 use Rattle.label_meaning.specs.Event.{Acked, Broken, step, Moves, withdraw-acked, release-acked, bare-lost}
-use Rattle.slot.specs.Held.{kindIn, labelIn}
-use Rattle.calls.specs.Acked.{releasedKind, releasedLabels}
-use Rattle.call_meaning.proofs.Released.{released-valid}
+use Rattle.message.specs.Storable.{kindIn, labelIn}
+use Rattle.message.specs.Submission.{submissionOf}
+use Rattle.protocol.specs.Acked.{releasedKind, releasedLabels}
+use Rattle.protocol.proofs.Words.{released-valid}
 use Rattle.two_ends.specs.Agree.{codeAfter, IsGiven, IsUsed, Agree}
-use Rattle.two_ends.proofs.Sixless.{NoSix}
-use Rattle.two_ends.proofs.Codes.{five-zero}
 use Rattle.two_ends.proofs.Agreeing.{moved}
+use Rattle.two_ends.proofs.Codes.{five-zero}
+use Rattle.two_ends.proofs.Sixless.{NoSix}
 
 -- ---- an acknowledgement frees what it frees
 given-acked : {m : LabelMessage} {k l c d : ℕ} → Moves (Acked m k) Given l c d → d ≡ 0

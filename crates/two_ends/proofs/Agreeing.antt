@@ -1,33 +1,32 @@
 -- What is given is in use or asked back, as either end accepts a message or an acknowledgement comes. Assumes nothing.
 use Prim.Native.Nat.{ℕ}
-use native.Mathlib.Omega.{arith}
-use mathlib.Core.Path.{_≡_, refl, sym, ap, _∙_}
 use mathlib.Core.Bool.{true, false, true≢false}
 use mathlib.Core.List.{List, [], _∷_, _++_}
 use mathlib.Core.Logic.{_⊎_, inl, inr, ⊎-elim}
+use mathlib.Core.Path.{_≡_, refl, sym, ap, _∙_}
+use native.Mathlib.Omega.{arith}
 use borrow.Author.Tests.{eq-eqb}
 use Rattle.octets.proofs.Choice.{by-test}
-use Rattle.message.specs.Submission.{submissionOf}
-use Rattle.message.specs.declared.Kind
-use Rattle.message.specs.declared.Kind.{Kind}
-use Rattle.message.specs.declared.Submission
-use Rattle.message.specs.declared.Submission.{Submission}
-use Rattle.label_list.specs.Valid.{validOf}
 use Rattle.label_list.specs.declared.LabelMessage.{LabelMessage}
 use Rattle.label_list.specs.declared.LabelMessage.the-variants.{Mapping, Withdraw, Release}
 use Rattle.label_list.specs.declared.Side.{Side}
 use Rattle.label_list.specs.declared.Side.the-variants.{Given, Used}
+use Rattle.label_list.specs.Valid.{validOf}
 use Rattle.label_events.specs.Change.{codeAt}
 use Rattle.label_meaning.specs.Event.{Event, Accepted, step, Moves, given, withdrawn, released, returned}
 use Rattle.label_meaning.proofs.Meaning.{valid-means}
 use Rattle.label_meaning.proofs.Moved.{every-move}
-use Rattle.slot.specs.Fields.{bears}
-use Rattle.submit.specs.Act.{acceptedLabels}
-use Rattle.submit.specs.Labels.{isHeld, acceptedAs}
+use Rattle.message.specs.declared.Kind.{Kind}
+use Rattle.message.specs.declared.Submission.{Submission}
+use Rattle.message.specs.Storable.{bears}
+use Rattle.message.specs.Submission.{submissionOf}
+use Rattle.protocol.specs.Accepting.{acceptedAs}
+use Rattle.protocol.specs.Held.{isHeld}
+use Rattle.protocol.specs.Submit.{acceptedLabels}
 use Rattle.two_ends.specs.Agree.{codeAfter, Agree}
-use Rattle.two_ends.proofs.Sixless.{NoSix}
-use Rattle.two_ends.proofs.Owed.{held-more, held-last}
 use Rattle.two_ends.proofs.Codes.{fit, mapping-used, used-codeBy, fit-after, after-snoc}
+use Rattle.two_ends.proofs.Owed.{held-more, held-last}
+use Rattle.two_ends.proofs.Sixless.{NoSix}
 
 -- what an event makes of a label's code on a side
 pub moved : (ls : List ℕ) → validOf ls ≡ true → (e : Event) (side : Side) (l : ℕ)

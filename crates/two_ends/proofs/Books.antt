@@ -1,22 +1,21 @@
 -- The books of one direction after each event. Assumes nothing.
 use Prim.Native.Nat.{ℕ, suc, _+_, _-_, _≤_, _<_}
+use mathlib.Core.List.{List, [], _∷_, _++_}
+use mathlib.Core.Path.{_≡_, sym, ap, _∙_}
 use native.Mathlib.Numerals.{add-one}
 use native.Mathlib.Omega.{arith}
-use mathlib.Core.Path.{_≡_, sym, ap, _∙_}
-use mathlib.Core.List.{List, [], _∷_, _++_}
-use borrow.Author.Tests.{ltb-true, ltb-false}
 use lib.Dec.{ltb}
 use lib.ListN.{length, take, drop, length-append, length-drop}
 use lib.Seq.{take-append-le, drop-append-le, drop-drop, take-add}
+use borrow.Author.Tests.{ltb-true, ltb-false}
 use Rattle.octets.specs.Pick.{pick}
-use Rattle.ft_number.specs.Circle.{after, stepsOf}
-use Rattle.ft_number.specs.Ack.{ackOf}
-use Rattle.ft_number.specs.declared.Ack
-use Rattle.ft_number.specs.declared.Ack.{Ack}
 use Rattle.octets.proofs.Choice.{by-test}
-use Rattle.calls.specs.Phases.{countOf}
-use Rattle.two_ends.proofs.Positions.{num, num-after, num-count, num-ack}
+use Rattle.ft_number.specs.declared.Ack.{Ack}
+use Rattle.ft_number.specs.Ack.{ackOf}
+use Rattle.ft_number.specs.Circle.{after, stepsOf}
+use Rattle.protocol.specs.Phases.{countOf}
 use Rattle.two_ends.proofs.Half.{Snd, Rcv, Books}
+use Rattle.two_ends.proofs.Positions.{num, num-after, num-count, num-ack}
 
 module _ {A : Type 0} where
   -- ---- the sender's view after an event

@@ -1,25 +1,23 @@
 -- The codes that a label takes at its user. Assumes nothing.
 use Prim.Native.Nat.{ℕ, zero, suc, _≤_, _<_}
-use native.Mathlib.Omega.{arith}
-use mathlib.Core.Path.{_≡_, refl}
 use mathlib.Core.Bool.{true}
 use mathlib.Core.List.{List, [], _∷_, _++_}
 use mathlib.Core.Logic.{_⊎_, inl, inr, ⊎-elim}
+use mathlib.Core.Path.{_≡_, refl}
 use native.Mathlib.Nat.{eq-or-lt-of-le}
+use native.Mathlib.Omega.{arith}
 use lib.Dec.{eqb}
 use Rattle.octets.proofs.Choice.{by-test, pick-all}
-use Rattle.message.specs.Submission.{submissionOf}
-use Rattle.message.specs.declared.Kind
-use Rattle.message.specs.declared.Kind.{Kind}
-use Rattle.message.specs.declared.Submission
-use Rattle.message.specs.declared.Submission.{Submission}
-use Rattle.label_list.specs.Word.{onSide}
-use Rattle.label_list.proofs.Standing.{within-range}
-use Rattle.label_list.specs.Rules.{codeReceived}
 use Rattle.label_list.specs.declared.LabelMessage.the-variants.{Mapping, Withdraw}
 use Rattle.label_list.specs.declared.Side.the-variants.{Used}
+use Rattle.label_list.specs.Rules.{codeReceived}
+use Rattle.label_list.specs.Word.{onSide}
+use Rattle.label_list.proofs.Standing.{within-range}
 use Rattle.label_events.specs.Change.{codeAt}
 use Rattle.label_meaning.proofs.Step.{code-proper}
+use Rattle.message.specs.declared.Kind.{Kind}
+use Rattle.message.specs.declared.Submission.{Submission}
+use Rattle.message.specs.Submission.{submissionOf}
 use Rattle.two_ends.specs.Agree.{codeBy, codeAfter, IsUsed}
 use Rattle.two_ends.proofs.Sixless.{NoSix}
 

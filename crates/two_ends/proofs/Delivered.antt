@@ -1,90 +1,62 @@
 -- The oldest message of a line is delivered. Assumes nothing.
-use Prim.Native.Nat.{ℕ, _-_}
-use mathlib.Core.Path.{_≡_, refl, sym, _∙_}
-use mathlib.Core.Bool.{Bool, true, false, not, true≢false}
-use mathlib.Core.List.{List, [], _∷_, map}
-use Rattle.octets.specs.Pick.{both}
+use Prim.Native.Nat.{ℕ}
+use mathlib.Core.Bool.{Bool, false, not, true}
+use mathlib.Core.List.{[], List, _∷_}
+use mathlib.Core.Path.{_≡_, refl}
+use Rattle.octets.specs.Pick.{both, pick}
 use Rattle.octets.proofs.Choice.{both-true}
-use Rattle.image.specs.State.{decode}
-use Rattle.calls.specs.declared.Phase
-use Rattle.calls.specs.declared.Phase.{Phase}
-use Rattle.init.specs.Begun.{initStart, initReceivedOf}
-use Rattle.receive.specs.Rule.{receiveOf}
-use Rattle.two_ends.specs.World.{History, End, World}
-use Rattle.two_ends.specs.Calls.{keeps, took, greeted, anew, replaced, delivered, delivery}
-use Rattle.two_ends.proofs.Packets.{Packet, first, again, alive, carried, bytesOf, NoInit}
-use Rattle.two_ends.proofs.Invariant.{Shape, linkable, Inv, Good}
-use Rattle.two_ends.proofs.Takes.{nil-cons}
-use Rattle.two_ends.proofs.Worlds.{ended, at-replaced, Settled}
-use Rattle.two_ends.proofs.Delivering.{Oldest, oldest}
-use Rattle.two_ends.proofs.Greeting.{greeting}
+use Rattle.protocol.specs.declared.Start.{Start}
+use Rattle.protocol.specs.Init.{initReceived, initStart}
+use Rattle.protocol.specs.Phases.{awaits}
+use Rattle.protocol.specs.Receive.{receive}
+use Rattle.protocol.specs.Step.{Step}
+use Rattle.two_ends.specs.Calls.{anew, beginning, delivery, greeted, greets, keeps, receives, took}
+use Rattle.two_ends.specs.World.{End, Lasts, World}
+use Rattle.two_ends.proofs.Acts.{hearer}
 use Rattle.two_ends.proofs.Arriving.{alive-arrives, carried-arrives}
+use Rattle.two_ends.proofs.Greeted.{greet-first}
+use Rattle.two_ends.proofs.Invariant.{Good}
+use Rattle.two_ends.proofs.Oldest.{Oldests, by-oldest}
+use Rattle.two_ends.proofs.Resuming.{greet-again}
+use Rattle.two_ends.proofs.Worlds.{Settled, at-replaced}
 
--- ---- a reader that is up reads no Init
-pub up-reads : (jo bg : Bool) (k : ℕ) (ps : List Packet) (q : Packet) → Shape jo true bg k (q ∷ ps) → NoInit (q ∷ ps)
-up-reads true bg k ps q s = s
-up-reads false bg k ps q s = nil-cons (s .0)
+module _ (w : World) (g : Good w) where
+  -- ---- what it leaves of the end, whichever it is
+  abbrev Heard : End → List ℕ → List (List ℕ) → Type 0
+  Heard e m rest = keeps (hearer e m) ≡ true → Settled (hearer e m) (w .b) (w .ab) rest
 
-module _ (im : List ℕ) (sent : ℕ) (h : History) {b : End} {ab ba : List (List ℕ)} {pa qs : List Packet} where
-  arriving : (q : Packet) → NoInit (q ∷ qs) → Inv (ended im (Phase.UpFT sent) true true h) b ab ba pa (q ∷ qs)
-      → keeps (took (ended im (Phase.UpFT sent) true true h) (bytesOf q) (receiveOf im (Phase.UpFT sent) (bytesOf q))) ≡ true
-      → Settled (took (ended im (Phase.UpFT sent) true true h) (bytesOf q) (receiveOf im (Phase.UpFT sent) (bytesOf q))) b ab (map bytesOf qs)
-  arriving (first id p seconds ack) none i k = absurd none
-  arriving (again id p seconds a) none i k = absurd none
-  arriving (alive id n) none i k = alive-arrives im sent h id n i k
-  arriving (carried m n ack) none i k = carried-arrives im sent h m n ack i k
+  each : Oldests Heard (w .b) (w .ab)
+  each = record {
+    firsts = λ now t h id p seconds ack qs l i k. greet-first now t h id p seconds ack i l;
+    agains = λ now t h id p seconds a qs i k. greet-again now t h id p seconds a i k;
+    alives = λ now sent h id n qs i k. alive-arrives now sent h id n i k;
+    carries = λ now sent h m n ack qs i k. carried-arrives now sent h m n ack i k;
+  }
 
--- ---- the oldest, whatever its bytes are
-module _ (im : List ℕ) (h : History) {b : End} {ab ba : List (List ℕ)} {pa ps : List Packet} {m : List ℕ} {rest : List (List ℕ)} {q : Packet} {qs : List Packet}
-    (o : Oldest m rest ps q qs) where
-  init-oldest : (t : ℕ) (bg : Bool) → Inv (ended im (Phase.InitWait t) true bg h) b ab ba pa ps
-      → keeps (greeted (ended im (Phase.InitWait t) true bg h) (initStart im (Phase.InitWait t) m) (initReceivedOf im (Phase.InitWait t) m)) ≡ true
-      → Settled (greeted (ended im (Phase.InitWait t) true bg h) (initStart im (Phase.InitWait t) m) (initReceivedOf im (Phase.InitWait t) m)) b ab rest
-  init-oldest t bg i k = rw (o .bytes, o .line) (greeting im t h bg q (rw (o .is) at i) (rw (o .bytes) at k))
+  module _ (m : List ℕ) (rest : List (List ℕ)) (on : w .a .joined ≡ true) (line : w .ba ≡ m ∷ rest) where
+    heard : Lasts w → Heard (w .a) m rest
+    heard k = by-oldest Heard (w .b) (w .ab) each (w .a) m rest on (rw line at (g k))
 
-  message-oldest : (sent : ℕ) (bg : Bool) → Inv (ended im (Phase.UpFT sent) true bg h) b ab ba pa ps
-      → keeps (took (ended im (Phase.UpFT sent) true bg h) m (receiveOf im (Phase.UpFT sent) m)) ≡ true
-      → Settled (took (ended im (Phase.UpFT sent) true bg h) m (receiveOf im (Phase.UpFT sent) m)) b ab rest
-  message-oldest sent false i k = absurd (true≢false (sym (i .own .waiting refl .waits)))
-  message-oldest sent true i k =
-      let j = rw (o .is) at i in
-      rw (o .bytes, o .line) (arriving im sent h q (up-reads (b .joined) true (decode im .header .kept) qs q (j .back .shape)) j (rw (o .bytes) at k))
+    abbrev st : Start
+    st = initStart (w .a .state) (w .a .phase) m
 
--- ---- the event
-module _ (im : List ℕ) (h : History) (b : End) (ab : List (List ℕ)) (kept : Bool) where
-  abbrev world : Phase → Bool → Bool → List (List ℕ) → World
-  world ph jo bg ba = record { a = ended im ph jo bg h; b = b; ab = ab; ba = ba; kept = kept }
+    abbrev x : Step
+    x = initReceived (w .a .state) (w .a .phase) m
 
-  at-init : (t : ℕ) (bg : Bool) (m : List ℕ) (rest : List (List ℕ)) → Good (world (Phase.InitWait t) true bg (m ∷ rest)) → Good (delivered (world (Phase.InitWait t) true bg (m ∷ rest)) m rest)
-  at-init t bg m rest g =
-      let e : End = ended im (Phase.InitWait t) true bg h in
-      let st = initStart im (Phase.InitWait t) m in
-      let x = initReceivedOf im (Phase.InitWait t) m in
-      at-replaced (record { a = e; b = b; ab = ab; ba = m ∷ rest; kept = both kept (not (both bg (anew st x))) }) (greeted e st x) ab rest (λ kp k.
-      let s = g (both-true kept (not (both bg (anew st x))) kp .0) in
-      init-oldest im h (oldest m rest (s .1) (s .2 .lineB) .2) t bg (s .2) k)
+    abbrev y : Step
+    y = receive (w .a .state) (w .a .phase) m
 
-  at-message : (sent : ℕ) (bg : Bool) (m : List ℕ) (rest : List (List ℕ)) → Good (world (Phase.UpFT sent) true bg (m ∷ rest)) → Good (delivered (world (Phase.UpFT sent) true bg (m ∷ rest)) m rest)
-  at-message sent bg m rest g =
-      at-replaced (world (Phase.UpFT sent) true bg (m ∷ rest)) (took (ended im (Phase.UpFT sent) true bg h) m (receiveOf im (Phase.UpFT sent) m)) ab rest (λ kp k.
-      let s = g kp in
-      message-oldest im h (oldest m rest (s .1) (s .2 .lineB) .2) sent bg (s .2) k)
+    delivers : (b : Bool) → awaits (w .a .phase) ≡ b → Good (pick b (greets w rest st x) (receives w m rest y))
+    delivers true e =
+        at-replaced (beginning w st x) (greeted (w .a) st x) (w .ab) rest (λ lasts k.
+        (rw e at (heard (lasts .0, both-true (w .unreleased) (not (both (w .a .begun) (anew st x))) (lasts .1) .0))) k)
+    delivers false e = at-replaced w (took (w .a) m y) (w .ab) rest (λ lasts k. (rw e at (heard lasts)) k)
 
-  -- an end that is on the connection is in one of these phases
-  at-other : (ph : Phase) (bg : Bool) (m : List ℕ) (rest : List (List ℕ)) → linkable ph ≡ false → Good (world ph true bg (m ∷ rest))
-      → Good (replaced (world ph true bg (m ∷ rest)) (took (ended im ph true bg h) m (receiveOf im ph m)) ab rest)
-  at-other ph bg m rest n g =
-      at-replaced (world ph true bg (m ∷ rest)) (took (ended im ph true bg h) m (receiveOf im ph m)) ab rest
-      (λ kp k. absurd (true≢false (sym (g kp .2 .own .linked refl) ∙ n)))
-
-  at-delivery : (jo bg : Bool) (ba : List (List ℕ)) (ph : Phase) → Good (world ph jo bg ba) → Good (delivery jo ba (world ph jo bg ba))
-  at-delivery false bg ba ph g = g
-  at-delivery true bg [] ph g = g
-  at-delivery true bg (m ∷ rest) Phase.Idle g = at-other Phase.Idle bg m rest refl g
-  at-delivery true bg (m ∷ rest) (Phase.InitWait t) g = at-init t bg m rest g
-  at-delivery true bg (m ∷ rest) (Phase.UpFT sent) g = at-message sent bg m rest g
-  at-delivery true bg (m ∷ rest) Phase.UpPlain g = at-other Phase.UpPlain bg m rest refl g
-  at-delivery true bg (m ∷ rest) Phase.Failed g = at-other Phase.Failed bg m rest refl g
-
-pub at-delivers : (w : World) → Good w → Good (delivery (w .a .joined) (w .ba) w)
-at-delivers w g = at-delivery (w .a .image) (w .a .history) (w .b) (w .ab) (w .kept) (w .a .joined) (w .a .begun) (w .ba) (w .a .phase) g
+  -- ---- the event
+  pub at-delivers : Good (delivery (w .a .joined) (w .ba) w)
+  at-delivers = by (w .a .joined) (w .ba) refl refl
+    where
+      by : (jo : Bool) (line : List (List ℕ)) → w .a .joined ≡ jo → w .ba ≡ line → Good (delivery jo line w)
+      by false line e f = g
+      by true [] e f = g
+      by true (m ∷ rest) e f = delivers m rest e f (awaits (w .a .phase)) refl

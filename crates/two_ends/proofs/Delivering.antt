@@ -1,11 +1,11 @@
 -- The oldest message of a line, and what it lets go. Assumes nothing.
 use Prim.Native.Nat.{ℕ, _-_, _≤_}
-use native.Mathlib.Omega.{arith}
-use mathlib.Core.Path.{_≡_, refl, ap}
 use mathlib.Core.List.{List, [], _∷_, map}
+use mathlib.Core.Path.{_≡_, refl, ap}
+use native.Mathlib.Omega.{arith}
 use lib.ListN.{length, take, drop, length-drop}
-use Rattle.image.specs.State.{decode}
-use Rattle.calls.specs.Outcomes.{After}
+use Rattle.protocol.specs.State.{State}
+use Rattle.protocol.specs.Step.{Step}
 use Rattle.two_ends.specs.Calls.{letGo}
 use Rattle.two_ends.proofs.Packets.{Packet, bytesOf}
 
@@ -23,8 +23,8 @@ oldest m rest (q ∷ qs) e =
     (q, qs, record { is = refl; bytes = b; line = l })
 
 -- ---- the messages let go are those that an acknowledgement releases
-pub let-go : (im : List ℕ) (x : After) (k : ℕ) → k ≤ length (decode im .queue) → decode (x .image) .queue ≡ drop k (decode im .queue) → letGo im x ≡ take k (decode im .queue)
-let-go im x k few e =
-    let q : List (List ℕ) = decode im .queue in
-    let n : length q - length (decode (x .image) .queue) ≡ k = omega (arith, ap length e, length-drop k q) in
+pub let-go : (now : State) (x : Step) (k : ℕ) → k ≤ length (now .queue) → x .state .queue ≡ drop k (now .queue) → letGo now x ≡ take k (now .queue)
+let-go now x k few e =
+    let q : List (List ℕ) = now .queue in
+    let n : length q - length (x .state .queue) ≡ k = omega (arith, ap length e, length-drop k q) in
     ap (λ (j : ℕ). take j q) n

@@ -1,18 +1,17 @@
 -- One direction, event by event. Assumes nothing.
 use Prim.Native.Nat.{ℕ, suc, _+_, _-_, _≤_, _<_}
-use native.Mathlib.Omega.{arith}
-use mathlib.Core.Path.{_≡_, refl, sym, ap, _∙_}
 use mathlib.Core.Bool.{Bool, true, false}
 use mathlib.Core.List.{List, [], _∷_, _++_}
+use mathlib.Core.Path.{_≡_, refl, sym, ap, _∙_}
+use native.Mathlib.Omega.{arith}
 use lib.ListN.{length, drop, length-append}
-use Rattle.ft_number.specs.Circle.{circle, next, after}
-use Rattle.ft_number.specs.Ack.{ackOf}
-use Rattle.ft_number.specs.declared.Ack
 use Rattle.ft_number.specs.declared.Ack.{Ack}
-use Rattle.two_ends.proofs.Positions.{num, num-next, num-le}
+use Rattle.ft_number.specs.Ack.{ackOf}
+use Rattle.ft_number.specs.Circle.{circle, next, after}
+use Rattle.two_ends.proofs.Books.{accepts, issues, secures, numbered, unsent, place, issued, ack-right, books-accept, books-issue, books-secure}
 use Rattle.two_ends.proofs.Half.{Snd, Rcv, Half}
 use Rattle.two_ends.proofs.Lines.{line-snoc, line-secure, line-end, flow-grow, flow-snoc}
-use Rattle.two_ends.proofs.Books.{accepts, issues, secures, numbered, unsent, place, issued, ack-right, books-accept, books-issue, books-secure}
+use Rattle.two_ends.proofs.Positions.{num, num-next, num-le}
 
 module _ {A : Type 0} where
   module _ {x : Snd A} {sent : ℕ} {up : Bool} {y : Rcv A} {dat : List (ℕ × A)} {acks : List ℕ} (p : Half x sent up y dat acks) where
@@ -62,9 +61,6 @@ module _ {A : Type 0} where
 
     pub half-place : (m : A) (ms : List A) → drop sent (x .queue) ≡ m ∷ ms → drop (p .r + sent) (x .accepted) ≡ m ∷ drop (suc (p .r + sent)) (x .accepted)
     half-place m ms e = place (p .books) sent m ms e
-
-    pub half-number : after (sent + 1) (x .R) ≤ circle
-    half-number = rw (numbered (p .books) sent) (num-le (p .r + (sent + 1)))
 
   -- a sender that is not up counts from the oldest again
   pub half-rest : {x : Snd A} {sent : ℕ} {y : Rcv A} {dat : List (ℕ × A)} {acks : List ℕ} → Half x sent false y dat acks → Half x 0 false y dat acks

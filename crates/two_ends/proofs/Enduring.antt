@@ -1,106 +1,127 @@
 -- Over every run: with steady owners what is delivered is answered 0 or 21, and neither end ever releases its state. Assumes nothing.
-use Prim.Native.Nat.{_≤_}
-use native.Mathlib.Omega.{arith}
-use mathlib.Core.Path.{_≡_, refl}
-use mathlib.Core.Bool.{Bool, true, false}
-use mathlib.Core.List.{List, [], _∷_}
+use mathlib.Core.Bool.{Bool, false, true, true≢false}
+use mathlib.Core.List.{[], List, _∷_}
+use mathlib.Core.Path.{_≡_, refl, sym, _∙_}
 use Rattle.ft_number.specs.Timeout.{proposedOf}
 use Rattle.message_writer.specs.declared.OwnParameters.{OwnParameters}
-use Rattle.image.specs.State.{decode}
-use Rattle.calls.specs.declared.Answer.{Answer}
-use Rattle.calls.specs.Answers.{answerNumber}
-use Rattle.connect.specs.Writers.{keptAck}
-use Rattle.two_ends.specs.World.{World, swap}
-use Rattle.two_ends.specs.Calls.{on}
-use Rattle.two_ends.specs.Runs.{Event, submits, sends, keepalives, opens, passes, delivers, breaks, notices, restarts, halts, Proper, act, step, run, AllProper}
-use Rattle.two_ends.specs.Start.{Opener, start, Sound, Afresh}
-use Rattle.two_ends.specs.Staying.{Fatal, Releasing, ReleasingAt, Stays}
-use Rattle.two_ends.specs.Steady.{Steadily, SteadilyAt, AllSteady, Calm, taken, no-word, AllCalm}
-use Rattle.two_ends.proofs.Invariant.{Good}
-use Rattle.two_ends.proofs.Worlds.{at-swap}
+use Rattle.protocol.specs.declared.Phase.{Phase}
+use Rattle.protocol.specs.Begin.{restore}
+use Rattle.protocol.specs.ConnectionFailed.{connectionFailed}
+use Rattle.protocol.specs.Open.{keptAck}
+use Rattle.protocol.specs.State.{State}
+use Rattle.protocol.specs.TimePassed.{timePassed}
+use Rattle.protocol.proofs.Moves.{notice-moves, restore-moves, time-moves}
+use Rattle.two_ends.specs.Runs.{AllProper, Event, Proper, act, breaks, delivers, keepalives, notices, opens, passes, restarts, run, sends, step, submits}
+use Rattle.two_ends.specs.Start.{Afresh, Fit, Opener, start}
+use Rattle.two_ends.specs.Staying.{Releasing, ReleasingAt, Stays}
+use Rattle.two_ends.specs.Steady.{AllCalm, AllSteady, Steadily, SteadilyAt}
+use Rattle.two_ends.specs.World.{End, Lasts, World, swap}
 use Rattle.two_ends.proofs.Begun.{at-start, fine}
-use Rattle.two_ends.proofs.Theorem.{at-step, at-run}
+use Rattle.two_ends.proofs.Calm.{all-calm, calm-low, delivers-steady}
+use Rattle.two_ends.proofs.Invariant.{Good}
+use Rattle.two_ends.proofs.Labelled.{Lists, lists, step-lists, swap-lists}
+use Rattle.two_ends.proofs.Labels.{labels-none}
+use Rattle.two_ends.proofs.Monotone.{step-lasted}
 use Rattle.two_ends.proofs.Saying.{init-says}
-use Rattle.two_ends.proofs.Steady.{Steadies}
-use Rattle.two_ends.proofs.Undisturbed.{all-calm}
-use Rattle.two_ends.proofs.Steadily.{act-steady, unbegun}
-use Rattle.two_ends.proofs.Kept.{step-stays}
-use Rattle.two_ends.proofs.Monotone.{step-back}
+use Rattle.two_ends.proofs.Staying.{step-stays}
+use Rattle.two_ends.proofs.Steady.{Knows, Steadies, alive-steady, broken-steady, open-steady, plain-steady, send-steady, submit-steady}
+use Rattle.two_ends.proofs.Theorem.{at-run, at-step}
+use Rattle.two_ends.proofs.Worlds.{at-swap}
 
--- ---- an event at either end, in a world that keeps both states
+-- ---- every event
+module _ (oa ob : OwnParameters) (w : World) (g : Good w) (l : Lists w) (k : Lasts w) (s : Steadies oa ob w) where
+  abbrev now : State
+  now = w .a .state
+
+  abbrev ph : Phase
+  ph = w .a .phase
+
+  act-steady : (v : Event) → Proper v → Steadily oa w v → Steadies oa ob (act w v)
+  act-steady (submits m) p q = submit-steady oa ob w g k s m q
+  act-steady (sends ask room) p q = send-steady oa ob w g k s ask room
+  act-steady (keepalives id room) p q = alive-steady oa ob w g k s id room p
+  act-steady (opens id r t room) p q = open-steady oa ob w g k s id r t room (p .0) (p .1) (q .0) (q .1)
+  act-steady (passes elapsed) p q = plain-steady oa ob w g k s (timePassed now ph elapsed) (time-moves now ph elapsed q)
+  act-steady delivers p q = delivers-steady oa ob w g l k s
+  act-steady breaks p q = broken-steady oa ob w s
+  act-steady notices p q = plain-steady oa ob w g k s (connectionFailed now ph) (notice-moves now ph)
+  act-steady restarts p q = plain-steady oa ob w g k s (restore now) (restore-moves now ph)
+
+  -- none releases
+  releases-never : (v : Event) → Steadily oa w v → Releasing w v → ⊥
+  releases-never (submits m) q r = r
+  releases-never (sends ask room) q r = r
+  releases-never (keepalives id room) q r = r
+  releases-never (opens id p t room) q r = r
+  releases-never (passes elapsed) q r = q (r .0) (r .1)
+  releases-never delivers q r = calm-low (all-calm oa ob w g l k s (r .message) (r .rest) (r .on) (r .line)) (r .answer)
+  releases-never breaks q r = r
+  releases-never notices q r = r
+  releases-never restarts q r = r
+
+-- ---- at either end
 swap-steady : (oa ob : OwnParameters) (w : World) → Steadies oa ob w → Steadies ob oa (swap w)
 swap-steady oa ob w s = record { a = s .b; b = s .a; ab = s .ba; ba = s .ab }
 
-step-steady : (oa ob : OwnParameters) (w : World) (at : Bool) (v : Event) → Good w → w .kept ≡ true → Steadies oa ob w → Proper v → SteadilyAt oa ob w at v → Steadies oa ob (step w at v)
-step-steady oa ob w true v g k s p q = act-steady oa ob w g k s v p q
-step-steady oa ob w false v g k s p q =
-    swap-steady ob oa (act (swap w) v) (act-steady ob oa (swap w) (at-swap w g) k (swap-steady oa ob w s) v p q)
+module _ (oa ob : OwnParameters) (w : World) (g : Good w) (l : Lists w) (k : Lasts w) (s : Steadies oa ob w) where
+  step-steady : (at : Bool) (v : Event) → Proper v → SteadilyAt oa ob w at v → Steadies oa ob (step w at v)
+  step-steady true v p q = act-steady oa ob w g l k s v p q
+  step-steady false v p q =
+      swap-steady ob oa (act (swap w) v) (act-steady ob oa (swap w) (at-swap w g) (swap-lists w l) k (swap-steady oa ob w s) v p q)
 
--- ---- no such event releases
-calm-low : {a : Answer} → Calm a → 30 ≤ answerNumber a → ⊥
-calm-low taken l = omega arith
-calm-low no-word l = omega arith
-
-fatal-never : (oa ob : OwnParameters) (w : World) → Good w → w .kept ≡ true → Steadies oa ob w → Fatal w → ⊥
-fatal-never oa ob w g k s f = calm-low (all-calm oa ob w g k s (f .message) (f .rest) (f .on) (f .line)) (f .answer)
-
-releases-never : (oa ob : OwnParameters) (w : World) → Good w → w .kept ≡ true → Steadies oa ob w → (v : Event) → Steadily oa w v → Releasing w v → ⊥
-releases-never oa ob w g k s (submits m) q r = r
-releases-never oa ob w g k s (sends ask out) q r = r
-releases-never oa ob w g k s (keepalives id out) q r = r
-releases-never oa ob w g k s (opens id p t out) q r = r
-releases-never oa ob w g k s (passes elapsed) q r = q (r .0) (r .1)
-releases-never oa ob w g k s delivers q r = fatal-never oa ob w g k s r
-releases-never oa ob w g k s breaks q r = r
-releases-never oa ob w g k s notices q r = r
-releases-never oa ob w g k s restarts q r = r
-releases-never oa ob w g k s (halts m) q r = r
-
-at-never : (oa ob : OwnParameters) (w : World) → Good w → w .kept ≡ true → Steadies oa ob w → (at : Bool) (v : Event) → SteadilyAt oa ob w at v → ReleasingAt w at v → ⊥
-at-never oa ob w g k s true v q r = releases-never oa ob w g k s v q r
-at-never oa ob w g k s false v q r = releases-never ob oa (swap w) (at-swap w g) k (swap-steady oa ob w s) v q r
+  at-never : (at : Bool) (v : Event) → SteadilyAt oa ob w at v → ReleasingAt w at v → ⊥
+  at-never true v q r = releases-never oa ob w g l k s v q r
+  at-never false v q r = releases-never ob oa (swap w) (at-swap w g) (swap-lists w l) k (swap-steady oa ob w s) v q r
 
 -- ---- over a run
--- as long as both states are kept, the world is as steady owners leave it
-run-steady : (oa ob : OwnParameters) (w : World) (vs : List (Bool × Event)) → Good w → (w .kept ≡ true → Steadies oa ob w) → AllProper vs → AllSteady oa ob w vs
-    → run w vs .kept ≡ true → Steadies oa ob (run w vs)
-run-steady oa ob w [] g s p q k = s k
-run-steady oa ob w (v ∷ vs) g s p q k =
-    run-steady oa ob (step w (v .0) (v .1)) vs (at-step w (v .0) (v .1) (p .0) g)
-    (λ t. let old = step-back w (v .0) (v .1) t in step-steady oa ob w (v .0) (v .1) g old (s old) (p .0) (q .0)) (p .1) (q .1) k
+module _ (oa ob : OwnParameters) where
+  -- as long as the run lasts, the world is as steady owners leave it
+  run-steady : (w : World) (vs : List (Bool × Event)) → Good w → Lists w → (Lasts w → Steadies oa ob w) → AllProper vs → AllSteady oa ob w vs
+      → Lasts (run w vs) → Steadies oa ob (run w vs)
+  run-steady w [] g l s p q k = s k
+  run-steady w (v ∷ vs) g l s p q k =
+      run-steady (step w (v .0) (v .1)) vs (at-step w (v .0) (v .1) (p .0) g) (step-lists w (v .0) (v .1) g l)
+      (λ t. let old = step-lasted w (v .0) (v .1) t in step-steady oa ob w g l old (s old) (v .0) (v .1) (p .0) (q .0)) (p .1) (q .1) k
 
-run-endures : (oa ob : OwnParameters) (w : World) (vs : List (Bool × Event)) → Good w → Stays w → Steadies oa ob w → AllProper vs → AllSteady oa ob w vs → Stays (run w vs)
-run-endures oa ob w [] g s t p q = s
-run-endures oa ob w (v ∷ vs) g s t p q =
-    run-endures oa ob (step w (v .0) (v .1)) vs (at-step w (v .0) (v .1) (p .0) g) (step-stays w (v .0) (v .1) g s (at-never oa ob w g (s .kept) t (v .0) (v .1) (q .0)))
-    (step-steady oa ob w (v .0) (v .1) g (s .kept) t (p .0) (q .0)) (p .1) (q .1)
+  run-endures : (w : World) (vs : List (Bool × Event)) → Good w → Lists w → Stays w → Steadies oa ob w → AllProper vs → AllSteady oa ob w vs → Stays (run w vs)
+  run-endures w [] g l s t p q = s
+  run-endures w (v ∷ vs) g l s t p q =
+      run-endures (step w (v .0) (v .1)) vs (at-step w (v .0) (v .1) (p .0) g) (step-lists w (v .0) (v .1) g l)
+      (step-stays w (v .0) (v .1) g s (at-never oa ob w g l (s .lasts) t (v .0) (v .1) (q .0)))
+      (step-steady oa ob w g l (s .lasts) t (v .0) (v .1) (p .0) (q .0)) (p .1) (q .1)
 
 -- the start
-start-steady : (x y : Opener) → Sound x → Sound y → Steadies (x .parameters) (y .parameters) (start x y)
-start-steady x y sx sy = record {
+unbegun : (o : OwnParameters) (e : End) → e .begun ≡ false → Knows o e
+unbegun o e n = record { keepalive = λ g. absurd (true≢false (sym g ∙ n)); maxpdu = λ g. absurd (true≢false (sym g ∙ n)); mild = λ g. absurd (true≢false (sym g ∙ n)) }
+
+start-steady : (x y : Opener) → Fit x → Fit y → Steadies (x .parameters) (y .parameters) (start x y)
+start-steady x y fx fy = record {
   a = unbegun (y .parameters) (start x y .a) refl;
   b = unbegun (x .parameters) (start x y .b) refl;
-  ab = (init-says (x .parameters) (x .id) (x .parameters) (proposedOf (x .proposal)) (keptAck (decode (x .image) .header)) (fine x sx) refl refl, tt);
-  ba = (init-says (y .parameters) (y .id) (y .parameters) (proposedOf (y .proposal)) (keptAck (decode (y .image) .header)) (fine y sy) refl refl, tt);
+  ab = (init-says (x .parameters) (x .id) (x .parameters) (proposedOf (x .proposal)) (keptAck (x .state)) (fine x fx) refl refl, tt);
+  ba = (init-says (y .parameters) (y .id) (y .parameters) (proposedOf (y .proposal)) (keptAck (y .state)) (fine y fy) refl refl, tt);
 }
 
-module _ (x y : Opener) (sx : Sound x) (sy : Sound y) (f : Afresh x y) (us : List (Bool × Event)) (pu : AllProper us) (qu : AllSteady (x .parameters) (y .parameters) (start x y) us) where
-  abbrev now : World
-  now = run (start x y) us
+module _ (x y : Opener) (fx : Fit x) (fy : Fit y) (f : Afresh x y) (us : List (Bool × Event)) (pu : AllProper us) (qu : AllSteady (x .parameters) (y .parameters) (start x y) us) where
+  abbrev here : World
+  here = run (start x y) us
 
-  good : Good now
-  good = at-run (start x y) us pu (at-start x y sx sy f)
+  good : Good here
+  good = at-run (start x y) us pu (at-start x y fx fy f)
 
-  steady : now .kept ≡ true → Steadies (x .parameters) (y .parameters) now
-  steady k = run-steady (x .parameters) (y .parameters) (start x y) us (at-start x y sx sy f) (λ t. start-steady x y sx sy) pu qu k
+  listed : Lists here
+  listed = lists x y fx fy f us pu
+
+  steady : Lasts here → Steadies (x .parameters) (y .parameters) here
+  steady k = run-steady (x .parameters) (y .parameters) (start x y) us (at-start x y fx fy f) (λ t. labels-none) (λ t. start-steady x y fx fy) pu qu k
 
   -- whatever is delivered is answered 0 or 21
-  pub answers-calm : now .kept ≡ true → AllCalm now × AllCalm (swap now)
+  pub answers-calm : Lasts here → AllCalm here × AllCalm (swap here)
   answers-calm k = (
-    all-calm (x .parameters) (y .parameters) now good k (steady k),
-    all-calm (y .parameters) (x .parameters) (swap now) (at-swap now good) k (swap-steady (x .parameters) (y .parameters) now (steady k)),
+    all-calm (x .parameters) (y .parameters) here good listed k (steady k),
+    all-calm (y .parameters) (x .parameters) (swap here) (at-swap here good) (swap-lists here listed) k (swap-steady (x .parameters) (y .parameters) here (steady k)),
   )
 
   -- and once both ends have begun, neither ever releases its state
-  pub kept-for-good : Stays now → (vs : List (Bool × Event)) → AllProper vs → AllSteady (x .parameters) (y .parameters) now vs → Stays (run now vs)
-  kept-for-good s vs p q = run-endures (x .parameters) (y .parameters) now vs good s (steady (s .kept)) p q
+  pub kept-for-good : Stays here → (vs : List (Bool × Event)) → AllProper vs → AllSteady (x .parameters) (y .parameters) here vs → Stays (run here vs)
+  kept-for-good s vs p q = run-endures (x .parameters) (y .parameters) here vs good listed s (steady (s .lasts)) p q

@@ -1,17 +1,16 @@
 -- One direction, as an acknowledgement arrives. Assumes nothing.
 use Prim.Native.Nat.{ℕ, _-_, _≤_}
-use native.Mathlib.Omega.{arith}
-use mathlib.Core.Path.{_≡_}
 use mathlib.Core.Bool.{true, false}
 use mathlib.Core.List.{List, _∷_, append-nil}
+use mathlib.Core.Path.{_≡_}
+use native.Mathlib.Omega.{arith}
 use lib.ListN.{length}
-use Rattle.ft_number.specs.Ack.{ackOf}
-use Rattle.ft_number.specs.declared.Ack
 use Rattle.ft_number.specs.declared.Ack.{Ack}
-use Rattle.two_ends.proofs.Half.{Snd, Rcv, Half}
-use Rattle.two_ends.proofs.Lines.{asc-le}
+use Rattle.ft_number.specs.Ack.{ackOf}
 use Rattle.two_ends.proofs.Books.{frees, held-length, ack-right, books-free}
 use Rattle.two_ends.proofs.Direction.{half-same}
+use Rattle.two_ends.proofs.Half.{Snd, Rcv, Half}
+use Rattle.two_ends.proofs.Lines.{asc-le}
 
 module _ {A : Type 0} where
   -- ---- an acknowledgement arrives, or a message that bears none

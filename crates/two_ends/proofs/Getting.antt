@@ -1,56 +1,59 @@
 -- What is given is in use or asked back, as either end takes a message with its number. Assumes nothing.
 use Prim.Native.Nat.{ℕ, _≤_}
-use native.Mathlib.Omega.{arith}
-use mathlib.Core.Path.{_≡_, refl, sym, _∙_}
 use mathlib.Core.Bool.{true, false, true≢false}
 use mathlib.Core.List.{List, _∷_}
-use mathlib.Core.Logic.{_⊎_, _≢_, ⊎-elim}
-use borrow.Author.Tests.{eqb-true, eq-eqb}
+use mathlib.Core.Logic.{_≢_, ⊎-elim}
+use mathlib.Core.Path.{_≡_, refl, sym, _∙_}
+use native.Mathlib.Omega.{arith}
 use lib.Dec.{eqb}
+use borrow.Author.Tests.{eqb-true, eq-eqb}
 use Rattle.octets.specs.Pick.{pick}
 use Rattle.octets.proofs.Choice.{by-test, pick-all}
-use Rattle.tlv.specs.declared.Fec.{Fec}
-use Rattle.tlv.specs.declared.Field
-use Rattle.tlv.specs.declared.Field.{Field}
-use Rattle.message.specs.Kinds.{kindNumber, fatalOf, codeOf, resourcesAvailable, notificationKind, kindFor}
-use Rattle.message.specs.Submission.{submissionOf}
-use Rattle.message.specs.declared.Kind
-use Rattle.message.specs.declared.Kind.{Kind}
-use Rattle.message.specs.declared.MessageType
-use Rattle.message.specs.declared.MessageType.{MessageType}
-use Rattle.message.specs.declared.Submission
-use Rattle.message.specs.declared.Submission.{Submission}
-use Rattle.label_list.specs.Word.{listable}
-use Rattle.label_list.specs.Valid.{validOf}
-use Rattle.label_list.specs.Rules.{receivedSide, codeReceived}
+use Rattle.ft_number.specs.declared.FtNumber.{FtNumber}
 use Rattle.label_list.specs.declared.LabelMessage.{LabelMessage}
 use Rattle.label_list.specs.declared.LabelMessage.the-variants.{Mapping, Withdraw, Release}
 use Rattle.label_list.specs.declared.Side.the-variants.{Given, Used}
+use Rattle.label_list.specs.Rules.{receivedSide, codeReceived}
+use Rattle.label_list.specs.Valid.{validOf}
+use Rattle.label_list.specs.Word.{listable}
 use Rattle.label_list.proofs.Standing.{within-range}
+use Rattle.label_events.specs.declared.Change.{Change}
+use Rattle.label_events.specs.declared.Reception.{Reception}
+use Rattle.label_events.specs.declared.Touched.{Touched}
 use Rattle.label_events.specs.Change.{codeAt, changeOf, changed}
 use Rattle.label_events.specs.Receive.{receivedChange, receptionOf, receivedOf}
-use Rattle.label_events.specs.declared.Change
-use Rattle.label_events.specs.declared.Change.{Change}
-use Rattle.label_events.specs.declared.Reception
-use Rattle.label_events.specs.declared.Reception.{Reception}
-use Rattle.label_events.specs.declared.Touched
-use Rattle.label_events.specs.declared.Touched.{Touched}
+use Rattle.tlv.specs.declared.Fec.{Fec}
+use Rattle.tlv.specs.declared.Field.{Field}
+use Rattle.tlv.specs.declared.FtField.{FtField}
 use Rattle.label_meaning.specs.Event.{Received, step, Moves, named, given-back, withdrawn-back}
 use Rattle.label_meaning.specs.View.{Effect}
-use Rattle.label_meaning.proofs.Meaning.{valid-means}
-use Rattle.label_meaning.proofs.View.{code-is, is-code}
-use Rattle.label_meaning.proofs.Proper.{received-proper}
 use Rattle.label_meaning.proofs.Effect.{change-effect}
-use Rattle.label_meaning.proofs.Step.{code-proper, received-outcome}
 use Rattle.label_meaning.proofs.Life.{move-happens}
-use Rattle.slot.specs.Fields.{bears}
-use Rattle.submit.specs.Labels.{isHeld}
-use Rattle.receive.specs.declared.LabelEffect
-use Rattle.receive.specs.declared.LabelEffect.{LabelEffect}
-use Rattle.receive.specs.Labels.{touchedBy, effectOn, effectReception, effectLabels}
+use Rattle.label_meaning.proofs.Meaning.{valid-means}
+use Rattle.label_meaning.proofs.Proper.{received-proper}
+use Rattle.label_meaning.proofs.Step.{code-proper, received-outcome}
+use Rattle.label_meaning.proofs.View.{code-is, is-code}
+use Rattle.message.specs.declared.Kind.{Kind}
+use Rattle.message.specs.declared.MessageType.{MessageType}
+use Rattle.message.specs.declared.Submission.{Submission}
+use Rattle.message.specs.Kinds.{kindOf, kindNumber, fatalOf, codeOf, resourcesAvailable, notificationKind, kindFor}
+use Rattle.message.specs.Storable.{bears}
+use Rattle.message.specs.Submission.{submissionOf}
+use Rattle.message.proofs.Laws.{accepted}
+use Rattle.message_writer.proofs.RoundTrip.{sent-kind}
+use Rattle.protocol.specs.declared.LabelEffect.{LabelEffect}
+use Rattle.protocol.specs.Held.{isHeld}
+use Rattle.protocol.specs.Labels.{touchedBy, effectOn, effectReception, effectLabels, labelEffect}
+use Rattle.protocol.specs.Phases.{upWith}
+use Rattle.protocol.specs.State.{State}
 use Rattle.two_ends.specs.Agree.{codeBy, codeAfter, IsGiven, IsUsed, Agree}
-use Rattle.two_ends.proofs.Agreeing.{moved}
+use Rattle.two_ends.specs.World.{End, History}
 use Rattle.two_ends.proofs.Acking.{none-given}
+use Rattle.two_ends.proofs.Agreeing.{moved}
+use Rattle.two_ends.proofs.Arriving.{g₂, short, f}
+use Rattle.two_ends.proofs.Invariant.{Inv}
+use Rattle.two_ends.proofs.Packets.{Packet, carried}
+use Rattle.two_ends.proofs.Worlds.{ended}
 
 -- ---- what a message of that kind and label does to the labels of its reader
 pub data Says : Kind → ℕ → LabelEffect → Type 0 where
@@ -184,3 +187,16 @@ code-taken user v k n e (says-nothing stays others) room l may = sym (stays l (c
 pub take-user : (giver user : List ℕ) (out back : List (List ℕ)) (m : List ℕ) → Agree giver user (m ∷ out) back → validOf user ≡ true → (k : Kind) (n : ℕ) (e : LabelEffect)
     → submissionOf m ≡ Submission.Accepted k n → Says k n e → effectReception user true e ≡ Reception.Taken → Agree giver (effectLabels user true e) out back
 take-user giver user out back m a v k n e is s room l may g none = rw (code-taken user v k n e s room l may) (rw is at (a l may g none))
+
+-- ---- a message on a line says its kind and label to its reader
+module _ (now : State) (sent : ℕ) (h : History) (m : List ℕ) (n : FtNumber) (ack : FtField) {b : End} {ab ba : List (List ℕ)} {pa qs : List Packet}
+    (i : Inv (ended now (upWith sent) true true h) b ab ba pa (carried m n ack ∷ qs)) where
+  pub carried-says : Says (f now sent h m n ack i .0 .storable .kind) (f now sent h m n ack i .0 .storable .label) (labelEffect (g₂ now sent h m n ack i))
+  unfolding labelEffect kindOf
+  carried-says =
+      let stored = f now sent h m n ack i .0 .storable in
+      let g = g₂ now sent h m n ack i in
+      let k = stored .kind in
+      let l = stored .label in
+      let e = stored .accepted in
+      says (g .typename) (g .status) (g .label) (g .fec) k l (sent-kind m k l e n ack (short now sent h m n ack i)) (accepted m k l e .labelled .label)

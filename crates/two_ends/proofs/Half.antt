@@ -1,8 +1,8 @@
 -- One direction: what holds between a sender, its peer, the messages on the line to it and the acknowledgements on the line back. Assumes nothing.
 use Prim.Native.Nat.{ℕ, suc, _+_, _≤_}
-use mathlib.Core.Path.{_≡_}
 use mathlib.Core.Bool.{Bool, true, false}
 use mathlib.Core.List.{List, [], _∷_}
+use mathlib.Core.Path.{_≡_}
 use lib.ListN.{length, take, drop}
 use Rattle.two_ends.proofs.Positions.{num}
 

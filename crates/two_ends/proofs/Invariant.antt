@@ -1,31 +1,24 @@
 -- What holds of the two ends and their lines as long as neither has released its state. Assumes nothing.
-use Prim.Native.Nat.{ℕ, _<_}
-use mathlib.Core.Path.{_≡_}
+use Prim.Native.Nat.{ℕ, _≤_}
 use mathlib.Core.Bool.{Bool, true, false}
 use mathlib.Core.List.{List, [], _∷_, map}
 use mathlib.Core.Logic.{_⊎_}
+use mathlib.Core.Path.{_≡_}
 use Rattle.octets.specs.Pick.{pick, both}
-use Rattle.tlv.specs.declared.FtField
 use Rattle.tlv.specs.declared.FtField.{FtField}
-use Rattle.image.specs.State.{State, decode}
-use Rattle.image.specs.Events.{released}
-use Rattle.calls.specs.declared.Phase
-use Rattle.calls.specs.declared.Phase.{Phase}
-use Rattle.call_meaning.specs.Standing.{Standing}
-use Rattle.send.specs.Rule.{isUpFT, sentOf}
-use Rattle.init.specs.Begun.{awaits, proposalOf}
-use Rattle.two_ends.specs.World.{History, End, World, none}
+use Rattle.protocol.specs.declared.Phase.{Phase}
+use Rattle.protocol.specs.Phases.{isUpFT, sentOf, awaits}
+use Rattle.protocol.specs.State.{State, releasedState, held, capacity}
 use Rattle.two_ends.specs.Calls.{keeps}
+use Rattle.two_ends.specs.World.{History, End, World, none, Lasts}
 use Rattle.two_ends.proofs.Half.{Snd, Rcv, Half}
-use Rattle.two_ends.proofs.Tidy.{Tidy}
 use Rattle.two_ends.proofs.Packets.{Packet, first, again, alive, carried, bytesOf, Okays, Fines, NoInit, datas, acksOf}
-use Rattle.two_ends.proofs.Sharing.{Shared}
 
 -- ---- an end as the other one sees it
--- the state that counts: before its own fresh UpFT it is as released; and the kept of its image
+-- the state that counts: before its own fresh UpFT it is as released; and the kept of its own
 pub record Side : Type 0 where
   pub state : State
-  pub kept : ℕ
+  pub kept : Bool
   pub phase : Phase
   pub joined : Bool
   pub begun : Bool
@@ -33,8 +26,8 @@ pub record Side : Type 0 where
 
 abbrev pub sideOf : End → Side
 sideOf e = record {
-  state = pick (e .begun) (decode (e .image)) released;
-  kept = decode (e .image) .header .kept;
+  state = pick (e .begun) (e .state) releasedState;
+  kept = e .state .kept;
   phase = e .phase;
   joined = e .joined;
   begun = e .begun;
@@ -42,10 +35,10 @@ sideOf e = record {
 }
 
 abbrev pub sndOf : State → History → Snd (List ℕ)
-sndOf s h = record { R = s .header .released .0; I = s .header .issued .0; queue = s .queue; accepted = h .accepted; letgo = h .letgo }
+sndOf s h = record { R = s .released .0; I = s .issued .0; queue = s .queue; accepted = h .accepted; letgo = h .letgo }
 
 abbrev pub rcvOf : State → History → Rcv (List ℕ)
-rcvOf s h = record { S = s .header .secured .0; secured = h .secured }
+rcvOf s h = record { S = s .secured .0; secured = h .secured }
 
 -- up on the present connection
 abbrev pub live : Side → Bool
@@ -53,11 +46,11 @@ live x = both (x .joined) (isUpFT (x .phase))
 
 -- ---- what stands on a line
 -- R is zero in that Init, or in ours
-abbrev pub Leads : ℕ → FtField → Type 0
-Leads kept ack = (ack ≡ FtField.Absent) ⊎ (kept ≡ 0)
+abbrev pub Leads : Bool → FtField → Type 0
+Leads kept ack = (ack ≡ FtField.Absent) ⊎ (kept ≡ false)
 
--- the reader has not read the sender's Init yet: it comes first, and once; the reader has begun or not, and its image has that kept
-abbrev pub Headed : Bool → ℕ → List Packet → Type 0
+-- the reader has not read the sender's Init yet: it comes first, and once; the reader has begun or not, and its state has that kept
+abbrev pub Headed : Bool → Bool → List Packet → Type 0
 Headed begun kept [] = ⊥
 Headed begun kept (first id p seconds ack ∷ ps) = (begun ≡ false) × Leads kept ack × NoInit ps
 Headed begun kept (again id p seconds s ∷ ps) = (begun ≡ true) × NoInit ps
@@ -65,7 +58,7 @@ Headed begun kept (alive id s ∷ ps) = ⊥
 Headed begun kept (carried m n ack ∷ ps) = ⊥
 
 -- the sender is on the connection or not, the reader is up on it or not
-abbrev pub Shape : Bool → Bool → Bool → ℕ → List Packet → Type 0
+abbrev pub Shape : Bool → Bool → Bool → Bool → List Packet → Type 0
 Shape false up begun kept ps = (ps ≡ []) × (up ≡ false) × (begun ≡ true)
 Shape true true begun kept ps = NoInit ps
 Shape true false begun kept ps = Headed begun kept ps
@@ -85,17 +78,24 @@ pub record Waiting (e : End) : Type 0 where
 -- the phases of an end that is on the connection
 abbrev pub linkable : Phase → Bool
 linkable Phase.Idle = false
-linkable (Phase.InitWait t) = true
-linkable (Phase.UpFT sent) = true
+linkable (Phase.InitWait v) = true
+linkable (Phase.UpFT u) = true
 linkable Phase.UpPlain = false
 linkable Phase.Failed = false
 
+-- the phases of an end that keeps its state
+abbrev pub keepable : Phase → Bool
+keepable Phase.Idle = false
+keepable (Phase.InitWait v) = true
+keepable (Phase.UpFT u) = true
+keepable Phase.UpPlain = false
+keepable Phase.Failed = true
+
 pub record Ready (e : End) : Type 0 where
-  pub stand : Standing (e .image) (e .phase)
-  pub proposal : proposalOf (e .phase) < 65536
+  pub few : held (e .state) ≤ capacity
+  pub possible : keepable (e .phase) ≡ true
   pub keeping : keeps e ≡ true
   pub okays : Okays (e .history .accepted)
-  pub tidy : e .begun ≡ true → Tidy (decode (e .image))
   -- an end that has not come to its fresh UpFT awaits the peer's Init on the first connection
   pub waiting : e .begun ≡ false → Waiting e
   pub linked : e .joined ≡ true → linkable (e .phase) ≡ true
@@ -108,11 +108,9 @@ pub record Inv (a b : End) (ab ba : List (List ℕ)) (pa pb : List Packet) : Typ
   pub peer : Ready b
   pub out : Dir (sideOf a) (sideOf b) pa pb
   pub back : Dir (sideOf b) (sideOf a) pb pa
-  pub ours : Shared (sideOf a .state .labels) (a .history) (sideOf b .state .labels) (b .history)
-  pub theirs : Shared (sideOf b .state .labels) (b .history) (sideOf a .state .labels) (a .history)
 
 abbrev pub Some : End → End → List (List ℕ) → List (List ℕ) → Type 0
 Some a b ab ba = (pa : List Packet) × (pb : List Packet) × Inv a b ab ba pa pb
 
 abbrev pub Good : World → Type 0
-Good w = w .kept ≡ true → Some (w .a) (w .b) (w .ab) (w .ba)
+Good w = Lasts w → Some (w .a) (w .b) (w .ab) (w .ba)

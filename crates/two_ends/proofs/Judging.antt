@@ -1,40 +1,29 @@
 -- How the messages of the two ends are judged in UpFT. Assumes nothing.
 use Prim.Native.Nat.{ℕ, _≤_}
-use native.Mathlib.Omega.{arith}
-use mathlib.Core.Path.{_≡_, refl, sym, _∙_}
 use mathlib.Core.Bool.{true, false, true≢false}
 use mathlib.Core.List.{List}
+use mathlib.Core.Path.{_≡_, refl, sym, _∙_}
+use native.Mathlib.Omega.{arith}
 use borrow.Author.Tests.{eq-eqb, ne-eqb}
-use Rattle.ft_number.specs.Circle.{next}
-use Rattle.ft_number.specs.declared.Ack
 use Rattle.ft_number.specs.declared.Ack.{Ack}
 use Rattle.ft_number.specs.declared.FtNumber.{FtNumber}
-use Rattle.tlv.specs.declared.Field
-use Rattle.tlv.specs.declared.Field.{Field}
-use Rattle.tlv.specs.declared.FtField
-use Rattle.tlv.specs.declared.FtField.{FtField}
-use Rattle.message.specs.Kinds.{kindNumber, kindFor, kindOf}
-use Rattle.message.specs.declared.Message.{Message}
-use Rattle.message.specs.declared.MessageType
-use Rattle.message.specs.declared.MessageType.{MessageType}
-use Rattle.message.specs.declared.Reading
-use Rattle.message.specs.declared.Reading.{Reading}
-use Rattle.label_list.specs.declared.Protection
+use Rattle.ft_number.specs.Circle.{next}
 use Rattle.label_list.specs.declared.Protection.{Protection}
-use Rattle.label_events.specs.declared.Reception
 use Rattle.label_events.specs.declared.Reception.{Reception}
-use Rattle.image.specs.State.{State}
-use Rattle.calls.specs.declared.Answer
-use Rattle.calls.specs.declared.Answer.{Answer}
-use Rattle.calls.specs.declared.Phase
-use Rattle.calls.specs.declared.Phase.{Phase}
-use Rattle.calls.specs.Received.{isInit}
-use Rattle.receive.specs.declared.LabelEffect
-use Rattle.receive.specs.declared.LabelEffect.{LabelEffect}
-use Rattle.receive.specs.Labels.{labelEffect, isProtected, protectionRule, effectReception}
-use Rattle.receive.specs.Rule.{isFatal, isZero, inTurn, ackOn}
-use Rattle.receive.specs.Cases.{wordsAfter, Case, wrong-phase, an-init, fatal, zero-number, wrong-ack, missing, wrong, out-of-turn, no-word, taken}
-use Rattle.two_ends.proofs.Sixless.{NoSix, protected-right}
+use Rattle.tlv.specs.declared.Field.{Field}
+use Rattle.tlv.specs.declared.FtField.{FtField}
+use Rattle.message.specs.declared.Message.{Message}
+use Rattle.message.specs.declared.MessageType.{MessageType}
+use Rattle.message.specs.declared.Reading.{Reading}
+use Rattle.message.specs.Kinds.{kindNumber, kindFor, kindOf}
+use Rattle.protocol.specs.declared.Answer.{Answer}
+use Rattle.protocol.specs.declared.LabelEffect.{LabelEffect}
+use Rattle.protocol.specs.Cases.{wordsAfter, Case, wrong-phase, an-init, fatal, zero-number, wrong-ack, missing, wrong, out-of-turn, no-word, taken}
+use Rattle.protocol.specs.Labels.{labelEffect, isProtected, protectionRule, effectReception}
+use Rattle.protocol.specs.Phases.{upWith}
+use Rattle.protocol.specs.Receive.{ackOn, isFatal, isZero, inTurn}
+use Rattle.protocol.specs.Received.{isInit}
+use Rattle.protocol.specs.State.{State}
 
 never : {P : Type 0} → true ≡ false → P
 never e = absurd (true≢false e)
@@ -47,20 +36,17 @@ pub data Fair : Answer → Type 0 where
   fair-done : Fair Answer.Done
   fair-full : Fair Answer.NoWordForMapping
   fair-fatal : Fair Answer.StatusFatal
+  fair-missing : Fair Answer.ProtectionMissing
+  fair-wrong : Fair Answer.ProtectionWrong
 
 -- ---- a protected message in turn, with an ACK that is right
-protection-is : (ls : List ℕ) (g : Message) (n : FtNumber) → NoSix ls → g .protection ≡ FtField.Number n → protectionRule ls g ≡ Protection.Right
-unfolding protectionRule labelEffect
-protection-is ls g n none p = rw p (protected-right ls (labelEffect g) none)
-
 pub record InOrder (s : State) (g : Message) (j : ℕ) (n : FtNumber) : Type 0 where
   pub another : isInit (g .typename) ≡ false
   pub protected : g .protection ≡ FtField.Number n
-  pub acks : ackOn (s .header) g ≡ Ack.Releases j
-  pub turn : n .0 ≡ next (s .header .secured .0)
-  pub sixless : (k : ℕ) → NoSix (wordsAfter s k)
+  pub acks : ackOn s g ≡ Ack.Releases j
+  pub turn : n .0 ≡ next (s .secured .0)
 
-pub order-fair : {s : State} {sent : ℕ} {g : Message} {a : Answer} (j : ℕ) (n : FtNumber) → InOrder s g j n → Case s (Phase.UpFT sent) (Reading.Whole g) a → Fair a
+pub order-fair : {s : State} {sent : ℕ} {g : Message} {a : Answer} (j : ℕ) (n : FtNumber) → InOrder s g j n → Case s (upWith sent) (Reading.Whole g) a → Fair a
 order-fair j n p (wrong-phase e) = never e
 order-fair j n p (an-init r i) = never (sym i ∙ p .another)
 order-fair j n p (fatal r i f) = fair-fatal
@@ -68,17 +54,11 @@ order-fair {g = g} j n p (zero-number h z) =
     let e : isZero (FtField.Number n) ≡ true = rw (p .protected) at z in
     never (sym e ∙ ne-eqb (n .0) 0 (λ (q : n .0 ≡ 0). omega (arith, p .turn)))
 order-fair j n p (wrong-ack h z e) = errs (sym (p .acks) ∙ e)
-order-fair {s = s} {g = g} j n p (missing {k = k} a e) =
-    let q : Protection.Right ≡ Protection.Missing = sym (protection-is (wordsAfter s k) g n (p .sixless k) (p .protected)) ∙ e in
-    let z : _≡_ {A = ℕ} 0 1 = cc in
-    absurd (omega arith)
-order-fair {s = s} {g = g} j n p (wrong {k = k} a e) =
-    let q : Protection.Right ≡ Protection.Wrong = sym (protection-is (wordsAfter s k) g n (p .sixless k) (p .protected)) ∙ e in
-    let z : _≡_ {A = ℕ} 0 1 = cc in
-    absurd (omega arith)
+order-fair j n p (missing a e) = fair-missing
+order-fair j n p (wrong a e) = fair-wrong
 order-fair {s = s} j n p (out-of-turn a e) =
-    let f : inTurn (s .header .secured .0) (FtField.Number n) ≡ false = rw (p .protected) at e in
-    never (sym (eq-eqb (n .0) (next (s .header .secured .0)) (p .turn)) ∙ f)
+    let f : inTurn (s .secured .0) (FtField.Number n) ≡ false = rw (p .protected) at e in
+    never (sym (eq-eqb (n .0) (next (s .secured .0)) (p .turn)) ∙ f)
 order-fair j n p (no-word t e) = fair-full
 order-fair j n p (taken t) = fair-done
 
@@ -87,11 +67,11 @@ pub record Plain (s : State) (g : Message) (j : ℕ) : Type 0 where
   pub another : isInit (g .typename) ≡ false
   pub mild : isFatal (g .status) ≡ false
   pub bare : g .protection ≡ FtField.Absent
-  pub acks : ackOn (s .header) g ≡ Ack.Releases j
+  pub acks : ackOn s g ≡ Ack.Releases j
   pub effect : labelEffect g ≡ LabelEffect.Nothing
   pub free : (ls : List ℕ) → protectionRule ls g ≡ Protection.Right
 
-pub plain-done : {s : State} {sent : ℕ} {g : Message} {a : Answer} (j : ℕ) → Plain s g j → Case s (Phase.UpFT sent) (Reading.Whole g) a → a ≡ Answer.Done
+pub plain-done : {s : State} {sent : ℕ} {g : Message} {a : Answer} (j : ℕ) → Plain s g j → Case s (upWith sent) (Reading.Whole g) a → a ≡ Answer.Done
 plain-done j p (wrong-phase e) = never e
 plain-done j p (an-init r i) = never (sym i ∙ p .another)
 plain-done j p (fatal r i f) = never (sym f ∙ p .mild)
@@ -99,7 +79,7 @@ plain-done j p (zero-number h z) = let e : isZero FtField.Absent ≡ true = rw (
 plain-done j p (wrong-ack h z e) = errs (sym (p .acks) ∙ e)
 plain-done {s = s} j p (missing {k = k} a e) = let q : Protection.Right ≡ Protection.Missing = sym (p .free (wordsAfter s k)) ∙ e in let z : _≡_ {A = ℕ} 0 1 = cc in absurd (omega arith)
 plain-done {s = s} j p (wrong {k = k} a e) = let q : Protection.Right ≡ Protection.Wrong = sym (p .free (wordsAfter s k)) ∙ e in let z : _≡_ {A = ℕ} 0 1 = cc in absurd (omega arith)
-plain-done {s = s} j p (out-of-turn a e) = let f : inTurn (s .header .secured .0) FtField.Absent ≡ false = rw (p .bare) at e in never f
+plain-done {s = s} j p (out-of-turn a e) = let f : inTurn (s .secured .0) FtField.Absent ≡ false = rw (p .bare) at e in never f
 plain-done {s = s} {g = g} j p (no-word {k = k} t e) =
     let f : effectReception (wordsAfter s k) (isProtected (g .protection)) LabelEffect.Nothing ≡ Reception.NoRoom = rw (p .effect) at e in
     let z : _≡_ {A = ℕ} 0 1 = cc in
@@ -125,7 +105,7 @@ unfolding kindOf
 not-init g l = init-else (g .typename) (g .status) l
 
 -- ---- a message that is taken has room
-pub has-room : {s : State} {sent : ℕ} {g : Message} (j : ℕ) → ackOn (s .header) g ≡ Ack.Releases j → Case s (Phase.UpFT sent) (Reading.Whole g) Answer.Done
+pub has-room : {s : State} {sent : ℕ} {g : Message} (j : ℕ) → ackOn s g ≡ Ack.Releases j → Case s (upWith sent) (Reading.Whole g) Answer.Done
     → effectReception (wordsAfter s j) (isProtected (g .protection)) (labelEffect g) ≡ Reception.Taken
 has-room {s} {g = g} j acks (taken {k = k} t) =
     let one : Ack.Releases k ≡ Ack.Releases j = sym (t .turn .protection .ack .acks) ∙ acks in

@@ -7,7 +7,39 @@ pub mod Direction
 pub mod Freeing
 pub mod Octets
 pub mod Packets
--- labels: no code 6, what is owed for them, and what is given and in use
+-- the invariant, and both directions after an event
+pub mod Invariant
+pub mod Sides
+pub mod Sends
+pub mod Takes
+pub mod Worlds
+pub mod Acts
+-- each event keeps it: an end that fails, restarts, submits, writes, opens, sends
+pub mod Failing
+pub mod Quiet
+pub mod Resting
+pub mod Submitting
+pub mod Writing
+pub mod Opening
+pub mod Sending
+-- .. and the oldest message delivered: the peer's Init, a message in UpFT
+pub mod Delivering
+pub mod Oldest
+pub mod Starting
+pub mod Greeted
+pub mod Resuming
+pub mod Judging
+pub mod Receiving
+pub mod Arriving
+pub mod Delivered
+-- the start, room in the store, and the theorem
+pub mod Begun
+pub mod Room
+pub mod Theorem
+-- when a state is released, and that a world that has not lasted does not last again
+pub mod Staying
+pub mod Monotone
+-- the labels, a layer over it: no code 6, what is owed for them, and what is given and in use
 pub mod Sixless
 pub mod Owed
 pub mod Paid
@@ -17,50 +49,16 @@ pub mod Agreeing
 pub mod Acking
 pub mod Getting
 pub mod Sharing
--- the invariant, and both directions after an event
-pub mod Invariant
-pub mod Sides
-pub mod Sends
-pub mod Takes
-pub mod Worlds
--- each event keeps it: an end that fails, restarts, submits, is cut, writes, opens, sends
-pub mod Failing
-pub mod Quiet
-pub mod Resting
-pub mod Submitting
-pub mod Cutting
-pub mod Writing
-pub mod Opening
-pub mod Sent
-pub mod Sending
--- .. and the oldest message delivered: the peer's Init, a message in UpFT
-pub mod Delivering
-pub mod Starting
-pub mod Begins
-pub mod Greeted
-pub mod Resuming
-pub mod Greeting
-pub mod Judging
-pub mod Receiving
-pub mod Arriving
-pub mod Delivered
--- the theorem, the answers that come, room in the store
-pub mod Begun
-pub mod Theorem
+pub mod Labels
+pub mod Leaving
+pub mod Hearing
+pub mod Labelled
+-- with both: the answers that come, and what holds of labels over a run
 pub mod Answering
-pub mod Room
--- when a state is released, and what holds of labels over a run
-pub mod Moving
-pub mod Unreleased
-pub mod Staying
-pub mod Kept
 pub mod Listing
 pub mod Giving
 -- steady owners
 pub mod Saying
 pub mod Steady
 pub mod Calm
-pub mod Undisturbed
-pub mod Steadily
-pub mod Monotone
 pub mod Enduring

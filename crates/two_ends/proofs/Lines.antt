@@ -1,13 +1,13 @@
 -- Messages and acknowledgements under way, event by event. Assumes nothing.
-use Prim.Native.Nat.{ℕ, suc, _+_, _-_, _≤_}
-use native.Mathlib.Omega.{arith}
-use mathlib.Core.Path.{_≡_, refl, ap, _∙_, subst}
+use Prim.Native.Nat.{ℕ, suc, _+_, _≤_}
 use mathlib.Core.Bool.{Bool, true, false}
 use mathlib.Core.List.{List, [], _∷_, _++_}
+use mathlib.Core.Path.{_≡_, refl, ap, _∙_, subst}
+use native.Mathlib.Omega.{arith}
 use lib.ListN.{length, drop}
 use lib.Seq.{drop-append-le}
-use Rattle.two_ends.proofs.Positions.{num}
 use Rattle.two_ends.proofs.Half.{Flow, Asc, Line}
+use Rattle.two_ends.proofs.Positions.{num}
 
 -- ---- acknowledgements under way
 pub asc-le : (r : ℕ) (xs : List ℕ) (s : ℕ) → Asc r xs s → r ≤ s

@@ -1,18 +1,18 @@
 -- Over every run: a label is withdrawing or releasing only as long as its message is held. Assumes nothing.
-use mathlib.Core.Path.{_≡_, sym, ap, _∙_}
 use mathlib.Core.Bool.{Bool, true, true≢false}
 use mathlib.Core.List.{List}
-use Rattle.image.specs.State.{decode}
-use Rattle.submit.specs.Labels.{isHeld}
-use Rattle.two_ends.specs.World.{End}
-use Rattle.two_ends.specs.Labels.{kindOf, Listed}
-use Rattle.two_ends.specs.Runs.{Event, run, AllProper}
-use Rattle.two_ends.specs.Start.{Opener, start, Sound, Afresh}
+use mathlib.Core.Path.{_≡_, sym, _∙_, ap}
+use Rattle.protocol.specs.Held.{isHeld}
+use Rattle.two_ends.specs.Labels.{Listed, kindOf}
+use Rattle.two_ends.specs.Runs.{AllProper, Event, run}
+use Rattle.two_ends.specs.Start.{Afresh, Fit, Opener, start}
+use Rattle.two_ends.specs.World.{End, Lasts}
+use Rattle.two_ends.proofs.Arriving.{f}
+use Rattle.two_ends.proofs.Invariant.{sideOf}
+use Rattle.two_ends.proofs.Labelled.{lists}
 use Rattle.two_ends.proofs.Tidy.{Tidy}
-use Rattle.two_ends.proofs.Begun.{at-start}
-use Rattle.two_ends.proofs.Theorem.{at-run}
 
-listed : (e : End) → Tidy (decode (e .image)) → Listed e
+listed : (e : End) → Tidy (e .state) → Listed e
 unfolding isHeld
 listed e t = record {
   owed = t .owed;
@@ -20,8 +20,14 @@ listed e t = record {
   protected = t .sixless;
 }
 
-pub labels-last : (x y : Opener) → Sound x → Sound y → Afresh x y → (vs : List (Bool × Event)) → AllProper vs → run (start x y) vs .kept ≡ true
+-- the state that counts is that of an end that has begun
+counts : (e : End) → e .begun ≡ true → Tidy (sideOf e .state) → Tidy (e .state)
+counts e g t = rw g at t
+
+-- at an end that has begun a label is withdrawing or releasing only while its message is held, and none has code 6
+pub labels-last : (x y : Opener) → Fit x → Fit y → Afresh x y → (vs : List (Bool × Event)) → AllProper vs → Lasts (run (start x y) vs)
     → (run (start x y) vs .a .begun ≡ true → Listed (run (start x y) vs .a)) × (run (start x y) vs .b .begun ≡ true → Listed (run (start x y) vs .b))
-labels-last x y sx sy f vs p k =
-    let i = at-run (start x y) vs p (at-start x y sx sy f) k .2 in
-    (λ g. listed (run (start x y) vs .a) (i .own .tidy g), λ g. listed (run (start x y) vs .b) (i .peer .tidy g))
+labels-last x y fx fy f vs p k =
+    let l = lists x y fx fy f vs p k in
+    let w = run (start x y) vs in
+    (λ g. listed (w .a) (counts (w .a) g (l .own)), λ g. listed (w .b) (counts (w .b) g (l .peer)))

@@ -1,81 +1,59 @@
--- A state that was released stays so. Assumes nothing.
+-- A world that has not lasted does not last again: what lasts after an event lasted before it. Assumes nothing.
 use Prim.Native.Nat.{ℕ}
-use mathlib.Core.Path.{_≡_}
-use mathlib.Core.Bool.{Bool, true, false, not}
-use mathlib.Core.List.{List, [], _∷_}
-use Rattle.octets.specs.Pick.{pick, both}
+use mathlib.Core.Bool.{Bool, false, true}
+use mathlib.Core.List.{[], List, _∷_}
+use Rattle.octets.specs.Pick.{both}
 use Rattle.octets.proofs.Choice.{both-true}
-use Rattle.calls.specs.Outcomes.{After, isDone}
-use Rattle.connect.specs.Writers.{openOf, keepaliveOf}
-use Rattle.init.specs.declared.Start.{Start}
-use Rattle.init.specs.Begun.{awaits, initStart, initReceivedOf}
-use Rattle.receive.specs.Rule.{receiveOf}
-use Rattle.submit.specs.Store.{slotAlone}
-use Rattle.two_ends.specs.World.{End, World, swap}
-use Rattle.two_ends.specs.Calls.{broken, keeps, called, replaced, plainly, put, on, greeted, greets, anew, took, receives, delivered, delivery, counts, accepts, submitted, wrote}
-use Rattle.two_ends.specs.Runs.{Event, submits, sends, keepalives, opens, passes, delivers, breaks, notices, restarts, halts, act, step}
-use Rattle.two_ends.proofs.Worlds.{closes, next}
-use Rattle.connect.specs.Start.{restoreOf}
-use Rattle.send.specs.Rule.{sendOf}
-use Rattle.submit.specs.Act.{submitOf}
-use Rattle.timers.specs.Events.{connectionFailedOf, timePassedOf}
+use Rattle.protocol.specs.Begin.{restore}
+use Rattle.protocol.specs.ConnectionFailed.{connectionFailed}
+use Rattle.protocol.specs.KeepAlive.{keepalive}
+use Rattle.protocol.specs.Open.{openSession}
+use Rattle.protocol.specs.Send.{sendNext}
+use Rattle.protocol.specs.Step.{Step}
+use Rattle.protocol.specs.Submit.{submit}
+use Rattle.protocol.specs.TimePassed.{timePassed}
+use Rattle.two_ends.specs.Calls.{accepts, broken, called, counts, keeps, plainly, put, wrote}
+use Rattle.two_ends.specs.Runs.{Event, act, breaks, delivers, keepalives, notices, opens, passes, restarts, run, sends, step, submits}
+use Rattle.two_ends.specs.World.{End, Lasts, World, swap}
+use Rattle.two_ends.proofs.Acts.{by-delivery, by-open, by-plain, by-submit, by-write, lasted}
+use Rattle.two_ends.proofs.Worlds.{next}
 
--- ---- once a state is released it stays so
-replaced-back : (w : World) (e : End) (ab ba : List (List ℕ)) → replaced w e ab ba .kept ≡ true → w .kept ≡ true
-replaced-back w e ab ba = by (closes e)
-  where
-    by : (c : Bool) → pick c (broken (next w e ab ba)) (next w e ab ba) .kept ≡ true → w .kept ≡ true
-    by true k = both-true (w .kept) (keeps e) (both-true (both (w .kept) (keeps e)) (both (e .begun) (w .b .begun)) k .0) .0
-    by false k = both-true (w .kept) (keeps e) k .0
+module _ (w : World) where
+  abbrev Lasted : World → Type 0
+  Lasted v = Lasts v → Lasts w
 
-delivered-back : (w : World) (m : List ℕ) (rest : List (List ℕ)) → delivered w m rest .kept ≡ true → w .kept ≡ true
-delivered-back w m rest = by (awaits (w .a .phase))
-  where
-    st : Start
-    st = initStart (w .a .image) (w .a .phase) m
+  broken-lasted : (v : World) → Lasted v → Lasted (broken v)
+  broken-lasted v f k = f (both-true (v .started) (both (v .a .begun) (v .b .begun)) (k .0) .0, k .1)
 
-    x : After
-    x = initReceivedOf (w .a .image) (w .a .phase) m
+  called-lasted : (e : End) (ab ba : List (List ℕ)) → Lasted (next w e ab ba)
+  called-lasted e ab ba k = (k .0, both-true (w .unreleased) (keeps e) (k .1) .0)
 
-    y : After
-    y = receiveOf (w .a .image) (w .a .phase) m
+  plain : (x : Step) → Lasted (plainly w x)
+  plain x = by-plain Lasted broken-lasted w x (called-lasted (called (w .a) x (w .a .history)) (w .ab) (w .ba))
 
-    by : (c : Bool) → pick c (greets w rest st x) (receives w m rest y) .kept ≡ true → w .kept ≡ true
-    by true k =
-        both-true (w .kept) (not (both (w .a .begun) (anew st x)))
-        (replaced-back (record { a = w .a; b = w .b; ab = w .ab; ba = w .ba; kept = both (w .kept) (not (both (w .a .begun) (anew st x))) }) (greeted (w .a) st x) (w .ab) rest k) .0
-    by false k = replaced-back w (took (w .a) m y) (w .ab) rest k
+  written : (x : Step) → Lasted (wrote w x)
+  written x = by-write Lasted broken-lasted w x (called-lasted (called (w .a) x (w .a .history)) (put (w .a .joined) (w .ab) x) (w .ba))
 
-delivery-back : (w : World) (jo : Bool) (line : List (List ℕ)) → delivery jo line w .kept ≡ true → w .kept ≡ true
-delivery-back w false line k = k
-delivery-back w true [] k = k
-delivery-back w true (m ∷ rest) k = delivered-back w m rest k
+  act-lasted : (v : Event) → Lasted (act w v)
+  act-lasted (submits m) =
+      let x = submit (w .a .state) (w .a .phase) m in
+      by-submit Lasted broken-lasted w m x (called-lasted (called (w .a) x (counts (w .a) x (accepts m (w .a .history)))) (w .ab) (w .ba))
+  act-lasted (sends ask room) = written (sendNext (w .a .state) (w .a .phase) ask room)
+  act-lasted (keepalives id room) = written (keepalive (w .a .state) (w .a .phase) id room)
+  act-lasted (opens id p t room) =
+      let x = openSession (w .a .state) (w .a .phase) id p t room in
+      let k = called-lasted (called (w .a) x (w .a .history)) (w .ab) (w .ba) in
+      by-open Lasted broken-lasted w x k k
+  act-lasted (passes elapsed) = plain (timePassed (w .a .state) (w .a .phase) elapsed)
+  act-lasted delivers = by-delivery Lasted broken-lasted w (λ k. k) (λ m rest on line k. lasted w m rest k .0)
+  act-lasted breaks = broken-lasted w (λ k. k)
+  act-lasted notices = plain (connectionFailed (w .a .state) (w .a .phase))
+  act-lasted restarts = plain (restore (w .a .state))
 
-opened-back : (w : World) (x : After) (c : Bool) → pick c (replaced w (on (called (w .a) x (w .a .history))) (put true (w .ab) x) (w .ba)) (plainly w x) .kept ≡ true → w .kept ≡ true
-opened-back w x true k = replaced-back w (on (called (w .a) x (w .a .history))) (put true (w .ab) x) (w .ba) k
-opened-back w x false k = replaced-back w (called (w .a) x (w .a .history)) (w .ab) (w .ba) k
+pub step-lasted : (w : World) (at : Bool) (v : Event) → Lasts (step w at v) → Lasts w
+step-lasted w true v k = act-lasted w v k
+step-lasted w false v k = act-lasted (swap w) v k
 
-plain-back : (w : World) (x : After) → plainly w x .kept ≡ true → w .kept ≡ true
-plain-back w x k = replaced-back w (called (w .a) x (w .a .history)) (w .ab) (w .ba) k
-
-write-back : (w : World) (x : After) → wrote w x .kept ≡ true → w .kept ≡ true
-write-back w x k = replaced-back w (called (w .a) x (w .a .history)) (put (w .a .joined) (w .ab) x) (w .ba) k
-
-submit-back : (w : World) (m : List ℕ) (x : After) → submitted w m x .kept ≡ true → w .kept ≡ true
-submit-back w m x k = replaced-back w (called (w .a) x (counts (w .a) x (accepts m (w .a .history)))) (w .ab) (w .ba) k
-
-act-back : (w : World) (v : Event) → act w v .kept ≡ true → w .kept ≡ true
-act-back w (submits m) k = submit-back w m (submitOf (w .a .image) (w .a .phase) m) k
-act-back w (sends ask out) k = write-back w (sendOf (w .a .image) (w .a .phase) ask out) k
-act-back w (keepalives id out) k = write-back w (keepaliveOf (w .a .image) (w .a .phase) id out) k
-act-back w (opens id p t out) k = let x = openOf (w .a .image) (w .a .phase) id p t out in opened-back w x (isDone (x .outcome .answer)) k
-act-back w (passes elapsed) k = plain-back w (timePassedOf (w .a .image) (w .a .phase) elapsed) k
-act-back w delivers k = delivery-back w (w .a .joined) (w .ba) k
-act-back w breaks k = both-true (w .kept) (both (w .a .begun) (w .b .begun)) k .0
-act-back w notices k = plain-back w (connectionFailedOf (w .a .image) (w .a .phase)) k
-act-back w restarts k = plain-back w (restoreOf (w .a .image)) k
-act-back w (halts m) k = plain-back w (restoreOf (slotAlone (w .a .image) (submitOf (w .a .image) (w .a .phase) m))) k
-
-pub step-back : (w : World) (at : Bool) (v : Event) → step w at v .kept ≡ true → w .kept ≡ true
-step-back w true v k = act-back w v k
-step-back w false v k = act-back (swap w) v k
+pub run-lasted : (w : World) (vs : List (Bool × Event)) → Lasts (run w vs) → Lasts w
+run-lasted w [] k = k
+run-lasted w (v ∷ vs) k = step-lasted w (v .0) (v .1) (run-lasted (step w (v .0) (v .1)) vs k)

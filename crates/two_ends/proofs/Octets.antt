@@ -1,19 +1,18 @@
 -- What is put together from bytes is bytes. Assumes nothing.
 use Prim.Native.Nat.{ℕ, zero, suc, _+_, _/_, _<_}
-use native.Mathlib.Omega.{arith}
 use mathlib.Core.List.{List, [], _∷_, _++_}
+use native.Mathlib.Omega.{arith}
 use lib.ListN.{length, take, drop}
 use lib.Seq.{getD-drop}
 use Rattle.octets.specs.Be.{bytes}
-use Rattle.tlv.specs.Tlv.{parametersNumber, sessionNumber, protectionNumber, ackNumber}
-use Rattle.tlv.specs.declared.FtField
-use Rattle.tlv.specs.declared.FtField.{FtField}
-use Rattle.message.specs.Reading.{initializationNumber, keepaliveNumber}
-use Rattle.message_writer.specs.Forms.{tlvBytes, messageBytes, ackTlv, parametersTlv, sessionValue, initBytes, keepaliveBytes, raised, protectedBytes}
-use Rattle.message_writer.specs.declared.OwnParameters.{OwnParameters}
+use Rattle.octets.specs.Bytes.{Bytes}
 use Rattle.ft_number.specs.declared.FtNumber.{FtNumber}
 use Rattle.ft_number.specs.declared.MessageId.{MessageId}
-use Rattle.octets.specs.Bytes.{Bytes}
+use Rattle.tlv.specs.declared.FtField.{FtField}
+use Rattle.tlv.specs.Tlv.{parametersNumber, sessionNumber, protectionNumber, ackNumber}
+use Rattle.message.specs.Reading.{initializationNumber, keepaliveNumber}
+use Rattle.message_writer.specs.declared.OwnParameters.{OwnParameters}
+use Rattle.message_writer.specs.Forms.{tlvBytes, messageBytes, ackTlv, parametersTlv, sessionValue, initBytes, keepaliveBytes, raised, protectedBytes}
 
 pub record Octets (s : List ℕ) : Type 0 where
   pub each : Bytes s

@@ -1,37 +1,35 @@
 -- A label that is withdrawing or releasing has its message in the store. Assumes nothing.
 use Prim.Native.Nat.{ℕ}
-use native.Mathlib.Omega.{arith}
-use mathlib.Core.Path.{_≡_, refl, sym, _∙_}
 use mathlib.Core.Bool.{Bool, true, false, true≢false}
 use mathlib.Core.List.{List, [], _∷_, _++_}
 use mathlib.Core.Logic.{_⊎_, inl, inr, ⊎-elim}
+use mathlib.Core.Path.{_≡_, refl, sym, _∙_}
+use native.Mathlib.Omega.{arith}
 use borrow.Author.Tests.{eq-eqb}
 use Rattle.octets.specs.Pick.{pick}
-use Rattle.message.specs.Kinds.{kindNumber}
-use Rattle.message.specs.Submission.{submissionOf}
-use Rattle.message.specs.declared.Kind
-use Rattle.message.specs.declared.Kind.{Kind}
-use Rattle.message.specs.declared.Submission
-use Rattle.message.specs.declared.Submission.{Submission}
-use Rattle.label_list.specs.Sweep.{sweptOf}
-use Rattle.label_list.specs.Valid.{validOf}
+use Rattle.octets.proofs.Choice.{pick-all}
 use Rattle.label_list.specs.declared.LabelMessage.{LabelMessage}
 use Rattle.label_list.specs.declared.LabelMessage.the-variants.{Mapping, Withdraw, Release}
 use Rattle.label_list.specs.declared.SweepRule.the-variants.{AfterBreak}
-use Rattle.octets.proofs.Choice.{pick-all}
+use Rattle.label_list.specs.Sweep.{sweptOf}
+use Rattle.label_list.specs.Valid.{validOf}
 use Rattle.label_events.specs.Change.{codeAt}
 use Rattle.label_meaning.specs.Event.{Event, Accepted, Received, Broken, step, Moves, given, withdrawn, released, returned, withdraw-acked, release-acked, taken, taken-again, taken-bare, asked-back, bare-withdrawn, given-back, withdrawn-back, bare-lost}
 use Rattle.label_meaning.proofs.Meaning.{valid-means}
 use Rattle.label_meaning.proofs.Moved.{every-move}
-use Rattle.slot.specs.Fields.{bears}
-use Rattle.submit.specs.Act.{acceptedLabels}
-use Rattle.submit.specs.Labels.{isHeld, acceptedAs}
-use Rattle.receive.specs.declared.LabelEffect
-use Rattle.receive.specs.declared.LabelEffect.{LabelEffect}
-use Rattle.receive.specs.Labels.{effectLabels}
-use Rattle.block0.specs.Layout.{noLabels}
-use Rattle.two_ends.proofs.Sixless.{none-code}
+use Rattle.message.specs.declared.Kind.{Kind}
+use Rattle.message.specs.declared.Submission.{Submission}
+use Rattle.message.specs.Kinds.{kindNumber}
+use Rattle.message.specs.Storable.{bears}
+use Rattle.message.specs.Submission.{submissionOf}
+use Rattle.protocol.specs.declared.LabelEffect.{LabelEffect}
+use Rattle.protocol.specs.Accepting.{acceptedAs}
+use Rattle.protocol.specs.Held.{isHeld}
+use Rattle.protocol.specs.Labels.{effectLabels}
+use Rattle.protocol.specs.State.{noTable}
+use Rattle.protocol.specs.Submit.{acceptedLabels}
 use Rattle.two_ends.specs.Labels.{Due, withdrawal, release, sideOf, codeOf, messageOf, kindOf, Owed}
+use Rattle.two_ends.proofs.Sixless.{none-code}
 
 -- ---- what is held
 held-by : (b : Bool) {c d : Bool} → (c ≡ true → d ≡ true) → pick b true c ≡ true → pick b true d ≡ true
@@ -49,9 +47,9 @@ held-last kind l [] m e = rw e
 held-last kind l (x ∷ q) m e = pick-all (λ (b : Bool). b ≡ true) (bears (submissionOf x) kind l) refl (held-last kind l q m e)
 
 -- ---- no labels
-pub none-owed : Owed noLabels []
-none-owed withdrawal l z = let zero : codeAt noLabels (sideOf withdrawal) l ≡ 0 = none-code (sideOf withdrawal) l in absurd (omega arith)
-none-owed release l z = let zero : codeAt noLabels (sideOf release) l ≡ 0 = none-code (sideOf release) l in absurd (omega arith)
+pub none-owed : Owed (noTable .words) []
+none-owed withdrawal l z = let zero : codeAt (noTable .words) (sideOf withdrawal) l ≡ 0 = none-code (sideOf withdrawal) l in absurd (omega arith)
+none-owed release l z = let zero : codeAt (noTable .words) (sideOf release) l ≡ 0 = none-code (sideOf release) l in absurd (omega arith)
 
 -- ---- only an accepted Withdraw or Release leads to these codes
 due-move : (due : Due) {e : Event} {l c d : ℕ} → Moves e (sideOf due) l c d → d ≡ codeOf due → e ≡ Accepted (messageOf due) l

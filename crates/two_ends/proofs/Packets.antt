@@ -1,16 +1,15 @@
 -- What lies on a line: the messages that the two ends write, and what each means for either direction. Assumes nothing.
 use Prim.Native.Nat.{ℕ, _^_, _<_}
-use mathlib.Core.Path.{_≡_, refl, ap}
 use mathlib.Core.List.{List, [], _∷_, _++_}
+use mathlib.Core.Path.{_≡_, refl, ap}
+use Rattle.octets.specs.Bytes.{Bytes}
 use Rattle.ft_number.specs.declared.FtNumber.{FtNumber}
 use Rattle.ft_number.specs.declared.MessageId.{MessageId}
-use Rattle.tlv.specs.declared.FtField
 use Rattle.tlv.specs.declared.FtField.{FtField}
+use Rattle.message.specs.Storable.{Storable}
+use Rattle.message_writer.specs.declared.OwnParameters.{OwnParameters}
 use Rattle.message_writer.specs.Forms.{initBytes, keepaliveBytes, protectedBytes}
 use Rattle.message_writer.specs.ReadBack.{AckFits, InitFits}
-use Rattle.message_writer.specs.declared.OwnParameters.{OwnParameters}
-use Rattle.slot.specs.Held.{Storable}
-use Rattle.octets.specs.Bytes.{Bytes}
 use Rattle.two_ends.proofs.Octets.{init-octets, alive-octets, protected-octets}
 
 -- the Init of the start, a later Init, a KeepAlive in UpFT, and a message with its number

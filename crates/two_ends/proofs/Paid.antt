@@ -1,32 +1,28 @@
 -- An acknowledgement that lets a Withdraw or Release go frees its label. Assumes nothing.
 use Prim.Native.Nat.{ℕ, zero, suc}
-use native.Mathlib.Omega.{arith}
-use mathlib.Core.Path.{_≡_, refl, sym}
 use mathlib.Core.Bool.{true, false, true≢false}
 use mathlib.Core.List.{List, [], _∷_}
-use mathlib.Core.Logic.{⊎-elim}
-use mathlib.Core.Logic.{_≢_}
-use borrow.Author.Tests.{eqb-true, ne-eqb}
+use mathlib.Core.Logic.{⊎-elim, _≢_}
+use mathlib.Core.Path.{_≡_, refl, sym}
+use native.Mathlib.Omega.{arith}
 use lib.ListN.{take, drop}
-use Rattle.message.specs.Kinds.{kindNumber}
-use Rattle.message.specs.Submission.{submissionOf}
-use Rattle.message.specs.declared.Kind
-use Rattle.message.specs.declared.Kind.{Kind}
-use Rattle.message.specs.declared.Submission
-use Rattle.message.specs.declared.Submission.{Submission}
-use Rattle.label_list.specs.Valid.{validOf}
+use borrow.Author.Tests.{eqb-true, ne-eqb}
+use Rattle.octets.proofs.Choice.{by-test}
 use Rattle.label_list.specs.declared.LabelMessage.{LabelMessage}
 use Rattle.label_list.specs.declared.LabelMessage.the-variants.{Withdraw, Release}
-use Rattle.octets.proofs.Choice.{by-test}
+use Rattle.label_list.specs.Valid.{validOf}
 use Rattle.label_events.specs.Change.{codeAt}
 use Rattle.label_meaning.specs.Event.{Accepted, Acked, step, withdraw-acked, release-acked}
-use Rattle.label_meaning.proofs.Meaning.{valid-means}
 use Rattle.label_meaning.proofs.Life.{move-happens}
-use Rattle.slot.specs.Fields.{bears}
-use Rattle.slot.specs.Held.{kindIn, labelIn}
-use Rattle.calls.specs.Acked.{releasedKind, releasedLabels}
-use Rattle.call_meaning.proofs.Released.{released-valid}
-use Rattle.submit.specs.Labels.{isHeld}
+use Rattle.label_meaning.proofs.Meaning.{valid-means}
+use Rattle.message.specs.declared.Kind.{Kind}
+use Rattle.message.specs.declared.Submission.{Submission}
+use Rattle.message.specs.Kinds.{kindNumber}
+use Rattle.message.specs.Storable.{bears, kindIn, labelIn}
+use Rattle.message.specs.Submission.{submissionOf}
+use Rattle.protocol.specs.Acked.{releasedKind, releasedLabels}
+use Rattle.protocol.specs.Held.{isHeld}
+use Rattle.protocol.proofs.Words.{released-valid}
 use Rattle.two_ends.specs.Labels.{Due, withdrawal, release, sideOf, codeOf, messageOf, kindOf, Owed}
 use Rattle.two_ends.proofs.Owed.{due-step}
 

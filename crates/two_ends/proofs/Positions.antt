@@ -1,20 +1,14 @@
 -- Positions in a history and their numbers on the circle. Assumes nothing.
 use Prim.Native.Nat.{ℕ, zero, suc, _+_, _-_, _≤_}
-use native.Mathlib.Numerals.{add-one}
-use native.Mathlib.Omega.{arith}
 use mathlib.Core.Path.{_≡_, sym, ap, _∙_}
+use native.Mathlib.Omega.{arith}
 use borrow.Author.Tests.{le-leb}
-use Rattle.ft_number.specs.Circle.{circle, next, after, stepsOf}
-use Rattle.ft_number.specs.Ack.{ackOf}
-use Rattle.ft_number.specs.declared.Ack
 use Rattle.ft_number.specs.declared.Ack.{Ack}
-use Rattle.ft_number.specs.declared.FtNumber.{FtNumber}
 use Rattle.ft_number.specs.declared.Steps.the-variants.{Count}
-use Rattle.ft_number.proofs.Circle.{after-none, after-suc, steps-after}
-use Rattle.block0.specs.Layout.{releasedHeader}
-use Rattle.calls.specs.Phases.{countOf}
-use Rattle.send.specs.Rule.{numberAt}
-use Rattle.send.proofs.Numbers.{number-kept}
+use Rattle.ft_number.specs.Ack.{ackOf}
+use Rattle.ft_number.specs.Circle.{circle, next, after, stepsOf}
+use Rattle.ft_number.proofs.Circle.{after-add, after-none, after-suc, steps-after}
+use Rattle.protocol.specs.Phases.{countOf}
 
 -- the number of the k-th message: the k-th successor of "none"
 abbrev pub num : ℕ → ℕ
@@ -26,10 +20,7 @@ num-le (suc k) = rw (after-suc k 0) (omega arith)
 
 -- n successors on
 pub num-after : (k n : ℕ) → after n (num k) ≡ num (k + n)
-unfolding numberAt
-num-after k zero = after-none (num k) ∙ ap num (omega arith)
-num-after k (suc n) =
-    ap (λ (j : ℕ). after j (num k)) (sym (add-one n)) ∙ ap (λ (x : FtNumber). x .0) (number-kept releasedHeader k n) ∙ ap num (omega arith)
+num-after k n = sym (after-add n k 0) ∙ ap num (omega arith)
 
 pub num-next : (k : ℕ) → next (num k) ≡ num (suc k)
 num-next k = sym (after-suc k 0)

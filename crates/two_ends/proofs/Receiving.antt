@@ -1,109 +1,118 @@
 -- A message in UpFT is delivered. Assumes nothing.
 use Prim.Native.Nat.{ℕ, _-_, _≤_}
-use native.Mathlib.Omega.{arith}
-use mathlib.Core.Path.{_≡_, refl, ap, _∙_}
-use mathlib.Core.Bool.{true, true≢false}
+use mathlib.Core.Bool.{true, true≢false, Bool}
 use mathlib.Core.List.{List, [], _∷_, map}
 use mathlib.Core.Logic.{inl}
-use lib.ListN.{take, drop}
-use Rattle.ft_number.specs.declared.Ack
+use mathlib.Core.Path.{_≡_, refl, ap, _∙_, sym}
+use native.Mathlib.Omega.{arith}
+use lib.ListN.{take, drop, length, length-drop}
+use borrow.Author.Tests.{le-leb}
 use Rattle.ft_number.specs.declared.Ack.{Ack}
-use Rattle.message.specs.Reading.{readingOf}
+use Rattle.ft_number.specs.Circle.{stepsOf}
 use Rattle.message.specs.declared.Message.{Message}
-use Rattle.message.specs.declared.Reading
 use Rattle.message.specs.declared.Reading.{Reading}
-use Rattle.image.specs.State.{State, decode}
-use Rattle.octets.specs.Bytes.{Bytes}
-use Rattle.calls.specs.declared.Answer
-use Rattle.calls.specs.declared.Answer.{Answer}
-use Rattle.calls.specs.declared.Phase
-use Rattle.calls.specs.declared.Phase.{Phase}
-use Rattle.calls.specs.Answers.{answerNumber}
-use Rattle.calls.specs.Acked.{ackBorne, acked}
-use Rattle.calls.specs.Outcomes.{After, failedWith, releasedWith}
-use Rattle.call_meaning.specs.Standing.{Standing}
-use Rattle.call_meaning.proofs.Answered.{answered-failed, answered-released}
-use Rattle.receive.specs.Rule.{ackOn, taken, receivedState, receiveAnswer, takenAs, receiveOf}
-use Rattle.receive.specs.Cases.{Case}
-use Rattle.receive.specs.Meaning.{ReceivedFrom}
-use Rattle.receive.proofs.Cases.{cases}
-use Rattle.receive.proofs.Meaning.{receive-answered, receive-judged, receive-decodes, receive-stands}
-use Rattle.two_ends.specs.World.{History, End}
+use Rattle.message.specs.Reading.{readingOf}
+use Rattle.protocol.specs.declared.Answer.{Answer}
+use Rattle.protocol.specs.declared.Phase.{Phase}
+use Rattle.protocol.specs.Acked.{ackBorne, acked}
+use Rattle.protocol.specs.Answers.{answerNumber}
+use Rattle.protocol.specs.Cases.{Case}
+use Rattle.protocol.specs.Phases.{phaseFits, issuedCount, countOf, upWith}
+use Rattle.protocol.specs.Receive.{ackOn, taken, receivedState, receive, ftRule, receivedPhase}
+use Rattle.protocol.specs.State.{State}
+use Rattle.protocol.specs.Step.{Step, releasedWith, stepped, settle}
+use Rattle.protocol.proofs.Cases.{cases}
+use Rattle.protocol.proofs.Settling.{answered-failed, answered-released, admitted-is, settle-does, settle-answer}
 use Rattle.two_ends.specs.Calls.{keeps, took, takes, securing}
+use Rattle.two_ends.specs.World.{History, End}
+use Rattle.two_ends.proofs.Books.{window}
+use Rattle.two_ends.proofs.Delivering.{let-go}
+use Rattle.two_ends.proofs.Failing.{failing-on}
 use Rattle.two_ends.proofs.Freeing.{Freed}
-use Rattle.two_ends.proofs.Packets.{Packet, bytesOf, datas, acksOf}
+use Rattle.two_ends.proofs.Half.{Rcv, Half}
 use Rattle.two_ends.proofs.Invariant.{sideOf, sndOf, rcvOf, Ready, Inv, Dir}
+use Rattle.two_ends.proofs.Packets.{Packet, bytesOf, datas, acksOf}
+use Rattle.two_ends.proofs.Resting.{released-ends}
 use Rattle.two_ends.proofs.Sides.{side}
 use Rattle.two_ends.proofs.Takes.{dir-took}
-use Rattle.two_ends.proofs.Tidy.{Tidy}
-use Rattle.two_ends.proofs.Worlds.{ended, Settled}
-use Rattle.two_ends.proofs.Failing.{failing-on}
-use Rattle.two_ends.proofs.Resting.{released-ends}
-use Rattle.two_ends.proofs.Delivering.{let-go}
-use Rattle.two_ends.proofs.Sharing.{Shared}
+use Rattle.two_ends.proofs.Worlds.{ended, Settled, kept-one}
 
-module _ (im : List ℕ) (sent : ℕ) (m : List ℕ) (stand : Standing im (Phase.UpFT sent)) (g : Message) (read : readingOf m ≡ Reading.Whole g) where
+-- an end that is up and keeps its state is in a phase that the state allows
+pub fits-up : (now : State) (h : History) (sent : ℕ) {up : Bool} {y : Rcv (List ℕ)} {dat : List (ℕ × List ℕ)} {acks : List ℕ} → now .kept ≡ true
+    → Half (sndOf now h) sent up y dat acks → phaseFits (upWith sent) now ≡ true
+unfolding phaseFits issuedCount
+fits-up now h sent kept p =
+    let w : countOf (stepsOf (now .released .0) (now .issued .0)) ≡ p .i - p .r = window (p .books) in
+    rw (kept, w) (le-leb sent (p .i - p .r) (omega (arith, p .sentI)))
+
+module _ (now : State) (sent : ℕ) (m : List ℕ) (g : Message) (read : readingOf m ≡ Reading.Whole g) where
   abbrev ph : Phase
-  ph = Phase.UpFT sent
+  ph = upWith sent
 
-  abbrev x : After
-  x = receiveOf im ph m
+  abbrev x : Step
+  x = receive now ph m
+
+  abbrev rule : Answer
+  rule = ftRule now g
+
+  abbrev does : Step
+  does = stepped Answer.Done (receivedState now g) (receivedPhase now sent g) []
 
   -- ---- what the call leaves
-  pub judged : Case (decode im) ph (Reading.Whole g) (receiveAnswer im ph m)
-  judged = rw (receive-judged im ph m stand, read) (cases (decode im) ph (Reading.Whole g))
-
-  pub broke : receiveAnswer im ph m ≡ Answer.NoWordForMapping → x ≡ failedWith Answer.NoWordForMapping im []
-  unfolding receiveOf
-  broke e = rw e (answered-failed Answer.NoWordForMapping ph im [] (takenAs im ph (readingOf m)) (omega arith) (omega arith))
-
-  released : (a : Answer) → receiveAnswer im ph m ≡ a → 30 ≤ answerNumber a → x ≡ releasedWith a im []
-  unfolding receiveOf
-  released a e l = rw e (answered-released a ph im [] (takenAs im ph (readingOf m)) l)
+  pub judged : Case now ph (Reading.Whole g) rule
+  judged = cases now ph (Reading.Whole g)
 
   module _ (h : History) {b : End} {ab ba : List (List ℕ)} {pa : List Packet} {q : Packet} {qs : List Packet}
-      (i : Inv (ended im ph true true h) b ab ba pa (q ∷ qs)) where
+      (i : Inv (ended now ph true true h) b ab ba pa (q ∷ qs)) where
+    is : x ≡ settle rule now ph does
+    unfolding receive
+    is = rw (admitted-is now ph (fits-up now h sent (kept-one (i .own)) (i .out .half)), read)
+
+    -- it answers what the rule says
+    pub rule-answers : x .answer ≡ rule
+    rule-answers = ap (λ (z : Step). z .answer) is ∙ settle-answer rule now ph does refl
+
     -- as connection failed
-    pub takes-none : receiveAnswer im ph m ≡ Answer.NoWordForMapping → Settled (took (ended im ph true true h) m x) b ab (map bytesOf qs)
-    unfolding failedWith
-    takes-none e = rw (broke e) (failing-on im ph true h (pa, q ∷ qs, i) ab (map bytesOf qs))
+    pub takes-none : rule ≡ Answer.NoWordForMapping → Settled (took (ended now ph true true h) m x) b ab (map bytesOf qs)
+    takes-none e =
+        rw (is, e, answered-failed Answer.NoWordForMapping now ph does (omega arith) (omega arith)) (failing-on now ph true h (pa, q ∷ qs, i) ab (map bytesOf qs))
 
     -- released
-    pub takes-end : (a : Answer) → receiveAnswer im ph m ≡ a → 30 ≤ answerNumber a → keeps (took (ended im ph true true h) m x) ≡ true
-        → Settled (took (ended im ph true true h) m x) b ab (map bytesOf qs)
-    unfolding releasedWith
-    takes-end a e l k = released-ends im Phase.Idle true true h (stand .sound .size) refl (rw (released a e l) at k)
+    pub takes-end : (a : Answer) → rule ≡ a → 30 ≤ answerNumber a → keeps (took (ended now ph true true h) m x) ≡ true
+        → Settled (took (ended now ph true true h) m x) b ab (map bytesOf qs)
+    takes-end a e l k =
+        let r : x ≡ releasedWith a = is ∙ ap (λ (z : Answer). settle z now ph does) e ∙ answered-released a now ph does l in
+        released-ends Phase.Idle true true h refl (ap (λ (z : Step). z .state .kept) (sym r) ∙ k)
 
     -- taken
-    module _ (byte : Bytes m) (j : ℕ) (acks : ackOn (decode im .header) g ≡ Ack.Releases j)
-        (f : Freed (sndOf (decode im) h) sent (rcvOf (sideOf b .state) (b .history)) (datas pa) (acksOf qs) (ackBorne (decode im .header) (g .ack)) j) where
+    module _ (j : ℕ) (acks : ackOn now g ≡ Ack.Releases j)
+        (f : Freed (sndOf now h) sent (rcvOf (sideOf b .state) (b .history)) (datas pa) (acksOf qs) (ackBorne now (g .ack)) j) where
       abbrev s : State
-      s = receivedState (decode im) g
+      s = receivedState now g
 
-      received-queue : s .queue ≡ drop j (decode im .queue)
+      received-queue : s .queue ≡ drop j (now .queue)
       unfolding receivedState taken acked
       received-queue = rw acks
 
-      pub takes-it : Tidy s → (got : List (List ℕ)) → securing m ≡ got → receiveAnswer im ph m ≡ Answer.Done → keeps (took (ended im ph true true h) m x) ≡ true
-          → Dir (sideOf b) (side s (s .header .kept) (Phase.UpFT (sent - j)) true true (takes (take j (decode im .queue)) got h)) qs pa
-          → Shared (s .labels) (takes (take j (decode im .queue)) got h) (sideOf b .state .labels) (b .history)
-          → Shared (sideOf b .state .labels) (b .history) (s .labels) (takes (take j (decode im .queue)) got h)
-          → Settled (took (ended im ph true true h) m x) b ab (map bytesOf qs)
-      takes-it tidy got secured e k back ours theirs =
-          let done : x .outcome .answer ≡ Answer.Done = receive-answered im ph m ∙ e in
-          let d : ReceivedFrom (decode im) sent g x = receive-decodes im sent m stand byte g read done in
-          let up : x .outcome .phase ≡ Phase.UpFT (sent - j) = rw acks at (d .phase) in
-          let gone = let-go im x j (f .few) (ap (λ (t : State). t .queue) (d .state) ∙ received-queue) in
-          let own : Ready (ended (x .image) (Phase.UpFT (sent - j)) true true (takes (take j (decode im .queue)) got h)) = record {
-            stand = rw up at (receive-stands im ph m stand byte);
-            proposal = omega arith;
-            keeping = k;
+      received-kept : s .kept ≡ now .kept
+      unfolding receivedState taken acked
+      received-kept = refl
+
+      pub takes-it : (got : List (List ℕ)) → securing m ≡ got → rule ≡ Answer.Done
+          → Dir (sideOf b) (side s (s .kept) (upWith (sent - j)) true true (takes (take j (now .queue)) got h)) qs pa
+          → Settled (took (ended now ph true true h) m x) b ab (map bytesOf qs)
+      takes-it got secured e back =
+          let d : x ≡ does = is ∙ ap (λ (z : Answer). settle z now ph does) e ∙ settle-does Answer.Done now ph does refl in
+          let gone = let-go now does j (f .few) received-queue in
+          let own : Ready (ended s (upWith (sent - j)) true true (takes (take j (now .queue)) got h)) = record {
+            few = omega (arith, ap length received-queue, length-drop j (now .queue), i .own .few);
+            possible = refl;
+            keeping = received-kept ∙ i .own .keeping;
             okays = i .own .okays;
-            tidy = λ z. rw (d .state) tidy;
             waiting = λ z. absurd (true≢false z);
             linked = λ z. refl;
           } in
-          rw (done, up, gone, secured)
+          rw (d, acks, gone, secured)
           (inl (
             refl,
             (
@@ -114,10 +123,8 @@ module _ (im : List ℕ) (sent : ℕ) (m : List ℕ) (stand : Standing im (Phase
                 lineB = refl;
                 own = own;
                 peer = i .peer;
-                out = rw (d .state) (dir-took (decode im) sent h g j acks got qs f (i .out));
-                back = rw (d .state) back;
-                ours = rw (d .state) ours;
-                theirs = rw (d .state) theirs;
+                out = dir-took now sent h g j acks got qs f (i .out);
+                back = back;
               },
             ),
           ))

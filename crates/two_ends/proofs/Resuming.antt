@@ -1,90 +1,71 @@
 -- A later Init is delivered. Assumes nothing.
 use Prim.Native.Nat.{ℕ}
-use native.Mathlib.Omega.{arith}
-use mathlib.Core.Path.{_≡_, refl, ap, _∙_}
 use mathlib.Core.Bool.{true, true≢false}
 use mathlib.Core.List.{List, [], _∷_, map}
 use mathlib.Core.Logic.{_⊎_, inl, ⊎-elim}
-use lib.ListN.{take}
+use mathlib.Core.Path.{_≡_, refl, ap, _∙_, sym}
+use native.Mathlib.Omega.{arith}
+use lib.ListN.{take, length-drop}
 use Rattle.ft_number.specs.declared.FtNumber.{FtNumber}
 use Rattle.ft_number.specs.declared.MessageId.{MessageId}
 use Rattle.message_writer.specs.declared.OwnParameters.{OwnParameters}
-use Rattle.image.specs.State.{State, decode}
-use Rattle.octets.specs.Bytes.{Bytes}
-use Rattle.image.proofs.Sound.{sound-valid}
-use Rattle.calls.specs.declared.Answer
-use Rattle.calls.specs.declared.Answer.{Answer}
-use Rattle.calls.specs.declared.Phase
-use Rattle.calls.specs.declared.Phase.{Phase}
-use Rattle.calls.specs.Outcomes.{releasedWith}
-use Rattle.call_meaning.specs.Standing.{Standing}
-use Rattle.init.specs.declared.Start
-use Rattle.init.specs.declared.Start.{Start}
-use Rattle.init.specs.declared.Terms.{Terms}
-use Rattle.init.specs.Begun.{resumed, initStart, initReceivedOf}
-use Rattle.init.proofs.Meaning.{resumed-queue}
-use Rattle.two_ends.specs.World.{History, End}
+use Rattle.protocol.specs.declared.Answer.{Answer}
+use Rattle.protocol.specs.declared.Phase.{Phase}
+use Rattle.protocol.specs.declared.Start.{Start}
+use Rattle.protocol.specs.declared.Terms.{Terms}
+use Rattle.protocol.specs.Acked.{acked}
+use Rattle.protocol.specs.Init.{resumed, initStart, initReceived}
+use Rattle.protocol.specs.Phases.{upWith, waitingFor}
+use Rattle.protocol.specs.State.{State}
+use Rattle.protocol.specs.Step.{Step, stepped}
+use Rattle.protocol.proofs.Begins.{begins, changed}
 use Rattle.two_ends.specs.Calls.{keeps, takes}
-use Rattle.two_ends.proofs.Freeing.{Freed, half-init}
-use Rattle.two_ends.proofs.Packets.{Packet, again, bytesOf, Fine, datas, acksOf, fine-bytes}
-use Rattle.two_ends.proofs.Invariant.{sideOf, sndOf, rcvOf, Ready, Inv}
-use Rattle.two_ends.proofs.Takes.{resumed-labels, dir-resume, dir-resume-peer}
-use Rattle.two_ends.proofs.Worlds.{ended, kept-one, Settled}
-use Rattle.two_ends.proofs.Resting.{released-ends}
+use Rattle.two_ends.specs.World.{History, End}
 use Rattle.two_ends.proofs.Delivering.{let-go}
-use Rattle.two_ends.proofs.Begins.{Begins, begins, changed}
-use Rattle.two_ends.proofs.Tidy.{tidy-resumed}
-use Rattle.two_ends.proofs.Starting.{terms, starts-again}
+use Rattle.two_ends.proofs.Freeing.{Freed, half-init}
 use Rattle.two_ends.proofs.Greeted.{greetedBy}
-use Rattle.two_ends.proofs.Sharing.{shared-freed, shared-freed-peer}
+use Rattle.two_ends.proofs.Invariant.{sideOf, sndOf, rcvOf, Ready, Inv}
+use Rattle.two_ends.proofs.Packets.{Packet, again, bytesOf, datas, acksOf}
+use Rattle.two_ends.proofs.Resting.{released-ends}
+use Rattle.two_ends.proofs.Starting.{terms, starts-again}
+use Rattle.two_ends.proofs.Takes.{dir-resume, dir-resume-peer}
+use Rattle.two_ends.proofs.Worlds.{ended, kept-one, Settled}
 
 -- ---- a later Init
-module _ (im : List ℕ) (t : ℕ) (h : History) (id : MessageId) (p : OwnParameters) (seconds : ℕ) (a : FtNumber) where
+module _ (now : State) (t : ℕ) (h : History) (id : MessageId) (p : OwnParameters) (seconds : ℕ) (a : FtNumber) where
   abbrev m₂ : List ℕ
   m₂ = bytesOf (again id p seconds a)
 
-  module _ {b : End} {ab ba : List (List ℕ)} {pa qs : List Packet} (i : Inv (ended im (Phase.InitWait t) true true h) b ab ba pa (again id p seconds a ∷ qs)) where
-    abbrev ts : Terms
-    ts = terms (decode im .header) t id p seconds
+  abbrev ts : Terms
+  ts = terms now t id p seconds
 
-    abbrev stand : Standing im (Phase.InitWait t)
-    stand = i .own .stand
-
-    fine-again : Fine (again id p seconds a)
-    fine-again = i .back .fines .0
-
-    byte : Bytes m₂
-    byte = fine-bytes (again id p seconds a) fine-again
-
+  module _ {b : End} {ab ba : List (List ℕ)} {pa qs : List Packet} (i : Inv (ended now (waitingFor t) true true h) b ab ba pa (again id p seconds a ∷ qs)) where
     -- its ACK is right; the session is resumed, or its parameters are others
-    pub again-start : (j : ℕ) × Freed (sndOf (decode im) h) 0 (rcvOf (sideOf b .state) (b .history)) (datas pa) (acksOf qs) (a .0) j
-        × ((initStart im (Phase.InitWait t) m₂ ≡ Start.Resumed ts j a) ⊎ (initStart im (Phase.InitWait t) m₂ ≡ Start.Refused Answer.ParametersChanged))
+    pub again-start : (j : ℕ) × Freed (sndOf now h) 0 (rcvOf (sideOf b .state) (b .history)) (datas pa) (acksOf qs) (a .0) j
+        × ((initStart now (waitingFor t) m₂ ≡ Start.Resumed ts j a) ⊎ (initStart now (waitingFor t) m₂ ≡ Start.Refused Answer.ParametersChanged))
     again-start =
         let free = half-init (i .out .half) in
-        (free .0, free .1, starts-again (decode im .header) t id p seconds a (free .0) fine-again (kept-one (i .own)) (free .1 .right))
+        (free .0, free .1, starts-again now t id p seconds a (free .0) (i .back .fines .0) (kept-one (i .own)) (free .1 .right))
 
-    pub again-begins : (j : ℕ) → initStart im (Phase.InitWait t) m₂ ≡ Start.Resumed ts j a → Begins im t m₂ (resumed (decode im) ts j (a .0))
-    again-begins j e = begins im t m₂ stand byte (i .own .proposal) (resumed (decode im) ts j (a .0)) (rw e) (rw e) (rw e)
+    pub again-begins : (j : ℕ) → initStart now (waitingFor t) m₂ ≡ Start.Resumed ts j a → initReceived now (waitingFor t) m₂ ≡ stepped Answer.Done (resumed now ts j (a .0)) (upWith 0) []
+    again-begins j e = begins now t m₂ (resumed now ts j (a .0)) (rw e) (rw e) (rw e)
 
-    pub again-changed : initStart im (Phase.InitWait t) m₂ ≡ Start.Refused Answer.ParametersChanged
-        → initReceivedOf im (Phase.InitWait t) m₂ ≡ releasedWith Answer.ParametersChanged im []
-    again-changed e = changed im t m₂ stand byte (i .own .proposal) e
-
-    resumes : (j : ℕ) → Freed (sndOf (decode im) h) 0 (rcvOf (sideOf b .state) (b .history)) (datas pa) (acksOf qs) (a .0) j → initStart im (Phase.InitWait t) m₂ ≡ Start.Resumed ts j a
-        → keeps (greetedBy im t true h (again id p seconds a)) ≡ true → Settled (greetedBy im t true h (again id p seconds a)) b ab (map bytesOf qs)
-    resumes j free e k =
+    resumes : (j : ℕ) → Freed (sndOf now h) 0 (rcvOf (sideOf b .state) (b .history)) (datas pa) (acksOf qs) (a .0) j → initStart now (waitingFor t) m₂ ≡ Start.Resumed ts j a
+        → Settled (greetedBy now t true h (again id p seconds a)) b ab (map bytesOf qs)
+    unfolding resumed acked
+    resumes j free e =
+        let s : State = resumed now ts j (a .0) in
         let d = again-begins j e in
-        let gone = let-go im (initReceivedOf im (Phase.InitWait t) m₂) j (free .few) (ap (λ (q : State). q .queue) (d .state) ∙ resumed-queue (decode im) ts j (a .0)) in
-        let own : Ready (ended (initReceivedOf im (Phase.InitWait t) m₂ .image) (Phase.UpFT 0) true true (takes (take j (decode im .queue)) [] h)) = record {
-          stand = d .stands;
-          proposal = omega arith;
-          keeping = k;
+        let gone = let-go now (stepped Answer.Done s (upWith 0) []) j (free .few) refl in
+        let own : Ready (ended s (upWith 0) true true (takes (take j (now .queue)) [] h)) = record {
+          few = omega (arith, length-drop j (now .queue), i .own .few);
+          possible = refl;
+          keeping = i .own .keeping;
           okays = i .own .okays;
-          tidy = λ q. rw (d .state) (tidy-resumed (decode im) (sound-valid im (stand .sound) .labels) (i .own .tidy refl) ts j (a .0));
           waiting = λ q. absurd (true≢false q);
           linked = λ q. refl;
         } in
-        rw (d .answer, d .phase, gone)
+        rw (d, gone)
         (inl (
           refl,
           (
@@ -95,20 +76,17 @@ module _ (im : List ℕ) (t : ℕ) (h : History) (id : MessageId) (p : OwnParame
               lineB = refl;
               own = own;
               peer = i .peer;
-              out = rw (d .state) (dir-resume (decode im) t h a ts j id p seconds free (i .out));
-              back = rw (d .state) (dir-resume-peer (decode im) t h a ts j id p seconds (i .back));
-              ours = rw (d .state, resumed-labels (decode im) ts j (a .0)) (shared-freed (sound-valid im (stand .sound) .labels) (take j (decode im .queue)) (i .ours));
-              theirs = rw (d .state, resumed-labels (decode im) ts j (a .0)) (shared-freed-peer (sound-valid im (stand .sound) .labels) (take j (decode im .queue)) (i .theirs));
+              out = dir-resume now t h a ts j id p seconds free (i .out);
+              back = dir-resume-peer now t h a ts j id p seconds (i .back);
             },
           ),
         ))
 
-    pub greet-again : keeps (greetedBy im t true h (again id p seconds a)) ≡ true → Settled (greetedBy im t true h (again id p seconds a)) b ab (map bytesOf qs)
-    unfolding releasedWith
+    pub greet-again : keeps (greetedBy now t true h (again id p seconds a)) ≡ true → Settled (greetedBy now t true h (again id p seconds a)) b ab (map bytesOf qs)
     greet-again k =
         let st = again-start in
         ⊎-elim
-        (λ (e : initStart im (Phase.InitWait t) m₂ ≡ Start.Resumed ts (st .0) a). resumes (st .0) (st .1) e k)
-        (λ (e : initStart im (Phase.InitWait t) m₂ ≡ Start.Refused Answer.ParametersChanged).
-        released-ends im Phase.Idle true true h (stand .sound .size) refl (rw (again-changed e) at k))
+        (λ (e : initStart now (waitingFor t) m₂ ≡ Start.Resumed ts (st .0) a). resumes (st .0) (st .1) e)
+        (λ (e : initStart now (waitingFor t) m₂ ≡ Start.Refused Answer.ParametersChanged).
+        released-ends Phase.Idle true true h refl (ap (λ (z : Step). z .state .kept) (sym (changed now t m₂ e)) ∙ k))
         (st .2)

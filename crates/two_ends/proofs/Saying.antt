@@ -1,28 +1,26 @@
 -- What the messages of a steady owner say. Assumes nothing.
 use Prim.Native.Nat.{ℕ, zero, suc, _+_, _^_, _<_}
-use native.Mathlib.Omega.{arith}
-use mathlib.Core.Path.{_≡_, refl, sym, _∙_}
 use mathlib.Core.Bool.{true, false, true≢false}
 use mathlib.Core.List.{List, [], _∷_, _++_}
+use mathlib.Core.Path.{_≡_, refl, sym, _∙_}
+use native.Mathlib.Omega.{arith}
 use lib.ListN.{length, getD, drop}
 use Rattle.ft_number.specs.declared.FtNumber.{FtNumber}
 use Rattle.ft_number.specs.declared.MessageId.{MessageId}
 use Rattle.tlv.specs.declared.FtField.{FtField}
-use Rattle.tlv.specs.declared.Parameters
 use Rattle.tlv.specs.declared.Parameters.{Parameters}
-use Rattle.message.specs.Reading.{readingOf}
 use Rattle.message.specs.declared.Message.{Message}
-use Rattle.message.specs.declared.Reading
 use Rattle.message.specs.declared.Reading.{Reading}
+use Rattle.message.specs.Reading.{readingOf}
+use Rattle.message.specs.Storable.{Storable}
 use Rattle.message.proofs.Laws.{accepted}
+use Rattle.message_writer.specs.declared.OwnParameters.{OwnParameters}
 use Rattle.message_writer.specs.Forms.{initBytes, keepaliveBytes, protectedBytes}
 use Rattle.message_writer.specs.ReadBack.{AckFits, InitFits, initMessage, keepaliveMessage, protectedMessage}
-use Rattle.message_writer.specs.declared.OwnParameters.{OwnParameters}
 use Rattle.message_writer.proofs.Own.{init-reads, keepalive-reads}
 use Rattle.message_writer.proofs.RoundTrip.{submitted, sent-reads, sent-kind}
-use Rattle.slot.specs.Held.{Storable}
-use Rattle.calls.specs.Received.{isInit}
-use Rattle.receive.specs.Rule.{isFatal}
+use Rattle.protocol.specs.Receive.{isFatal}
+use Rattle.protocol.specs.Received.{isInit}
 use Rattle.two_ends.specs.Steady.{Mild}
 use Rattle.two_ends.proofs.Judging.{not-init}
 
@@ -31,9 +29,9 @@ abbrev pub All : (List ℕ → Type 0) → List (List ℕ) → Type 0
 All P [] = Unit {0}
 All P (m ∷ ms) = P m × All P ms
 
-pub all-snoc : (P : List ℕ → Type 0) (ms : List (List ℕ)) (m : List ℕ) → All P ms → P m → All P (ms ++ (m ∷ []))
-all-snoc P [] m a p = (p, tt)
-all-snoc P (x ∷ ms) m a p = (a .0, all-snoc P ms m (a .1) p)
+pub all-append : (P : List ℕ → Type 0) (ms ns : List (List ℕ)) → All P ms → All P ns → All P (ms ++ ns)
+all-append P [] ns a b = b
+all-append P (x ∷ ms) ns a b = (a .0, all-append P ms ns (a .1) b)
 
 pub all-drop : (P : List ℕ → Type 0) (n : ℕ) (ms : List (List ℕ)) → All P ms → All P (drop n ms)
 all-drop P zero ms a = a

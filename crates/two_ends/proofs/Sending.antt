@@ -1,102 +1,108 @@
 -- A message is sent. Assumes nothing.
-use Prim.Native.Nat.{ℕ, suc, _+_, _<_}
-use native.Mathlib.Omega.{arith}
-use mathlib.Core.Path.{_≡_, refl, sym, _∙_}
+use Prim.Native.Nat.{ℕ, suc, _+_, _<_, _^_, zero}
 use mathlib.Core.Bool.{Bool, true, false, true≢false}
 use mathlib.Core.List.{List, [], _∷_, _++_}
 use mathlib.Core.Logic.{inl}
-use lib.ListN.{length, drop}
+use mathlib.Core.Path.{_≡_, refl, sym, _∙_}
+use native.Mathlib.Omega.{arith}
+use lib.ListN.{drop}
 use lib.Seq.{drop-cons}
 use Rattle.octets.proofs.Choice.{by-test}
-use Rattle.image.specs.State.{State, decode}
-use Rattle.image.proofs.Queue.{queue-length}
-use Rattle.calls.specs.declared.Phase
-use Rattle.calls.specs.declared.Phase.{Phase}
-use Rattle.calls.specs.Outcomes.{isDone, wrote}
-use Rattle.call_meaning.specs.Standing.{Standing}
-use Rattle.send.specs.Rule.{sentOf, nextMessage, numberAt, ackAsked, sendBytes, sendAnswer, sentState, sendImage, sendOf}
-use Rattle.send.proofs.Judged.{Sendable, answered-sendable}
-use Rattle.send.proofs.Meaning.{image-decodes, image-stands}
-use Rattle.send.proofs.Numbers.{number-fits}
+use Rattle.ft_number.proofs.Circle.{after-small}
+use Rattle.message_writer.specs.ReadBack.{AckFits}
+use Rattle.protocol.specs.declared.Answer.{Answer}
+use Rattle.protocol.specs.declared.Phase.{Phase}
+use Rattle.protocol.specs.Answers.{isDone}
+use Rattle.protocol.specs.Phases.{upWith, sentOf}
+use Rattle.protocol.specs.Send.{nextMessage, numberAt, ackAsked, sendBytes, sendRule, sentState, sendNext}
+use Rattle.protocol.specs.State.{State, held}
+use Rattle.protocol.specs.Step.{stepped, Step, roomFor, admitted}
+use Rattle.protocol.proofs.Quiet.{refused-quiet}
+use Rattle.protocol.proofs.Refusals.{send-harmless}
+use Rattle.protocol.proofs.Sends.{Sendable, sendable, sent-kept, sent-queue}
+use Rattle.protocol.proofs.Settling.{settle-does, admitted-done}
+use Rattle.two_ends.specs.Calls.{called, put, wrote as writes}
 use Rattle.two_ends.specs.World.{History, End, World}
-use Rattle.two_ends.specs.Calls.{keeps, called, put, wrote as writes}
-use Rattle.two_ends.proofs.Direction.{half-place}
-use Rattle.two_ends.proofs.Packets.{Packet, carried, bytesOf, Fine}
-use Rattle.two_ends.proofs.Invariant.{Ready, Some, Good}
-use Rattle.two_ends.proofs.Sends.{sent-labels, dir-send, dir-send-lost, dir-send-peer, dir-send-lost-peer}
-use Rattle.two_ends.proofs.Tidy.{tidy-sent}
-use Rattle.two_ends.proofs.Worlds.{ended, kept-one, ready-open, at-replaced, Settled}
+use Rattle.two_ends.proofs.Direction.{half-secured, half-place}
+use Rattle.two_ends.proofs.Invariant.{Ready, Some, Good, Inv}
+use Rattle.two_ends.proofs.Packets.{Packet, carried, Fine, Okay, Okays}
 use Rattle.two_ends.proofs.Quiet.{quietly-puts}
-use Rattle.two_ends.proofs.Sent.{unsent, sent-is, okay-at, ack-fits}
-use Rattle.two_ends.proofs.Writing.{put-wrote, line-more}
+use Rattle.two_ends.proofs.Sends.{dir-send, dir-send-lost, dir-send-peer, dir-send-lost-peer}
+use Rattle.two_ends.proofs.Worlds.{ended, ready-open, at-replaced, Settled}
+use Rattle.two_ends.proofs.Writing.{line-more}
+
+-- ---- a message accepted stands at its place
+okay-at : (n : ℕ) (l : List (List ℕ)) (m : List ℕ) (ms : List (List ℕ)) → drop n l ≡ m ∷ ms → Okays l → Okay m
+okay-at zero [] m ms e o = absurd (let q : _≡_ {A = ℕ} 0 1 = cc in omega arith)
+okay-at zero (x ∷ l) m ms e o = let q : x ≡ m = cc in rw q at (o .0)
+okay-at (suc n) [] m ms e o = absurd (let q : _≡_ {A = ℕ} 0 1 = cc in omega arith)
+okay-at (suc n) (x ∷ l) m ms e o = okay-at n l m ms e (o .1)
+
+ack-fits : (ask : Bool) (s : State) → s .secured .0 < 4294967296 → AckFits (ackAsked ask s)
+unfolding ackAsked
+ack-fits true s l = omega arith
+ack-fits false s l = tt
 
 -- ---- the answer is Done
-module _ (im : List ℕ) (sent : ℕ) (h : History) (ask : Bool) (out : List ℕ) (some : sent < decode im .header .held) where
-  abbrev s : State
-  s = decode im
-
+module _ (now : State) (sent : ℕ) (h : History) (ask : Bool) (some : sent < held now) where
   abbrev m : List ℕ
-  m = nextMessage s sent
+  m = nextMessage now sent
 
   abbrev packet : Packet
-  packet = carried m (numberAt (s .header) sent) (ackAsked ask (s .header))
+  packet = carried m (numberAt now sent) (ackAsked ask now)
 
-  at-place : drop sent (s .queue) ≡ m ∷ drop (suc sent) (s .queue)
-  at-place = drop-cons (s .queue) sent [] (rw (queue-length im) some)
+  at-place : drop sent (now .queue) ≡ m ∷ drop (suc sent) (now .queue)
+  at-place = drop-cons (now .queue) sent [] some
 
-  module _ (st : Standing im (Phase.UpFT sent)) (kept : s .header .kept ≡ 1) where
-    decodes : decode (sendImage im sent) ≡ sentState s sent
-    decodes = image-decodes im (st .sound) (st .range) sent some kept
+  ready : (jo : Bool) → Ready (ended now (upWith sent) jo true h) → Ready (ended (sentState now sent) (upWith (sent + 1)) jo true h)
+  ready jo r = record {
+    few = rw (sent-queue now sent) (r .few);
+    possible = refl;
+    keeping = sent-kept now sent ∙ r .keeping;
+    okays = r .okays;
+    waiting = λ q. absurd (true≢false q);
+    linked = λ q. refl;
+  }
 
-    ready : (jo : Bool) → Ready (ended im (Phase.UpFT sent) jo true h) → keeps (ended (sendImage im sent) (Phase.UpFT (sent + 1)) jo true h) ≡ true
-        → Ready (ended (sendImage im sent) (Phase.UpFT (sent + 1)) jo true h)
-    ready jo r k = record {
-      stand = image-stands im (st .sound) (st .range) sent some kept;
-      proposal = omega arith;
-      keeping = k;
-      okays = r .okays;
-      tidy = λ q. rw decodes (tidy-sent s sent (r .tidy refl));
-      waiting = λ q. absurd (true≢false q);
-      linked = λ q. refl;
-    }
+  number-small : numberAt now sent .0 < 256 ^ 4
+  unfolding numberAt
+  number-small = omega (arith, after-small sent (now .released .0))
+
+  -- what is sent has its width, and is a message that was accepted
+  pub sends-fine : {jo : Bool} {b : End} {ab ba : List (List ℕ)} {pa pb : List Packet} → Inv (ended now (upWith sent) jo true h) b ab ba pa pb → Fine packet
+  sends-fine i = (
+    okay-at (i .out .half .r + sent) (h .accepted) m _ (half-place (i .out .half) m (drop (suc sent) (now .queue)) at-place) (i .own .okays),
+    number-small,
+    ack-fits ask now (omega (arith, half-secured (i .back .half))),
+  )
 
   module _ {b : End} {ab ba : List (List ℕ)} where
-    sending : (jo bg : Bool) → Some (ended im (Phase.UpFT sent) jo bg h) b ab ba → keeps (ended (sendImage im sent) (Phase.UpFT (sent + 1)) jo bg h) ≡ true
-        → Settled (ended (sendImage im sent) (Phase.UpFT (sent + 1)) jo bg h) b (put jo ab (wrote (Phase.UpFT (sent + 1)) im (sendImage im sent) out (sendBytes s sent ask))) ba
+    sending : (jo bg : Bool) → Some (ended now (upWith sent) jo bg h) b ab ba
+        → Settled (ended (sentState now sent) (upWith (sent + 1)) jo bg h) b (put jo ab (stepped Answer.Done (sentState now sent) (upWith (sent + 1)) (sendBytes now sent ask))) ba
     unfolding sendBytes
-    sending jo false o k = absurd (true≢false (sym (o .2 .own .waiting refl .waits)))
-    sending true true o k =
+    sending jo false o = absurd (true≢false (sym (o .2 .own .waiting refl .waits)))
+    sending true true o =
         let i = o .2 in
-        let st = i .own .stand in
-        let one = kept-one (i .own) in
-        let own = ready st one true (i .own) k in
-        let fine : Fine packet = (
-          okay-at (i .out .half .r + sent) (h .accepted) m _ (half-place (i .out .half) m (drop (suc sent) (s .queue)) at-place) (i .own .okays),
-          omega (arith, number-fits (s .header) sent),
-          ack-fits ask (s .header) (st .range .header .secured),
-        ) in
+        let own = ready true (i .own) in
+        let fine = sends-fine i in
         inl (
           ready-open own,
           (
             o .0 ++ (packet ∷ []),
             o .1,
             record {
-              lineA = put-wrote ab (Phase.UpFT (sent + 1)) im (sendImage im sent) out (bytesOf packet) ∙ line-more (o .0) packet (i .lineA);
+              lineA = line-more (o .0) packet (i .lineA);
               lineB = i .lineB;
               own = own;
               peer = i .peer;
-              out = rw (decodes st one) (dir-send s sent true h m (drop (suc sent) (s .queue)) at-place (ackAsked ask (s .header)) fine (i .out));
-              back = rw (decodes st one) (dir-send-peer s sent true h ask m (numberAt (s .header) sent) (i .back));
-              ours = rw (decodes st one, sent-labels s sent) (i .ours);
-              theirs = rw (decodes st one, sent-labels s sent) (i .theirs);
+              out = dir-send now sent true h m (drop (suc sent) (now .queue)) at-place (ackAsked ask now) fine (i .out);
+              back = dir-send-peer now sent true h ask m (numberAt now sent) (i .back);
             },
           ),
         )
-    sending false true o k =
+    sending false true o =
         let i = o .2 in
-        let st = i .own .stand in
-        let one = kept-one (i .own) in
-        let own = ready st one false (i .own) k in
+        let own = ready false (i .own) in
         inl (
           ready-open own,
           (
@@ -107,34 +113,35 @@ module _ (im : List ℕ) (sent : ℕ) (h : History) (ask : Bool) (out : List ℕ
               lineB = i .lineB;
               own = own;
               peer = i .peer;
-              out = rw (decodes st one) (dir-send-lost s sent true h m (drop (suc sent) (s .queue)) at-place (i .out));
-              back = rw (decodes st one) (dir-send-lost-peer s sent true h (i .back));
-              ours = rw (decodes st one, sent-labels s sent) (i .ours);
-              theirs = rw (decodes st one, sent-labels s sent) (i .theirs);
+              out = dir-send-lost now sent true h m (drop (suc sent) (now .queue)) at-place (i .out);
+              back = dir-send-lost-peer now sent true h (i .back);
             },
           ),
         )
 
 -- ---- the call
-sends-up : (im : List ℕ) (ph : Phase) (jo bg : Bool) (h : History) (ask : Bool) (out : List ℕ) {b : End} {ab ba : List (List ℕ)} → Sendable im ph
-    → Some (ended im ph jo bg h) b ab ba → keeps (ended (sendImage im (sentOf ph)) (Phase.UpFT (sentOf ph + 1)) jo bg h) ≡ true
-    → Settled (ended (sendImage im (sentOf ph)) (Phase.UpFT (sentOf ph + 1)) jo bg h) b
-    (put jo ab (wrote (Phase.UpFT (sentOf ph + 1)) im (sendImage im (sentOf ph)) out (sendBytes (decode im) (sentOf ph) ask))) ba
-sends-up im Phase.Idle jo bg h ask out d s k = absurd (true≢false (sym (d .up)))
-sends-up im (Phase.InitWait t) jo bg h ask out d s k = absurd (true≢false (sym (d .up)))
-sends-up im (Phase.UpFT sent) jo bg h ask out d s k = sending im sent h ask out (d .some) jo bg s k
-sends-up im Phase.UpPlain jo bg h ask out d s k = absurd (true≢false (sym (d .up)))
-sends-up im Phase.Failed jo bg h ask out d s k = absurd (true≢false (sym (d .up)))
+abbrev pub does : State → Phase → Bool → Step
+does now ph ask = stepped Answer.Done (sentState now (sentOf ph)) (upWith (sentOf ph + 1)) (sendBytes now (sentOf ph) ask)
 
-pub at-sends : (w : World) (ask : Bool) (out : List ℕ) → Good w → Good (writes w (sendOf (w .a .image) (w .a .phase) ask out))
-at-sends w ask out g =
-    let im = w .a .image in
+sends-up : (now : State) (ph : Phase) (jo bg : Bool) (h : History) (ask : Bool) {b : End} {ab ba : List (List ℕ)} → Sendable now ph
+    → Some (ended now ph jo bg h) b ab ba → Settled (called (ended now ph jo bg h) (does now ph ask) h) b (put jo ab (does now ph ask)) ba
+sends-up now Phase.Idle jo bg h ask d s = absurd (true≢false (sym (d .up)))
+sends-up now (Phase.InitWait v) jo bg h ask d s = absurd (true≢false (sym (d .up)))
+sends-up now (Phase.UpFT u) jo bg h ask d s = sending now (u .sent) h ask (d .some) jo bg s
+sends-up now Phase.UpPlain jo bg h ask d s = absurd (true≢false (sym (d .up)))
+sends-up now Phase.Failed jo bg h ask d s = absurd (true≢false (sym (d .up)))
+
+pub at-sends : (w : World) (ask : Bool) (room : ℕ) → Good w → Good (writes w (sendNext (w .a .state) (w .a .phase) ask room))
+unfolding sendNext
+at-sends w ask room g =
+    let now = w .a .state in
     let ph = w .a .phase in
-    let x = sendOf im ph ask out in
+    let x = sendNext now ph ask room in
+    let rule = sendRule now ph (roomFor (sendBytes now (sentOf ph) ask) room) in
     at-replaced w (called (w .a) x (w .a .history)) (put (w .a .joined) (w .ab) x) (w .ba) (λ kp k.
     let s = g kp in
-    by-test (isDone (sendAnswer im ph ask (length out)))
+    by-test (isDone (admitted now ph rule))
     (λ t.
-    rw (sent-is im ph ask out t)
-    (sends-up im ph (w .a .joined) (w .a .begun) (w .a .history) ask out (answered-sendable im ph ask (length out) t) s (rw (sent-is im ph ask out t) at k)))
-    (λ n. quietly-puts (w .a) x (unsent im ph ask out n) s (w .a .joined)))
+    rw (settle-does (admitted now ph rule) now ph (does now ph ask) t)
+    (sends-up now ph (w .a .joined) (w .a .begun) (w .a .history) ask (sendable now ph _ (admitted-done now ph rule t)) s))
+    (λ n. quietly-puts (w .a) x (refused-quiet rule now ph (does now ph ask) (send-harmless now ph (sendBytes now (sentOf ph) ask) room) n) s (w .a .joined)))

@@ -1,38 +1,36 @@
 -- The labels of the two ends with what is under way between them, after each event at one end. Assumes nothing.
 use Prim.Native.Nat.{ℕ}
-use mathlib.Core.Path.{_≡_, refl, sym, ap, _∙_}
 use mathlib.Core.Bool.{true}
 use mathlib.Core.List.{List, [], _∷_, _++_, append-nil, append-assoc}
-use Rattle.message.specs.Submission.{submissionOf}
-use Rattle.message.specs.declared.Kind.{Kind}
-use Rattle.message.specs.declared.Submission
-use Rattle.message.specs.declared.Submission.{Submission}
+use mathlib.Core.Path.{_≡_, refl, sym, ap, _∙_}
+use Rattle.label_list.specs.declared.Side.the-variants.{Given}
+use Rattle.label_list.specs.declared.SweepRule.the-variants.{AfterBreak}
 use Rattle.label_list.specs.Sweep.{sweptOf}
 use Rattle.label_list.specs.Valid.{validOf}
-use Rattle.label_list.specs.declared.SweepRule.the-variants.{AfterBreak}
-use Rattle.label_list.specs.declared.Side.the-variants.{Given}
-use Rattle.label_events.specs.declared.Reception
 use Rattle.label_events.specs.declared.Reception.{Reception}
-use Rattle.block0.specs.Layout.{noLabels}
-use Rattle.calls.specs.Acked.{releasedLabels}
-use Rattle.call_meaning.proofs.Released.{released-valid}
-use Rattle.submit.specs.Act.{acceptedLabels}
-use Rattle.receive.specs.declared.LabelEffect.{LabelEffect}
-use Rattle.receive.specs.Labels.{effectReception, effectLabels}
-use Rattle.two_ends.specs.World.{History}
-use Rattle.two_ends.specs.Calls.{accepts, takes}
+use Rattle.message.specs.declared.Kind.{Kind}
+use Rattle.message.specs.declared.Submission.{Submission}
+use Rattle.message.specs.Submission.{submissionOf}
+use Rattle.protocol.specs.declared.LabelEffect.{LabelEffect}
+use Rattle.protocol.specs.Acked.{releasedLabels}
+use Rattle.protocol.specs.Labels.{effectReception, effectLabels}
+use Rattle.protocol.specs.State.{noTable}
+use Rattle.protocol.specs.Submit.{acceptedLabels}
+use Rattle.protocol.proofs.Words.{released-valid}
 use Rattle.two_ends.specs.Agree.{Agree}
-use Rattle.two_ends.proofs.Sixless.{NoSix, none-code}
-use Rattle.two_ends.proofs.Agreeing.{accept-giver, accept-user}
+use Rattle.two_ends.specs.Calls.{accepts, takes}
+use Rattle.two_ends.specs.World.{History}
 use Rattle.two_ends.proofs.Acking.{none-given, ack-giver, ack-user, broken-giver, broken-user}
+use Rattle.two_ends.proofs.Agreeing.{accept-giver, accept-user}
 use Rattle.two_ends.proofs.Getting.{Says, take-giver, take-user}
+use Rattle.two_ends.proofs.Sixless.{NoSix, none-code}
 
 -- the words and the history of the giver, then those of the user: they agree, whatever the one has accepted and the other not secured
 pub record Shared (xl : List ℕ) (xh : History) (yl : List ℕ) (yh : History) : Type 0 where
   pub agree : (out back : List (List ℕ)) → xh .accepted ≡ yh .secured ++ out → yh .accepted ≡ xh .secured ++ back → Agree xl yl out back
 
 -- ---- the start
-pub shared-none : (yl : List ℕ) (xh yh : History) → Shared noLabels xh yl yh
+pub shared-none : (yl : List ℕ) (xh yh : History) → Shared (noTable .words) xh yl yh
 shared-none yl xh yh = record { agree = λ out back p q l may g held. none-given (none-code Given l) g }
 
 module _ {xl : List ℕ} {xh : History} {yl : List ℕ} {yh : History} where

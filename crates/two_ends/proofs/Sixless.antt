@@ -1,48 +1,42 @@
 -- Between the two ends no label is used without protection: no word has code 6. Assumes nothing.
 use Prim.Native.Nat.{ℕ, zero, suc}
-use native.Mathlib.Omega.{arith}
-use mathlib.Core.Path.{_≡_, refl, sym, ap, _∙_}
 use mathlib.Core.Bool.{true, false}
-use mathlib.Core.List.{List, [], _∷_}
-use mathlib.Core.Logic.{_⊎_, ⊎-elim}
-use borrow.Author.Tests.{eqb-true}
+use mathlib.Core.List.{List}
+use mathlib.Core.Logic.{⊎-elim}
+use mathlib.Core.Path.{_≡_, refl, sym, ap, _∙_}
+use native.Mathlib.Omega.{arith}
 use lib.Dec.{eqb}
 use lib.ListN.{getD, replicate}
-use Rattle.message.specs.Submission.{submissionOf}
-use Rattle.message.specs.declared.Submission.{Submission}
-use Rattle.label_list.specs.Word.{wordCount, standsFor}
-use Rattle.label_list.specs.Valid.{validOf}
-use Rattle.label_list.specs.Sweep.{sweptOf}
-use Rattle.label_list.specs.Rules.{receivedSide}
-use Rattle.label_list.specs.Protection.{barsProtection, codeProtection}
+use borrow.Author.Tests.{eqb-true}
+use Rattle.octets.proofs.Choice.{by-test}
 use Rattle.label_list.specs.declared.LabelMessage.{LabelMessage}
 use Rattle.label_list.specs.declared.LabelMessage.the-variants.{Mapping, Withdraw, Release}
-use Rattle.label_list.specs.declared.Protection
 use Rattle.label_list.specs.declared.Protection.{Protection}
 use Rattle.label_list.specs.declared.Side.{Side}
 use Rattle.label_list.specs.declared.Side.the-variants.{Used}
 use Rattle.label_list.specs.declared.SweepRule.the-variants.{AfterBreak}
-use Rattle.octets.proofs.Choice.{by-test, pick-all}
+use Rattle.label_list.specs.Protection.{barsProtection, codeProtection}
+use Rattle.label_list.specs.Rules.{receivedSide}
+use Rattle.label_list.specs.Sweep.{sweptOf}
+use Rattle.label_list.specs.Valid.{validOf}
+use Rattle.label_list.specs.Word.{wordCount, standsFor}
 use Rattle.label_list.proofs.Standing.{free-stands}
+use Rattle.label_events.specs.declared.Touched.{Touched}
 use Rattle.label_events.specs.Change.{codeAt}
 use Rattle.label_events.specs.Protect.{protectionOf}
-use Rattle.label_events.specs.declared.Touched
-use Rattle.label_events.specs.declared.Touched.{Touched}
 use Rattle.label_meaning.specs.Event.{Event, Accepted, Acked, Received, Broken, step, Moves, released, returned, release-acked, taken, taken-again, taken-bare, asked-back, bare-withdrawn, bare-lost}
 use Rattle.label_meaning.specs.View.{absent}
 use Rattle.label_meaning.proofs.Meaning.{valid-means}
-use Rattle.label_meaning.proofs.View.{is-code}
 use Rattle.label_meaning.proofs.Moved.{every-move}
-use Rattle.block0.specs.Layout.{noLabels}
-use Rattle.block0.proofs.Rules.{none-valid}
-use Rattle.slot.specs.Held.{kindIn, labelIn}
-use Rattle.calls.specs.Acked.{releasedKind, releasedLabels}
-use Rattle.call_meaning.proofs.Released.{released-valid}
-use Rattle.submit.specs.Act.{acceptedLabels}
-use Rattle.submit.proofs.Accepted.{kept}
-use Rattle.receive.specs.declared.LabelEffect
-use Rattle.receive.specs.declared.LabelEffect.{LabelEffect}
-use Rattle.receive.specs.Labels.{effectProtection, effectLabels}
+use Rattle.label_meaning.proofs.Step.{step-valid}
+use Rattle.label_meaning.proofs.View.{is-code}
+use Rattle.message.specs.declared.Submission.{Submission}
+use Rattle.protocol.specs.declared.LabelEffect.{LabelEffect}
+use Rattle.protocol.specs.Acked.{releasedLabels}
+use Rattle.protocol.specs.Labels.{effectProtection, effectLabels}
+use Rattle.protocol.specs.State.{noTable}
+use Rattle.protocol.specs.Submit.{acceptedLabels}
+use Rattle.protocol.proofs.Words.{none-valid, accepted-keeps, released-keeps}
 
 abbrev pub NoSix : List ℕ → Type 0
 NoSix ls = (l : ℕ) → codeAt ls Used l ≡ 6 → ⊥
@@ -80,12 +74,12 @@ zero-at zero i = refl
 zero-at (suc n) zero = refl
 zero-at (suc n) (suc i) = zero-at n i
 
-pub none-code : (side : Side) (l : ℕ) → codeAt noLabels side l ≡ 0
+pub none-code : (side : Side) (l : ℕ) → codeAt (noTable .words) side l ≡ 0
 none-code side l =
-    let free : (i : ℕ) → standsFor side l (getD noLabels i 0) ≡ false = λ i. ap (standsFor side l) (zero-at wordCount i) ∙ free-stands side l in
-    is-code noLabels side l (valid-means noLabels none-valid) (absent free)
+    let free : (i : ℕ) → standsFor side l (getD (noTable .words) i 0) ≡ false = λ i. ap (standsFor side l) (zero-at wordCount i) ∙ free-stands side l in
+    is-code (noTable .words) side l (valid-means (noTable .words) none-valid) (absent free)
 
-pub none-sixless : NoSix noLabels
+pub none-sixless : NoSix (noTable .words)
 none-sixless l six = omega (arith, none-code Used l)
 
 -- ---- a connection ends
@@ -95,21 +89,13 @@ broken-sixless ls v n = step-sixless ls v n Broken tt
 
 -- ---- a message is accepted
 pub accepted-sixless : (ls : List ℕ) → validOf ls ≡ true → NoSix ls → (j : Submission) → NoSix (acceptedLabels ls j)
-accepted-sixless ls v n j = kept NoSix ls n (λ m l. step-sixless ls v n (Accepted m l) tt) j
+accepted-sixless ls v n j = accepted-keeps NoSix ls n (λ m l. step-sixless ls v n (Accepted m l) tt) j
 
 -- ---- messages are released
-kind-sixless : (kind label : ℕ) (ls : List ℕ) → validOf ls ≡ true → NoSix ls → NoSix (releasedKind kind label ls)
-unfolding releasedKind step
-kind-sixless kind label ls v n =
-    pick-all NoSix (eqb kind 2) (step-sixless ls v n (Acked Withdraw label) tt) (pick-all NoSix (eqb kind 3) (step-sixless ls v n (Acked Release label) tt) n)
-
 pub released-sixless : (ms : List (List ℕ)) (ls : List ℕ) → validOf ls ≡ true → NoSix ls → NoSix (releasedLabels ms ls)
-unfolding releasedLabels
-released-sixless [] ls v n = n
-released-sixless (m ∷ ms) ls v n =
-    let k = kindIn (submissionOf m) in
-    let l = labelIn (submissionOf m) in
-    released-sixless ms (releasedKind k l ls) (released-valid (m ∷ []) ls v) (kind-sixless k l ls v n)
+released-sixless ms ls v n =
+    released-keeps (λ (ws : List ℕ). (validOf ws ≡ true) × NoSix ws)
+    (λ ws p m l. (step-valid ws (Acked m l) (p .0), step-sixless ws (p .0) (p .1) (Acked m l) tt)) ms ls (v, n) .1
 
 -- ---- a protected message is received
 pub received-sixless : (ls : List ℕ) (e : LabelEffect) → validOf ls ≡ true → NoSix ls → NoSix (effectLabels ls true e)

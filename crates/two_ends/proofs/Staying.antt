@@ -1,154 +1,158 @@
--- As long as no event releases, both ends keep their state. Assumes nothing.
-use Prim.Native.Nat.{ℕ, _≤_}
-use native.Mathlib.Omega.{arith}
-use mathlib.Core.Path.{_≡_, refl, sym, _∙_}
-use mathlib.Core.Bool.{Bool, true, false, not, true≢false}
-use mathlib.Core.List.{List, [], _∷_}
+-- Over every run: with no event that releases, neither end releases its state. Assumes nothing.
+use Prim.Native.Nat.{_≤_, ℕ}
+use mathlib.Core.Bool.{Bool, false, true, true≢false}
+use mathlib.Core.List.{[], List, map, _∷_}
 use mathlib.Core.Logic.{⊎-elim}
-use borrow.Author.Tests.{eq-eqb}
-use lib.Dec.{eqb}
-use Rattle.octets.specs.Pick.{pick, both}
-use Rattle.image.specs.State.{decode}
-use Rattle.calls.specs.declared.Answer
-use Rattle.calls.specs.declared.Answer.{Answer}
-use Rattle.calls.specs.declared.Phase
-use Rattle.calls.specs.declared.Phase.{Phase}
-use Rattle.calls.specs.Acked.{acked}
-use Rattle.calls.specs.Outcomes.{releasedWith}
-use Rattle.calls.specs.Answers.{answerNumber}
-use Rattle.timers.specs.Events.{connected}
-use Rattle.init.specs.declared.Start
-use Rattle.init.specs.declared.Start.{Start}
-use Rattle.init.specs.Begun.{resumed, initStart, initReceivedOf}
-use Rattle.receive.specs.Rule.{receiveAnswer, receiveOf}
-use Rattle.receive.proofs.Meaning.{receive-answered}
-use Rattle.two_ends.specs.World.{History, End, World}
-use Rattle.two_ends.specs.Calls.{broken, keeps, replaced, greeted, anew, took, delivered, delivery}
-use Rattle.two_ends.specs.Staying.{Fatal, Stays}
-use Rattle.two_ends.proofs.Packets.{Packet, first, again, alive, carried, bytesOf, NoInit, fine-bytes}
-use Rattle.two_ends.proofs.Invariant.{Headed, linkable, Inv, Good}
-use Rattle.two_ends.proofs.Takes.{headed}
-use Rattle.two_ends.proofs.Worlds.{ended, kept-one, next}
-use Rattle.two_ends.proofs.Delivering.{Oldest, oldest}
-use Rattle.two_ends.proofs.Resuming.{again-start, again-begins, again-changed}
-use Rattle.two_ends.proofs.Judging.{Fair, fair-done, fair-full, fair-fatal}
-use Rattle.two_ends.proofs.Arriving.{g₁, alive-read, alive-done, g₂, carried-read, carried-fair}
-use Rattle.two_ends.proofs.Delivered.{up-reads}
-use Rattle.two_ends.proofs.Moving.{Terms}
-use Rattle.two_ends.proofs.Unreleased.{taken-terms, full-terms}
+use mathlib.Core.Path.{_≡_, refl, sym, _∙_}
+use native.Mathlib.Omega.{arith}
+use Rattle.octets.specs.Pick.{both}
+use Rattle.octets.proofs.Choice.{pick-all}
+use Rattle.ft_number.specs.declared.FtNumber.{FtNumber}
+use Rattle.ft_number.specs.declared.MessageId.{MessageId}
+use Rattle.message_writer.specs.declared.OwnParameters.{OwnParameters}
+use Rattle.protocol.specs.declared.Answer.{Answer}
+use Rattle.protocol.specs.declared.Phase.{Phase}
+use Rattle.protocol.specs.declared.Start.{Start}
+use Rattle.protocol.specs.Acked.{acked}
+use Rattle.protocol.specs.Answers.{answerNumber}
+use Rattle.protocol.specs.Begin.{restore}
+use Rattle.protocol.specs.ConnectionFailed.{connectionFailed}
+use Rattle.protocol.specs.Init.{initStart, resumed}
+use Rattle.protocol.specs.KeepAlive.{keepalive}
+use Rattle.protocol.specs.Open.{openSession}
+use Rattle.protocol.specs.Phases.{upWith, waitingFor}
+use Rattle.protocol.specs.Receive.{receive}
+use Rattle.protocol.specs.Send.{sendNext}
+use Rattle.protocol.specs.State.{State}
+use Rattle.protocol.specs.Step.{Step}
+use Rattle.protocol.specs.Submit.{submit}
+use Rattle.protocol.specs.TimePassed.{timePassed}
+use Rattle.protocol.proofs.Begins.{changed as changed-init}
+use Rattle.protocol.proofs.Moves.{Moves, alive-moves, notice-moves, open-moves, receive-frees, restore-moves, send-moves, submit-moves, time-moves}
+use Rattle.two_ends.specs.Answers.{answerTo}
+use Rattle.two_ends.specs.Calls.{accepts, broken, called, counts, keeps, plainly, put, wrote, on}
+use Rattle.two_ends.specs.Runs.{AllProper, Event, act, breaks, delivers, keepalives, notices, opens, passes, restarts, run, sends, step, submits}
+use Rattle.two_ends.specs.Start.{Afresh, Fit, Opener, start}
+use Rattle.two_ends.specs.Staying.{Stays, Releasing, ReleasingAt, NoneReleases}
+use Rattle.two_ends.specs.World.{End, History, Lasts, World, swap}
+use Rattle.two_ends.proofs.Acts.{by-delivery, by-open, by-plain, by-submit, by-write, hearer, still}
+use Rattle.two_ends.proofs.Begun.{at-start}
+use Rattle.two_ends.proofs.Invariant.{Good, Inv}
+use Rattle.two_ends.proofs.Oldest.{Oldests, by-oldest}
+use Rattle.two_ends.proofs.Packets.{Packet, again, alive, bytesOf, carried}
+use Rattle.two_ends.proofs.Resuming.{again-begins, again-start}
+use Rattle.two_ends.proofs.Starting.{terms}
+use Rattle.two_ends.proofs.Theorem.{at-run, at-step}
+use Rattle.two_ends.proofs.Worlds.{at-swap, ended, kept-one, next}
 
--- ---- an event that leaves both states kept
-pub both-are : {a b : Bool} → a ≡ true → b ≡ true → both a b ≡ true
+both-are : {a b : Bool} → a ≡ true → b ≡ true → both a b ≡ true
 both-are p q = rw (p, q)
 
-pub broken-stays : (w : World) → Stays w → Stays (broken w)
-broken-stays w s = record { kept = both-are (s .kept) (both-are (s .ours) (s .theirs)); ours = s .ours; theirs = s .theirs }
+-- ---- an event that leaves both states kept
+broken-stays : (v : World) → Stays v → Stays (broken v)
+broken-stays v s = record { lasts = (both-are (s .lasts .0) (both-are (s .ours) (s .theirs)), s .lasts .1); ours = s .ours; theirs = s .theirs }
 
-pub replaced-stays : (w : World) (e : End) (ab ba : List (List ℕ)) → w .kept ≡ true → w .b .begun ≡ true → e .begun ≡ true → keeps e ≡ true → Stays (replaced w e ab ba)
-replaced-stays w e ab ba k t o p = by (both (e .joined) (not (connected (e .phase))))
-  where
-    stays : Stays (next w e ab ba)
-    stays = record { kept = both-are k p; ours = o; theirs = t }
+keeps-one : (e : End) → e .state .kept ≡ true → keeps e ≡ true
+keeps-one e k = pick-all (λ (b : Bool). b ≡ true) (e .begun) k refl
 
-    by : (c : Bool) → Stays (pick c (broken (next w e ab ba)) (next w e ab ba))
-    by true = broken-stays (next w e ab ba) stays
-    by false = stays
+-- ---- a message is delivered to an end that has begun, and is answered below 30
+module _ (b : End) (ab : List (List ℕ)) where
+  pub record Holds (e : End) (m : List ℕ) : Type 0 where
+    pub begun : hearer e m .begun ≡ true
+    pub keeping : keeps (hearer e m) ≡ true
+    pub same : (u : Bool) → u ≡ true → still u e m ≡ true
 
--- an end whose kept is 1
-keeps-by : (b : Bool) (k : ℕ) → k ≡ 1 → pick b (eqb k 1) true ≡ true
-keeps-by true k e = eq-eqb k 1 e
-keeps-by false k e = refl
+  abbrev Mildly : End → List ℕ → List (List ℕ) → Type 0
+  Mildly e m rest = e .begun ≡ true → (30 ≤ answerNumber (answerTo e m) → ⊥) → Holds e m
 
-pub keeps-one : (e : End) → decode (e .image) .header .kept ≡ 1 → keeps e ≡ true
-keeps-one e k = keeps-by (e .begun) (decode (e .image) .header .kept) k
-
--- ---- a message is delivered
-module _ (im : List ℕ) (h : History) {b : End} {ab ba : List (List ℕ)} {pa qs : List Packet} where
-  -- an Init: the end has begun, so the session is resumed
-  init-stays : (t : ℕ) (q : Packet) → Headed true (decode im .header .kept) (q ∷ qs) → Inv (ended im (Phase.InitWait t) true true h) b ab ba pa (q ∷ qs)
-      → (30 ≤ answerNumber (initReceivedOf im (Phase.InitWait t) (bytesOf q) .outcome .answer) → ⊥)
-      → Terms (decode im) (decode (initReceivedOf im (Phase.InitWait t) (bytesOf q) .image)) × (anew (initStart im (Phase.InitWait t) (bytesOf q)) (initReceivedOf im (Phase.InitWait t) (bytesOf q)) ≡ false)
-  unfolding releasedWith resumed acked
-  init-stays t (first id p seconds ack) w i n = absurd (true≢false (w .0))
-  init-stays t (again id p seconds a) w i n =
+  resumed-holds : (now : State) (t : ℕ) (h : History) (id : MessageId) (p : OwnParameters) (seconds : ℕ) (a : FtNumber) {qs : List Packet} {ba : List (List ℕ)} {pa : List Packet}
+      → Inv (ended now (waitingFor t) true true h) b ab ba pa (again id p seconds a ∷ qs)
+      → Mildly (ended now (waitingFor t) true true h) (bytesOf (again id p seconds a)) (map bytesOf qs)
+  unfolding resumed acked
+  resumed-holds now t h id p seconds a i g low =
       let m = bytesOf (again id p seconds a) in
-      let st = again-start im t h id p seconds a i in
+      let ts = terms now t id p seconds in
+      let st = again-start now t h id p seconds a i in
       ⊎-elim
-      (λ (e : initStart im (Phase.InitWait t) m ≡ Start.Resumed _ (st .0) a).
-      let d = again-begins im t h id p seconds a i (st .0) e in
-      (rw (d .state) (record { kept = refl; keepalive = refl; maxpdu = refl }), rw (d .answer, e)))
-      (λ (e : initStart im (Phase.InitWait t) m ≡ Start.Refused Answer.ParametersChanged). absurd (n (rw (again-changed im t h id p seconds a i e) (omega arith))))
+      (λ (e : initStart now (waitingFor t) m ≡ Start.Resumed ts (st .0) a).
+      let d = again-begins now t h id p seconds a i (st .0) e in
+      record { begun = refl; keeping = rw d (kept-one (i .own)); same = λ u k. rw (d, e, k) })
+      (λ (e : initStart now (waitingFor t) m ≡ Start.Refused Answer.ParametersChanged). absurd (low (rw (changed-init now t m e) (omega arith))))
       (st .2)
-  init-stays t (alive id s) w i n = absurd w
-  init-stays t (carried m c ack) w i n = absurd w
 
-  message-stays : (sent : ℕ) (q : Packet) → NoInit (q ∷ qs) → Inv (ended im (Phase.UpFT sent) true true h) b ab ba pa (q ∷ qs)
-      → (30 ≤ answerNumber (receiveAnswer im (Phase.UpFT sent) (bytesOf q)) → ⊥) → Terms (decode im) (decode (receiveOf im (Phase.UpFT sent) (bytesOf q) .image))
-  message-stays sent (first id p seconds ack) none i n = absurd none
-  message-stays sent (again id p seconds a) none i n = absurd none
-  message-stays sent (alive id c) none i n =
-      taken-terms im sent (bytesOf (alive id c)) (i .own .stand) (g₁ im sent h id c) (alive-read im sent h id c i) (fine-bytes (alive id c) (i .back .fines .0)) (alive-done im sent h id c i)
-  message-stays sent (carried m c ack) none i n = by (receiveAnswer im (Phase.UpFT sent) (bytesOf (carried m c ack))) refl (carried-fair im sent h m c ack i)
-    where
-      by : (a : Answer) → receiveAnswer im (Phase.UpFT sent) (bytesOf (carried m c ack)) ≡ a → Fair a → Terms (decode im) (decode (receiveOf im (Phase.UpFT sent) (bytesOf (carried m c ack)) .image))
-      by Answer.Done e fair-done =
-          taken-terms im sent (bytesOf (carried m c ack)) (i .own .stand) (g₂ im sent h m c ack i) (carried-read im sent h m c ack i) (fine-bytes (carried m c ack) (i .back .fines .0)) e
-      by Answer.NoWordForMapping e fair-full = full-terms im sent (bytesOf (carried m c ack)) (i .own .stand) (g₂ im sent h m c ack i) (carried-read im sent h m c ack i) e
-      by Answer.StatusFatal e fair-fatal = absurd (n (rw e (omega arith)))
+  taken-holds : (now : State) (sent : ℕ) (h : History) (m : List ℕ) {q : Packet} {qs : List Packet} {ba : List (List ℕ)} {pa : List Packet} → Inv (ended now (upWith sent) true true h) b ab ba pa (q ∷ qs)
+      → (30 ≤ answerNumber (receive now (upWith sent) m .answer) → ⊥) → Holds (ended now (upWith sent) true true h) m
+  taken-holds now sent h m i low = record { begun = refl; keeping = receive-frees now (upWith sent) m low .1 .kept ∙ kept-one (i .own); same = λ u k. k }
 
--- the oldest of the line
-module _ (im : List ℕ) (h : History) {b : End} {ab ba : List (List ℕ)} {pa ps : List Packet} {m : List ℕ} {rest : List (List ℕ)} {q : Packet} {qs : List Packet}
-    (o : Oldest m rest ps q qs) where
-  oldest-init : (t : ℕ) → Inv (ended im (Phase.InitWait t) true true h) b ab ba pa ps → (30 ≤ answerNumber (initReceivedOf im (Phase.InitWait t) m .outcome .answer) → ⊥)
-      → Terms (decode im) (decode (initReceivedOf im (Phase.InitWait t) m .image)) × (anew (initStart im (Phase.InitWait t) m) (initReceivedOf im (Phase.InitWait t) m) ≡ false)
-  oldest-init t i n =
-      let j = rw (o .is) at i in
-      rw (o .bytes) (init-stays im h t q (headed (b .joined) true (decode im .header .kept) q qs (j .back .shape)) j (rw (o .bytes) at n))
+  each : Oldests Mildly b ab
+  each = record {
+    firsts = λ now t h id p seconds ack qs lead i g. absurd (true≢false (sym g));
+    agains = λ now t h id p seconds a qs i. resumed-holds now t h id p seconds a i;
+    alives = λ now sent h id n qs i g. taken-holds now sent h (bytesOf (alive id n)) i;
+    carries = λ now sent h m n ack qs i g. taken-holds now sent h (bytesOf (carried m n ack)) i;
+  }
 
-  oldest-message : (sent : ℕ) → Inv (ended im (Phase.UpFT sent) true true h) b ab ba pa ps → (30 ≤ answerNumber (receiveOf im (Phase.UpFT sent) m .outcome .answer) → ⊥)
-      → Terms (decode im) (decode (receiveOf im (Phase.UpFT sent) m .image))
-  oldest-message sent i n =
-      let j = rw (o .is) at i in
-      rw (o .bytes)
-      (message-stays im h sent q (up-reads (b .joined) true (decode im .header .kept) qs q (j .back .shape)) j (rw (o .bytes, receive-answered im (Phase.UpFT sent) (bytesOf q)) at n))
+-- ---- every event
+module _ (w : World) (g : Good w) (s : Stays w) where
+  abbrev now : State
+  now = w .a .state
 
-module _ (im : List ℕ) (h : History) (b : End) (ab : List (List ℕ)) (kept : Bool) where
-  abbrev world : Phase → Bool → Bool → List (List ℕ) → World
-  world ph jo bg ba = record { a = ended im ph jo bg h; b = b; ab = ab; ba = ba; kept = kept }
+  abbrev ph : Phase
+  ph = w .a .phase
 
-  deliver-init : (t : ℕ) (m : List ℕ) (rest : List (List ℕ)) → Good (world (Phase.InitWait t) true true (m ∷ rest)) → Stays (world (Phase.InitWait t) true true (m ∷ rest))
-      → (Fatal (world (Phase.InitWait t) true true (m ∷ rest)) → ⊥) → Stays (delivered (world (Phase.InitWait t) true true (m ∷ rest)) m rest)
-  deliver-init t m rest g s n =
-      let e : End = ended im (Phase.InitWait t) true true h in
-      let st = initStart im (Phase.InitWait t) m in
-      let x = initReceivedOf im (Phase.InitWait t) m in
-      let i = g (s .kept) in
-      let f = oldest-init im h (oldest m rest (i .1) (i .2 .lineB) .2) t (i .2) (λ l. n (record { message = m; rest = rest; on = refl; line = refl; answer = l })) in
-      replaced-stays (record { a = e; b = b; ab = ab; ba = m ∷ rest; kept = both kept (not (both true (anew st x))) }) (greeted e st x) ab rest
-      (both-are (s .kept) (rw (f .1))) (s .theirs) refl (keeps-one (greeted e st x) (f .0 .kept ∙ kept-one (i .2 .own)))
+  pub one : now .kept ≡ true
+  one = rw (s .ours) at (g (s .lasts) .2 .own .keeping)
 
-  deliver-message : (sent : ℕ) (m : List ℕ) (rest : List (List ℕ)) → Good (world (Phase.UpFT sent) true true (m ∷ rest)) → Stays (world (Phase.UpFT sent) true true (m ∷ rest))
-      → (Fatal (world (Phase.UpFT sent) true true (m ∷ rest)) → ⊥) → Stays (delivered (world (Phase.UpFT sent) true true (m ∷ rest)) m rest)
-  deliver-message sent m rest g s n =
-      let e : End = ended im (Phase.UpFT sent) true true h in
-      let i = g (s .kept) in
-      let f = oldest-message im h (oldest m rest (i .1) (i .2 .lineB) .2) sent (i .2) (λ l. n (record { message = m; rest = rest; on = refl; line = refl; answer = l })) in
-      replaced-stays (world (Phase.UpFT sent) true true (m ∷ rest)) (took e m (receiveOf im (Phase.UpFT sent) m)) ab rest
-      (s .kept) (s .theirs) refl (keeps-one (took e m (receiveOf im (Phase.UpFT sent) m)) (f .kept ∙ kept-one (i .2 .own)))
+  -- a call that leaves kept
+  next-stays : (e : End) (ab ba : List (List ℕ)) → e .begun ≡ true → e .state .kept ≡ now .kept → Stays (next w e ab ba)
+  next-stays e ab ba o k = record { lasts = (s .lasts .0, both-are (s .lasts .1) (keeps-one e (k ∙ one))); ours = o; theirs = s .theirs }
 
-  off-phase : (ph : Phase) (ba : List (List ℕ)) → linkable ph ≡ false → Good (world ph true true ba) → Stays (world ph true true ba) → ⊥
-  off-phase ph ba l g s = true≢false (sym (g (s .kept) .2 .own .linked refl) ∙ l)
+  called-stays : (x : Step) (h : History) (ab ba : List (List ℕ)) → x .state .kept ≡ now .kept → Stays (next w (called (w .a) x h) ab ba)
+  called-stays x h ab ba k = next-stays (called (w .a) x h) ab ba (s .ours) k
 
-  deliver-stays : (jo bg : Bool) (ba : List (List ℕ)) (ph : Phase) → Good (world ph jo bg ba) → Stays (world ph jo bg ba) → (Fatal (world ph jo bg ba) → ⊥)
-      → Stays (delivery jo ba (world ph jo bg ba))
-  deliver-stays jo false ba ph g s n = absurd (true≢false (sym (s .ours)))
-  deliver-stays false true ba ph g s n = s
-  deliver-stays true true [] ph g s n = s
-  deliver-stays true true (m ∷ rest) Phase.Idle g s n = absurd (off-phase Phase.Idle (m ∷ rest) refl g s)
-  deliver-stays true true (m ∷ rest) (Phase.InitWait t) g s n = deliver-init t m rest g s n
-  deliver-stays true true (m ∷ rest) (Phase.UpFT sent) g s n = deliver-message sent m rest g s n
-  deliver-stays true true (m ∷ rest) Phase.UpPlain g s n = absurd (off-phase Phase.UpPlain (m ∷ rest) refl g s)
-  deliver-stays true true (m ∷ rest) Phase.Failed g s n = absurd (off-phase Phase.Failed (m ∷ rest) refl g s)
+  write-stays : (x : Step) → x .state .kept ≡ now .kept → Stays (wrote w x)
+  write-stays x k = by-write Stays broken-stays w x (called-stays x (w .a .history) (put (w .a .joined) (w .ab) x) (w .ba) k)
 
-pub delivers-stays : (w : World) → Good w → Stays w → (Fatal w → ⊥) → Stays (delivery (w .a .joined) (w .ba) w)
-delivers-stays w g s n = deliver-stays (w .a .image) (w .a .history) (w .b) (w .ab) (w .kept) (w .a .joined) (w .a .begun) (w .ba) (w .a .phase) g s n
+  plain-stays : (x : Step) → x .state .kept ≡ now .kept → Stays (plainly w x)
+  plain-stays x k = by-plain Stays broken-stays w x (called-stays x (w .a .history) (w .ab) (w .ba) k)
+
+  submit-kept : (m : List ℕ) → submit now ph m .state .kept ≡ now .kept
+  submit-kept m =
+      ⊎-elim (λ (a : Moves now (submit now ph m .state) 0 []). a .kept) (λ (a : Moves now (submit now ph m .state) 0 (m ∷ [])). a .kept) (submit-moves now ph m)
+
+  act-stays : (v : Event) → (Releasing w v → ⊥) → Stays (act w v)
+  act-stays (submits m) n =
+      let x = submit now ph m in
+      by-submit Stays broken-stays w m x (called-stays x (counts (w .a) x (accepts m (w .a .history))) (w .ab) (w .ba) (submit-kept m))
+  act-stays (sends ask room) n = write-stays (sendNext now ph ask room) (send-moves now ph ask room .kept)
+  act-stays (keepalives id room) n = write-stays (keepalive now ph id room) (alive-moves now ph id room .kept)
+  act-stays (opens id p t room) n =
+      let x = openSession now ph id p t room in
+      let k = open-moves now ph id p t room .kept in
+      by-open Stays broken-stays w x (next-stays (on (called (w .a) x (w .a .history))) (put true (w .ab) x) (w .ba) (s .ours) k) (called-stays x (w .a .history) (w .ab) (w .ba) k)
+  act-stays (passes elapsed) n = plain-stays (timePassed now ph elapsed) (time-moves now ph elapsed (λ t e. n (t, e)) .kept)
+  act-stays delivers n =
+      by-delivery Stays broken-stays w s (λ m rest on line.
+      let d = by-oldest (Mildly (w .b) (w .ab)) (w .b) (w .ab) (each (w .b) (w .ab)) (w .a) m rest on (rw line at (g (s .lasts))) (s .ours)
+      (λ low. n (record { message = m; rest = rest; on = on; line = line; answer = low })) in
+      record { lasts = (s .lasts .0, both-are (d .same (w .unreleased) (s .lasts .1)) (d .keeping)); ours = d .begun; theirs = s .theirs })
+  act-stays breaks n = broken-stays w s
+  act-stays notices n = plain-stays (connectionFailed now ph) (notice-moves now ph .kept)
+  act-stays restarts n = plain-stays (restore now) (restore-moves now ph .kept)
+
+-- ---- over a run
+swap-stays : (w : World) → Stays w → Stays (swap w)
+swap-stays w s = record { lasts = s .lasts; ours = s .theirs; theirs = s .ours }
+
+pub step-stays : (w : World) (at : Bool) (v : Event) → Good w → Stays w → (ReleasingAt w at v → ⊥) → Stays (step w at v)
+step-stays w true v g s n = act-stays w g s v n
+step-stays w false v g s n = swap-stays (act (swap w) v) (act-stays (swap w) (at-swap w g) (swap-stays w s) v n)
+
+run-stays : (w : World) (vs : List (Bool × Event)) → AllProper vs → Good w → Stays w → NoneReleases w vs → Stays (run w vs)
+run-stays w [] p g s n = s
+run-stays w (v ∷ vs) p g s n = run-stays (step w (v .0) (v .1)) vs (p .1) (at-step w (v .0) (v .1) (p .0) g) (step-stays w (v .0) (v .1) g s (n .0)) (n .1)
+
+-- once both ends have begun, only a passed timeout, 35 or 36 releases a state
+pub still-kept : (x y : Opener) → Fit x → Fit y → Afresh x y → (us vs : List (Bool × Event)) → AllProper us → AllProper vs
+    → Stays (run (start x y) us) → NoneReleases (run (start x y) us) vs → Lasts (run (run (start x y) us) vs)
+still-kept x y fx fy f us vs pu pv s n = run-stays (run (start x y) us) vs pv (at-run (start x y) us pu (at-start x y fx fy f)) s n .lasts

@@ -1,75 +1,55 @@
 -- The two directions after the oldest message of a line is taken. Assumes nothing.
 use Prim.Native.Nat.{ℕ, _-_}
-use native.Mathlib.Omega.{arith}
-use mathlib.Core.Path.{_≡_, refl}
 use mathlib.Core.Bool.{Bool, true, false}
 use mathlib.Core.List.{List, [], _∷_, append-nil}
+use mathlib.Core.Path.{_≡_}
+use native.Mathlib.Omega.{arith}
 use lib.ListN.{take}
-use Rattle.ft_number.specs.Circle.{stepsOf}
-use Rattle.ft_number.specs.Ack.{ackOf}
-use Rattle.ft_number.specs.declared.Ack
 use Rattle.ft_number.specs.declared.Ack.{Ack}
 use Rattle.ft_number.specs.declared.FtNumber.{FtNumber}
 use Rattle.ft_number.specs.declared.MessageId.{MessageId}
-use Rattle.tlv.specs.declared.FtField
+use Rattle.ft_number.specs.Ack.{ackOf}
+use Rattle.ft_number.specs.Circle.{stepsOf}
 use Rattle.tlv.specs.declared.FtField.{FtField}
 use Rattle.message.specs.declared.Message.{Message}
 use Rattle.message_writer.specs.declared.OwnParameters.{OwnParameters}
-use Rattle.image.specs.State.{State}
-use Rattle.image.specs.Events.{released}
-use Rattle.calls.specs.declared.Phase
-use Rattle.calls.specs.declared.Phase.{Phase}
-use Rattle.calls.specs.Acked.{releasedLabels, ackBorne, acked}
-use Rattle.init.specs.declared.Terms.{Terms}
-use Rattle.init.specs.Begun.{fresh, resumed}
-use Rattle.receive.specs.Rule.{ackOn, taken, receivedState}
-use Rattle.two_ends.specs.World.{History, none}
+use Rattle.protocol.specs.declared.Terms.{Terms}
+use Rattle.protocol.specs.Acked.{ackBorne, acked}
+use Rattle.protocol.specs.Init.{fresh, resumed}
+use Rattle.protocol.specs.Phases.{upWith, waitingFor}
+use Rattle.protocol.specs.Receive.{ackOn, taken, receivedState}
+use Rattle.protocol.specs.State.{State, releasedState}
 use Rattle.two_ends.specs.Calls.{takes}
-use Rattle.two_ends.proofs.Half.{Half}
+use Rattle.two_ends.specs.World.{History, none}
 use Rattle.two_ends.proofs.Direction.{half-secure}
 use Rattle.two_ends.proofs.Freeing.{Freed, half-none, half-ack, half-init}
-use Rattle.two_ends.proofs.Packets.{Packet, first, again, alive, carried, datas, acksOf}
+use Rattle.two_ends.proofs.Half.{Half}
 use Rattle.two_ends.proofs.Invariant.{Side, sndOf, rcvOf, Headed, Shape, Dir}
+use Rattle.two_ends.proofs.Packets.{Packet, first, again, alive, carried, datas, acksOf}
 use Rattle.two_ends.proofs.Sides.{side}
-use Rattle.receive.specs.Labels.{labelEffect, isProtected, effectLabels}
-use Rattle.block0.specs.Layout.{noLabels}
 
 pub nil-cons : {P : Type 0} {p : Packet} {ps : List Packet} → p ∷ ps ≡ [] → P
 nil-cons e = let z : _≡_ {A = ℕ} 0 1 = cc in absurd (omega arith)
 
--- ---- the label words after it
-pub fresh-labels : (t : Terms) → fresh t .labels ≡ noLabels
-unfolding fresh
-fresh-labels t = refl
-
-pub resumed-labels : (s : State) (t : Terms) (j a : ℕ) → resumed s t j a .labels ≡ releasedLabels (take j (s .queue)) (s .labels)
-unfolding resumed acked
-resumed-labels s t j a = refl
-
-pub taken-labels : (s : State) (g : Message) (j : ℕ) → ackOn (s .header) g ≡ Ack.Releases j
-    → receivedState s g .labels ≡ effectLabels (releasedLabels (take j (s .queue)) (s .labels)) (isProtected (g .protection)) (labelEffect g)
-unfolding receivedState taken acked
-taken-labels s g j acks = rw acks
-
 -- ---- the peer's first Init
 -- a reader that is not up: the sender's Init comes first
-pub headed : (jo bg : Bool) (k : ℕ) (p : Packet) (ps : List Packet) → Shape jo false bg k (p ∷ ps) → Headed bg k (p ∷ ps)
+pub headed : (jo bg k : Bool) (p : Packet) (ps : List Packet) → Shape jo false bg k (p ∷ ps) → Headed bg k (p ∷ ps)
 headed true bg k p ps h = h
 headed false bg k p ps h = nil-cons (h .0)
 
-module _ (k t : ℕ) (terms : Terms) (k′ : ℕ) where
+module _ (k : Bool) (t : ℕ) (terms : Terms) (k′ : Bool) where
   abbrev unbegun : Side
-  unbegun = side released k (Phase.InitWait t) true false none
+  unbegun = side releasedState k (waitingFor t) true false none
 
   abbrev begun : Side
-  begun = side (fresh terms) k′ (Phase.UpFT 0) true true none
+  begun = side (fresh terms) k′ (upWith 0) true true none
 
   module _ (id : MessageId) (p : OwnParameters) (seconds : ℕ) (ack : FtField) {y : Side} {to rest : List Packet} where
     pub dir-fresh : Dir unbegun y to (first id p seconds ack ∷ rest) → Dir begun y to rest
     unfolding fresh ackOf stepsOf
     dir-fresh d = record { half = by (half-init (d .half)); shape = d .shape; fines = d .fines }
       where
-        by : (j : ℕ) × Freed (sndOf released none) 0 (rcvOf (y .state) (y .history)) (datas to) (acksOf rest) 0 j
+        by : (j : ℕ) × Freed (sndOf releasedState none) 0 (rcvOf (y .state) (y .history)) (datas to) (acksOf rest) 0 j
             → Half (sndOf (fresh terms) none) 0 true (rcvOf (y .state) (y .history)) (datas to) (acksOf rest)
         by f =
             let same : Ack.Releases 0 ≡ Ack.Releases (f .0) = f .1 .right in
@@ -87,10 +67,10 @@ module _ (k t : ℕ) (terms : Terms) (k′ : ℕ) where
 -- ---- a later Init
 module _ (s : State) (t : ℕ) (h : History) (a : FtNumber) (terms : Terms) (j : ℕ) where
   abbrev greeting : Side
-  greeting = side s (s .header .kept) (Phase.InitWait t) true true h
+  greeting = side s (s .kept) (waitingFor t) true true h
 
   abbrev greeted : Side
-  greeted = side (resumed s terms j (a .0)) (resumed s terms j (a .0) .header .kept) (Phase.UpFT 0) true true (takes (take j (s .queue)) [] h)
+  greeted = side (resumed s terms j (a .0)) (resumed s terms j (a .0) .kept) (upWith 0) true true (takes (take j (s .queue)) [] h)
 
   module _ (id : MessageId) (p : OwnParameters) (seconds : ℕ) {y : Side} {to rest : List Packet} where
     pub dir-resume : Freed (sndOf s h) 0 (rcvOf (y .state) (y .history)) (datas to) (acksOf rest) (a .0) j
@@ -102,7 +82,7 @@ module _ (s : State) (t : ℕ) (h : History) (a : FtNumber) (terms : Terms) (j :
     unfolding resumed acked
     dir-resume-peer d = record { half = rw (append-nil (h .secured)) (d .half); shape = by (y .joined) (d .shape); fines = d .fines .1 }
       where
-        by : (jo : Bool) → Shape jo false true (s .header .kept) (again id p seconds a ∷ rest) → Shape jo true true (s .header .kept) rest
+        by : (jo : Bool) → Shape jo false true (s .kept) (again id p seconds a ∷ rest) → Shape jo true true (s .kept) rest
         by true q = q .1
         by false q = nil-cons (q .0)
 
@@ -110,19 +90,19 @@ module _ (s : State) (t : ℕ) (h : History) (a : FtNumber) (terms : Terms) (j :
 -- what its ACK releases
 pub arrives : (s : State) (h : History) (sent : ℕ) (y : Side) (to rest : List Packet) (m : List ℕ) (n : FtNumber) (ack : FtField)
     → Half (sndOf s h) sent true (rcvOf (y .state) (y .history)) (datas to) (acksOf (carried m n ack ∷ rest))
-    → (j : ℕ) × Freed (sndOf s h) sent (rcvOf (y .state) (y .history)) (datas to) (acksOf rest) (ackBorne (s .header) ack) j
+    → (j : ℕ) × Freed (sndOf s h) sent (rcvOf (y .state) (y .history)) (datas to) (acksOf rest) (ackBorne s ack) j
 arrives s h sent y to rest m n FtField.Absent p = (0, half-none p)
 arrives s h sent y to rest m n (FtField.Number a) p = half-ack p
 
-module _ (s : State) (sent : ℕ) (h : History) (g : Message) (j : ℕ) (acks : ackOn (s .header) g ≡ Ack.Releases j) where
+module _ (s : State) (sent : ℕ) (h : History) (g : Message) (j : ℕ) (acks : ackOn s g ≡ Ack.Releases j) where
   abbrev taking : Side
-  taking = side s (s .header .kept) (Phase.UpFT sent) true true h
+  taking = side s (s .kept) (upWith sent) true true h
 
   abbrev took : List (List ℕ) → Side
-  took got = side (receivedState s g) (receivedState s g .header .kept) (Phase.UpFT (sent - j)) true true (takes (take j (s .queue)) got h)
+  took got = side (receivedState s g) (receivedState s g .kept) (upWith (sent - j)) true true (takes (take j (s .queue)) got h)
 
   module _ {y : Side} {to : List Packet} where
-    pub dir-took : (got : List (List ℕ)) (rest : List Packet) → Freed (sndOf s h) sent (rcvOf (y .state) (y .history)) (datas to) (acksOf rest) (ackBorne (s .header) (g .ack)) j
+    pub dir-took : (got : List (List ℕ)) (rest : List Packet) → Freed (sndOf s h) sent (rcvOf (y .state) (y .history)) (datas to) (acksOf rest) (ackBorne s (g .ack)) j
         → {fro : List Packet} → Dir taking y to fro → Dir (took got) y to rest
     unfolding receivedState taken acked
     dir-took got rest f d = record { half = rw acks (f .half); shape = d .shape; fines = d .fines }
@@ -131,17 +111,17 @@ module _ (s : State) (sent : ℕ) (h : History) (g : Message) (j : ℕ) (acks : 
       pub dir-took-alive : g .protection ≡ FtField.Absent → (id : MessageId) (n : FtNumber) → Dir y taking (alive id n ∷ rest) to
           → Dir y (took []) rest to
       unfolding receivedState taken acked
-      dir-took-alive bare id n d = record { half = rw (acks, bare, append-nil (h .secured)) (d .half); shape = by (y .joined) (d .shape); fines = d .fines .1 }
+      dir-took-alive bare id n d = record { half = rw (bare, append-nil (h .secured)) (d .half); shape = by (y .joined) (d .shape); fines = d .fines .1 }
         where
-          by : (jo : Bool) → Shape jo true true (s .header .kept) (alive id n ∷ rest) → Shape jo true true (s .header .kept) rest
+          by : (jo : Bool) → Shape jo true true (s .kept) (alive id n ∷ rest) → Shape jo true true (s .kept) rest
           by true q = q
           by false q = nil-cons (q .0)
 
       pub dir-took-carried : (m : List ℕ) (n : FtNumber) (ack : FtField) → g .protection ≡ FtField.Number n
           → Dir y taking (carried m n ack ∷ rest) to → Dir y (took (m ∷ [])) rest to
       unfolding receivedState taken acked
-      dir-took-carried m n ack borne d = record { half = rw (acks, borne) (half-secure (d .half)); shape = by (y .joined) (d .shape); fines = d .fines .1 }
+      dir-took-carried m n ack borne d = record { half = rw borne (half-secure (d .half)); shape = by (y .joined) (d .shape); fines = d .fines .1 }
         where
-          by : (jo : Bool) → Shape jo true true (s .header .kept) (carried m n ack ∷ rest) → Shape jo true true (s .header .kept) rest
+          by : (jo : Bool) → Shape jo true true (s .kept) (carried m n ack ∷ rest) → Shape jo true true (s .kept) rest
           by true q = q
           by false q = nil-cons (q .0)

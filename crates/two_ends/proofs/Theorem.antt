@@ -1,40 +1,41 @@
 -- Over any run: nothing lost, nothing twice. Assumes nothing.
-use Prim.Native.Nat.{ℕ, _+_}
-use mathlib.Core.Path.{_≡_, sym, ap, _∙_}
+use Prim.Native.Nat.{ℕ, _≤_}
 use mathlib.Core.Bool.{Bool, true, false}
 use mathlib.Core.List.{List, [], _∷_, _++_}
+use mathlib.Core.Path.{_≡_, sym, ap, _∙_}
+use native.Mathlib.Omega.{arith}
 use lib.ListN.{length, take, drop, length-append, take-append-drop}
-use lib.Seq.{take-take}
-use Rattle.image.proofs.Queue.{queue-length}
-use Rattle.image.proofs.Sound.{sound-valid}
-use Rattle.two_ends.specs.World.{End, World, swap}
-use Rattle.two_ends.specs.Runs.{Event, submits, sends, keepalives, opens, passes, delivers, breaks, notices, restarts, halts, Proper, act, step, run, AllProper}
-use Rattle.two_ends.specs.Start.{Opener, start, Sound, Afresh}
-use Rattle.two_ends.specs.Demand.{Opens, store, held, Safe}
-use Rattle.two_ends.proofs.Packets.{Packet}
-use Rattle.two_ends.proofs.Invariant.{sideOf, Ready, Dir, Good}
-use Rattle.two_ends.proofs.Worlds.{at-broken, at-swap}
-use Rattle.two_ends.proofs.Resting.{at-notices, at-restarts, at-passes}
-use Rattle.two_ends.proofs.Submitting.{at-submits}
-use Rattle.two_ends.proofs.Cutting.{at-halts}
-use Rattle.two_ends.proofs.Writing.{at-keepalives}
-use Rattle.two_ends.proofs.Opening.{at-opens}
-use Rattle.two_ends.proofs.Sending.{at-sends}
-use Rattle.two_ends.proofs.Delivered.{at-delivers}
+use lib.Seq.{take-take, length-take-le}
+use Rattle.protocol.specs.State.{State}
+use Rattle.two_ends.specs.Demand.{Opens, store, Safe, Demand}
+use Rattle.two_ends.specs.Runs.{Event, submits, sends, keepalives, opens, passes, delivers, breaks, notices, restarts, Proper, act, step, run, AllProper}
+use Rattle.two_ends.specs.Start.{Opener, start, Fit, Afresh}
+use Rattle.two_ends.specs.World.{End, World, swap, Lasts}
+use Rattle.two_ends.proofs.Arriving.{f}
 use Rattle.two_ends.proofs.Begun.{at-start}
+use Rattle.two_ends.proofs.Delivered.{at-delivers}
+use Rattle.two_ends.proofs.Invariant.{sideOf, Ready, Dir, Good}
+use Rattle.two_ends.proofs.Opening.{at-opens}
+use Rattle.two_ends.proofs.Packets.{Packet}
+use Rattle.two_ends.proofs.Positions.{num}
+use Rattle.two_ends.proofs.Resting.{at-notices, at-restarts, at-passes}
+use Rattle.two_ends.proofs.Room.{refused-at-64}
+use Rattle.two_ends.proofs.Sending.{at-sends}
+use Rattle.two_ends.proofs.Submitting.{at-submits}
+use Rattle.two_ends.proofs.Worlds.{at-broken, at-swap}
+use Rattle.two_ends.proofs.Writing.{at-keepalives}
 
 -- ---- every event keeps the invariant
 at-act : (w : World) (v : Event) → Proper v → Good w → Good (act w v)
 at-act w (submits m) p g = at-submits w m p g
-at-act w (sends ask out) p g = at-sends w ask out g
-at-act w (keepalives id out) p g = at-keepalives w id out p g
-at-act w (opens id q t out) p g = at-opens w id q t out (p .0) (p .1) g
+at-act w (sends ask room) p g = at-sends w ask room g
+at-act w (keepalives id room) p g = at-keepalives w id room p g
+at-act w (opens id q t room) p g = at-opens w id q t room (p .0) (p .1) g
 at-act w (passes elapsed) p g = at-passes w elapsed g
 at-act w delivers p g = at-delivers w g
 at-act w breaks p g = at-broken w g
 at-act w notices p g = at-notices w g
 at-act w restarts p g = at-restarts w g
-at-act w (halts m) p g = at-halts w m g
 
 pub at-step : (w : World) (s : Bool) (v : Event) → Proper v → Good w → Good (step w s v)
 at-step w true v p g = at-act w v p g
@@ -48,28 +49,38 @@ at-run w (v ∷ vs) p g = at-run (step w (v .0) (v .1)) vs (p .1) (at-step w (v 
 opening : (n : ℕ) (l : List (List ℕ)) → Opens (take n l) l
 opening n l = record { rest = drop n l; whole = take-append-drop n l }
 
--- the state of an end that has begun is that of its image
-begun-store : (x : End) → x .begun ≡ true → sideOf x .state .queue ≡ store x
-begun-store x g = rw g
+-- the state that counts is that of an end that has begun
+begun-state : (x : End) → x .begun ≡ true → sideOf x .state ≡ x .state
+begun-state x g = rw g
+
+-- a number by its place is one by the length of the history up to there
+by-length : (acc : List (List ℕ)) {gone : List (List ℕ)} (k : ℕ) {n : ℕ} → gone ≡ take k acc → k ≤ length acc → n ≡ num k → n ≡ num (length gone)
+by-length acc k e l n = n ∙ ap num (sym (ap length e ∙ length-take-le k acc l))
 
 pub safe : {x y : End} {to fro : List Packet} → Ready x → Dir (sideOf x) (sideOf y) to fro → Safe x y
-safe {x} r d =
+safe {x} {y} r d =
     let p = d .half in
     let b = p .books in
     let acc = x .history .accepted in
-    let rest : x .begun ≡ true → x .history .letgo ++ store x ≡ acc = λ g. rw (b .rel, ← begun-store x g, b .que) (take-append-drop (p .r) acc) in
+    let rest : x .begun ≡ true → x .history .letgo ++ store x ≡ acc =
+    λ g. rw (b .rel) (ap (λ (q : List (List ℕ)). take (p .r) acc ++ q) (ap (λ (s : State). s .queue) (sym (begun-state x g)) ∙ b .que) ∙ take-append-drop (p .r) acc) in
     record {
       in-order = rw (b .sec) (opening (p .s) acc);
       let-go = rw (b .sec, b .rel, ← (take-take (p .r) (p .s) acc (b .rs))) (opening (p .r) (take (p .s) acc));
       rest-held = rest;
-      counts = λ g.
-          ap length (sym (rest g)) ∙ length-append (x .history .letgo) (store x) ∙ ap (λ (n : ℕ). length (x .history .letgo) + n) (queue-length (x .image));
-      at-most = sound-valid (x .image) (r .stand .sound) .held;
+      counts = λ g. ap length (sym (rest g)) ∙ length-append (x .history .letgo) (store x);
+      at-most = r .few;
+      released = λ g. ap (λ (s : State). s .released .0) (sym (begun-state x g)) ∙ by-length acc (p .r) (b .rel) (omega (arith, b .rs, b .si, b .ia)) (b .isR);
+      secured = λ g. ap (λ (s : State). s .secured .0) (sym (begun-state y g)) ∙ by-length acc (p .s) (b .sec) (omega (arith, b .si, b .ia)) (b .isS);
     }
 
--- ---- THE THEOREM: over every run from such a start, as long as neither end has released its state, in both directions
-pub nothing-lost : (x y : Opener) → Sound x → Sound y → Afresh x y → (vs : List (Bool × Event)) → AllProper vs → run (start x y) vs .kept ≡ true
-    → Safe (run (start x y) vs .a) (run (start x y) vs .b) × Safe (run (start x y) vs .b) (run (start x y) vs .a)
-nothing-lost x y sx sy f vs p k =
-    let i = at-run (start x y) vs p (at-start x y sx sy f) k .2 in
-    (safe (i .own) (i .out), safe (i .peer) (i .back))
+-- ---- THE THEOREM: over every run from such a start, as long as neither end has released its state
+pub nothing-lost : (x y : Opener) → Fit x → Fit y → Afresh x y → (vs : List (Bool × Event)) → AllProper vs → Lasts (run (start x y) vs) → Demand (run (start x y) vs)
+nothing-lost x y fx fy f vs p k =
+    let i = at-run (start x y) vs p (at-start x y fx fy f) k .2 in
+    record {
+      there = safe (i .own) (i .out);
+      back = safe (i .peer) (i .back);
+      own = λ m. refused-at-64 x y fx fy vs m .0;
+      peer = λ m. refused-at-64 x y fx fy vs m .1;
+    }

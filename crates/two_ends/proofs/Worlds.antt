@@ -1,43 +1,30 @@
 -- A world after a call at the end a, whatever the call is. Assumes nothing.
 use Prim.Native.Nat.{ℕ}
-use mathlib.Core.Path.{_≡_, refl, sym, _∙_}
 use mathlib.Core.Bool.{Bool, true, false, not, true≢false}
 use mathlib.Core.List.{List, []}
 use mathlib.Core.Logic.{_⊎_, inl, ⊎-elim}
-use borrow.Author.Tests.{eqb-true}
+use mathlib.Core.Path.{_≡_, refl, sym, _∙_}
 use Rattle.octets.specs.Pick.{pick, both}
 use Rattle.octets.proofs.Choice.{both-true}
-use Rattle.image.specs.State.{decode}
-use Rattle.image.specs.Events.{released}
-use Rattle.calls.specs.declared.Phase
-use Rattle.calls.specs.declared.Phase.{Phase}
-use Rattle.calls.specs.Outcomes.{After}
-use Rattle.timers.specs.Events.{connected}
-use Rattle.two_ends.specs.World.{History, End, World, swap}
+use Rattle.protocol.specs.declared.Phase.{Phase}
+use Rattle.protocol.specs.Phases.{connected}
+use Rattle.protocol.specs.State.{State}
+use Rattle.protocol.specs.Step.{Step}
 use Rattle.two_ends.specs.Calls.{off, broken, keeps, called, replaced}
-use Rattle.two_ends.proofs.Invariant.{sideOf, Waiting, linkable, Ready, Some, Good}
+use Rattle.two_ends.specs.World.{History, End, World, swap, Lasts}
+use Rattle.two_ends.proofs.Invariant.{Waiting, linkable, Ready, Some, Good}
 use Rattle.two_ends.proofs.Sides.{dir-lost}
-use Rattle.two_ends.proofs.Sixless.{NoSix, none-sixless}
-use Rattle.two_ends.proofs.Tidy.{Tidy}
 
 -- an end by its parts
-abbrev pub ended : List ℕ → Phase → Bool → Bool → History → End
-ended im ph jo bg h = record { image = im; phase = ph; joined = jo; begun = bg; history = h }
+abbrev pub ended : State → Phase → Bool → Bool → History → End
+ended now ph jo bg h = record { state = now; phase = ph; joined = jo; begun = bg; history = h }
 
 never : {P : Type 0} → true ≡ false → P
 never e = absurd (true≢false e)
 
 -- ---- one end
-pub kept-one : {im : List ℕ} {ph : Phase} {jo : Bool} {h : History} → Ready (ended im ph jo true h) → decode im .header .kept ≡ 1
-kept-one {im} r = eqb-true (decode im .header .kept) 1 (r .keeping)
-
--- no label of it is in use without protection
-pub sixless-side : {e : End} → Ready e → NoSix (sideOf e .state .labels)
-sixless-side {e} r = by (e .begun) (r .tidy)
-  where
-    by : (b : Bool) → (b ≡ true → Tidy (decode (e .image))) → NoSix (pick b (decode (e .image)) released .labels)
-    by true t = t refl .sixless
-    by false t = none-sixless
+pub kept-one : {now : State} {ph : Phase} {jo : Bool} {h : History} → Ready (ended now ph jo true h) → now .kept ≡ true
+kept-one r = r .keeping
 
 -- one that does not await an Init has begun
 pub begun-else : {e : End} → Ready e → (Waiting e → ⊥) → e .begun ≡ true
@@ -49,11 +36,10 @@ begun-else {e} r n = by (e .begun) refl
 
 pub ready-off : {e : End} → Ready e → e .begun ≡ true → Ready (off e)
 ready-off r begun = record {
-  stand = r .stand;
-  proposal = r .proposal;
+  few = r .few;
+  possible = r .possible;
   keeping = r .keeping;
   okays = r .okays;
-  tidy = r .tidy;
   waiting = λ q. never (sym begun ∙ q);
   linked = λ q. never (sym q);
 }
@@ -64,8 +50,8 @@ closes e = both (e .joined) (not (connected (e .phase)))
 
 links : (ph : Phase) → linkable ph ≡ true → connected ph ≡ true
 links Phase.Idle e = never (sym e)
-links (Phase.InitWait t) e = refl
-links (Phase.UpFT sent) e = refl
+links (Phase.InitWait v) e = refl
+links (Phase.UpFT u) e = refl
 links Phase.UpPlain e = refl
 links Phase.Failed e = never (sym e)
 
@@ -89,29 +75,27 @@ some-off s ga gb =
         peer = ready-off (i .peer) gb;
         out = dir-lost (i .out) gb;
         back = dir-lost (i .back) ga;
-        ours = i .ours;
-        theirs = i .theirs;
       },
     )
 
 pub at-broken : (w : World) → Good w → Good (broken w)
 at-broken w g k =
-    let p = both-true (w .kept) (both (w .a .begun) (w .b .begun)) k in
+    let p = both-true (w .started) (both (w .a .begun) (w .b .begun)) (k .0) in
     let q = both-true (w .a .begun) (w .b .begun) (p .1) in
-    some-off (g (p .0)) (q .0) (q .1)
+    some-off (g (p .0, k .1)) (q .0) (q .1)
 
 pub at-swap : (w : World) → Good w → Good (swap w)
 at-swap w g k =
     let s = g k in
     let i = s .2 in
-    (s .1, s .0, record { lineA = i .lineB; lineB = i .lineA; own = i .peer; peer = i .own; out = i .back; back = i .out; ours = i .theirs; theirs = i .ours })
+    (s .1, s .0, record { lineA = i .lineB; lineB = i .lineA; own = i .peer; peer = i .own; out = i .back; back = i .out })
 
 -- ---- what a call leaves: the end is on the connection as before, or has closed it
 abbrev pub Settled : End → End → List (List ℕ) → List (List ℕ) → Type 0
 Settled e b ab ba = ((closes e ≡ false) × Some e b ab ba) ⊎ ((closes e ≡ true) × (e .begun ≡ true → b .begun ≡ true → Some (off e) (off b) [] []))
 
 abbrev pub next : World → End → List (List ℕ) → List (List ℕ) → World
-next w e ab ba = record { a = e; b = w .b; ab = ab; ba = ba; kept = both (w .kept) (keeps e) }
+next w e ab ba = record { a = e; b = w .b; ab = ab; ba = ba; started = w .started; unreleased = both (w .unreleased) (keeps e) }
 
 -- what holds of the end, on the connection or off it, holds of the end in the world
 pub replaced-a : (P : End → Type 0) (w : World) (e : End) (ab ba : List (List ℕ)) → P e → P (off e) → P (replaced w e ab ba .a)
@@ -121,28 +105,28 @@ replaced-a P w e ab ba p q = by (closes e)
     by true = q
     by false = p
 
-pub at-replaced : (w : World) (e : End) (ab ba : List (List ℕ)) → (w .kept ≡ true → keeps e ≡ true → Settled e (w .b) ab ba) → Good (replaced w e ab ba)
+pub at-replaced : (w : World) (e : End) (ab ba : List (List ℕ)) → (Lasts w → keeps e ≡ true → Settled e (w .b) ab ba) → Good (replaced w e ab ba)
 at-replaced w e ab ba f = by (closes e) refl
   where
     by : (c : Bool) → closes e ≡ c → Good (pick c (broken (next w e ab ba)) (next w e ab ba))
     by true q k =
-        let p = both-true (both (w .kept) (keeps e)) (both (e .begun) (w .b .begun)) k in
-        let r = both-true (w .kept) (keeps e) (p .0) in
+        let p = both-true (w .started) (both (e .begun) (w .b .begun)) (k .0) in
+        let r = both-true (w .unreleased) (keeps e) (k .1) in
         let g = both-true (e .begun) (w .b .begun) (p .1) in
         ⊎-elim
         (λ (s : (closes e ≡ false) × Some e (w .b) ab ba). never (sym q ∙ s .0))
         (λ (s : (closes e ≡ true) × (e .begun ≡ true → w .b .begun ≡ true → Some (off e) (off (w .b)) [] [])). s .1 (g .0) (g .1))
-        (f (r .0) (r .1))
+        (f (p .0, r .0) (r .1))
     by false q k =
-        let r = both-true (w .kept) (keeps e) k in
+        let r = both-true (w .unreleased) (keeps e) (k .1) in
         ⊎-elim
         (λ (s : (closes e ≡ false) × Some e (w .b) ab ba). s .1)
         (λ (s : (closes e ≡ true) × (e .begun ≡ true → w .b .begun ≡ true → Some (off e) (off (w .b)) [] [])). never (sym (s .0) ∙ q))
-        (f (r .0) (r .1))
+        (f (k .0, r .0) (r .1))
 
 -- ---- a call that leaves the end as it was
-pub same-end : (e : End) (x : After) (h : History) → x .image ≡ e .image → x .outcome .phase ≡ e .phase → h ≡ e .history → called e x h ≡ e
-same-end e x h p q r = λ i. record { image = p i; phase = q i; joined = e .joined; begun = e .begun; history = r i }
+pub same-end : (e : End) (x : Step) (h : History) → x .state ≡ e .state → x .phase ≡ e .phase → h ≡ e .history → called e x h ≡ e
+same-end e x h p q r = λ i. record { state = p i; phase = q i; joined = e .joined; begun = e .begun; history = r i }
 
 pub settled-same : {e a b : End} {ab ba : List (List ℕ)} → e ≡ a → Some a b ab ba → Settled e b ab ba
 settled-same p s = rw p (inl (ready-open (s .2 .own), s))

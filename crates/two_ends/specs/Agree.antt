@@ -1,23 +1,20 @@
 -- What one end has given and the other uses.
 use Prim.Native.Nat.{ℕ}
-use mathlib.Core.Path.{_≡_}
 use mathlib.Core.Bool.{true, false}
 use mathlib.Core.List.{List, [], _∷_}
 use mathlib.Core.Logic.{_⊎_}
+use mathlib.Core.Path.{_≡_}
 use lib.Dec.{eqb}
 use Rattle.octets.specs.Pick.{pick}
-use Rattle.message.specs.Submission.{submissionOf}
-use Rattle.message.specs.declared.Kind
-use Rattle.message.specs.declared.Kind.{Kind}
-use Rattle.message.specs.declared.Submission
-use Rattle.message.specs.declared.Submission.{Submission}
-use Rattle.label_list.specs.Word.{listable}
-use Rattle.label_list.specs.Rules.{codeReceived}
 use Rattle.label_list.specs.declared.LabelMessage.the-variants.{Mapping, Withdraw}
 use Rattle.label_list.specs.declared.Side.the-variants.{Given, Used}
+use Rattle.label_list.specs.Rules.{codeReceived}
+use Rattle.label_list.specs.Word.{listable}
 use Rattle.label_events.specs.Change.{codeAt}
-use Rattle.image.specs.State.{decode}
-use Rattle.submit.specs.Labels.{isHeld}
+use Rattle.message.specs.declared.Kind.{Kind}
+use Rattle.message.specs.declared.Submission.{Submission}
+use Rattle.message.specs.Submission.{submissionOf}
+use Rattle.protocol.specs.Held.{isHeld}
 use Rattle.two_ends.specs.World.{End}
 
 -- the code of label l at its user, after a protected message with that submission
@@ -52,4 +49,4 @@ Agree giver user out back =
 
 -- every label that x lists as given or withdrawing is in use or asked back at y
 abbrev pub InUse : End → End → Type 0
-InUse x y = (l : ℕ) → listable l ≡ true → IsGiven (codeAt (decode (x .image) .labels) Given l) → IsUsed (codeAt (decode (y .image) .labels) Used l)
+InUse x y = (l : ℕ) → listable l ≡ true → IsGiven (codeAt (x .state .table .words) Given l) → IsUsed (codeAt (y .state .table .words) Used l)

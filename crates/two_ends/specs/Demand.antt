@@ -1,29 +1,25 @@
 -- The demand, in the user's words.
 use Prim.Native.Nat.{ℕ, _+_, _≤_, _<_}
-use mathlib.Core.Path.{_≡_}
 use mathlib.Core.Bool.{true}
 use mathlib.Core.List.{List, [], _∷_, _++_}
+use mathlib.Core.Path.{_≡_}
 use lib.ListN.{length}
-use Rattle.block0.specs.Layout.{slotCount}
-use Rattle.image.specs.State.{decode}
-use Rattle.calls.specs.declared.Answer
-use Rattle.calls.specs.declared.Answer.{Answer}
-use Rattle.submit.specs.Act.{submitOf}
-use Rattle.submit.specs.Passed.{Passes}
-use Rattle.two_ends.specs.World.{End, World}
+use Rattle.ft_number.specs.Circle.{after}
+use Rattle.protocol.specs.declared.Answer.{Answer}
+use Rattle.protocol.specs.State.{held, capacity}
+use Rattle.protocol.specs.Submit.{submit}
+use Rattle.protocol.specs.SubmitCases.{Passes}
 use Rattle.two_ends.specs.Runs.{submits, act}
+use Rattle.two_ends.specs.World.{End, World, swap}
 
 -- xs is an opening part of ys
 pub record Opens (xs ys : List (List ℕ)) : Type 0 where
   pub rest : List (List ℕ)
   pub whole : xs ++ rest ≡ ys
 
--- the messages held, as the image stands for them
+-- the messages held
 abbrev pub store : End → List (List ℕ)
-store e = decode (e .image) .queue
-
-abbrev pub held : End → ℕ
-held e = decode (e .image) .header .held
+store e = e .state .queue
 
 -- of the sender x and its peer y, each counted from its own fresh UpFT
 pub record Safe (x y : End) : Type 0 where
@@ -34,15 +30,25 @@ pub record Safe (x y : End) : Type 0 where
   -- "its store holds exactly the rest"
   pub rest-held : x .begun ≡ true → x .history .letgo ++ store x ≡ x .history .accepted
   -- "accepted equals let go plus held"
-  pub counts : x .begun ≡ true → length (x .history .accepted) ≡ length (x .history .letgo) + held x
+  pub counts : x .begun ≡ true → length (x .history .accepted) ≡ length (x .history .letgo) + held (x .state)
   -- "at most 64 are held"
-  pub at-most : held x ≤ slotCount
+  pub at-most : held (x .state) ≤ capacity
+  -- R and S say so: R is as many successors of 0 as messages were let go, and the peer's S as many as were secured
+  pub released : x .begun ≡ true → x .state .released .0 ≡ after (length (x .history .letgo)) 0
+  pub secured : y .begun ≡ true → y .state .secured .0 ≡ after (length (y .history .secured)) 0
 
--- "and only at 64 is one refused for room in the store": of a message at the end a that every other test of Submit passes
+-- "and only at 64 is one refused for room in the store": of a message at the end a; `Passes`: every other test of Submit passes it
 pub record RefusedAt64 (w : World) (m : List ℕ) : Type 0 where
-  pub only : submitOf (w .a .image) (w .a .phase) m .outcome .answer ≡ Answer.StoreFull → held (w .a) ≡ slotCount
-  pub full : Passes (w .a .image) (w .a .phase) m → held (w .a) ≡ slotCount → submitOf (w .a .image) (w .a .phase) m .outcome .answer ≡ Answer.StoreFull
-  pub else : Passes (w .a .image) (w .a .phase) m → held (w .a) < slotCount → submitOf (w .a .image) (w .a .phase) m .outcome .answer ≡ Answer.Done
+  pub only : submit (w .a .state) (w .a .phase) m .answer ≡ Answer.StoreFull → held (w .a .state) ≡ capacity
+  pub full : Passes (w .a .state) (w .a .phase) m → held (w .a .state) ≡ capacity → submit (w .a .state) (w .a .phase) m .answer ≡ Answer.StoreFull
+  pub else : Passes (w .a .state) (w .a .phase) m → held (w .a .state) < capacity → submit (w .a .state) (w .a .phase) m .answer ≡ Answer.Done
   -- then it is accepted
-  pub accepted : w .a .begun ≡ true → Passes (w .a .image) (w .a .phase) m → held (w .a) < slotCount
+  pub accepted : w .a .begun ≡ true → Passes (w .a .state) (w .a .phase) m → held (w .a .state) < capacity
       → act w (submits m) .a .history .accepted ≡ w .a .history .accepted ++ (m ∷ [])
+
+-- ---- THE DEMAND: in both directions, and at either end
+pub record Demand (w : World) : Type 0 where
+  pub there : Safe (w .a) (w .b)
+  pub back : Safe (w .b) (w .a)
+  pub own : (m : List ℕ) → RefusedAt64 w m
+  pub peer : (m : List ℕ) → RefusedAt64 (swap w) m

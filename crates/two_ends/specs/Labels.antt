@@ -1,20 +1,16 @@
 -- What holds of the labels at one end of a run.
 use Prim.Native.Nat.{ℕ}
-use mathlib.Core.Path.{_≡_}
 use mathlib.Core.Bool.{true}
 use mathlib.Core.List.{List, []}
-use Rattle.message.specs.Kinds.{kindNumber}
-use Rattle.message.specs.declared.Kind
-use Rattle.message.specs.declared.Kind.{Kind}
-use Rattle.label_list.specs.declared.LabelMessage
+use mathlib.Core.Path.{_≡_}
 use Rattle.label_list.specs.declared.LabelMessage.{LabelMessage}
-use Rattle.label_list.specs.declared.Side
 use Rattle.label_list.specs.declared.Side.{Side}
 use Rattle.label_events.specs.Change.{codeAt}
-use Rattle.image.specs.State.{decode}
-use Rattle.submit.specs.Labels.{isHeld}
-use Rattle.two_ends.specs.World.{End}
+use Rattle.message.specs.declared.Kind.{Kind}
+use Rattle.message.specs.Kinds.{kindNumber}
+use Rattle.protocol.specs.Held.{isHeld}
 use Rattle.two_ends.specs.Demand.{store}
+use Rattle.two_ends.specs.World.{End}
 
 -- a label of code 2, withdrawing, waits for its Withdraw to be acknowledged; one of code 5, releasing, for its Release
 pub data Due : Type 0 where
@@ -43,8 +39,8 @@ Owed labels queue = (due : Due) (l : ℕ) → codeAt labels (sideOf due) l ≡ c
 -- ---- an end that has begun
 pub record Listed (e : End) : Type 0 where
   -- "withdrawing" and "releasing" last as long as the Withdraw or Release is held
-  pub owed : Owed (decode (e .image) .labels) (store e)
+  pub owed : Owed (e .state .table .words) (store e)
   -- so with an empty store no label is either
-  pub settled : store e ≡ [] → (due : Due) (l : ℕ) → codeAt (decode (e .image) .labels) (sideOf due) l ≡ codeOf due → ⊥
+  pub settled : store e ≡ [] → (due : Due) (l : ℕ) → codeAt (e .state .table .words) (sideOf due) l ≡ codeOf due → ⊥
   -- no label is in use without protection
-  pub protected : (l : ℕ) → codeAt (decode (e .image) .labels) Side.Used l ≡ 6 → ⊥
+  pub protected : (l : ℕ) → codeAt (e .state .table .words) Side.Used l ≡ 6 → ⊥

@@ -2,35 +2,33 @@
 use Prim.Native.Nat.{ℕ, _<_}
 use mathlib.Core.Bool.{Bool, true, false}
 use mathlib.Core.List.{List, [], _∷_}
+use Rattle.octets.specs.Bytes.{Bytes}
 use Rattle.ft_number.specs.declared.MessageId.{MessageId}
-use Rattle.ft_number.specs.declared.Proposal
 use Rattle.ft_number.specs.declared.Proposal.{Proposal}
 use Rattle.message_writer.specs.declared.OwnParameters.{OwnParameters}
-use Rattle.octets.specs.Bytes.{Bytes}
-use Rattle.submit.specs.Act.{submitOf}
-use Rattle.send.specs.Rule.{sendOf}
-use Rattle.connect.specs.Start.{restoreOf}
-use Rattle.connect.specs.Writers.{openOf, keepaliveOf}
-use Rattle.timers.specs.Events.{connectionFailedOf, timePassedOf}
-use Rattle.submit.specs.Store.{slotAlone}
-use Rattle.two_ends.specs.World.{World, swap}
+use Rattle.protocol.specs.Begin.{restore}
+use Rattle.protocol.specs.ConnectionFailed.{connectionFailed}
+use Rattle.protocol.specs.KeepAlive.{keepalive}
+use Rattle.protocol.specs.Open.{openSession}
+use Rattle.protocol.specs.Send.{sendNext}
+use Rattle.protocol.specs.Submit.{submit}
+use Rattle.protocol.specs.TimePassed.{timePassed}
 use Rattle.two_ends.specs.Calls.{broken, plainly, submitted, wrote, opened, delivery}
+use Rattle.two_ends.specs.World.{World, swap}
 
 -- at one end: every public call with whatever its owner gives, the oldest message delivered, the connection broken, and power lost
 pub data Event : Type 0 where
   submits : List ℕ → Event
-  -- with or without an ACK, and the output lent
-  sends : Bool → List ℕ → Event
-  keepalives : MessageId → List ℕ → Event
-  opens : MessageId → OwnParameters → Proposal → List ℕ → Event
+  -- with or without an ACK; the number of a writer is the room for its output
+  sends : Bool → ℕ → Event
+  keepalives : MessageId → ℕ → Event
+  opens : MessageId → OwnParameters → Proposal → ℕ → Event
   passes : ℕ → Event
   delivers : Event
   -- the connection is broken; each end notices it in its own time
   breaks notices : Event
-  -- "restarts from the stored image"; a call cut with nothing stored is this too
+  -- "restarts from the stored image": the state as stored; a call cut before it is stored is this too
   restarts : Event
-  -- power is lost in a Submit that has stored its slot, and not yet block 0
-  halts : List ℕ → Event
 
 -- what the types of the calls say of their inputs: bytes, and numbers of their width
 pub record Widths (n : MessageId) (p : OwnParameters) : Type 0 where
@@ -44,28 +42,26 @@ Seconds Proposal.NotGiven = Unit {0}
 
 abbrev pub Proper : Event → Type 0
 Proper (submits m) = Bytes m
-Proper (sends ask out) = Unit {0}
-Proper (keepalives id out) = id .0 < 4294967296
-Proper (opens id p t out) = Widths id p × Seconds t
+Proper (sends ask room) = Unit {0}
+Proper (keepalives id room) = id .0 < 4294967296
+Proper (opens id p t room) = Widths id p × Seconds t
 Proper (passes elapsed) = Unit {0}
 Proper delivers = Unit {0}
 Proper breaks = Unit {0}
 Proper notices = Unit {0}
 Proper restarts = Unit {0}
-Proper (halts m) = Unit {0}
 
 -- an event at the end a
 abbrev pub act : World → Event → World
-act w (submits m) = submitted w m (submitOf (w .a .image) (w .a .phase) m)
-act w (sends ask out) = wrote w (sendOf (w .a .image) (w .a .phase) ask out)
-act w (keepalives id out) = wrote w (keepaliveOf (w .a .image) (w .a .phase) id out)
-act w (opens id p t out) = opened w (openOf (w .a .image) (w .a .phase) id p t out)
-act w (passes elapsed) = plainly w (timePassedOf (w .a .image) (w .a .phase) elapsed)
+act w (submits m) = submitted w m (submit (w .a .state) (w .a .phase) m)
+act w (sends ask room) = wrote w (sendNext (w .a .state) (w .a .phase) ask room)
+act w (keepalives id room) = wrote w (keepalive (w .a .state) (w .a .phase) id room)
+act w (opens id p t room) = opened w (openSession (w .a .state) (w .a .phase) id p t room)
+act w (passes elapsed) = plainly w (timePassed (w .a .state) (w .a .phase) elapsed)
 act w delivers = delivery (w .a .joined) (w .ba) w
 act w breaks = broken w
-act w notices = plainly w (connectionFailedOf (w .a .image) (w .a .phase))
-act w restarts = plainly w (restoreOf (w .a .image))
-act w (halts m) = plainly w (restoreOf (slotAlone (w .a .image) (submitOf (w .a .image) (w .a .phase) m)))
+act w notices = plainly w (connectionFailed (w .a .state) (w .a .phase))
+act w restarts = plainly w (restore (w .a .state))
 
 -- at a, or at b
 abbrev pub step : World → Bool → Event → World

@@ -1,49 +1,47 @@
 -- The start: "two cabinets that both began afresh on one connection".
--- Both have opened, and their Inits are under way. Whatever their images held, R is zero in one of the Inits, so both come to a fresh UpFT on this
+-- Both have opened, and their Inits are under way. Whatever their states held, R is zero in one of the Inits, so both come to a fresh UpFT on this
 -- connection; the first of them may send before the other has read its Init. Each end is counted from its own fresh UpFT.
-use Prim.Native.Nat.{ℕ}
-use mathlib.Core.Path.{_≡_}
+use Prim.Native.Nat.{ℕ, _≤_, _<_}
 use mathlib.Core.Bool.{true, false}
 use mathlib.Core.List.{List, [], _∷_}
 use mathlib.Core.Logic.{_⊎_}
-use Rattle.ft_number.specs.Timeout.{proposedOf}
+use mathlib.Core.Path.{_≡_}
 use Rattle.ft_number.specs.declared.MessageId.{MessageId}
 use Rattle.ft_number.specs.declared.Proposal.{Proposal}
+use Rattle.ft_number.specs.Timeout.{proposedOf}
 use Rattle.message_writer.specs.declared.OwnParameters.{OwnParameters}
-use Rattle.image.specs.State.{decode, InRange}
-use Rattle.image.specs.Verdict.{IsSound}
-use Rattle.calls.specs.declared.Phase
-use Rattle.calls.specs.declared.Phase.{Phase}
-use Rattle.connect.specs.Writers.{openBytes}
-use Rattle.two_ends.specs.World.{End, World, none}
+use Rattle.protocol.specs.Open.{openBytes}
+use Rattle.protocol.specs.Phases.{waitingFor}
+use Rattle.protocol.specs.State.{State, held, capacity}
 use Rattle.two_ends.specs.Runs.{Widths, Seconds}
+use Rattle.two_ends.specs.World.{End, World, none}
 
--- a cabinet that opens: its image, and what its owner gives
+-- a cabinet that opens: its state, and what its owner gives
 pub record Opener : Type 0 where
-  pub image : List ℕ
+  pub state : State
   pub id : MessageId
   pub parameters : OwnParameters
   pub proposal : Proposal
 
 abbrev pub opener : Opener → End
-opener o = record { image = o .image; phase = Phase.InitWait (proposedOf (o .proposal)); joined = true; begun = false; history = none }
+opener o = record { state = o .state; phase = waitingFor (proposedOf (o .proposal)); joined = true; begun = false; history = none }
 
 abbrev pub firstInit : Opener → List ℕ
-firstInit o = openBytes (decode (o .image) .header) (o .id) (o .parameters) (o .proposal)
+firstInit o = openBytes (o .state) (o .id) (o .parameters) (o .proposal)
 
 abbrev pub start : Opener → Opener → World
-start x y = record { a = opener x; b = opener y; ab = firstInit x ∷ []; ba = firstInit y ∷ []; kept = true }
+start x y = record { a = opener x; b = opener y; ab = firstInit x ∷ []; ba = firstInit y ∷ []; started = true; unreleased = true }
 
--- any sound image of numbers that have their width
-pub record Sound (o : Opener) : Type 0 where
-  pub sound : IsSound (o .image)
-  pub range : InRange (decode (o .image))
+-- any state within the capacity, whose S has its width
+pub record Fit (o : Opener) : Type 0 where
+  pub few : held (o .state) ≤ capacity
+  pub range : o .state .secured .0 < 4294967296
   pub widths : Widths (o .id) (o .parameters)
   pub seconds : Seconds (o .proposal)
 
 -- "R = kept"
 abbrev pub RZero : Opener → Type 0
-RZero o = decode (o .image) .header .kept ≡ 0
+RZero o = o .state .kept ≡ false
 
 abbrev pub Afresh : Opener → Opener → Type 0
 Afresh x y = RZero x ⊎ RZero y

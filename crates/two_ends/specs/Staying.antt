@@ -1,14 +1,14 @@
 -- When an end releases its state.
 use Prim.Native.Nat.{ℕ, _≤_}
-use mathlib.Core.Path.{_≡_}
 use mathlib.Core.Bool.{Bool, true, false}
 use mathlib.Core.List.{List, [], _∷_}
-use Rattle.image.specs.State.{decode}
-use Rattle.calls.specs.Answers.{answerNumber}
-use Rattle.timers.specs.Events.{waiting, expired}
-use Rattle.two_ends.specs.World.{World, swap}
-use Rattle.two_ends.specs.Runs.{Event, submits, sends, keepalives, opens, passes, delivers, breaks, notices, restarts, halts, step}
+use mathlib.Core.Path.{_≡_}
+use Rattle.protocol.specs.Answers.{answerNumber}
+use Rattle.protocol.specs.Phases.{waiting}
+use Rattle.protocol.specs.TimePassed.{expired}
 use Rattle.two_ends.specs.Answers.{answerTo}
+use Rattle.two_ends.specs.Runs.{Event, submits, sends, keepalives, opens, passes, delivers, breaks, notices, restarts, step}
+use Rattle.two_ends.specs.World.{World, swap, Lasts}
 
 -- a message on the line is answered 30 or above: by `Comes` that is 35 or 36
 pub record Fatal (w : World) : Type 0 where
@@ -21,15 +21,14 @@ pub record Fatal (w : World) : Type 0 where
 -- at the end a: the timeout passes in Failed, or such a message is delivered
 abbrev pub Releasing : World → Event → Type 0
 Releasing w (submits m) = ⊥
-Releasing w (sends ask out) = ⊥
-Releasing w (keepalives id out) = ⊥
-Releasing w (opens id p t out) = ⊥
-Releasing w (passes elapsed) = (waiting (w .a .phase) ≡ true) × (expired (decode (w .a .image) .header) elapsed ≡ true)
+Releasing w (sends ask room) = ⊥
+Releasing w (keepalives id room) = ⊥
+Releasing w (opens id p t room) = ⊥
+Releasing w (passes elapsed) = (waiting (w .a .phase) ≡ true) × (expired (w .a .state) elapsed ≡ true)
 Releasing w delivers = Fatal w
 Releasing w breaks = ⊥
 Releasing w notices = ⊥
 Releasing w restarts = ⊥
-Releasing w (halts m) = ⊥
 
 abbrev pub ReleasingAt : World → Bool → Event → Type 0
 ReleasingAt w true v = Releasing w v
@@ -42,6 +41,6 @@ NoneReleases w (v ∷ vs) = (ReleasingAt w (v .0) (v .1) → ⊥) × NoneRelease
 
 -- both ends have come to their fresh UpFT, and neither has released its state
 pub record Stays (w : World) : Type 0 where
-  pub kept : w .kept ≡ true
+  pub lasts : Lasts w
   pub ours : w .a .begun ≡ true
   pub theirs : w .b .begun ≡ true

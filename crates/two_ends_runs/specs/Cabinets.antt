@@ -2,17 +2,12 @@
 use Prim.Native.Nat.{ℕ, zero, suc}
 use mathlib.Core.Bool.{Bool, true}
 use mathlib.Core.List.{List, [], _∷_}
-use lib.ListN.{replicate}
 use Rattle.ft_number.specs.declared.MessageId.{MessageId}
-use Rattle.ft_number.specs.declared.Proposal
 use Rattle.ft_number.specs.declared.Proposal.{Proposal}
 use Rattle.message_writer.specs.declared.OwnParameters.{OwnParameters}
-use Rattle.block0.specs.declared.Header.{Header}
-use Rattle.block0.specs.Layout.{noLabels}
-use Rattle.image.specs.State.{store0}
-use Rattle.image.specs.Events.{newImage}
-use Rattle.two_ends.specs.Start.{Opener}
+use Rattle.protocol.specs.State.{State, noTable}
 use Rattle.two_ends.specs.Runs.{Event, submits, sends, keepalives, opens, delivers}
+use Rattle.two_ends.specs.Start.{Opener}
 
 -- an Address message with that message ID
 abbrev pub address : ℕ → List ℕ
@@ -28,9 +23,9 @@ mapping n = labelled 0 n
 abbrev pub release : ℕ → List ℕ
 release n = labelled 3 n
 
--- output lent to a writer
-abbrev pub room : List ℕ
-room = replicate 42 0
+-- room for the output of a writer
+abbrev pub room : ℕ
+room = 42
 
 abbrev pub id : MessageId
 id = record { 0 = 1 }
@@ -38,26 +33,21 @@ id = record { 0 = 1 }
 abbrev pub parameters : OwnParameters
 parameters = record { keepalive = 15; pdulength = 4096; lsr = 1; space = 0 }
 
--- a cabinet that opens with that image
-abbrev pub cabinet : List ℕ → Opener
-cabinet image = record { image = image; id = id; parameters = parameters; proposal = Proposal.Seconds 5 }
+-- a cabinet that opens with that state
+abbrev pub cabinet : State → Opener
+cabinet s = record { state = s; id = id; parameters = parameters; proposal = Proposal.Seconds 5 }
 
--- an image that holds nothing, kept, with these R, I and S
-abbrev pub header : ℕ → ℕ → Header
-header issued secured = record {
+-- a state that holds nothing, kept, with these R and I, and S
+abbrev pub keptWith : ℕ → ℕ → State
+keptWith issued secured = record {
   released = record { 0 = issued };
   issued = record { 0 = issued };
   secured = record { 0 = secured };
-  first = 0;
-  held = 0;
-  timeout = 5;
-  kept = 1;
-  keepalive = 15;
-  maxpdu = 4096;
+  kept = true;
+  terms = record { timeout = 5; keepalive = 15; maxpdu = 4096 };
+  table = noTable;
+  queue = [];
 }
-
-abbrev pub imageWith : ℕ → ℕ → List ℕ
-imageWith issued secured = store0 newImage (header issued secured) noLabels
 
 -- ---- events
 abbrev pub submit : Bool → ℕ → Bool × Event

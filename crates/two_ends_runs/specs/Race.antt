@@ -4,10 +4,9 @@ use mathlib.Core.Bool.{Bool, true, false}
 use mathlib.Core.List.{List, [], _∷_}
 use Rattle.label_list.specs.declared.Side.the-variants.{Given, Used}
 use Rattle.label_events.specs.Change.{codeAt}
-use Rattle.image.specs.State.{decode}
-use Rattle.two_ends.specs.World.{World}
 use Rattle.two_ends.specs.Demand.{store}
 use Rattle.two_ends.specs.Runs.{submits}
+use Rattle.two_ends.specs.World.{World}
 use Rattle.two_ends_runs.specs.Cabinets.{mapping, release, send, alive, deliver}
 use Rattle.two_ends_runs.specs.Tales.{begin}
 
@@ -27,7 +26,8 @@ pub record Labels : Type 0 where
   pub back : List (List ℕ)
   pub given : ℕ
   pub used : ℕ
-  pub kept : Bool
+  pub started : Bool
+  pub unreleased : Bool
 
 abbrev pub labels : World → Labels
 labels w = record {
@@ -35,10 +35,11 @@ labels w = record {
   theirs = store (w .b);
   out = w .ab;
   back = w .ba;
-  given = codeAt (decode (w .a .image) .labels) Given 16;
-  used = codeAt (decode (w .b .image) .labels) Used 16;
-  kept = w .kept;
+  given = codeAt (w .a .state .table .words) Given 16;
+  used = codeAt (w .b .state .table .words) Used 16;
+  started = w .started;
+  unreleased = w .unreleased;
 }
 
 abbrev pub race-ends : Labels
-race-ends = record { held = []; theirs = []; out = []; back = []; given = 0; used = 3; kept = true }
+race-ends = record { held = []; theirs = []; out = []; back = []; given = 0; used = 3; started = true; unreleased = true }

@@ -2,17 +2,16 @@
 use Prim.Native.Nat.{ℕ}
 use mathlib.Core.Bool.{Bool, true, false}
 use mathlib.Core.List.{List, [], _∷_}
-use Rattle.image.specs.State.{decode}
-use Rattle.image.specs.Events.{newImage}
-use Rattle.calls.specs.declared.Phase
-use Rattle.calls.specs.declared.Phase.{Phase}
-use Rattle.two_ends.specs.World.{End, World, none}
-use Rattle.two_ends.specs.Start.{start}
+use lib.ListN.{replicate}
+use Rattle.protocol.specs.Phases.{upWith}
+use Rattle.protocol.specs.State.{releasedState}
 use Rattle.two_ends.specs.Demand.{store}
-use Rattle.two_ends.specs.Runs.{Event, breaks, notices, restarts, halts, run}
-use Rattle.two_ends_runs.specs.Cabinets.{address, cabinet, imageWith, submit, send, alive, reopen, deliver}
+use Rattle.two_ends.specs.Runs.{Event, breaks, notices, restarts, run}
+use Rattle.two_ends.specs.Start.{start}
+use Rattle.two_ends.specs.World.{End, World, none}
+use Rattle.two_ends_runs.specs.Cabinets.{address, cabinet, keptWith, submit, send, alive, reopen, deliver, many}
 
--- ---- what is looked at: the messages of the sender a, those that b secured, R and I of a, S of b, and whether both states are kept
+-- ---- what is looked at: the messages of the sender a, those that b secured, R and I of a, S of b, and the two flags of the world
 pub record Ending : Type 0 where
   pub accepted : List (List ℕ)
   pub letgo : List (List ℕ)
@@ -21,7 +20,8 @@ pub record Ending : Type 0 where
   pub released : ℕ
   pub issued : ℕ
   pub last : ℕ
-  pub kept : Bool
+  pub started : Bool
+  pub unreleased : Bool
 
 abbrev pub ending : World → Ending
 ending w = record {
@@ -29,15 +29,16 @@ ending w = record {
   letgo = w .a .history .letgo;
   held = store (w .a);
   secured = w .b .history .secured;
-  released = decode (w .a .image) .header .released .0;
-  issued = decode (w .a .image) .header .issued .0;
-  last = decode (w .b .image) .header .secured .0;
-  kept = w .kept;
+  released = w .a .state .released .0;
+  issued = w .a .state .issued .0;
+  last = w .b .state .secured .0;
+  started = w .started;
+  unreleased = w .unreleased;
 }
 
 -- ---- two new cabinets, both up
 abbrev pub begin : List (Bool × Event) → World
-begin vs = run (start (cabinet newImage) (cabinet newImage)) (deliver true ∷ deliver false ∷ vs)
+begin vs = run (start (cabinet releasedState) (cabinet releasedState)) (deliver true ∷ deliver false ∷ vs)
 
 -- a sends 7 and 8; 7 arrives; b restarts. On the next connection b's Init acknowledges 7, and 8 is sent again, arrives and is acknowledged
 abbrev pub again : World
@@ -55,33 +56,54 @@ again-ends = record {
   released = 2;
   issued = 2;
   last = 2;
-  kept = true;
+  started = true;
+  unreleased = true;
 }
 
--- the power goes in the Submit of 8, with its slot stored: 8 was not accepted
+-- the power goes in the Submit of 8, before it is stored: what is stored is the state before it, and 8 was not accepted
 abbrev pub cut : World
-cut = begin (submit true 7 ∷ (true, halts (address 8)) ∷ [])
+cut = begin (submit true 7 ∷ (true, restarts) ∷ [])
 
 abbrev pub cut-ends : Ending
-cut-ends = record { accepted = address 7 ∷ []; letgo = []; held = address 7 ∷ []; secured = []; released = 0; issued = 0; last = 0; kept = true }
+cut-ends = record {
+  accepted = address 7 ∷ [];
+  letgo = [];
+  held = address 7 ∷ [];
+  secured = [];
+  released = 0;
+  issued = 0;
+  last = 0;
+  started = true;
+  unreleased = true;
+}
 
 -- why a connection that breaks before both are fresh is no start: a is fresh and has sent 7, b still has an old state with S 1. Both R are now set,
 -- b's Init acknowledges 1, and a lets 7 go, which nobody has secured
 abbrev pub early : World
 early =
-    run (start (cabinet newImage) (cabinet (imageWith 0 1)))
+    run (start (cabinet releasedState) (cabinet (keptWith 0 1)))
     (deliver true ∷ submit true 7 ∷ send true ∷ (true, breaks) ∷ (true, notices) ∷ (false, notices) ∷ reopen true ∷ reopen false ∷ deliver true ∷ [])
 
 abbrev pub early-ends : Ending
-early-ends = record { accepted = address 7 ∷ []; letgo = address 7 ∷ []; held = []; secured = []; released = 1; issued = 1; last = 1; kept = false }
+early-ends = record {
+  accepted = address 7 ∷ [];
+  letgo = address 7 ∷ [];
+  held = [];
+  secured = [];
+  released = 1;
+  issued = 1;
+  last = 1;
+  started = false;
+  unreleased = true;
+}
 
 -- ---- numbers wrap: both are up, and the last number was 0xFFFFFFFE
-abbrev upWith : ℕ → ℕ → End
-upWith issued secured = record { image = imageWith issued secured; phase = Phase.UpFT 0; joined = true; begun = true; history = none }
+abbrev up : ℕ → ℕ → End
+up issued secured = record { state = keptWith issued secured; phase = upWith 0; joined = true; begun = true; history = none }
 
 abbrev pub wrap : World
 wrap =
-    run (record { a = upWith 0xFFFFFFFE 0; b = upWith 0 0xFFFFFFFE; ab = []; ba = []; kept = true })
+    run (record { a = up 0xFFFFFFFE 0; b = up 0 0xFFFFFFFE; ab = []; ba = []; started = true; unreleased = true })
     (submit true 7 ∷ submit true 8 ∷ send true ∷ send true ∷ deliver false ∷ deliver false ∷ alive false ∷ deliver true ∷ [])
 
 abbrev pub wrap-ends : Ending
@@ -93,5 +115,23 @@ wrap-ends = record {
   released = 1;
   issued = 1;
   last = 1;
-  kept = true;
+  started = true;
+  unreleased = true;
+}
+
+-- ---- the full store: 64 are accepted and held, and the 65th changes nothing
+abbrev pub full : ℕ → World
+full n = begin (many n)
+
+abbrev pub full-ends : Ending
+full-ends = record {
+  accepted = replicate 64 (address 7);
+  letgo = [];
+  held = replicate 64 (address 7);
+  secured = [];
+  released = 0;
+  issued = 0;
+  last = 0;
+  started = true;
+  unreleased = true;
 }

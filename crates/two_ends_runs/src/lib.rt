@@ -1,1 +1,1 @@
-// Runs of two cabinets by computation, bytes and all. Definitions and theorems alone, no code.
+// Runs of two cabinets by computation, over the rules. Definitions and theorems alone, no code.

@@ -1,8 +1,8 @@
 -- `block::is_sound` meets its contract, by the definition. Assumes nothing.
 use mathlib.Core.Path.{ap₂}
 use native.Mathlib.Omega.{arith}
-use borrow.Author.Needs.{needs}
 use lib.Dec.{eqb}
+use borrow.Author.Needs.{needs}
 use Rattle.block.specs.Check.{sound}
 use Rattle.block.proofs.is_sound.Statement.{statement}
 use Rattle.block.proofs.is_sound.Tie as tie

@@ -1,6 +1,6 @@
 -- `block0::has_unprotected` meets its contract: no word passed is one, so the rest decides. Assumes nothing.
-use mathlib.Core.Path.{sym, _∙_}
 use Prim.Native.Nat.{_-_}
+use mathlib.Core.Path.{sym, _∙_}
 use native.Mathlib.Omega.{arith}
 use borrow.Author.Needs.{needs}
 use Rattle.label_list.specs.Word.{wordCount}

@@ -1,8 +1,8 @@
 -- `block0::read_label` meets its contract. Assumes nothing.
 use mathlib.Core.Path.{sym, _∙_}
 use borrow.Author.Needs.{needs}
-use Rattle.label_list.specs.Word.{wordCount}
 use Rattle.block.proofs.WordRun.{getD-wordsAt}
+use Rattle.label_list.specs.Word.{wordCount}
 use Rattle.block0.specs.Layout.{labelsAt, labelsOf}
 use Rattle.block0.proofs.read_label.Statement.{statement}
 use Rattle.block0.proofs.read_label.Tie as tie

@@ -1,6 +1,6 @@
 -- `block0::read_labels` meets its contract: the slice has room for all words. Assumes nothing.
-use mathlib.Core.Path.{ap, _∙_}
 use Prim.Native.Nat.{ℕ}
+use mathlib.Core.Path.{ap, _∙_}
 use borrow.Author.Needs.{needs}
 use Rattle.block.specs.Run.{wordsAt}
 use Rattle.block0.specs.Layout.{labelsAt, labelsOf}

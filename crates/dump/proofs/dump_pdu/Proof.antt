@@ -1,7 +1,7 @@
 -- `dump::dump_pdu` meets its contract. Assumes nothing.
-use borrow.Author.Needs.{needs}
 use mathlib.Core.Path.{refl, sym, _∙_}
 use native.Mathlib.Omega.{arith}
+use borrow.Author.Needs.{needs}
 use Rattle.text.proofs.Pieces.{put-then}
 use Rattle.dump.specs.Line.{pduText}
 use Rattle.dump.proofs.dump_pdu.Statement.{statement}

@@ -1,8 +1,8 @@
 -- `dump::put_lines` meets its contract. The loop's invariant: what was put and the lines that are left are the lines of the PDU. Assumes nothing.
-use borrow.Author.Needs.{needs}
 use Prim.Native.Nat.{_+_, _-_, _≤_}
 use native.Mathlib.Omega.{arith}
 use lib.ListN.{length}
+use borrow.Author.Needs.{needs}
 use denote.Ref.{now}
 use Rattle.dump.proofs.Lines.{After, lines-start, line-message, line-next, lines-end}
 use Rattle.dump.proofs.put_lines.Statement.{statement}

@@ -1,6 +1,6 @@
 -- `dump_fields::put_ft_number` meets its contract. Assumes nothing.
-use borrow.Author.Needs.{needs}
 use native.Mathlib.Omega.{arith}
+use borrow.Author.Needs.{needs}
 use Rattle.text.proofs.Pieces.{put-none}
 use Rattle.dump_fields.proofs.put_ft_number.Statement.{statement}
 use Rattle.dump_fields.proofs.put_ft_number.Tie as tie

@@ -1,6 +1,6 @@
 -- `dump_fields::put_session` meets its contract. Assumes nothing.
-use borrow.Author.Needs.{needs}
 use native.Mathlib.Omega.{arith}
+use borrow.Author.Needs.{needs}
 use Rattle.text.proofs.Pieces.{put-none, put-then}
 use Rattle.dump_fields.proofs.put_session.Statement.{statement}
 use Rattle.dump_fields.proofs.put_session.Tie as tie

@@ -1,5 +1,5 @@
-use Rattle.ft_number.proofs.Laws.{releases, past, none-issued, unreachable}
 use borrow.Author.Needs.{needs}
+use Rattle.ft_number.proofs.Laws.{releases, past, none-issued, unreachable}
 use Rattle.ft_number.proofs.acknowledge.Statement.{statement}
 use Rattle.ft_number.proofs.acknowledge.Tie as tie
 

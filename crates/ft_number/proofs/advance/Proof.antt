@@ -1,7 +1,7 @@
 use mathlib.Core.Path.{sym}
 use native.Mathlib.Omega.{arith}
-use Rattle.ft_number.proofs.Circle.{advanced-none, after-is}
 use borrow.Author.Needs.{needs}
+use Rattle.ft_number.proofs.Circle.{advanced-none, after-is}
 use Rattle.ft_number.proofs.advance.Statement.{statement}
 use Rattle.ft_number.proofs.advance.Tie as tie
 

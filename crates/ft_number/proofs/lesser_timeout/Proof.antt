@@ -1,5 +1,5 @@
-use Rattle.ft_number.proofs.Laws.{lesser-of}
 use native.Mathlib.Omega.{arith}
+use Rattle.ft_number.proofs.Laws.{lesser-of}
 use Rattle.ft_number.proofs.lesser_timeout.Statement.{statement}
 use Rattle.ft_number.proofs.lesser_timeout.Tie as tie
 

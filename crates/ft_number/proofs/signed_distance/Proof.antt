@@ -1,8 +1,8 @@
-use mir.Syntax.{w32}
 use Prim.Native.Nat.{_-_}
-use Rattle.ft_number.proofs.Laws.{minus-fits, refused-from, refused-to, ahead, behind}
 use native.Mathlib.Omega.{arith}
 use borrow.Author.Needs.{needs}
+use mir.Syntax.{w32}
+use Rattle.ft_number.proofs.Laws.{minus-fits, refused-from, refused-to, ahead, behind}
 use Rattle.ft_number.proofs.signed_distance.Statement.{statement}
 use Rattle.ft_number.proofs.signed_distance.Tie as tie
 

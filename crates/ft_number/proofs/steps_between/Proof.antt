@@ -1,6 +1,6 @@
-use Rattle.ft_number.proofs.Laws.{steps-none, steps-never, steps-on}
 use native.Mathlib.Omega.{arith}
 use borrow.Author.Needs.{needs}
+use Rattle.ft_number.proofs.Laws.{steps-none, steps-never, steps-on}
 use Rattle.ft_number.proofs.steps_between.Statement.{statement}
 use Rattle.ft_number.proofs.steps_between.Tie as tie
 

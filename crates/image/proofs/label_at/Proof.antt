@@ -1,9 +1,9 @@
 -- `image::label_at` meets its contract, by the definition. Assumes nothing.
+use Prim.Native.Nat.{ℕ}
 use mathlib.Core.List.{List}
 use mathlib.Core.Path.{ap, _∙_}
-use Prim.Native.Nat.{ℕ}
-use borrow.Author.Needs.{needs}
 use lib.ListN.{getD}
+use borrow.Author.Needs.{needs}
 use Rattle.block0.specs.Layout.{labelsOf}
 use Rattle.image.specs.State.{decode}
 use Rattle.image.proofs.label_at.Statement.{statement}

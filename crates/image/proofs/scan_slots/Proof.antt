@@ -1,15 +1,17 @@
 -- `image::scan_slots` meets its contract: the slots passed are right, so the rest decides. Assumes nothing.
-use mathlib.Core.Path.{_≡_}
 use Prim.Native.Nat.{_≤_, _+_, _-_}
+use mathlib.Core.Path.{_≡_}
 use native.Mathlib.Omega.{arith}
 use borrow.Author.Needs.{needs}
-use Rattle.image.specs.Verdict.{scan}
+use Rattle.image.specs.Ring.{ring}
+use Rattle.image.specs.Sizes.{blockOf}
+use Rattle.image.specs.Verdict.{bytesJudged, firstFault}
 use Rattle.image.proofs.Scans.{scans}
 use Rattle.image.proofs.scan_slots.Statement.{statement}
 use Rattle.image.proofs.scan_slots.Tie as tie
 
 abbrev Inv-loop : tie.InvT-loop
-Inv-loop image first held i₀ i = (i ≤ held) × (scan image (first + i) (held - i) ≡ scan image first held)
+Inv-loop image first held i₀ i = (i ≤ held) × (firstFault (bytesJudged image) (ring blockOf (first + i) (held - i)) ≡ firstFault (bytesJudged image) (ring blockOf first held))
 
 abbrev μ-loop : tie.MeasureT-loop
 μ-loop image first held i₀ i = held - i

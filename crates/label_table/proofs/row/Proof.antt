@@ -1,6 +1,6 @@
 use Prim.Native.Nat.{_-_, _≤_}
-use borrow.Author.Needs.{needs}
 use native.Mathlib.Omega.{arith}
+use borrow.Author.Needs.{needs}
 use Rattle.label_table.proofs.row.Statement.{statement}
 use Rattle.label_table.proofs.row.Tie as tie
 

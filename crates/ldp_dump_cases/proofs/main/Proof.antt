@@ -1,6 +1,6 @@
 -- `ldp_dump_cases::main` is safe and ends. The measure is the count of arguments that may be left. Assumes nothing.
-use borrow.Author.Needs.{needs}
 use Prim.Native.Nat.{_-_, _≤_}
+use borrow.Author.Needs.{needs}
 use Rattle.ldp_dump_cases.proofs.main.Statement.{statement}
 use Rattle.ldp_dump_cases.proofs.main.Tie as tie
 

@@ -1,8 +1,7 @@
 use borrow.Author.Needs.{needs}
-use Rattle.message.specs.Reading.{typeOf, types}
-use Rattle.message.specs.declared.MessageType
-use Rattle.message.specs.declared.MessageType.{MessageType}
 use Rattle.tlv.proofs.Rows.{lookup-absent}
+use Rattle.message.specs.declared.MessageType.{MessageType}
+use Rattle.message.specs.Reading.{typeOf, types}
 use Rattle.message.proofs.type_of.Statement.{statement}
 use Rattle.message.proofs.type_of.Tie as tie
 

@@ -1,5 +1,5 @@
-use borrow.Author.Needs.{needs}
 use native.Mathlib.Omega.{arith}
+use borrow.Author.Needs.{needs}
 use Rattle.message_writer.proofs.Puts.{parameters-laid}
 use Rattle.message_writer.proofs.put_parameters.Statement.{statement}
 use Rattle.message_writer.proofs.put_parameters.Tie as tie

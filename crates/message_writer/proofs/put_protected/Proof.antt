@@ -1,5 +1,5 @@
-use borrow.Author.Needs.{needs}
 use native.Mathlib.Omega.{arith}
+use borrow.Author.Needs.{needs}
 use denote.Ref.{now}
 use Rattle.message_writer.proofs.Puts.{protected-laid}
 use Rattle.message_writer.proofs.put_protected.Statement.{statement}

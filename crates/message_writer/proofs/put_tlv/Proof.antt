@@ -1,5 +1,5 @@
-use borrow.Author.Needs.{needs}
 use native.Mathlib.Omega.{arith}
+use borrow.Author.Needs.{needs}
 use Rattle.message_writer.proofs.Puts.{tlv-laid}
 use Rattle.message_writer.proofs.put_tlv.Statement.{statement}
 use Rattle.message_writer.proofs.put_tlv.Tie as tie

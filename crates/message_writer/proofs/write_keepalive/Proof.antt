@@ -1,8 +1,8 @@
-use borrow.Author.Needs.{needs}
-use native.Mathlib.Omega.{arith}
 use mathlib.Core.Path.{refl}
-use Rattle.message_writer.proofs.Room.{written-whole, written-short}
+use native.Mathlib.Omega.{arith}
+use borrow.Author.Needs.{needs}
 use Rattle.message_writer.proofs.Puts.{ack-laid}
+use Rattle.message_writer.proofs.Room.{written-whole, written-short}
 use Rattle.message_writer.proofs.write_keepalive.Statement.{statement}
 use Rattle.message_writer.proofs.write_keepalive.Tie as tie
 

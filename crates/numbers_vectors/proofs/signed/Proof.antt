@@ -1,5 +1,5 @@
-use Rattle.numbers_vectors.proofs.Laws.{wide-fits, minus-fits, size-below, size-above}
 use borrow.Author.Needs.{needs}
+use Rattle.numbers_vectors.proofs.Laws.{wide-fits, minus-fits, size-below, size-above}
 use Rattle.numbers_vectors.proofs.signed.Statement.{statement}
 use Rattle.numbers_vectors.proofs.signed.Tie as tie
 

@@ -1,6 +1,6 @@
-use borrow.Author.Needs.{needs}
 use native.Mathlib.Omega.{arith}
 use lib.ListN.{length-set}
+use borrow.Author.Needs.{needs}
 use Rattle.octets.proofs.put_u16.Statement.{statement}
 use Rattle.octets.proofs.put_u16.Tie as tie
 

@@ -1,7 +1,7 @@
-use borrow.Author.Needs.{needs}
+use Prim.Native.Nat.{_<_}
 use native.Mathlib.Nat.{mod-eq-of-lt}
 use native.Mathlib.Omega.{arith}
-use Prim.Native.Nat.{_<_}
+use borrow.Author.Needs.{needs}
 use Rattle.octets.proofs.put_u8.Statement.{statement}
 use Rattle.octets.proofs.put_u8.Tie as tie
 

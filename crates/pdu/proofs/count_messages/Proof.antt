@@ -1,14 +1,14 @@
 -- `pdu::count_messages` meets its contract. The loop's invariant: the messages from `at` on, counted on from `count`, are those of the whole PDU.
 -- Assumes nothing.
-use borrow.Author.Needs.{needs}
 use Prim.Native.Nat.{_-_, _≤_}
 use mathlib.Core.Path.{_≡_, refl, sym, _∙_}
 use native.Mathlib.Omega.{arith}
 use lib.ListN.{length}
+use borrow.Author.Needs.{needs}
 use denote.Ref.{now}
 use Rattle.pdu.specs.Pdu.{countedFrom}
-use Rattle.pdu.proofs.Message.{Within, place-within}
 use Rattle.pdu.proofs.Count.{count-end, count-next, count-none}
+use Rattle.pdu.proofs.Message.{Within, place-within}
 use Rattle.pdu.proofs.count_messages.Statement.{statement}
 use Rattle.pdu.proofs.count_messages.Tie as tie
 

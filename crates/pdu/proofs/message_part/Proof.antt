@@ -1,7 +1,7 @@
 -- `pdu::message_part` meets its contract: what lies at the place that `message_at` found. Assumes nothing.
-use borrow.Author.Needs.{needs}
 use mathlib.Core.Path.{refl, sym, _∙_}
 use native.Mathlib.Omega.{arith}
+use borrow.Author.Needs.{needs}
 use denote.Ref.{now}
 use Rattle.pdu.proofs.Message.{Within, place-within}
 use Rattle.pdu.proofs.message_part.Statement.{statement}

@@ -1,6 +1,6 @@
 -- `print_image_cases::main` is safe and ends. The measure is the count of arguments that may be left. Assumes nothing.
-use borrow.Author.Needs.{needs}
 use Prim.Native.Nat.{_-_, _≤_}
+use borrow.Author.Needs.{needs}
 use Rattle.print_image_cases.proofs.main.Statement.{statement}
 use Rattle.print_image_cases.proofs.main.Tie as tie
 

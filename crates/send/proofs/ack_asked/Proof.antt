@@ -1,5 +1,5 @@
+use Rattle.protocol.specs.Send.{ackAsked}
 use Rattle.send.proofs.Acts.{ack-is}
-use Rattle.send.specs.Rule.{ackAsked}
 use Rattle.send.proofs.ack_asked.Statement.{statement}
 use Rattle.send.proofs.ack_asked.Tie as tie
 

@@ -9,9 +9,9 @@ issue-spec =
     (λ c κs. search needs)
     (λ c κs. search needs)
     (λ c. search needs)
-    (λ c. has-number _ _ (c .before .before .header-of .ensures) (c .before .issued-count .ensures) (c .if1 .taken))
+    (λ c. has-number _ _ (c .before .before .before .before .before .pre .0) (c .before .before .header-of .ensures) (c .before .issued-count .ensures) (λ k. c .before .before .before .before .slice-known .given k .fits) (c .if1 .taken))
     (λ c κs. search needs)
     (λ c κs. search needs)
     (λ c. search needs)
-    (λ c. has-none _ _ (c .before .before .before .before .before .before .before .header-of .ensures) (c .before .before .before .before .before .before .issued-count .ensures) (c .before .before .before .before .before .if1 .left) (c .before .before .before .before .number-at .ensures) (c .before .before .store-numbers .ensures)) in
+    (λ c. has-none _ _ (c .before .before .before .before .before .before .before .before .before .before .pre .0) (c .before .before .before .before .before .before .before .header-of .ensures) (c .before .before .before .before .before .before .issued-count .ensures) (c .before .before .before .before .before .if1 .left) (c .before .before .before .before .number-at .ensures) (c .before .before .store-numbers .ensures)) in
     tie.close answers

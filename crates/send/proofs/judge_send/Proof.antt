@@ -1,8 +1,7 @@
-use Rattle.octets.proofs.Choice.{denied, granted}
 use borrow.Author.Needs.{needs}
 use borrow.Author.Tests.{not-true, not-false}
-use Rattle.calls.specs.declared.Answer
-use Rattle.calls.specs.declared.Answer.{Answer}
+use Rattle.octets.proofs.Choice.{denied, granted}
+use Rattle.protocol.specs.declared.Answer.{Answer}
 use Rattle.send.proofs.Judged.{judge-first, judge-sound, judge-down, judge-none, judge-some}
 use Rattle.send.proofs.judge_send.Statement.{statement}
 use Rattle.send.proofs.judge_send.Tie as tie

@@ -1,8 +1,8 @@
-use Rattle.octets.proofs.Choice.{denied, granted}
 use native.Mathlib.Omega.{arith}
 use borrow.Author.Needs.{needs}
-use Rattle.send.proofs.Judged.{Sendable, sendable-sound, sendable-few, judged-sendable, judged-refused}
-use Rattle.send.proofs.Acts.{send-short, send-acts}
+use Rattle.octets.proofs.Choice.{denied, granted}
+use Rattle.send.proofs.Acts.{send-refused, send-short, send-acts}
+use Rattle.send.proofs.Judged.{Sendable, sendable-sound, sendable-held, sendable-few, judged-sendable}
 use Rattle.send.proofs.send_next.Statement.{statement}
 use Rattle.send.proofs.send_next.Tie as tie
 
@@ -13,9 +13,9 @@ send-next-spec =
     (λ c κs. search needs)
     (λ c κs. search needs)
     (λ c. search needs)
-    (λ c. judged-refused _ _ _ _ (c .before .before .before .judge-send .ensures) (denied (c .before .before .is-done .ensures) (c .before .if1 .taken)) (c .refuse .ensures))
+    (λ c. send-refused _ _ _ _ (c .before .before .before .judge-send .ensures) (denied (c .before .before .is-done .ensures) (c .before .if1 .taken)) (c .refuse .ensures))
     (λ c κs. search needs)
-    (λ c κs. let d : Sendable _ _ = (judged-sendable _ _ _ (c .before .before .before .before .before .judge-send .ensures) (granted (c .before .before .before .before .is-done .ensures) (c .before .before .before .if1 .left))) in (sendable-sound d, rw (c .before .before .sent-of .ensures) (d .some)))
+    (λ c κs. let d : Sendable _ _ = (judged-sendable _ _ _ (c .before .before .before .before .before .judge-send .ensures) (granted (c .before .before .before .before .is-done .ensures) (c .before .before .before .if1 .left))) in (sendable-sound d, rw (c .before .before .sent-of .ensures) (sendable-held d)))
     (λ c. search needs)
     (λ c κs. search needs)
     (λ c. search needs)

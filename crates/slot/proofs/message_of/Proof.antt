@@ -1,8 +1,8 @@
 -- `slot::message_of` meets its contract: the length is that of right fields. Assumes nothing.
+use Prim.Native.Nat.{ℕ, _+_}
+use mathlib.Core.Path.{ap, refl}
 use native.Mathlib.Omega.{arith}
 use borrow.Author.Needs.{needs}
-use mathlib.Core.Path.{ap, refl}
-use Prim.Native.Nat.{ℕ, _+_}
 use Rattle.octets.specs.Part.{part}
 use Rattle.slot.specs.Layout.{messageAt, messageOf}
 use Rattle.slot.proofs.Holding.{high-length}

@@ -1,8 +1,8 @@
 -- `slot::write_slot` meets its contract, by the definition; what was cleared is zero for `seal_before`. Assumes nothing.
 use Prim.Native.Nat.{_+_, _-_}
 use native.Mathlib.Omega.{arith}
-use borrow.Author.Needs.{needs}
 use lib.ListN.{length}
+use borrow.Author.Needs.{needs}
 use Rattle.block.proofs.ZeroBytes.{zeroed-zero}
 use Rattle.slot.specs.Layout.{slotBlock}
 use Rattle.slot.proofs.write_slot.Statement.{statement}

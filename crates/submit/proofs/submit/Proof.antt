@@ -1,11 +1,10 @@
-use borrow.Author.Needs.{needs}
 use mathlib.Core.Path.{refl, sym, _∙_}
+use borrow.Author.Needs.{needs}
 use borrow.Author.Tests.{not-true, not-false}
 use denote.Ref.{now}
-use Rattle.image.specs.State.{decode}
+use Rattle.calls.specs.State.{stateOf}
 use Rattle.calls.proofs.Settled.{Admitted, admit-passed, admitted-sound}
-use Rattle.submit.specs.Passed.{Fitting}
-use Rattle.submit.proofs.Answered.{not-kept, too-short, too-long, fitting-is, submission-is}
+use Rattle.submit.proofs.Answered.{Fitting, not-kept, too-short, too-long, fitting-is, submission-is}
 use Rattle.submit.proofs.Settling.{admit-is, submit-refused, submit-judged}
 use Rattle.submit.proofs.submit.Statement.{statement}
 use Rattle.submit.proofs.submit.Tie as tie
@@ -15,7 +14,7 @@ admitted : (c : tie.Else1) → Admitted (now (c .before .before .before .before 
 admitted c = admit-passed _ _ (c .before .before .admit .ensures) (sym (c .before .is-done .ensures) ∙ not-false (c .before .is-done .result) (c .if1 .left))
 
 -- past the fourth kept is 1 and the length lies within its limits
-fitting : (c : tie.Else4) → Fitting (decode (now (c .before .before .before .before .before .before .before .before .before .before .before .before .args .image))) (now (c .before .before .before .before .before .before .before .before .before .before .before .before .args .msg))
+fitting : (c : tie.Else4) → Fitting (stateOf (now (c .before .before .before .before .before .before .before .before .before .before .before .before .args .image))) (now (c .before .before .before .before .before .before .before .before .before .before .before .before .args .msg))
 fitting c = fitting-is _ _ (c .before .before .before .before .header-of .ensures) (c .before .before .if2 .left) (c .before .if3 .left) (c .if4 .left)
 
 pub submit-spec : {M : Type 1} → statement M

@@ -1,9 +1,9 @@
 -- `text::put_hex` meets its contract. The loop's invariant: the bytes passed stand in hexadecimal from `at` on. Assumes nothing.
-use borrow.Author.Needs.{needs}
 use Prim.Native.Nat.{_-_, _≤_}
 use mathlib.Core.Path.{_≡_, refl, sym}
 use native.Mathlib.Omega.{arith}
 use lib.ListN.{length, take, length-set}
+use borrow.Author.Needs.{needs}
 use Rattle.octets.specs.Fill.{copied}
 use Rattle.octets.proofs.Fill.{filled-none}
 use Rattle.text.specs.Text.{hex}

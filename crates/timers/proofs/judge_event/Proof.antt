@@ -1,6 +1,6 @@
-use Rattle.octets.proofs.Choice.{denied, granted}
 use borrow.Author.Needs.{needs}
 use borrow.Author.Tests.{not-true, not-false}
+use Rattle.octets.proofs.Choice.{denied, granted}
 use Rattle.timers.proofs.Judged.{event-first, event-phase}
 use Rattle.timers.proofs.judge_event.Statement.{statement}
 use Rattle.timers.proofs.judge_event.Tie as tie

@@ -1,6 +1,6 @@
 -- `block::rows::get_eight` meets its contract: a part's number is the list's. Assumes nothing.
-use mathlib.Core.Path.{_∙_}
 use Prim.Native.Nat.{_+_}
+use mathlib.Core.Path.{_∙_}
 use native.Mathlib.Omega.{arith}
 use borrow.Author.Needs.{needs}
 use Rattle.block.proofs.Le.{leAt-part}

@@ -1,6 +1,6 @@
 -- `block::rows::whole_rows` meets its contract: the sums so far, row by row. Assumes nothing.
-use mathlib.Core.Path.{_≡_}
 use Prim.Native.Nat.{_-_, _≤_}
+use mathlib.Core.Path.{_≡_}
 use native.Mathlib.Omega.{arith}
 use Rattle.octets.specs.Bytes.{Bytes}
 use Rattle.block.specs.Rows.{leAt, InRows}

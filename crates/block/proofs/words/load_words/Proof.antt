@@ -1,10 +1,10 @@
 -- `block::words::load_words` meets its contract: each word passed is in its place. Assumes nothing.
-use mathlib.Core.Path.{_≡_, refl, sym, _∙_}
 use Prim.Native.Nat.{ℕ, _+_, _-_, _*_, _≤_, _<_}
+use mathlib.Core.Logic.{_≢_}
+use mathlib.Core.Path.{_≡_, refl, sym, _∙_}
 use native.Mathlib.Omega.{arith}
 use lib.ListN.{length, getD, length-set}
 use lib.Seq.{ext-getD, getD-set-same, getD-set-other}
-use mathlib.Core.Logic.{_≢_}
 use borrow.Author.Count.{below-more}
 use Rattle.octets.specs.Be.{beAt}
 use Rattle.block.specs.Run.{wordsAt}

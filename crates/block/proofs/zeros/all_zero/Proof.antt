@@ -1,9 +1,9 @@
 -- `block::zeros::all_zero` meets its contract: the parts passed are zero, and the last reaches to the end. Assumes nothing.
-use mathlib.Core.Path.{sym, _∙_}
 use Prim.Native.Nat.{_*_, _/_, _≤_, _-_}
+use mathlib.Core.Path.{sym, _∙_}
 use native.Mathlib.Omega.{arith}
-use borrow.Author.Tests.{eq-eqb, ne-eqb}
 use lib.ListN.{length}
+use borrow.Author.Tests.{eq-eqb, ne-eqb}
 use Rattle.block.proofs.ZeroParts.{ZeroTo, part-set, zero-on, zero-all}
 use Rattle.block.proofs.zeros.all_zero.Statement.{statement}
 use Rattle.block.proofs.zeros.all_zero.Tie as tie

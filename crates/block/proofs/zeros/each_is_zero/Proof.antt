@@ -1,9 +1,9 @@
 -- `block::zeros::each_is_zero` meets its contract: the bytes passed are zero, so the rest decides. Assumes nothing.
-use mathlib.Core.Path.{_≡_, refl, sym, _∙_}
 use Prim.Native.Nat.{_≤_, _-_}
+use mathlib.Core.Path.{_≡_, refl, sym, _∙_}
 use native.Mathlib.Omega.{arith}
-use borrow.Author.Tests.{eq-eqb, ne-eqb}
 use lib.ListN.{length, drop, drop-of-length-le}
+use borrow.Author.Tests.{eq-eqb, ne-eqb}
 use Rattle.block.specs.Zeros.{allZero}
 use Rattle.block.proofs.ZeroBytes.{allZero-turn, allZero-none}
 use Rattle.block.proofs.zeros.each_is_zero.Statement.{statement}

@@ -1,6 +1,6 @@
 -- `block::zeros::sixteen` meets its contract: two numbers of eight bytes. Assumes nothing.
-use mathlib.Core.Path.{ap, _∙_}
 use Prim.Native.Nat.{ℕ, _+_}
+use mathlib.Core.Path.{ap, _∙_}
 use native.Mathlib.Omega.{arith}
 use lib.Dec.{eqb}
 use Rattle.block.proofs.ZeroParts.{le-zero, or-parts}

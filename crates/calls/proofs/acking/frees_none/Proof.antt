@@ -1,6 +1,6 @@
+use Prim.Native.Nat.{_-_}
 use native.Mathlib.Omega.{arith}
 use borrow.Author.Needs.{needs}
-use Prim.Native.Nat.{_-_}
 use Rattle.image.specs.State.{decode}
 use Rattle.image.proofs.Queue.{queue-length}
 use Rattle.calls.proofs.Freeing.{Passed, passed-none, passed-one, passed-freeing, passed-all}

@@ -1,6 +1,6 @@
-use borrow.Author.Needs.{needs}
 use native.Mathlib.Omega.{arith}
-use Rattle.calls.proofs.Effects.{effect-act, effect-nothing, effect-fail, effect-release}
+use borrow.Author.Needs.{needs}
+use Rattle.protocol.proofs.Effects.{effect-act, effect-nothing, effect-fail, effect-release}
 use Rattle.calls.proofs.answers.effect_of.Statement.{statement}
 use Rattle.calls.proofs.answers.effect_of.Tie as tie
 

@@ -1,8 +1,8 @@
-use Rattle.calls.proofs.Phasing.{resting-failed, resting-idle}
+use borrow.Author.Tests.{eq-eqb, ne-eqb}
 use Rattle.calls.proofs.phases.resting_phase.Statement.{statement}
 use Rattle.calls.proofs.phases.resting_phase.Tie as tie
 
 pub resting-phase-spec : {M : Type 1} → statement M
 resting-phase-spec =
-    let answers = tie.spec (λ c. resting-failed _ (c .if1 .taken)) (λ c. resting-idle _ (c .if1 .left)) in
+    let answers = tie.spec (λ c. rw (eq-eqb _ 1 (c .if1 .taken))) (λ c. rw (ne-eqb _ 1 (c .if1 .left))) in
     tie.close answers

@@ -1,11 +1,11 @@
+use Prim.Native.Nat.{ℕ, _-_}
 use mathlib.Core.Bool.{true≢false, false≢true}
 use mathlib.Core.List.{List}
 use mathlib.Core.Path.{ap, sym, _∙_}
-use Prim.Native.Nat.{ℕ, _-_}
 use native.Mathlib.Omega.{arith}
+use lib.ListN.{length, getD}
 use borrow.Author.Needs.{needs}
 use borrow.Author.Tests.{not-true, not-false}
-use lib.ListN.{length, getD}
 use Rattle.octets.proofs.Differ.{Same, same-one}
 use Rattle.image.specs.State.{decode}
 use Rattle.calls.proofs.Saying.{words-begin, words-said}

@@ -1,7 +1,7 @@
 -- `connect::starting::restore` meets its contract. Assumes nothing.
 use borrow.Author.Needs.{needs}
-use Rattle.call_meaning.proofs.Calling.{checks-passed}
 use Rattle.octets.proofs.Choice.{denied, granted}
+use Rattle.call_meaning.proofs.Calling.{checks-passed}
 use Rattle.connect.proofs.Started.{restore-refused, restore-passed}
 use Rattle.connect.proofs.starting.restore.Statement.{statement}
 use Rattle.connect.proofs.starting.restore.Tie as tie

@@ -1,6 +1,6 @@
 -- `dump::line::put_reading` meets its contract. Assumes nothing.
-use borrow.Author.Needs.{needs}
 use native.Mathlib.Omega.{arith}
+use borrow.Author.Needs.{needs}
 use Rattle.dump.proofs.Parts.{read-within}
 use Rattle.dump.proofs.line.put_reading.Statement.{statement}
 use Rattle.dump.proofs.line.put_reading.Tie as tie

@@ -1,7 +1,7 @@
 -- `dump::stream::dump_next` is safe: what it lends lies within the two buffers. Assumes nothing.
-use borrow.Author.Needs.{needs}
 use native.Mathlib.Omega.{arith}
 use lib.ListN.{length-take}
+use borrow.Author.Needs.{needs}
 use Rattle.dump.proofs.stream.dump_next.Statement.{statement}
 use Rattle.dump.proofs.stream.dump_next.Tie as tie
 

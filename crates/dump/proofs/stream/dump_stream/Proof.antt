@@ -1,8 +1,8 @@
 -- `dump::stream::dump_stream` is safe and ends. The measure is the count of numbers that are left. Assumes nothing.
-use borrow.Author.Needs.{needs}
 use Prim.Native.Nat.{_-_}
 use mathlib.Core.Path.{_≡_}
 use lib.ListN.{length}
+use borrow.Author.Needs.{needs}
 use Rattle.octets.proofs.Fill.{length-zeros}
 use Rattle.dump.specs.Line.{textRoom, largestPdu}
 use Rattle.dump.proofs.stream.dump_stream.Statement.{statement}

@@ -1,7 +1,7 @@
 -- `dump::stream::read_pdu` meets its contract. Assumes nothing.
-use borrow.Author.Needs.{needs}
 use native.Mathlib.Omega.{arith}
 use lib.ListN.{length-take}
+use borrow.Author.Needs.{needs}
 use Rattle.dump.proofs.stream.read_pdu.Statement.{statement}
 use Rattle.dump.proofs.stream.read_pdu.Tie as tie
 

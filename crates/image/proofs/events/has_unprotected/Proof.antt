@@ -1,7 +1,7 @@
 -- `image::events::has_unprotected` meets its contract, by the definition. Assumes nothing.
+use Prim.Native.Nat.{ℕ}
 use mathlib.Core.List.{List}
 use mathlib.Core.Path.{ap, _∙_}
-use Prim.Native.Nat.{ℕ}
 use borrow.Author.Needs.{needs}
 use Rattle.block0.specs.Layout.{labelsOf}
 use Rattle.block0.specs.Unprotected.{unprotected}

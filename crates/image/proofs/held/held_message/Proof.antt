@@ -1,6 +1,6 @@
 -- `image::held_message` meets its contract, by the law of the queue. Assumes nothing.
-use mathlib.Core.Path.{ap, _∙_}
 use Prim.Native.Nat.{_+_}
+use mathlib.Core.Path.{ap, _∙_}
 use borrow.Author.Needs.{needs}
 use Rattle.slot.specs.Layout.{messageAt}
 use Rattle.image.proofs.Queue.{helds, held-read}

@@ -1,8 +1,8 @@
 -- `image::held_slot` meets its contract: the ring has 64 slots. Assumes nothing.
+use Prim.Native.Nat.{ℕ, _+_, _*_}
+use mathlib.Core.Path.{_≡_, ap, _∙_}
 use native.Mathlib.Omega.{arith}
 use borrow.Author.Needs.{needs}
-use mathlib.Core.Path.{_≡_, ap, _∙_}
-use Prim.Native.Nat.{ℕ, _+_, _*_}
 use Rattle.block.specs.Check.{blockSize}
 use Rattle.block0.specs.declared.Header.{Header}
 use Rattle.image.specs.Sizes.{block, blockOf, slotAt}

@@ -1,8 +1,8 @@
 -- `image_report::lines::print_image` writes no byte beyond its text. Assumes nothing.
-use native.Mathlib.Omega.{arith}
-use borrow.Author.Needs.{needs}
 use mathlib.Core.Path.{sym}
+use native.Mathlib.Omega.{arith}
 use lib.Seq.{length-take-le}
+use borrow.Author.Needs.{needs}
 use Rattle.image_report.proofs.lines.print_image.Statement.{statement}
 use Rattle.image_report.proofs.lines.print_image.Tie as tie
 

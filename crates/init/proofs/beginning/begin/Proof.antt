@@ -1,6 +1,6 @@
 -- `init::beginning::begin` meets its contract. Assumes nothing.
 use borrow.Author.Needs.{needs}
-use Rattle.init.proofs.Received.{begun-is}
+use Rattle.init.proofs.Stored.{begun-is}
 use Rattle.init.proofs.beginning.begin.Statement.{statement}
 use Rattle.init.proofs.beginning.begin.Tie as tie
 

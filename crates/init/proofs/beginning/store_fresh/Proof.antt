@@ -1,6 +1,6 @@
 -- `init::beginning::store_fresh` meets its contract. Assumes nothing.
 use borrow.Author.Needs.{needs}
-use Rattle.init.specs.Begun.{fresh}
+use Rattle.protocol.specs.Init.{fresh}
 use Rattle.init.proofs.beginning.store_fresh.Statement.{statement}
 use Rattle.init.proofs.beginning.store_fresh.Tie as tie
 

@@ -1,6 +1,6 @@
 -- `init::beginning::store_released` meets its contract. Assumes nothing.
 use borrow.Author.Needs.{needs}
-use Rattle.init.proofs.Received.{released-is}
+use Rattle.init.proofs.Stored.{released-is}
 use Rattle.init.proofs.beginning.store_released.Statement.{statement}
 use Rattle.init.proofs.beginning.store_released.Tie as tie
 

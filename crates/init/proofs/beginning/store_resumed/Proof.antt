@@ -1,6 +1,6 @@
 -- `init::beginning::store_resumed` meets its contract. Assumes nothing.
 use borrow.Author.Needs.{needs}
-use Rattle.init.proofs.Received.{resumed-is, resumed-none}
+use Rattle.init.proofs.Stored.{resumed-is, resumed-none}
 use Rattle.init.proofs.beginning.store_resumed.Statement.{statement}
 use Rattle.init.proofs.beginning.store_resumed.Tie as tie
 
@@ -11,7 +11,7 @@ store-resumed-spec =
     (λ c κs. rw (c .header-of .ensures) (c .before .before .before .pre .1))
     (λ c κs. search needs)
     (λ c. search needs)
-    (λ c. (resumed-none _ _ _ _ (c .before .before .before .before .if1 .taken) (c .before .before .before .before .before .before .header-of .ensures) (c .before .before .before .before .before .released-header .ensures) (c .before .before .store-numbers .ensures .0), c .before .before .store-numbers .ensures .1))
+    (λ c. (resumed-none _ (c .before .before .before .before .before .before .before .before .before .pre .0) _ _ _ (c .before .before .before .before .before .before .header-of .ensures) (c .before .before .before .before .before .released-header .ensures) (c .before .before .before .before .if1 .taken) (c .before .before .store-numbers .ensures .0), c .before .before .store-numbers .ensures .1))
     (λ c. search needs)
     (λ c κs. search needs)
     (λ c. search needs)
@@ -19,5 +19,5 @@ store-resumed-spec =
     (λ c. search needs)
     (λ c κs. search needs)
     (λ c. search needs)
-    (λ c. (resumed-is _ _ _ _ (c .before .before .before .before .before .before .before .before .before .before .before .before .before .before .before .header-of .ensures) (c .before .before .before .before .before .before .before .before .before .before .labels-of .ensures) (c .before .before .before .before .before .before .release-labels .ensures) (c .before .before .before .before .before .before .before .before .before .before .before .before .before .before .released-header .ensures) (c .before .before .store-changed .ensures .0), c .before .before .store-changed .ensures .1)) in
+    (λ c. (resumed-is _ (c .before .before .before .before .before .before .before .before .before .before .before .before .before .before .before .before .before .before .pre .0) _ _ _ (c .before .before .before .before .before .before .before .before .before .before .before .before .before .before .before .header-of .ensures) (c .before .before .before .before .before .before .before .before .before .before .before .before .before .before .released-header .ensures) (c .before .before .before .before .before .before .before .before .before .before .labels-of .ensures) (c .before .before .before .before .before .before .release-labels .ensures) (c .before .before .store-changed .ensures .0), c .before .before .store-changed .ensures .1)) in
     tie.close answers

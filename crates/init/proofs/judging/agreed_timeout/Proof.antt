@@ -1,6 +1,6 @@
 -- `init::judging::agreed_timeout` meets its contract. Assumes nothing.
-use borrow.Author.Needs.{needs}
 use native.Mathlib.Omega.{arith}
+use borrow.Author.Needs.{needs}
 use Rattle.ft_number.proofs.Timeout.{lesser-below}
 use Rattle.init.proofs.judging.agreed_timeout.Statement.{statement}
 use Rattle.init.proofs.judging.agreed_timeout.Tie as tie

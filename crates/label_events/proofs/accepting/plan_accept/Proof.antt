@@ -1,8 +1,8 @@
 use mathlib.Core.Path.{subst, sym, _∙_}
-use borrow.Author.Needs.{needs}
 use native.Mathlib.Omega.{arith}
-use Rattle.label_list.proofs.Small.{SmallNext, accepted-small}
+use borrow.Author.Needs.{needs}
 use Rattle.label_list.proofs.Reached.{found-in}
+use Rattle.label_list.proofs.Small.{SmallNext, accepted-small}
 use Rattle.label_events.proofs.Planned.{plan-low, plan-high, plan-allowed, plan-refused}
 use Rattle.label_events.proofs.accepting.plan_accept.Statement.{statement}
 use Rattle.label_events.proofs.accepting.plan_accept.Tie as tie

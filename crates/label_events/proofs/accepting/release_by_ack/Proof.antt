@@ -1,7 +1,7 @@
-use borrow.Author.Needs.{needs}
 use native.Mathlib.Omega.{arith}
-use Rattle.label_list.proofs.Small.{acked-small}
+use borrow.Author.Needs.{needs}
 use Rattle.label_list.proofs.Reached.{found-in, found-place}
+use Rattle.label_list.proofs.Small.{acked-small}
 use Rattle.label_events.proofs.Planned.{acked-small-label, acked-found, acked-absent}
 use Rattle.label_events.proofs.accepting.release_by_ack.Statement.{statement}
 use Rattle.label_events.proofs.accepting.release_by_ack.Tie as tie

@@ -1,8 +1,8 @@
 use mathlib.Core.Path.{refl}
-use borrow.Author.Needs.{needs}
 use native.Mathlib.Omega.{arith}
-use Rattle.label_events.specs.Change.{codeIn}
+use borrow.Author.Needs.{needs}
 use Rattle.label_list.proofs.Reached.{found-place}
+use Rattle.label_events.specs.Change.{codeIn}
 use Rattle.label_events.proofs.changing.code_at.Statement.{statement}
 use Rattle.label_events.proofs.changing.code_at.Tie as tie
 

@@ -1,5 +1,5 @@
-use borrow.Author.Needs.{needs}
 use native.Mathlib.Omega.{arith}
+use borrow.Author.Needs.{needs}
 use Rattle.label_events.specs.Change.{changed}
 use Rattle.label_events.proofs.Written.{change-place}
 use Rattle.label_events.proofs.changing.make_change.Statement.{statement}

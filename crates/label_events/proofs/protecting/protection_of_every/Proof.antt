@@ -1,7 +1,7 @@
 use mathlib.Core.Path.{sym}
 use borrow.Author.Needs.{needs}
-use Rattle.label_events.specs.Protect.{protectionOf}
 use Rattle.label_list.proofs.Sought.{found-any}
+use Rattle.label_events.specs.Protect.{protectionOf}
 use Rattle.label_events.proofs.protecting.protection_of_every.Statement.{statement}
 use Rattle.label_events.proofs.protecting.protection_of_every.Tie as tie
 

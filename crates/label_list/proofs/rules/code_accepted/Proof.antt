@@ -1,5 +1,5 @@
-use borrow.Author.Needs.{needs}
 use native.Mathlib.Omega.{arith}
+use borrow.Author.Needs.{needs}
 use borrow.Author.Tests.{le-leb, lt-leb, ne-eqb}
 use Rattle.label_list.specs.Rules.{codeAccepted}
 use Rattle.label_list.proofs.rules.code_accepted.Statement.{statement}

@@ -1,9 +1,9 @@
-use borrow.Author.Needs.{needs}
+use mathlib.Core.Path.{sym}
 use native.Mathlib.Omega.{arith}
+use borrow.Author.Needs.{needs}
 use borrow.Author.Tests.{ne-eqb}
 use Rattle.label_list.specs.Rules.{codeReceived}
 use Rattle.label_list.proofs.Standing.{within-in, within-below, within-above}
-use mathlib.Core.Path.{sym}
 use Rattle.label_list.proofs.rules.code_received.Statement.{statement}
 use Rattle.label_list.proofs.rules.code_received.Tie as tie
 

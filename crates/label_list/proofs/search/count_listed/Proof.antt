@@ -1,5 +1,5 @@
-use mathlib.Core.Logic.{⊎-elim}
 use Prim.Native.Nat.{_-_}
+use mathlib.Core.Logic.{⊎-elim}
 use native.Mathlib.Omega.{arith}
 use lib.ListN.{length}
 use Rattle.label_list.proofs.Sought.{Counted, counted-none, counted-listed, counted-free, counted-all}

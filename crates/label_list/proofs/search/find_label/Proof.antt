@@ -1,13 +1,13 @@
-use mathlib.Core.Path.{_≡_, sym, _∙_}
 use Prim.Native.Nat.{_-_}
+use mathlib.Core.Path.{_≡_, sym, _∙_}
 use native.Mathlib.Omega.{arith}
-use borrow.Author.Needs.{needs}
 use lib.ListN.{length}
+use borrow.Author.Needs.{needs}
 use denote.Ref.{now}
-use Rattle.label_list.specs.Word.{standsFor}
 use Rattle.label_list.specs.Find.{bears, findOf, nextOf}
-use Rattle.label_list.proofs.Standing.{bears-stands, other-stands}
+use Rattle.label_list.specs.Word.{standsFor}
 use Rattle.label_list.proofs.Sought.{find-next, next-more, next-found, next-end, Led, led-to, led-nowhere}
+use Rattle.label_list.proofs.Standing.{bears-stands, other-stands}
 use Rattle.label_list.proofs.search.find_label.Statement.{statement}
 use Rattle.label_list.proofs.search.find_label.Tie as tie
 

@@ -1,5 +1,5 @@
-use borrow.Author.Needs.{needs}
 use native.Mathlib.Omega.{arith}
+use borrow.Author.Needs.{needs}
 use Rattle.label_list.proofs.Marks.{unmarked-absent, marked-again, marked-now}
 use Rattle.label_list.proofs.validity.mark_label.Statement.{statement}
 use Rattle.label_list.proofs.validity.mark_label.Tie as tie

@@ -1,11 +1,11 @@
-use mathlib.Core.Path.{refl, sym, _∙_}
 use mathlib.Core.Bool.{false≢true}
-use borrow.Author.Needs.{needs}
+use mathlib.Core.Path.{refl, sym, _∙_}
 use native.Mathlib.Omega.{arith}
-use Rattle.label_list.proofs.Standing.{parts-stands}
-use Rattle.label_list.proofs.Marks.{marked-free}
-use Rattle.label_list.proofs.Checked.{word-free, word-low, word-given, word-used, word-other}
+use borrow.Author.Needs.{needs}
 use Rattle.label_list.specs.declared.Side.the-variants.{Given, Used}
+use Rattle.label_list.proofs.Checked.{word-free, word-low, word-given, word-used, word-other}
+use Rattle.label_list.proofs.Marks.{marked-free}
+use Rattle.label_list.proofs.Standing.{parts-stands}
 use Rattle.label_list.proofs.validity.mark_word.Statement.{statement}
 use Rattle.label_list.proofs.validity.mark_word.Tie as tie
 

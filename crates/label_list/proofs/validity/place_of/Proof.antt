@@ -1,5 +1,5 @@
-use borrow.Author.Needs.{needs}
 use native.Mathlib.Omega.{arith}
+use borrow.Author.Needs.{needs}
 use Rattle.label_list.specs.Marks.{placeOf}
 use Rattle.label_list.proofs.validity.place_of.Statement.{statement}
 use Rattle.label_list.proofs.validity.place_of.Tie as tie

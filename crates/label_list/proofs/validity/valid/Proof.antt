@@ -1,6 +1,6 @@
 use mathlib.Core.Path.{refl, sym, _∙_}
-use borrow.Author.Tests.{not-true, not-false}
 use native.Mathlib.Omega.{arith}
+use borrow.Author.Tests.{not-true, not-false}
 use Rattle.label_list.proofs.Checked.{Checked, checked-end, checked-all, checked-known, checked-bad, checked-more}
 use Rattle.label_list.proofs.validity.valid.Statement.{statement}
 use Rattle.label_list.proofs.validity.valid.Tie as tie

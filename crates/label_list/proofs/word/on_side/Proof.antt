@@ -1,5 +1,5 @@
-use borrow.Author.Needs.{needs}
 use native.Mathlib.Omega.{arith}
+use borrow.Author.Needs.{needs}
 use Rattle.label_list.specs.Word.{onSide}
 use Rattle.label_list.proofs.Standing.{within-in, within-below, within-above, off-low, off-high}
 use Rattle.label_list.proofs.word.on_side.Statement.{statement}

@@ -1,5 +1,5 @@
-use borrow.Author.Tests.{eq-eqb, ne-eqb}
 use native.Mathlib.Omega.{arith}
+use borrow.Author.Tests.{eq-eqb, ne-eqb}
 use Rattle.label_list.specs.Word.{wordOf}
 use Rattle.label_list.proofs.word.word_of.Statement.{statement}
 use Rattle.label_list.proofs.word.word_of.Tie as tie

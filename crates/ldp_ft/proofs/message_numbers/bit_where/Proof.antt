@@ -1,6 +1,6 @@
 -- `ldp_ft::message_numbers::bit_where` meets its contract. Assumes nothing.
-use borrow.Author.Tests.{eq-eqb, ne-eqb}
 use native.Mathlib.Omega.{arith}
+use borrow.Author.Tests.{eq-eqb, ne-eqb}
 use Rattle.ldp_ft.proofs.message_numbers.bit_where.Statement.{statement}
 use Rattle.ldp_ft.proofs.message_numbers.bit_where.Tie as tie
 

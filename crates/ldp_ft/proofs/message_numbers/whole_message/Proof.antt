@@ -1,6 +1,6 @@
 -- `ldp_ft::message_numbers::whole_message` meets its contract. Assumes nothing.
-use borrow.Author.Needs.{needs}
 use native.Mathlib.Omega.{arith}
+use borrow.Author.Needs.{needs}
 use Rattle.message.specs.Kinds.{kindOf}
 use Rattle.message.specs.Reading.{messageOf}
 use Rattle.ldp_ft.specs.Reading.{wholeMessage}

@@ -1,6 +1,6 @@
 -- `ldp_ft::messages::ldp_ft_message_read` meets its contract. Assumes nothing.
-use borrow.Author.Needs.{needs}
 use mathlib.Core.Path.{refl, sym}
+use borrow.Author.Needs.{needs}
 use Rattle.message.proofs.Readings.{reading-malformed, reading-places, reading-whole}
 use Rattle.ldp_ft.proofs.Parts.{message-narrow}
 use Rattle.ldp_ft.proofs.messages.ldp_ft_message_read.Statement.{statement}

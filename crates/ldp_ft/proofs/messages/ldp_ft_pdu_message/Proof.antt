@@ -1,6 +1,6 @@
 -- `ldp_ft::messages::ldp_ft_pdu_message` meets its contract. Assumes nothing.
-use borrow.Author.Needs.{needs}
 use mathlib.Core.Path.{sym, _∙_}
+use borrow.Author.Needs.{needs}
 use Rattle.ldp_ft.proofs.Parts.{place-ordered}
 use Rattle.ldp_ft.proofs.messages.ldp_ft_pdu_message.Statement.{statement}
 use Rattle.ldp_ft.proofs.messages.ldp_ft_pdu_message.Tie as tie

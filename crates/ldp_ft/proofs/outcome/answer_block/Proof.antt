@@ -1,6 +1,6 @@
 -- `ldp_ft::outcome::answer_block` meets its contract. Assumes nothing.
-use borrow.Author.Needs.{needs}
 use native.Mathlib.Omega.{arith}
+use borrow.Author.Needs.{needs}
 use Rattle.ldp_ft.proofs.outcome.answer_block.Statement.{statement}
 use Rattle.ldp_ft.proofs.outcome.answer_block.Tie as tie
 

@@ -1,9 +1,8 @@
 -- `ldp_ft::phases::phase_given` meets its contract. Assumes nothing.
 use borrow.Author.Needs.{needs}
 use Rattle.tlv.proofs.Rows.{lookup-absent}
-use Rattle.ldp_ft.specs.Session.{phases, givenOf}
-use Rattle.ldp_ft.specs.declared.Given
 use Rattle.ldp_ft.specs.declared.Given.{Given}
+use Rattle.ldp_ft.specs.Session.{phases, givenOf}
 use Rattle.ldp_ft.proofs.phases.phase_given.Statement.{statement}
 use Rattle.ldp_ft.proofs.phases.phase_given.Tie as tie
 

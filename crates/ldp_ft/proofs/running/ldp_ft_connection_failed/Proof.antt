@@ -1,7 +1,7 @@
 -- `ldp_ft::running::ldp_ft_connection_failed` meets its contract. Assumes nothing.
 use borrow.Author.Needs.{needs}
-use Rattle.ldp_ft.proofs.Narrow.{connection-failed-narrow}
 use Rattle.ldp_ft.proofs.Called.{narrow-is, called-known, called-unknown}
+use Rattle.ldp_ft.proofs.Narrow.{connection-failed-narrow}
 use Rattle.ldp_ft.proofs.running.ldp_ft_connection_failed.Statement.{statement}
 use Rattle.ldp_ft.proofs.running.ldp_ft_connection_failed.Tie as tie
 

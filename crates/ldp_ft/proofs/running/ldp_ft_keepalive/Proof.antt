@@ -1,7 +1,7 @@
 -- `ldp_ft::running::ldp_ft_keepalive` meets its contract. Assumes nothing.
 use borrow.Author.Needs.{needs}
-use Rattle.ldp_ft.proofs.Narrow.{keepalive-narrow}
 use Rattle.ldp_ft.proofs.Called.{narrow-is, called-known, called-unknown}
+use Rattle.ldp_ft.proofs.Narrow.{keepalive-narrow}
 use Rattle.ldp_ft.proofs.running.ldp_ft_keepalive.Statement.{statement}
 use Rattle.ldp_ft.proofs.running.ldp_ft_keepalive.Tie as tie
 

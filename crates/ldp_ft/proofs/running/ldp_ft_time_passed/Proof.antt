@@ -1,7 +1,7 @@
 -- `ldp_ft::running::ldp_ft_time_passed` meets its contract. Assumes nothing.
 use borrow.Author.Needs.{needs}
-use Rattle.ldp_ft.proofs.Narrow.{time-passed-narrow}
 use Rattle.ldp_ft.proofs.Called.{narrow-is, called-known, called-unknown}
+use Rattle.ldp_ft.proofs.Narrow.{time-passed-narrow}
 use Rattle.ldp_ft.proofs.running.ldp_ft_time_passed.Statement.{statement}
 use Rattle.ldp_ft.proofs.running.ldp_ft_time_passed.Tie as tie
 

@@ -1,8 +1,8 @@
 -- `ldp_ft::starting::ldp_ft_format` meets its contract. Assumes nothing.
-use borrow.Author.Needs.{needs}
 use mathlib.Core.Path.{_∙_}
-use Rattle.ldp_ft.proofs.Narrow.{format-narrow}
+use borrow.Author.Needs.{needs}
 use Rattle.ldp_ft.proofs.Called.{narrow-is, shown-is}
+use Rattle.ldp_ft.proofs.Narrow.{format-narrow}
 use Rattle.ldp_ft.proofs.starting.ldp_ft_format.Statement.{statement}
 use Rattle.ldp_ft.proofs.starting.ldp_ft_format.Tie as tie
 

@@ -1,7 +1,7 @@
 -- `ldp_ft::starting::ldp_ft_init_received` meets its contract. Assumes nothing.
 use borrow.Author.Needs.{needs}
-use Rattle.ldp_ft.proofs.Narrow.{init-narrow}
 use Rattle.ldp_ft.proofs.Called.{narrow-is, called-known, called-unknown}
+use Rattle.ldp_ft.proofs.Narrow.{init-narrow}
 use Rattle.ldp_ft.proofs.starting.ldp_ft_init_received.Statement.{statement}
 use Rattle.ldp_ft.proofs.starting.ldp_ft_init_received.Tie as tie
 

@@ -1,7 +1,7 @@
 -- `ldp_ft::starting::ldp_ft_open` meets its contract. Assumes nothing.
 use borrow.Author.Needs.{needs}
-use Rattle.ldp_ft.proofs.Narrow.{open-narrow}
 use Rattle.ldp_ft.proofs.Called.{narrow-is, called-known, called-unknown}
+use Rattle.ldp_ft.proofs.Narrow.{open-narrow}
 use Rattle.ldp_ft.proofs.starting.ldp_ft_open.Statement.{statement}
 use Rattle.ldp_ft.proofs.starting.ldp_ft_open.Tie as tie
 

@@ -1,8 +1,8 @@
 -- `ldp_ft::starting::ldp_ft_restore` meets its contract. Assumes nothing.
-use borrow.Author.Needs.{needs}
 use mathlib.Core.Path.{_∙_}
-use Rattle.ldp_ft.proofs.Narrow.{restore-narrow}
+use borrow.Author.Needs.{needs}
 use Rattle.ldp_ft.proofs.Called.{narrow-is, shown-is}
+use Rattle.ldp_ft.proofs.Narrow.{restore-narrow}
 use Rattle.ldp_ft.proofs.starting.ldp_ft_restore.Statement.{statement}
 use Rattle.ldp_ft.proofs.starting.ldp_ft_restore.Tie as tie
 

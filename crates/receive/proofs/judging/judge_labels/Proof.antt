@@ -1,6 +1,6 @@
+use mathlib.Core.Path.{refl}
 use borrow.Author.Needs.{needs}
 use borrow.Author.Tests.{not-true, not-false}
-use mathlib.Core.Path.{refl}
 use Rattle.receive.proofs.Judged.{labels-protection, labels-turn, labels-reception}
 use Rattle.receive.proofs.judging.judge_labels.Statement.{statement}
 use Rattle.receive.proofs.judging.judge_labels.Tie as tie

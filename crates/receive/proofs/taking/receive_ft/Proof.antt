@@ -1,8 +1,9 @@
-use borrow.Author.Needs.{needs}
 use mathlib.Core.Path.{refl}
-use Rattle.calls.proofs.Effects.{done-is}
+use borrow.Author.Needs.{needs}
 use Rattle.octets.proofs.Choice.{denied, granted}
-use Rattle.receive.proofs.Taken.{ft-settled, ft-taken, count-within}
+use Rattle.protocol.proofs.Effects.{done-is}
+use Rattle.receive.proofs.Judged.{count-within}
+use Rattle.receive.proofs.Taken.{ft-settled, ft-taken}
 use Rattle.receive.proofs.taking.receive_ft.Statement.{statement}
 use Rattle.receive.proofs.taking.receive_ft.Tie as tie
 
@@ -17,7 +18,7 @@ receive-ft-spec =
     (λ c. search needs)
     (λ c. ft-settled _ _ _ (c .before .before .before .before .before .before .before .judge-ft .ensures .0) (denied (c .before .before .before .before .before .is-done .ensures) (c .before .before .before .before .if1 .taken)) (c .before .before .settle .ensures))
     (λ c. search needs)
-    (λ c κs. record { sound = c .before .before .before .before .before .before .before .before .before .before .pre; within = count-within _ _ (c .before .before .before .before .before .before .before .before .before .before .pre); labels = λ n. c .before .before .before .before .before .judge-ft .ensures .1 (done-is _ (granted (c .before .before .before .is-done .ensures) (c .before .before .if1 .left))) (rw (c .before .before .before .before .before .before .before .header-of .ensures) n); count = search needs })
+    (λ c κs. record { sound = c .before .before .before .before .before .before .before .before .before .before .pre; within = count-within _ _ (c .before .before .before .before .before .before .before .before .before .before .pre); labels = λ n. c .before .before .before .before .before .judge-ft .ensures .1 (done-is _ (granted (c .before .before .before .is-done .ensures) (c .before .before .if1 .left))) n; count = search needs })
     (λ c. search needs)
     (λ c. ft-taken _ _ _ (c .before .before .before .before .before .before .before .before .judge-ft .ensures .0) (granted (c .before .before .before .before .before .before .is-done .ensures) (c .before .before .before .before .before .if1 .left)) (c .before .before .take-ft .ensures)) in
     tie.close answers

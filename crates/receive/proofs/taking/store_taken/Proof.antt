@@ -1,6 +1,6 @@
 use mathlib.Core.Path.{sym, _∙_}
 use borrow.Author.Needs.{needs}
-use Rattle.receive.proofs.Taken.{stored, stored-stays, count-of}
+use Rattle.receive.proofs.Taken.{put, put-stays}
 use Rattle.receive.proofs.taking.store_taken.Statement.{statement}
 use Rattle.receive.proofs.taking.store_taken.Tie as tie
 
@@ -8,11 +8,11 @@ pub store-taken-spec : {M : Type 1} → statement M
 store-taken-spec =
     let answers = tie.spec
     (λ c κs. rw (c .before .before .pre .2, c .before .before .pre .1) (c .before .before .pre .0 .within))
-    (λ c κs. (c .before .before .before .before .pre .0 .sound, rw (c .before .before .before .before .pre .2, c .before .before .before .before .pre .1) (c .before .before .before .before .pre .0 .within)))
+    (λ c κs. (c .before .before .before .before .pre .0 .sound, rw (c .before .before .before .before .pre .2) (c .before .before .before .before .pre .0 .within)))
     (λ c κs. search needs)
     (λ c. search needs)
-    (λ c. stored-stays _ _ (c .before .before .before .before .before .before .before .before .before .before .pre .1) (c .before .before .before .before .before .before .before .before .before .before .pre .2) (c .before .before .before .before .before .before .before .next-header .ensures) (sym (c .before .before .before .before .before .labels-stay .ensures) ∙ c .before .before .before .before .if1 .taken) (c .before .before .store-numbers .ensures))
+    (λ c. put-stays _ (c .before .before .before .before .before .before .before .before .before .before .pre .0 .sound) _ (c .before .before .before .before .before .before .before .before .before .before .pre .1) (c .before .before .before .before .before .before .before .before .before .before .pre .2) (c .before .before .before .before .before .before .before .next-header .ensures) (sym (c .before .before .before .before .before .labels-stay .ensures) ∙ c .before .before .before .before .if1 .taken) (c .before .before .store-numbers .ensures))
     (λ c κs. search needs)
     (λ c. search needs)
-    (λ c. stored _ _ (c .before .before .before .before .before .before .before .before .before .before .pre .1) (c .before .before .before .before .before .before .before .before .before .before .pre .2) (c .before .before .before .before .before .before .before .next-header .ensures) (c .before .before .before .before .before .before .before .before .before .before .pre .0 .labels (count-of _ _ (c .before .before .before .before .before .before .before .before .before .before .pre .1) (c .before .before .before .before .before .before .before .before .before .before .pre .2) (sym (c .before .before .before .before .before .labels-stay .ensures) ∙ c .before .before .before .before .if1 .left))) (c .before .before .store-changed .ensures)) in
+    (λ c. put _ (c .before .before .before .before .before .before .before .before .before .before .pre .0 .sound) _ (c .before .before .before .before .before .before .before .before .before .before .pre .1) (c .before .before .before .before .before .before .before .before .before .before .pre .2) (c .before .before .before .before .before .before .before .next-header .ensures) (c .before .before .before .before .before .before .before .before .before .before .pre .0 .labels (rw (← c .before .before .before .before .before .before .before .before .before .before .pre .2) (sym (c .before .before .before .before .before .labels-stay .ensures) ∙ c .before .before .before .before .if1 .left))) (c .before .before .store-changed .ensures)) in
     tie.close answers

@@ -1,5 +1,5 @@
 use borrow.Author.Needs.{needs}
-use Rattle.receive.proofs.Taken.{take-is}
+use Rattle.receive.proofs.Taken.{count-read, take-is}
 use Rattle.receive.proofs.taking.take_ft.Statement.{statement}
 use Rattle.receive.proofs.taking.take_ft.Tie as tie
 
@@ -8,7 +8,7 @@ take-ft-spec =
     let answers = tie.spec
     (λ c κs. search needs)
     (λ c κs. search needs)
-    (λ c κs. search needs)
+    (λ c κs. (c .before .before .before .before .before .before .pre, c .before .before .header-of .ensures, count-read _ _ (c .before .before .header-of .ensures) (c .before .ack-count .ensures)))
     (λ c κs. search needs)
     (λ c. search needs)
     (λ c. take-is _ _ _ (c .before .before .before .before .before .before .header-of .ensures) (c .before .before .before .before .before .ack-count .ensures) (c .before .before .before .store-taken .ensures) (c .lowered .ensures)) in

@@ -1,8 +1,8 @@
 -- `session_cases::places::copy_bytes` is safe and ends: the measure is the count of bytes left. Assumes nothing.
-use mathlib.Core.Path.{_≡_, refl}
 use Prim.Native.Nat.{_+_, _-_, _≤_}
-use lib.ListN.{length}
+use mathlib.Core.Path.{_≡_, refl}
 use native.Mathlib.Omega.{arith}
+use lib.ListN.{length}
 use borrow.Author.Needs.{needs}
 use Rattle.session_cases.proofs.places.copy_bytes.Statement.{statement}
 use Rattle.session_cases.proofs.places.copy_bytes.Tie as tie

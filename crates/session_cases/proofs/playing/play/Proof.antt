@@ -1,7 +1,7 @@
 -- `session_cases::playing::play` ends: the measure is the count of bytes left. Assumes nothing.
 use mathlib.Core.Path.{_≡_, refl}
-use lib.ListN.{length}
 use native.Mathlib.Omega.{arith}
+use lib.ListN.{length}
 use borrow.Author.Needs.{needs}
 use Rattle.session_cases.proofs.playing.play.Statement.{statement}
 use Rattle.session_cases.proofs.playing.play.Tie as tie

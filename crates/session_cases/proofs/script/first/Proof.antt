@@ -1,6 +1,6 @@
 -- `session_cases::script::first` gives no more bytes than it was asked for. Assumes nothing.
-use lib.ListN.{length-take}
 use native.Mathlib.Omega.{arith}
+use lib.ListN.{length-take}
 use borrow.Author.Needs.{needs}
 use Rattle.session_cases.proofs.script.first.Statement.{statement}
 use Rattle.session_cases.proofs.script.first.Tie as tie

@@ -1,7 +1,7 @@
 -- `session_cases::script::place_in` ends: the measure is the count of bytes left. Assumes nothing.
 use Prim.Native.Nat.{_+_, _≤_}
-use lib.ListN.{length}
 use native.Mathlib.Omega.{arith}
+use lib.ListN.{length}
 use borrow.Author.Needs.{needs}
 use Rattle.session_cases.proofs.script.place_in.Statement.{statement}
 use Rattle.session_cases.proofs.script.place_in.Tie as tie

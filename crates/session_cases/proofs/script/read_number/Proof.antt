@@ -1,7 +1,7 @@
 -- `session_cases::script::read_number` ends: the measure is the count of bytes left. Assumes nothing.
 use Prim.Native.Nat.{_-_, _≤_}
-use lib.ListN.{length}
 use native.Mathlib.Omega.{arith}
+use lib.ListN.{length}
 use borrow.Author.Needs.{needs}
 use Rattle.session_cases.proofs.script.read_number.Statement.{statement}
 use Rattle.session_cases.proofs.script.read_number.Tie as tie

@@ -1,5 +1,5 @@
 use borrow.Author.Needs.{needs}
-use Rattle.submit.specs.Labels.{acceptedAs}
+use Rattle.protocol.specs.Accepting.{acceptedAs}
 use Rattle.submit.proofs.Accepted.{unlisted}
 use Rattle.submit.proofs.labels.accept_as.Statement.{statement}
 use Rattle.submit.proofs.labels.accept_as.Tie as tie

@@ -1,5 +1,5 @@
 use borrow.Author.Needs.{needs}
-use Rattle.submit.specs.Labels.{isBarred}
+use Rattle.protocol.specs.Accepting.{isBarred}
 use Rattle.submit.proofs.labels.is_barred.Statement.{statement}
 use Rattle.submit.proofs.labels.is_barred.Tie as tie
 

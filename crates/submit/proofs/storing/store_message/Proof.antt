@@ -1,9 +1,9 @@
-use borrow.Author.Needs.{needs}
-use native.Mathlib.Omega.{arith}
 use mathlib.Core.Path.{ap, _∙_}
+use native.Mathlib.Omega.{arith}
+use borrow.Author.Needs.{needs}
 use denote.Ref.{now}
 use Rattle.block0.specs.declared.Header.{Header}
-use Rattle.slot.specs.Held.{Storable}
+use Rattle.message.specs.Storable.{Storable}
 use Rattle.submit.proofs.Queueing.{change-slotted, stored-is}
 use Rattle.submit.proofs.storing.store_message.Statement.{statement}
 use Rattle.submit.proofs.storing.store_message.Tie as tie

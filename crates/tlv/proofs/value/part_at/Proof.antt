@@ -1,5 +1,5 @@
-use borrow.Author.Needs.{needs}
 use native.Mathlib.Omega.{arith}
+use borrow.Author.Needs.{needs}
 use Rattle.octets.proofs.Choice.{where-equal, where-apart}
 use Rattle.tlv.specs.Value.{partAt}
 use Rattle.tlv.proofs.value.part_at.Statement.{statement}

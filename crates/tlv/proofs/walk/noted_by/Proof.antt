@@ -1,7 +1,6 @@
 use borrow.Author.Needs.{needs}
-use Rattle.tlv.specs.Tlv.{tlvOf, listed}
-use Rattle.tlv.specs.declared.walk.Tlv
 use Rattle.tlv.specs.declared.walk.Tlv.{Tlv}
+use Rattle.tlv.specs.Tlv.{tlvOf, listed}
 use Rattle.tlv.proofs.Rows.{lookup-absent}
 use Rattle.tlv.proofs.walk.noted_by.Statement.{statement}
 use Rattle.tlv.proofs.walk.noted_by.Tie as tie

@@ -1,8 +1,8 @@
 -- The invariant: what the walk says of the rest, with the places found so far, is what it says of the whole.
-use borrow.Author.Needs.{needs}
-use mathlib.Core.Path.{_≡_}
 use Prim.Native.Nat.{_-_, _≤_}
+use mathlib.Core.Path.{_≡_}
 use lib.ListN.{length, drop}
+use borrow.Author.Needs.{needs}
 use Rattle.tlv.specs.Walk.{walkOf, noneFound}
 use Rattle.tlv.proofs.Turns.{loops}
 use Rattle.tlv.proofs.walk.walk_tlvs.Statement.{statement}

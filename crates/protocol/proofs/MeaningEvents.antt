@@ -1,0 +1,48 @@
+-- What our own messages do to the label words is what the label list's events do, as they are accepted for sending and as they are acknowledged. Assumes nothing.
+use Prim.Native.Nat.{ℕ}
+use mathlib.Core.List.{List}
+use mathlib.Core.Logic.{_≢_}
+use mathlib.Core.Path.{_≡_, refl}
+use native.Mathlib.Omega.{arith}
+use borrow.Author.Tests.{ne-eqb}
+use Rattle.label_list.specs.declared.LabelMessage.{LabelMessage}
+use Rattle.label_list.specs.declared.Side.{Side}
+use Rattle.label_events.specs.declared.Acceptance.{Acceptance}
+use Rattle.label_events.specs.Change.{codeAt}
+use Rattle.label_meaning.specs.Event.{Accepted, step as event, withdraw-acked, release-acked}
+use Rattle.label_meaning.specs.Valid.{IsValid}
+use Rattle.label_meaning.proofs.Life.{move-happens}
+use Rattle.message.specs.declared.Kind.{Kind}
+use Rattle.protocol.specs.Accepting.{acceptedAs}
+use Rattle.protocol.specs.Acked.{releasedKind}
+use Rattle.protocol.specs.MeaningLabels.{NeverBare, address, address-withdraw, resources, SentKind, sent-mapping, sent-withdraw, sent-release}
+
+-- ---- "Accepted for sending": kinds 1 to 3 are events of the label, kinds 4 to 6 change nothing
+pub accepted-event : (ls : List ℕ) (label : ℕ) {kind : Kind} {message : LabelMessage} → SentKind kind message → acceptedAs ls kind label .1 ≡ event ls (Accepted message label)
+unfolding acceptedAs event
+accepted-event ls label sent-mapping = refl
+accepted-event ls label sent-withdraw = refl
+accepted-event ls label sent-release = refl
+
+pub accepted-bare : (ls : List ℕ) (label : ℕ) {kind : Kind} → NeverBare kind → acceptedAs ls kind label ≡ (Acceptance.Taken, ls)
+unfolding acceptedAs
+accepted-bare ls label address = refl
+accepted-bare ls label address-withdraw = refl
+accepted-bare ls label resources = refl
+
+-- ---- "Released by ACK: Withdraw 2 becomes free; Release 5 becomes free; other codes stay."
+module _ (ls : List ℕ) (v : IsValid ls) (label : ℕ) where
+  -- the ACK of a Withdraw frees its label of code 2
+  pub withdraw-released : codeAt ls Side.Given label ≡ 2 → codeAt (releasedKind 2 label ls) Side.Given label ≡ 0
+  unfolding releasedKind event
+  withdraw-released two = move-happens ls v withdraw-acked (omega arith) two
+
+  -- that of a Release frees its label of code 5
+  pub release-released : codeAt ls Side.Used label ≡ 5 → codeAt (releasedKind 3 label ls) Side.Used label ≡ 0
+  unfolding releasedKind event
+  release-released five = move-happens ls v release-acked (omega arith) five
+
+  -- of every other kind nothing changes
+  pub other-released : (kind : ℕ) → kind ≢ 2 → kind ≢ 3 → releasedKind kind label ls ≡ ls
+  unfolding releasedKind
+  other-released kind w r = rw (ne-eqb kind 2 w, ne-eqb kind 3 r)

@@ -1,0 +1,39 @@
+-- What Send next answers, and what it leaves of kept and of the store. Assumes nothing.
+use Prim.Native.Nat.{_<_, ℕ}
+use mathlib.Core.Bool.{Bool, false, not, true}
+use mathlib.Core.Path.{_≡_, refl}
+use lib.Dec.{leb, ltb}
+use borrow.Author.Tests.{leb-false}
+use Rattle.octets.specs.Pick.{pick}
+use Rattle.octets.proofs.Choice.{no, pick-all}
+use Rattle.protocol.specs.declared.Answer.{Answer}
+use Rattle.protocol.specs.declared.Phase.{Phase}
+use Rattle.protocol.specs.Answers.{isDone}
+use Rattle.protocol.specs.Phases.{isUpFT, issuedCount, sentOf}
+use Rattle.protocol.specs.Send.{numbered, sendRule, sentState}
+use Rattle.protocol.specs.State.{State, held}
+
+-- ---- an answer that is Done tells that a message is unsent
+rule-done : (u l : Bool) (a : Answer) → isDone (pick (not u) Answer.WrongPhase (pick l Answer.NothingUnsent a)) ≡ true → (u ≡ true) × (l ≡ false)
+rule-done true false a t = (refl, refl)
+rule-done true true a t = no (cc)
+rule-done false l a t = no (cc)
+
+pub record Sendable (now : State) (ph : Phase) : Type 0 where
+  pub up : isUpFT ph ≡ true
+  pub some : sentOf ph < held now
+
+pub sendable : (now : State) (ph : Phase) (a : Answer) → isDone (sendRule now ph a) ≡ true → Sendable now ph
+unfolding sendRule
+sendable now ph a t =
+    let q = rule-done (isUpFT ph) (leb (held now) (sentOf ph)) a t in
+    record { up = q .0; some = leb-false (held now) (sentOf ph) (q .1) }
+
+-- ---- no message leaves the store
+pub sent-kept : (s : State) (sent : ℕ) → sentState s sent .kept ≡ s .kept
+unfolding sentState numbered
+sent-kept s sent = pick-all (λ (t : State). t .kept ≡ s .kept) (ltb sent (issuedCount s)) refl refl
+
+pub sent-queue : (s : State) (sent : ℕ) → sentState s sent .queue ≡ s .queue
+unfolding sentState numbered
+sent-queue s sent = pick-all (λ (t : State). t .queue ≡ s .queue) (ltb sent (issuedCount s)) refl refl

@@ -1,0 +1,58 @@
+-- Submit is done where every test is passed, and changes nothing anywhere else. Assumes nothing.
+use Prim.Native.Nat.{ℕ, _<_}
+use mathlib.Core.Bool.{true, not}
+use mathlib.Core.List.{List}
+use mathlib.Core.Path.{_≡_, refl}
+use lib.Dec.{leb, ltb}
+use lib.ListN.{length}
+use Rattle.octets.proofs.Choice.{pick-all}
+use Rattle.label_events.specs.declared.Acceptance.{Acceptance}
+use Rattle.message.specs.declared.Submission.{Submission}
+use Rattle.message.specs.Storable.{shortest, longest, Storable}
+use Rattle.message.specs.Submission.{submissionOf}
+use Rattle.protocol.specs.declared.Answer.{Answer}
+use Rattle.protocol.specs.Accepting.{isBarred, acceptedAs}
+use Rattle.protocol.specs.Answers.{effectOf}
+use Rattle.protocol.specs.State.{State, held, capacity}
+use Rattle.protocol.specs.Submit.{acceptanceRule, kindRule, submissionRule, submitRule}
+use Rattle.protocol.specs.SubmitCases.{Fitting}
+use Rattle.protocol.proofs.Settling.{Harmless, done-harmless}
+use Rattle.protocol.proofs.SubmitCases.{Last, done-last}
+
+-- ---- what Done tells
+pub record Accepted (s : State) (m : List ℕ) : Type 0 where
+  pub storable : Storable m
+  pub room : held s < capacity
+  pub kept : s .kept ≡ true
+
+pub done-accepted : (s : State) (m : List ℕ) → submitRule s m ≡ Answer.Done → Accepted s m
+done-accepted s m e =
+    let p = done-last s m e in
+    let w : Last s m = p .0 in
+    let f : Fitting s m = w .unbarred .fitting in
+    record {
+      storable = record { low = f .low; short = f .high; kind = w .kind; label = w .label; accepted = w .unbarred .accepted };
+      room = p .1;
+      kept = f .kept;
+    }
+
+-- ---- every other answer changes nothing
+harmless-acceptance : (s : State) (a : Acceptance) → Harmless (acceptanceRule s a)
+unfolding effectOf
+harmless-acceptance s Acceptance.Taken = pick-all Harmless (leb capacity (held s)) (λ n. refl) done-harmless
+harmless-acceptance s Acceptance.NotAllowed = λ n. refl
+harmless-acceptance s Acceptance.NoRoom = λ n. refl
+
+harmless-submission : (s : State) (j : Submission) → Harmless (submissionRule s j)
+unfolding kindRule effectOf
+harmless-submission s Submission.Malformed = λ n. refl
+harmless-submission s Submission.Refused = λ n. refl
+harmless-submission s (Submission.Accepted kind label) =
+    pick-all Harmless (isBarred (s .queue) kind label) (λ n. refl) (harmless-acceptance s (acceptedAs (s .table .words) kind label .0))
+
+pub submit-harmless : (s : State) (m : List ℕ) → Harmless (submitRule s m)
+unfolding submitRule effectOf
+submit-harmless s m =
+    pick-all Harmless (not (s .kept)) (λ n. refl)
+    (pick-all Harmless (ltb (length m) shortest) (λ n. refl)
+    (pick-all Harmless (ltb longest (length m)) (λ n. refl) (harmless-submission s (submissionOf m))))

@@ -1,0 +1,48 @@
+-- What a received message means for the state, clause by clause.
+use Prim.Native.Nat.{ℕ, _-_}
+use mathlib.Core.List.{[]}
+use mathlib.Core.Path.{_≡_}
+use lib.ListN.{drop}
+use Rattle.ft_number.specs.declared.FtNumber.{FtNumber}
+use Rattle.ft_number.specs.Circle.{next}
+use Rattle.tlv.specs.declared.FtField.{FtField}
+use Rattle.message.specs.declared.Message.{Message}
+use Rattle.protocol.specs.declared.Answer.{Answer}
+use Rattle.protocol.specs.Acked.{ackBorne}
+use Rattle.protocol.specs.Cases.{wordsAfter}
+use Rattle.protocol.specs.Labels.{labelEffect, isProtected, effectLabels}
+use Rattle.protocol.specs.Phases.{upWith}
+use Rattle.protocol.specs.Receive.{securedBy, receivedState}
+use Rattle.protocol.specs.State.{State, held}
+use Rattle.protocol.specs.Step.{Step}
+
+-- a message taken in UpFT, whose ACK releases the oldest k held: "An ACK lowers that count by the messages it releases, not below 0."
+pub record ReceivedFrom (s : State) (sent : ℕ) (g : Message) (k : ℕ) (x : Step) : Type 0 where
+  pub answer : x .answer ≡ Answer.Done
+  pub state : x .state ≡ receivedState s g
+  pub phase : x .phase ≡ upWith (sent - k)
+  pub output : x .output ≡ []
+
+-- "the ACK acts first, then the message": the state t after g, whose ACK releases the oldest k held
+pub record AckThenMessage (s : State) (g : Message) (k : ℕ) (t : State) : Type 0 where
+  pub released : t .released .0 ≡ ackBorne s (g .ack)
+  pub issued : t .issued ≡ s .issued
+  pub secured : t .secured ≡ securedBy (s .secured) (g .protection)
+  pub fewer : held t ≡ held s - k
+  pub kept : t .kept ≡ s .kept
+  pub terms : t .terms ≡ s .terms
+  pub labels : t .table .words ≡ effectLabels (wordsAfter s k) (isProtected (g .protection)) (labelEffect g)
+  pub queue : t .queue ≡ drop k (s .queue)
+
+-- "a protected one must bear the successor of S, and S moves to it"; every other message leaves S
+pub record SecuresFrom (s : State) (g : Message) (t : State) : Type 0 where
+  pub moves : (n : FtNumber) → g .protection ≡ FtField.Number n → t .secured ≡ n
+  pub successor : (n : FtNumber) → g .protection ≡ FtField.Number n → n .0 ≡ next (s .secured .0)
+  pub stays : g .protection ≡ FtField.Absent → t .secured ≡ s .secured
+
+-- the answers in UpPlain: 22, 36, 31, 0
+pub data PlainAnswer : Answer → Type 0 where
+  plain-malformed : PlainAnswer Answer.MalformedReceived
+  plain-fatal : PlainAnswer Answer.StatusFatal
+  plain-ft-tlv : PlainAnswer Answer.FtTlvInPlain
+  plain-done : PlainAnswer Answer.Done

@@ -1,0 +1,131 @@
+-- Receive: the answer to a message in 01's order, 1, 22, 36, 31, 30, 34, 33, 32, 20, 21, and what it makes of the state.
+-- 01: "Receive (UpFT): the ACK acts first, then the message; a protected one must bear the successor of S, and S moves to it. In UpPlain messages are passed on."
+use Prim.Native.Nat.{ℕ, _-_}
+use mathlib.Core.Bool.{Bool, true, false, not}
+use mathlib.Core.List.{List, []}
+use lib.Dec.{eqb}
+use Rattle.octets.specs.Pick.{pick}
+use Rattle.ft_number.specs.declared.Ack.{Ack}
+use Rattle.ft_number.specs.declared.FtNumber.{FtNumber}
+use Rattle.ft_number.specs.Ack.{ackOf}
+use Rattle.ft_number.specs.Circle.{next}
+use Rattle.label_list.specs.declared.Protection.{Protection}
+use Rattle.label_events.specs.declared.Reception.{Reception}
+use Rattle.tlv.specs.declared.Field.{Field}
+use Rattle.tlv.specs.declared.FtField.{FtField}
+use Rattle.message.specs.declared.Message.{Message}
+use Rattle.message.specs.declared.Reading.{Reading}
+use Rattle.message.specs.Kinds.{fatalOf}
+use Rattle.message.specs.Reading.{readingOf}
+use Rattle.message.specs.Submission.{bearsFt}
+use Rattle.protocol.specs.declared.Answer.{Answer}
+use Rattle.protocol.specs.declared.Phase.{Phase}
+use Rattle.protocol.specs.Acked.{ackBorne, acked}
+use Rattle.protocol.specs.Labels.{effectLabels, effectReception, isProtected, labelEffect, protectionRule}
+use Rattle.protocol.specs.Phases.{upWith}
+use Rattle.protocol.specs.Received.{isInit}
+use Rattle.protocol.specs.State.{State, withSecured, withTable}
+use Rattle.protocol.specs.Step.{Step, admitted, settle, stepped, unchanged}
+
+-- "36: Status with E set"
+abbrev pub isFatal : Field → Bool
+isFatal Field.Absent = false
+isFatal (Field.Value v) = fatalOf v
+
+-- "Init received in UpFT or UpPlain" is malformed (22); then 36; then the tests of the phase
+unfoldable pub messageRule : Message → Answer → Answer
+messageRule g a = pick (isInit (g .typename)) Answer.MalformedReceived (pick (isFatal (g .status)) Answer.StatusFatal a)
+
+-- "31: FT TLV in UpPlain"
+abbrev pub plainRule : Message → Answer
+plainRule g = messageRule g (pick (bearsFt (g .found)) Answer.FtTlvInPlain Answer.Done)
+
+-- "30: zero number": of FT Protection alone
+abbrev pub isZero : FtField → Bool
+isZero FtField.Absent = false
+isZero (FtField.Number n) = eqb (n .0) 0
+
+-- "20: number out of turn": a protected message bears the successor of S
+abbrev pub inTurn : ℕ → FtField → Bool
+inTurn s FtField.Absent = true
+inTurn s (FtField.Number n) = eqb (n .0) (next s)
+
+abbrev pub receptionRule : Reception → Answer
+receptionRule Reception.Taken = Answer.Done
+receptionRule Reception.NoRoom = Answer.NoWordForMapping
+
+-- "33 and later judge labels as the ACK leaves them": ls are those, s is S
+abbrev pub protectedRule : List ℕ → ℕ → Message → Protection → Answer
+protectedRule ls s g Protection.Missing = Answer.ProtectionMissing
+protectedRule ls s g Protection.Wrong = Answer.ProtectionWrong
+protectedRule ls s g Protection.Right =
+    pick (not (inTurn s (g .protection))) Answer.OutOfTurn (receptionRule (effectReception ls (isProtected (g .protection)) (labelEffect g)))
+
+unfoldable pub labelsRule : List ℕ → ℕ → Message → Answer
+labelsRule ls s g = protectedRule ls s g (protectionRule ls g)
+
+abbrev pub readRule : Reading → (Message → Answer) → Answer
+readRule Reading.Malformed rule = Answer.MalformedReceived
+readRule (Reading.Whole g) rule = rule g
+
+-- S moves to the number of a protected message
+abbrev pub securedBy : FtNumber → FtField → FtNumber
+securedBy s FtField.Absent = s
+securedBy s (FtField.Number n) = n
+
+-- how many messages the ACK releases
+abbrev pub ackCount : Ack → ℕ
+ackCount (Ack.Releases k) = k
+ackCount Ack.SequenceError = 0
+
+-- "34: ACK sequence error"; "33 and later judge labels as the ACK leaves them"
+abbrev pub ackRule : State → Message → Ack → Answer
+ackRule s g (Ack.Releases k) = labelsRule (acked s k (ackBorne s (g .ack)) .table .words) (s .secured .0) g
+ackRule s g Ack.SequenceError = Answer.AckSequenceError
+
+-- the ACK that the message bears, against R and I
+unfoldable pub ackOn : State → Message → Ack
+ackOn s g = ackOf (s .released .0) (s .issued .0) (ackBorne s (g .ack))
+
+unfoldable pub ftRule : State → Message → Answer
+ftRule s g = messageRule g (pick (isZero (g .protection)) Answer.ZeroNumber (ackRule s g (ackOn s g)))
+
+abbrev pub receiveRule : State → Phase → Reading → Answer
+receiveRule s Phase.Idle r = Answer.WrongPhase
+receiveRule s (Phase.InitWait v) r = Answer.WrongPhase
+receiveRule s (Phase.UpFT u) r = readRule r (ftRule s)
+receiveRule s Phase.UpPlain r = readRule r plainRule
+receiveRule s Phase.Failed r = Answer.WrongPhase
+
+-- the state as the ACK leaves it
+abbrev pub afterAck : State → Message → State
+afterAck s g = acked s (ackCount (ackOn s g)) (ackBorne s (g .ack))
+
+-- the label words that a message leaves
+abbrev pub messageLabels : List ℕ → Message → List ℕ
+messageLabels ls g = effectLabels ls (isProtected (g .protection)) (labelEffect g)
+
+-- then the message: S moves to the number of a protected one
+unfoldable pub taken : State → Message → State
+taken s g =
+    withTable (withSecured s (securedBy (s .secured) (g .protection)))
+    (record { words = messageLabels (s .table .words) g })
+
+unfoldable pub receivedState : State → Message → State
+receivedState s g = taken (afterAck s g) g
+
+-- "An ACK lowers that count by the messages it releases, not below 0."
+abbrev pub receivedPhase : State → ℕ → Message → Phase
+receivedPhase s sent g = upWith (sent - ackCount (ackOn s g))
+
+-- what a message leaves that is taken; a malformed one is not
+abbrev pub takenAs : State → Phase → Reading → Step
+takenAs s Phase.Idle r = unchanged Answer.Done s Phase.Idle
+takenAs s (Phase.InitWait v) r = unchanged Answer.Done s (Phase.InitWait v)
+takenAs s (Phase.UpFT u) Reading.Malformed = unchanged Answer.Done s (Phase.UpFT u)
+takenAs s (Phase.UpFT u) (Reading.Whole g) = stepped Answer.Done (receivedState s g) (receivedPhase s (u .sent) g) []
+takenAs s Phase.UpPlain r = unchanged Answer.Done s Phase.UpPlain
+takenAs s Phase.Failed r = unchanged Answer.Done s Phase.Failed
+
+unfoldable pub receive : State → Phase → List ℕ → Step
+receive s ph m = settle (admitted s ph (receiveRule s ph (readingOf m))) s ph (takenAs s ph (readingOf m))

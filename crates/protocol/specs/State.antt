@@ -1,0 +1,133 @@
+-- The state of a session: what both ends have agreed, what is numbered, held and secured, and which labels are given and used.
+-- No byte of the stored image is named here: in which block a number lies, and in which slot a message, is the image's affair.
+use Prim.Native.Nat.{ℕ}
+use mathlib.Core.Bool.{Bool, true, false}
+use mathlib.Core.List.{List, []}
+use lib.ListN.{length, replicate}
+use Rattle.ft_number.specs.declared.FtNumber.{FtNumber}
+use Rattle.label_list.specs.Word.{wordCount}
+use Rattle.protocol.specs.declared.Terms.{Terms}
+
+-- "The labels are lent to the rules as 120 numbers of 32 bits": the label words
+pub record Table : Type 0 where
+  pub words : List ℕ
+
+pub record State : Type 0 where
+  -- "Released R, issued I, secured S": the last number that the peer acknowledged, the last that we gave, the last that we took of the peer's
+  pub released : FtNumber
+  pub issued : FtNumber
+  pub secured : FtNumber
+  -- "kept 0 or 1"
+  pub kept : Bool
+  -- the agreed timeout, and the peer's two parameters
+  pub terms : Terms
+  pub table : Table
+  -- the messages held, as submitted, the oldest first: "The oldest held bears the number after R; those past I are pended and have none yet."
+  pub queue : List (List ℕ)
+
+abbrev pub held : State → ℕ
+held s = length (s .queue)
+
+-- "7: 64 held"
+abbrev pub capacity : ℕ
+capacity = 64
+
+-- "0 is none"; "Released R, issued I, secured S start at 0."
+abbrev pub noNumber : FtNumber
+noNumber = record { 0 = 0 }
+
+-- "0 is free"
+abbrev pub noTable : Table
+noTable = record { words = replicate wordCount 0 }
+
+-- "Released means block 0 with kept 0": "With kept 0, bytes 4 to 507 are zero."
+abbrev pub releasedState : State
+releasedState = record {
+  released = noNumber;
+  issued = noNumber;
+  secured = noNumber;
+  kept = false;
+  terms = record { timeout = 0; keepalive = 0; maxpdu = 0 };
+  table = noTable;
+  queue = [];
+}
+
+-- ---- a state with one of its parts another
+abbrev pub withReleased : State → FtNumber → State
+withReleased s n = record {
+  released = n;
+  issued = s .issued;
+  secured = s .secured;
+  kept = s .kept;
+  terms = s .terms;
+  table = s .table;
+  queue = s .queue;
+}
+
+abbrev pub withIssued : State → FtNumber → State
+withIssued s n = record {
+  released = s .released;
+  issued = n;
+  secured = s .secured;
+  kept = s .kept;
+  terms = s .terms;
+  table = s .table;
+  queue = s .queue;
+}
+
+abbrev pub withSecured : State → FtNumber → State
+withSecured s n = record {
+  released = s .released;
+  issued = s .issued;
+  secured = n;
+  kept = s .kept;
+  terms = s .terms;
+  table = s .table;
+  queue = s .queue;
+}
+
+-- kept 1, by these terms
+abbrev pub keptBy : State → Terms → State
+keptBy s t = record {
+  released = s .released;
+  issued = s .issued;
+  secured = s .secured;
+  kept = true;
+  terms = t;
+  table = s .table;
+  queue = s .queue;
+}
+
+-- another timeout is agreed; the peer's two parameters stay
+abbrev pub withTimeout : State → ℕ → State
+withTimeout s seconds = record {
+  released = s .released;
+  issued = s .issued;
+  secured = s .secured;
+  kept = s .kept;
+  terms = record { timeout = seconds; keepalive = s .terms .keepalive; maxpdu = s .terms .maxpdu };
+  table = s .table;
+  queue = s .queue;
+}
+
+abbrev pub withTable : State → Table → State
+withTable s t = record {
+  released = s .released;
+  issued = s .issued;
+  secured = s .secured;
+  kept = s .kept;
+  terms = s .terms;
+  table = t;
+  queue = s .queue;
+}
+
+abbrev pub withQueue : State → List (List ℕ) → State
+withQueue s q = record {
+  released = s .released;
+  issued = s .issued;
+  secured = s .secured;
+  kept = s .kept;
+  terms = s .terms;
+  table = s .table;
+  queue = q;
+}

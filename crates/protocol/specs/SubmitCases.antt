@@ -1,0 +1,64 @@
+-- A submission case by case: what it is, and the answer. `submit-cases` in proofs/SubmitCases.antt says that the judgement is this list.
+-- 01: "Submit: 12, 1, 3, 4, 5, 6, 13, 7."
+use Prim.Native.Nat.{ℕ, _≤_, _<_}
+use mathlib.Core.Bool.{true, false}
+use mathlib.Core.List.{List}
+use mathlib.Core.Path.{_≡_}
+use lib.ListN.{length}
+use Rattle.label_events.specs.declared.Acceptance.{Acceptance}
+use Rattle.message.specs.declared.Kind.{Kind}
+use Rattle.message.specs.declared.Submission.{Submission}
+use Rattle.message.specs.Storable.{shortest, longest, Storable}
+use Rattle.message.specs.Submission.{submissionOf}
+use Rattle.protocol.specs.declared.Answer.{Answer}
+use Rattle.protocol.specs.declared.Phase.{Phase}
+use Rattle.protocol.specs.Accepting.{isBarred, acceptedAs}
+use Rattle.protocol.specs.Phases.{phaseFits}
+use Rattle.protocol.specs.State.{State, capacity, held}
+
+-- 1 and 3 are passed: kept is 1, and the length lies within 8 to 480
+pub record Fitting (s : State) (m : List ℕ) : Type 0 where
+  pub kept : s .kept ≡ true
+  pub low : shortest ≤ length m
+  pub high : length m ≤ longest
+
+-- 4 and 5 are passed too, and nothing held bars the message
+pub record Unbarred (s : State) (m : List ℕ) (kind : Kind) (label : ℕ) : Type 0 where
+  pub fitting : Fitting s m
+  pub accepted : submissionOf m ≡ Submission.Accepted kind label
+  pub free : isBarred (s .queue) kind label ≡ false
+
+pub data SubmitCase (s : State) (m : List ℕ) : Answer → Type 0 where
+  -- "1: .. submit with kept 0"
+  not-kept : s .kept ≡ false → SubmitCase s m Answer.WrongPhase
+  -- "3: submitted length outside 8 to 480"
+  too-short : s .kept ≡ true → length m < shortest → SubmitCase s m Answer.LengthOutOfRange
+  too-long : s .kept ≡ true → longest < length m → SubmitCase s m Answer.LengthOutOfRange
+  -- "4: malformed submission"
+  malformed-submission : Fitting s m → submissionOf m ≡ Submission.Malformed → SubmitCase s m Answer.Malformed
+  -- "5: submitted kind not 1 to 6, FT TLV present, or kinds 1-3 without a label"
+  not-sent : Fitting s m → submissionOf m ≡ Submission.Refused → SubmitCase s m Answer.KindNotSent
+  -- "6: .. same label's Withdraw/Release of that kind still held"; "label code doesn't allow it, label below 16"
+  still-held : {kind : Kind} {label : ℕ} → Fitting s m → submissionOf m ≡ Submission.Accepted kind label → isBarred (s .queue) kind label ≡ true
+      → SubmitCase s m Answer.LabelNotAllowed
+  code-forbids : {kind : Kind} {label : ℕ} → Unbarred s m kind label → acceptedAs (s .table .words) kind label .0 ≡ Acceptance.NotAllowed
+      → SubmitCase s m Answer.LabelNotAllowed
+  -- "13: Mapping that needs a word, none free"
+  no-free-word : {kind : Kind} {label : ℕ} → Unbarred s m kind label → acceptedAs (s .table .words) kind label .0 ≡ Acceptance.NoRoom
+      → SubmitCase s m Answer.NoLabelWord
+  -- "7: 64 held"
+  store-full : {kind : Kind} {label : ℕ} → Unbarred s m kind label → acceptedAs (s .table .words) kind label .0 ≡ Acceptance.Taken → capacity ≤ held s
+      → SubmitCase s m Answer.StoreFull
+  queues : {kind : Kind} {label : ℕ} → Unbarred s m kind label → acceptedAs (s .table .words) kind label .0 ≡ Acceptance.Taken → held s < capacity
+      → SubmitCase s m Answer.Done
+
+-- every test of Submit but the last, 7
+pub record Passes (s : State) (ph : Phase) (m : List ℕ) : Type 0 where
+  -- 1
+  pub fits : phaseFits ph s ≡ true
+  pub kept : s .kept ≡ true
+  -- 3, 4 and 5
+  pub storable : Storable m
+  -- 6 and 13: nothing held bars the message, and its label's code allows it
+  pub free : isBarred (s .queue) (storable .kind) (storable .label) ≡ false
+  pub allowed : acceptedAs (s .table .words) (storable .kind) (storable .label) .0 ≡ Acceptance.Taken

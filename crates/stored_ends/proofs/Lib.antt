@@ -1,0 +1,4 @@
+pub mod Synced
+pub mod Tracks
+pub mod Follows
+pub mod Theorem

@@ -1,0 +1,1 @@
+// Two cabinets with memory and medium: theorems over runs with power cut anywhere. No code.

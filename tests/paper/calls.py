@@ -1,0 +1,233 @@
+"""The ten calls, from the build paper's words "Events" and "What each answer does".
+
+Every call decodes the image, does what the paper says, and lays block 0 anew. What the paper says in a sentence is quoted."""
+
+from .image import BLOCK, SIZE, SLOTS, State, block_of, held_message, refusal, slot_block, state_of
+from .labels import EVERY
+from .message import Message, submission
+from .numbers import acknowledged, advance, lesser, steps, successor
+from .wire import ACK, ADDRESS, ADDRESS_WITHDRAW, INIT, KEEPALIVE, MAPPING, PARAMETERS, PROTECTION, RELEASE, RESOURCES, SESSION, WITHDRAW
+from .wire import ack_tlv, field, message, number, parameters_tlv, protection_tlv, session_tlv
+
+LABEL_KINDS = (MAPPING, WITHDRAW, RELEASE)
+
+
+def allowed(st, phase):
+    """UpFT or Failed with kept 0, Idle or UpPlain with kept 1, count sent past I: ruled out."""
+    if phase[0] == "UpFT":
+        return st.kept == 1 and phase[1] <= steps(st.released, st.issued)
+    return phase[0] == "InitWait" or st.kept == (phase[0] == "Failed")
+
+
+class Outcome:
+    def __init__(self, answer, phase, out=b"", slot=0, block=0):
+        self.answer, self.phase, self.out, self.slot, self.block, self.block0 = answer, phase, out, slot, block, False
+
+
+RESTING = {0: ("Idle",), 1: ("Failed",)}
+
+
+def call(rule):
+    """Restore's checks and the phase first; then the rule, and what its answer leaves in block 0."""
+
+    def made(image, phase, *rest):
+        bad = refusal(image)
+        if bad:
+            return Outcome(bad[0], phase, block=bad[1])
+        st, old = state_of(image), block_of(image, 0)
+        o = Outcome(1, phase) if phase and not allowed(st, phase) else rule(image, st, phase, *rest)
+        if 20 <= o.answer <= 23:
+            st = state_of(old)
+            st.labels.lose_connection()
+            o.phase = RESTING[st.kept]
+        if o.answer >= 30:
+            st, o.phase = State(), ("Idle",)
+        if o.answer == 0 or o.answer >= 20:
+            image[:BLOCK] = getattr(o, "state", st).block()
+        o.block0 = block_of(image, 0) != old
+        return o
+
+    return made
+
+
+def begun(st, phase, out=b""):
+    """Done, with another state than that which was decoded."""
+    o = Outcome(0, phase, out)
+    o.state = st
+    return o
+
+
+def format_image(image):
+    if len(image) != SIZE:
+        return Outcome(12, ("Idle",))
+    image[:] = State().block() + bytes(BLOCK * SLOTS)
+    o = Outcome(0, ("Idle",))
+    o.block0 = True
+    return o
+
+
+def restore(image):
+    o = call(lambda im, st, ph: fail(st))(image, None)
+    o.phase = o.phase or ("Idle",)
+    return o
+
+
+def fail(st):
+    """Code 6 words are freed; Failed if kept, else Idle."""
+    st.labels.lose_connection()
+    return Outcome(0, RESTING[st.kept])
+
+
+@call
+def open_session(image, st, phase, ident, parameters, proposal, room):
+    """Writes Init, R = kept, ACK = S; our proposal defaults to 5 seconds."""
+    if phase[0] not in ("Idle", "Failed"):
+        return Outcome(1, phase)
+    seconds = 5 if proposal is None else proposal
+    tlvs = [parameters_tlv(*parameters), session_tlv(st.kept, seconds)]
+    if st.kept:
+        tlvs.append(ack_tlv(st.secured))
+    out = message(INIT, ident, *tlvs)
+    return Outcome(9, phase) if len(out) > room else Outcome(0, ("InitWait", seconds), out)
+
+
+@call
+def keepalive(image, st, phase, ident, room):
+    if phase[0] not in ("UpFT", "UpPlain"):
+        return Outcome(1, phase)
+    out = message(KEEPALIVE, ident, *([ack_tlv(st.secured)] if phase[0] == "UpFT" else []))
+    return Outcome(9, phase) if len(out) > room else Outcome(0, phase, out)
+
+
+@call
+def connection_failed(image, st, phase):
+    return fail(st) if phase[0] in ("InitWait", "UpFT", "UpPlain") else Outcome(1, phase)
+
+
+@call
+def time_passed(image, st, phase, elapsed):
+    """Releases, then Idle, if the timeout isn't zero and elapsed seconds are at least it; else nothing changes."""
+    if phase[0] != "Failed":
+        return Outcome(1, phase)
+    if st.timeout and elapsed >= st.timeout:
+        return begun(State(), ("Idle",))
+    return Outcome(0, phase)
+
+
+@call
+def submit(image, st, phase, m):
+    if not st.kept:
+        return Outcome(1, phase)
+    if not 8 <= len(m) <= 480:
+        return Outcome(3, phase)
+    answer, kind, label = submission(m)
+    if answer:
+        return Outcome(answer, phase)
+    answer = accept(image, st, kind, label) or (7 if st.held == SLOTS else 0)
+    if answer:
+        return Outcome(answer, phase)
+    slot = (st.first + st.held) % SLOTS + 1
+    image[BLOCK * slot : BLOCK * (slot + 1)] = slot_block(m, kind, label)
+    st.held += 1
+    return Outcome(0, phase, slot=slot)
+
+
+def accept(image, st, kind, label):
+    """6 for a Withdraw or Release too where one of the same label is held; then by the label's code."""
+    if kind not in LABEL_KINDS:
+        return 0
+    held = [submission(held_message(image, st, i))[1:] for i in range(st.held)]
+    return 6 if kind != MAPPING and (kind, label) in held else st.labels.accept(kind, label)
+
+
+@call
+def send_next(image, st, phase, ack, room):
+    """The oldest not sent on this connection; it is numbered if it has no number."""
+    if phase[0] != "UpFT":
+        return Outcome(1, phase)
+    sent = phase[1]
+    if sent >= st.held:
+        return Outcome(8, phase)
+    n, m = advance(st.released, sent + 1), held_message(image, st, sent)
+    added = protection_tlv(n) + (ack_tlv(st.secured) if ack else b"")
+    out = m[:2] + field(number(m[2:4]) + len(added), 2) + m[4:] + added
+    if len(out) > room:
+        return Outcome(9, phase)
+    if sent >= steps(st.released, st.issued):
+        st.issued = n
+    return Outcome(0, ("UpFT", sent + 1), out)
+
+
+def apply_ack(image, st, ack):
+    """How many messages an ACK releases, each with what that makes of its label; None where it is wrong."""
+    count = acknowledged(st.released, st.issued, ack)
+    for i in range(count or 0):
+        _, kind, label = submission(held_message(image, st, i))
+        if kind in LABEL_KINDS:
+            st.labels.acknowledge(kind, label)
+    if count is not None:
+        st.released, st.first, st.held = ack, (st.first + count) % SLOTS, st.held - count
+    return count
+
+
+@call
+def init_received(image, st, phase, m):
+    if phase[0] != "InitWait":
+        return Outcome(1, phase)
+    read = Message(m)
+    if read.bad or read.type != INIT:
+        return Outcome(22, phase)
+    session = read.tlvs.get(SESSION)
+    again = session is not None and session[0] >= 0x80
+    if not read.has(PARAMETERS) or (again and not read.has(ACK)):
+        return Outcome(23, phase)
+    if session is None:
+        return begun(State(), ("UpPlain",))
+    given = read.tlvs[PARAMETERS]
+    peers = number(given[2:4]), number(given[6:8])
+    if again and st.kept:
+        if peers != (st.keepalive, st.maxpdu):
+            return Outcome(35, phase)
+        if apply_ack(image, st, read.value(ACK)) is None:
+            return Outcome(34, phase)
+    else:
+        st = State()
+        st.kept, (st.keepalive, st.maxpdu) = 1, peers
+    st.timeout = lesser(phase[1], number(session[2:]))
+    return begun(st, ("UpFT", 0))
+
+
+@call
+def receive(image, st, phase, m):
+    if phase[0] not in ("UpFT", "UpPlain"):
+        return Outcome(1, phase)
+    read = Message(m)
+    if read.bad or read.type == INIT:
+        return Outcome(22, phase)
+    if read.fatal():
+        return Outcome(36, phase)
+    if phase[0] == "UpPlain":
+        return Outcome(31 if read.bears_ft() else 0, phase)
+    protected = read.has(PROTECTION)
+    if protected and read.value(PROTECTION) == 0:
+        return Outcome(30, phase)
+    count = apply_ack(image, st, read.value(ACK)) if read.has(ACK) else 0
+    if count is None:
+        return Outcome(34, phase)
+    answer = judge(st, read, protected)
+    if answer:
+        return Outcome(answer, phase)
+    if protected:
+        st.secured = read.value(PROTECTION)
+    return Outcome(0, ("UpFT", max(phase[1] - count, 0)))
+
+
+def judge(st, read, protected):
+    """Protection missing (33) or wrong (32), the number not the next (20), no word for the label (21): else the labels have changed."""
+    kind, label = read.kind(), EVERY if read.every() else read.label()
+    if kind in (ADDRESS, ADDRESS_WITHDRAW, RESOURCES) and not protected:
+        return 33
+    answer = st.labels.judge(kind, label, protected) if kind in LABEL_KINDS else 0
+    if not answer and protected and read.value(PROTECTION) != successor(st.secured):
+        return 20
+    return answer or (st.labels.take(kind, label, protected) if kind in LABEL_KINDS else 0)

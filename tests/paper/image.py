@@ -1,0 +1,116 @@
+"""The stored image, from the build paper's words "Stored image": a bytearray of 65 blocks."""
+
+from .labels import COUNT, Labels
+from .message import submission
+from .numbers import steps
+from .wire import field, number
+
+BLOCK, SLOTS = 512, 64
+SIZE = BLOCK * (1 + SLOTS)
+FIELDS = (("version", 4), ("released", 4), ("issued", 4), ("secured", 4), ("first", 2), ("held", 2), ("timeout", 2), ("kept", 1), ("zero", 1), ("keepalive", 2), ("maxpdu", 2))
+WORDS_AT = sum(width for _, width in FIELDS)
+
+
+def check(block):
+    a, b = 1, 0
+    for i in range(0, 508, 2):
+        a = (a + number(block[i : i + 2])) % 65535
+        b = (b + a) % 65535
+    return field(a, 2) + field(b, 2)
+
+
+def sealed(body):
+    body = body.ljust(508, b"\0")
+    return body + check(body)
+
+
+def is_sealed(block):
+    return check(block) == block[508:]
+
+
+class State:
+    """What block 0 says. A new one is that of "released": kept 0, and nothing else."""
+
+    def __init__(self, words=(), **fields):
+        for name, _ in FIELDS:
+            setattr(self, name, fields.get(name, 1 if name == "version" else 0))
+        self.labels = Labels(words)
+
+    def block(self):
+        body = b"".join(field(getattr(self, name), width) for name, width in FIELDS)
+        return sealed(body + b"".join(field(w, 4) for w in self.labels.words))
+
+    def valid(self):
+        if self.version != 1 or self.zero or self.kept > 1 or self.first >= SLOTS or self.held > SLOTS:
+            return False
+        if not self.kept:
+            return self.block() == State().block()
+        way = steps(self.released, self.issued)
+        return way is not None and way <= self.held and self.labels.valid()
+
+    def pended(self):
+        return self.held - steps(self.released, self.issued)
+
+    def live(self):
+        """The blocks of the live slots, the oldest first."""
+        return [(self.first + i) % SLOTS + 1 for i in range(self.held)]
+
+
+def block_of(image, k):
+    return bytes(image[BLOCK * k : BLOCK * (k + 1)])
+
+
+def state_of(image):
+    block, fields, at = block_of(image, 0), {}, 0
+    for name, width in FIELDS:
+        fields[name] = number(block[at : at + width])
+        at += width
+    return State([number(block[WORDS_AT + 4 * i :][:4]) for i in range(COUNT)], **fields)
+
+
+def slot_block(m, kind, label):
+    return sealed(field(len(m), 2) + field(kind, 1) + b"\0" + field(label, 4) + m)
+
+
+def slot_valid(block):
+    size = number(block[:2])
+    if not 8 <= size <= 480:
+        return False
+    m = block[8 : 8 + size]
+    answer, kind, label = submission(m)
+    return answer is None and block == slot_block(m, kind, label)
+
+
+def held_message(image, st, i):
+    block = block_of(image, st.live()[i])
+    return block[8 : 8 + number(block[:2])]
+
+
+def refusal(image):
+    """Restore's checks: size, block 0, its fields, then live slots in ring order: check, then fields."""
+    if len(image) != SIZE:
+        return 12, 0
+    if not is_sealed(block_of(image, 0)):
+        return 10, 0
+    st = state_of(image)
+    if not st.valid():
+        return 11, 0
+    for k in st.live():
+        if not is_sealed(block_of(image, k)):
+            return 10, k
+        if not slot_valid(block_of(image, k)):
+            return 11, k
+    return None
+
+
+def report(image):
+    """What is said of an image: its counts, or why it is refused."""
+    bad = refusal(image)
+    if bad:
+        return [f"refused {bad[0]} block {bad[1]}"]
+    st = state_of(image)
+    return counts(st.released, st.issued, st.secured, st.held, st.pended(), len(st.labels.listed()))
+
+
+def counts(*numbers):
+    return [f"{name} {n}" for name, n in zip(("released", "issued", "secured", "held", "pended", "labels"), numbers)]

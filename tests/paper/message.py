@@ -1,0 +1,75 @@
+"""A message read and judged, from the build paper's words "Wire forms" and "Submit"."""
+
+from .numbers import LAST
+from .wire import ACK, FEC, LABEL, MAPPING, PARAMETERS, PROTECTION, RELEASE, RESOURCES, SESSION, STATUS, TYPE, WITHDRAW, number
+
+LENGTHS = {FEC: None, LABEL: 4, STATUS: 10, PARAMETERS: 14, SESSION: 4, PROTECTION: 4, ACK: 4}
+KINDS = {number_of_type: kind for kind, number_of_type in TYPE.items() if kind != RESOURCES}
+NO_LABEL = LAST
+
+
+class Message:
+    """A message read: its type, and the value of each listed TLV. `bad` where it is malformed."""
+
+    def __init__(self, m):
+        self.tlvs, self.bad = {}, True
+        if len(m) < 8 or number(m[2:4]) != len(m) - 4:
+            return
+        self.type = number(m[:2]) & 0x7FFF
+        at = 8
+        while at < len(m):
+            if at + 4 > len(m):
+                return
+            kind, size = number(m[at : at + 2]) & 0x3FFF, number(m[at + 2 : at + 4])
+            value = m[at + 4 : at + 4 + size]
+            if len(value) != size:
+                return
+            if kind in LENGTHS:
+                if LENGTHS[kind] not in (None, size) or kind in self.tlvs:
+                    return
+                self.tlvs[kind] = bytes(value)
+            at += 4 + size
+        self.bad = not self.bears()
+
+    def bears(self):
+        if self.has(LABEL) and self.label() > 1048575:
+            return False
+        if self.type == TYPE[MAPPING]:
+            return self.has(FEC) and self.has(LABEL)
+        return self.type not in (TYPE[WITHDRAW], TYPE[RELEASE]) or self.has(FEC)
+
+    def has(self, kind):
+        return kind in self.tlvs
+
+    def value(self, kind):
+        return number(self.tlvs[kind])
+
+    def label(self):
+        return self.value(LABEL) if self.has(LABEL) else None
+
+    def fatal(self):
+        return self.has(STATUS) and self.tlvs[STATUS][0] >= 0x80
+
+    def bears_ft(self):
+        return any(self.has(kind) for kind in (SESSION, PROTECTION, ACK))
+
+    def kind(self):
+        """Resources Available: a Notification whose Status has that code in its low 30 bits and E clear."""
+        if self.type == TYPE[RESOURCES] and self.has(STATUS) and not self.fatal():
+            return RESOURCES if number(self.tlvs[STATUS][:4]) & 0x3FFFFFFF == 0xF else None
+        return KINDS.get(self.type)
+
+    def every(self):
+        """Withdraw or Release of the wildcard FEC without a label acts on every label."""
+        return not self.has(LABEL) and self.tlvs.get(FEC) == b"\x01"
+
+
+def submission(m):
+    """4, 5, or None with the kind and the label of a message that may be sent."""
+    read = Message(m)
+    if read.bad:
+        return 4, None, None
+    kind = read.kind()
+    if kind is None or read.bears_ft() or (kind <= RELEASE and read.label() is None):
+        return 5, None, None
+    return None, kind, read.label() if kind <= RELEASE else NO_LABEL

@@ -1,0 +1,44 @@
+"""Numbers on a circle and timeouts, from the build paper's words "Numbers on a circle": stated by walking the circle."""
+
+LAST = 0xFFFFFFFF
+
+
+def successor(n):
+    """FT numbers run 1 to 0xFFFFFFFF, then 1 again; 0 is "none" and its successor is 1."""
+    return 1 if n == LAST else n + 1
+
+
+def steps(a, b):
+    """How many successors lead from a to b, None where none do: "none" stands before 1, and nothing leads to it."""
+    if b == 0:
+        return 0 if a == 0 else None
+    if a == 0:
+        return b
+    return b - a if b >= a else (LAST - a) + b
+
+
+def advance(a, k):
+    """The k-th successor of a."""
+    place = a + k  # counted from "none", unrolled
+    while k and place > LAST:
+        place -= LAST
+    return place
+
+
+def distance(a, b):
+    """The signed distance from a to b, None where one of them is "none"."""
+    if a == 0 or b == 0:
+        return None
+    there, back = steps(a, b), steps(b, a)
+    return there if there <= back else -back
+
+
+def acknowledged(r, i, a):
+    """How many messages an ACK releases: it is right if it is R or one of the numbers up to I; None where it is wrong."""
+    through, window = steps(r, a), steps(r, i)
+    return None if through is None or window is None or through > window else through
+
+
+def lesser(a, b):
+    """The lesser of two timeouts, zero counting as infinite."""
+    return min((t for t in (a, b) if t), default=0)

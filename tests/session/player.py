@@ -1,0 +1,114 @@
+"""Cabinets at five places, 0 to 4; the image at place 0 is a byte too short. Every method is a line of the script that session_cases plays, and is played here too: SCRIPT has the
+lines of the script, LINES what is printed. A message is bytes, or the place whose last output it is."""
+
+from paper import calls as c
+from paper import image as im
+
+SCRIPT, LINES = [], []
+
+# KeepAlive time, PDU length, LSR ID and label space of P2, at place 2, and of P1, at the others.
+P1_OWN, P2_OWN = (30, 4096, 0x0A000002, 0), (15, 1500, 0x0A000001, 0)
+
+
+def show(name, o, image):
+    block = f" block {o.block}" if o.answer in (10, 11) else ""
+    slot = f" {im.block_of(image, o.slot)[508:].hex()}" if o.slot else ""
+    block0 = f"true {bytes(image[508:512]).hex()}" if o.block0 else "false"
+    LINES.append(f"{name}: {o.answer}{block}, {' '.join(map(str, o.phase))}, written {len(o.out)}, slot {o.slot}{slot}, block0 {block0}")
+    if o.out:
+        LINES.append(f"  {o.out.hex()}")
+
+
+def step(name, word, *numbers, message=""):
+    SCRIPT.append(f"{name}: {word} {' '.join(map(str, numbers))}" + (f": {message}" if message else ""))
+
+
+class Player:
+    def __init__(self):
+        self.image = [bytearray(im.SIZE - (place == 0)) for place in range(5)]
+        self.phase, self.out, self.last = [("Idle",)] * 5, [b""] * 5, None
+
+    def title(self, text):
+        SCRIPT.append(f"# {text}: title")
+        LINES.append(f"# {text}")
+
+    # The ten calls.
+    def outcome(self, place, name, o):
+        show(name, o, self.image[place])
+        self.phase[place], self.out[place], self.last = o.phase, o.out or self.out[place], o
+        return o
+
+    def format(self, place, name):
+        step(name, "format", place)
+        self.outcome(place, name, c.format_image(self.image[place]))
+
+    def restore(self, place, name):
+        step(name, "restore", place)
+        self.outcome(place, name, c.restore(self.image[place]))
+
+    def open(self, place, name, proposal=None):
+        step(name, "open", place, 64, *([] if proposal is None else [proposal]))
+        self.outcome(place, name, c.open_session(self.image[place], self.phase[place], 1, P2_OWN if place == 2 else P1_OWN, proposal, 64))
+
+    def send(self, place, name, room=512, ack=False):
+        step(name, "send", place, room, *([1] if ack else []))
+        self.outcome(place, name, c.send_next(self.image[place], self.phase[place], ack, room))
+
+    def keepalive(self, place, name, room=16):
+        step(name, "keepalive", place, room, 2)
+        self.outcome(place, name, c.keepalive(self.image[place], self.phase[place], 2, room))
+
+    def given(self, place, name, word, call, m):
+        if isinstance(m, int):
+            step(name, word, place, message=f"from {m}")
+            m = self.out[m]
+        else:
+            step(name, word, place, message=m.hex())
+        return self.outcome(place, name, call(self.image[place], self.phase[place], m))
+
+    def init(self, place, name, m):
+        self.given(place, name, "init", c.init_received, m)
+
+    def submit(self, place, name, m):
+        return self.given(place, name, "submit", c.submit, m)
+
+    def receive(self, place, name, m):
+        self.given(place, name, "receive", c.receive, m)
+
+    def failed(self, place, name):
+        step(name, "failed", place)
+        self.outcome(place, name, c.connection_failed(self.image[place], self.phase[place]))
+
+    def time(self, place, name, seconds):
+        step(name, "time", place, seconds)
+        self.outcome(place, name, c.time_passed(self.image[place], self.phase[place], seconds))
+
+    # What the build paper says of the last call, in its own numbers and bytes: the lines above are what tests/paper makes of it.
+    def answered(self, answer, phase=None):
+        assert (self.last.answer, phase or self.last.phase[0]) == (answer, self.last.phase[0]), (SCRIPT[-1], answer, phase)
+
+    def wrote(self, text):
+        assert self.last.out == bytes.fromhex(text), (SCRIPT[-1], self.last.out.hex())
+
+    # What is done to the images and phases.
+    def counts(self, place, name):
+        step(name, "counts", place)
+        LINES.append(f"{name} {' '.join(im.report(self.image[place]))}")
+
+    def put(self, place, phase):
+        step("", phase[0], place, *phase[1:])
+        self.phase[place] = phase
+
+    def copy(self, place, source):
+        step("", "copy", place, source)
+        self.image[place] = bytearray(self.image[source][: len(self.image[place])])
+        self.phase[place] = self.phase[source]
+
+    def block(self, place, k, source, j):
+        step("", "copy", place, source, k, j)
+        self.image[place][im.BLOCK * k : im.BLOCK * (k + 1)] = im.block_of(self.image[source], j)
+        self.phase[place] = self.phase[source]
+
+    def spoil(self, place, at, byte):
+        step("", "spoil", place, at, byte)
+        self.image[place][at] = byte
