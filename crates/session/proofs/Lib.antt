@@ -8,6 +8,7 @@ pub mod Room
 -- what the owner stores
 pub mod Told
 pub mod Queued
+pub mod Writers
 pub mod Medium
 -- the wrong keepers, and the numbers of lower crates
 pub mod Sample

@@ -4,6 +4,7 @@ use mathlib.Core.List.{List}
 use mathlib.Core.Path.{_≡_, refl, sym, ap, _∙_}
 use native.Mathlib.Omega.{arith}
 use lib.ListN.{length}
+use Rattle.octets.proofs.Choice.{no}
 use Rattle.image.specs.declared.Verdict.{Verdict}
 use Rattle.image.specs.Verdict.{verdict}
 use Rattle.image.proofs.Queue.{queue-length}
@@ -41,9 +42,9 @@ module _ (im : List ℕ) (ph : Phase) (m out : List ℕ) where
       by Verdict.Sound v e =
           let few : held (stateOf im) ≤ capacity = rw (queue-length im) (sound-valid im (sound-parts im v) .held) in
           full-only (stateOf im) ph m few e
-      by Verdict.WrongSize v e = let z : _≡_ {A = ℕ} 0 1 = cc in absurd (omega arith)
-      by (Verdict.BadBlock b) v e = let z : _≡_ {A = ℕ} 0 1 = cc in absurd (omega arith)
-      by (Verdict.BadField b) v e = let z : _≡_ {A = ℕ} 0 1 = cc in absurd (omega arith)
+      by Verdict.WrongSize v e = no cc
+      by (Verdict.BadBlock b) v e = no cc
+      by (Verdict.BadField b) v e = no cc
 
   -- a message that passes every other test is refused at 64, and taken below
   module _ (v : verdict im ≡ Verdict.Sound) (p : Passes (stateOf im) ph m) where

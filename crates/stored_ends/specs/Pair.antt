@@ -91,7 +91,8 @@ made z v out =
 abbrev pub restarted : Pair → List ℕ → Pair
 restarted z medium = made (record { world = z .world; own = record { image = medium; medium = medium }; peer = z .peer }) restarts []
 
--- power is lost after n stores: with fewer than all the call has not happened, with all it has
+-- power is lost after n stores: with fewer than all the call has not happened; with all it has, and its output goes down with the connection, which a
+-- restart breaks (output that arrived before is the run in which the call is whole, the peer is delivered to, and then the power goes)
 abbrev pub cutShort : ℕ → Pair → Event → List ℕ → Pair
 cutShort n z v out =
     let x = left v (z .world) (z .own) out in
