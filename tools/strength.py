@@ -14,7 +14,9 @@ from refusals import HEADING, ROOT  # noqa: E402
 
 PAGE = ROOT / "docs" / "STRENGTH.md"
 # what an owner or a reader of captures builds on: at least two wrong answers are tried on each public function of these
-TWICE = {"ft_number", "pdu", "message", "label_list", "image", "connect", "init", "submit", "send", "timers", "receive"}
+TWICE = {"ft_number", "pdu", "message", "label_list", "image", "connect", "init", "submit", "send", "timers", "receive", "ldp_ft"}
+# the calls of the C boundary share their helpers: there only a call's own count, and those of helpers that no other call reaches
+OWN = {"ldp_ft"}
 HEAD = """# Strength of the promises
 
 Made by `tools/strength.py` from the sources and the must-fail edits; the gate checks that it is up to date. What an owner can trust is in
@@ -125,10 +127,18 @@ def wrong_answers(crate):
 
 
 def tried_on(function, here, tried, alone):
-    """The wrong answers on a function: its own, those of helpers that only it is reached by, and, where it is alone, those of laws."""
+    """The wrong answers on a function: its own, those of inner helpers that it reaches, and, where it is alone, those of laws."""
     near = reached(function.name, here)
     helpers = {name for name in near if name == function.name or not here[name].public}
     return [(label, name, words) for label, name, words in tried if name in helpers or (alone and name not in here)]
+
+
+def counted(function, here, answers):
+    """Those of its wrong answers that count: at the boundary not those of helpers that another public function reaches too."""
+    if function.crate.name not in OWN:
+        return answers
+    others = set().union(*(reached(f.name, here) for f in here.values() if f.public and f is not function))
+    return [answer for answer in answers if answer[1] not in others]
 
 
 def cell(answers, own):
@@ -165,8 +175,9 @@ def function_table(here, tried, sources, faults):
         answers = tried_on(function, here, tried, len(public) == 1)
         shown.update(answers)
         name, crate = function.name, function.crate.name
-        if crate in TWICE and len(answers) < 2:
-            faults.append(f"{crate}::{name}: {len(answers)} wrong answers tried, two wanted")
+        count = len(counted(function, here, answers))
+        if crate in TWICE and count < 2:
+            faults.append(f"{crate}::{name}: {count} wrong answers tried, two wanted")
         stated = ", ".join(function.cites) or "-"
         rows.append(f"| `{name}` | {function.promise} | {needs(function, sources)} | {stated} | {function.proof()} | {cell(answers, name)} |")
     head = ["| function | promise | requires | stated | proved | wrong answers tried |", "|---|---|---|---|---|---|"]

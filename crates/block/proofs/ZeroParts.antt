@@ -4,7 +4,7 @@ use mathlib.Core.Bool.{true, false, false≢true}
 use mathlib.Core.List.{List, [], _∷_, _++_}
 use mathlib.Core.Logic.{⊎-elim}
 use mathlib.Core.Path.{_≡_, refl, sym, ap, _∙_}
-use native.Mathlib.Nat.{suc-mul}
+use native.Mathlib.Nat.{suc-mul, pow-suc}
 use native.Mathlib.Omega.{arith}
 use lib.Bits.{bitOr, or-add-and, and-le-l, and-le-r}
 use lib.Dec.{eqb}
@@ -14,6 +14,7 @@ use borrow.Author.Tests.{eq-eqb, ne-eqb, eqb-true, eqb-false}
 use Rattle.octets.specs.Pick.{both}
 use Rattle.octets.proofs.Be.{pos}
 use Rattle.octets.proofs.Choice.{by-test, below-or-not}
+use Rattle.block.specs.Bits.{bitsAt}
 use Rattle.block.specs.Rows.{leAt}
 use Rattle.block.specs.Zeros.{allZero}
 use Rattle.block.proofs.Le.{leAt-suc}
@@ -42,7 +43,7 @@ none-of : (b k : ℕ) → 0 < k → b * k ≡ 0 → b ≡ 0
 none-of zero k h e = refl
 none-of (suc b) k h e = absurd (omega (arith, rw suc-mul at e))
 
-pub le-zero : (s : List ℕ) (at w : ℕ) → at + w ≤ length s → eqb (leAt w s at) 0 ≡ allZero (take w (drop at s))
+le-zero : (s : List ℕ) (at w : ℕ) → at + w ≤ length s → eqb (leAt w s at) 0 ≡ allZero (take w (drop at s))
 le-zero s at zero h = sym allZero-none
 le-zero s at (suc w) h =
     let inside : w < length (drop at s) = simp length-drop (omega arith) in
@@ -60,9 +61,20 @@ le-zero s at (suc w) h =
     high x y e = omega arith
 
 -- two parts, one behind the other
-pub or-parts : (s : List ℕ) (at n m x y : ℕ) → eqb x 0 ≡ allZero (take n (drop at s)) → eqb y 0 ≡ allZero (take m (drop (at + n) s))
+or-parts : (s : List ℕ) (at n m x y : ℕ) → eqb x 0 ≡ allZero (take n (drop at s)) → eqb y 0 ≡ allZero (take m (drop (at + n) s))
     → eqb (bitOr x y) 0 ≡ allZero (take (n + m) (drop at s))
 or-parts s at n m x y p q = or-zero x y ∙ rw (p, q, take-add n m (drop at s), allZero-join, drop-drop n at s)
+
+-- 8 * 2 ^ k bytes, joined bit by bit
+pub bits-zero : (k : ℕ) (s : List ℕ) (at : ℕ) {x : ℕ} → x ≡ bitsAt k s at → at + 8 * 2 ^ k ≤ length s → eqb x 0 ≡ allZero (take (8 * 2 ^ k) (drop at s))
+bits-zero zero s at e h = rw e (le-zero s at 8 h)
+bits-zero (suc k) s at e h =
+    let n : ℕ = 8 * 2 ^ k in
+    let twice : 8 * 2 ^ suc k ≡ n + n = omega (arith, pow-suc 2 k) in
+    rw (e, twice)
+    (or-parts s at n n (bitsAt k s at) (bitsAt k s (at + n))
+    (bits-zero k s at refl (omega arith))
+    (bits-zero k s (at + n) refl (omega arith)))
 
 -- ---- parts of a list
 module _ (s : List ℕ) (at n : ℕ) where
@@ -96,10 +108,13 @@ zero-all s k n h m z =
     (λ t. t ∙ sym (bytes-zero s (λ j l. zero-to s k (length s - n) n z (omega arith) t j (omega arith))))
     (λ f. f ∙ part-set s (length s - n) n f)
 
--- the first n and the last
-pub ends-all : (s : List ℕ) (n x y : ℕ) → n ≤ length s → length s ≤ n + n → eqb x 0 ≡ allZero (take n (drop 0 s)) → eqb y 0 ≡ allZero (take n (drop (length s - n) s))
+-- the first 8 * 2 ^ k and the last
+pub ends-all : (k : ℕ) (s : List ℕ) {x y : ℕ} → 8 * 2 ^ k ≤ length s → length s ≤ 8 * 2 ^ k + 8 * 2 ^ k → x ≡ bitsAt k s 0 → y ≡ bitsAt k s (length s - 8 * 2 ^ k)
     → eqb (bitOr x y) 0 ≡ allZero s
-ends-all s n x y h m p q =
+ends-all k s {x} {y} h m ex ey =
+    let n : ℕ = 8 * 2 ^ k in
+    let p : eqb x 0 ≡ allZero (take n (drop 0 s)) = bits-zero k s 0 ex (omega arith) in
+    let q : eqb y 0 ≡ allZero (take n (drop (length s - n) s)) = bits-zero k s (length s - n) ey (omega arith) in
     or-zero x y
     ∙ by-test (eqb x 0)
     (λ t. rw t (q ∙ zero-all s n n h m (λ j l. part-bytes s 0 n (sym p ∙ t) j (omega arith) (omega arith))))

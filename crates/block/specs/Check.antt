@@ -3,7 +3,7 @@
 use Prim.Native.Nat.{ℕ, _+_, _*_, _%_}
 use mathlib.Core.Bool.{Bool}
 use mathlib.Core.List.{List, [], _∷_}
-use lib.Dec.{eqb, leb}
+use lib.Dec.{eqb, ltb}
 use lib.ListN.{length, take}
 use Rattle.octets.specs.Be.{beAt, putBe}
 use Rattle.octets.specs.Pick.{pick}
@@ -37,4 +37,4 @@ sealed b = putBe 4 b checkAt (checkOf (take checkAt b))
 
 -- the check of the first 508 of any bytes; refused where there are fewer
 unfoldable pub blockCheckOf : List ℕ → BlockCheck
-blockCheckOf b = pick (leb checkAt (length b)) (Check (checkOf (take checkAt b))) TooShort
+blockCheckOf b = pick (ltb (length b) checkAt) TooShort (Check (checkOf (take checkAt b)))

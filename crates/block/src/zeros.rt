@@ -1,29 +1,29 @@
 // Bytes that are all zero, looked at 64 at a time; the last 64 may overlap those before them.
 ghost use Prim.Native.Nat.{_+_, _≤_, _<_};
 ghost use mathlib.Core.Path.{_≡_};
-ghost use lib.Dec.{eqb};
-ghost use lib.ListN.{length, take, drop};
+ghost use lib.ListN.{length};
+ghost use Rattle.block.specs.Bits.{bitsAt};
 ghost use Rattle.block.specs.Zeros.{allZero};
 use crate::rows;
 
-// Sixteen bytes from `at` on in one number, zero where they all are.
+// Sixteen bytes from `at` on, joined bit by bit: zero where they all are. So too 32 and 64.
 fn sixteen(s: &[u8], at: usize) -> u64
     requires { ⌜ at + 16 ≤ length (now s) ⌝ }
-    ensures { λ r. ⌜ eqb r 0 ≡ allZero (take 16 (drop at (now (s .entry)))) ⌝ }
+    ensures { λ r. ⌜ r ≡ bitsAt 1 (now (s .entry)) at ⌝ }
 {
     rows::get_eight(s, at) | rows::get_eight(s, at + 8)
 }
 
 fn thirty_two(s: &[u8], at: usize) -> u64
     requires { ⌜ at + 32 ≤ length (now s) ⌝ }
-    ensures { λ r. ⌜ eqb r 0 ≡ allZero (take 32 (drop at (now (s .entry)))) ⌝ }
+    ensures { λ r. ⌜ r ≡ bitsAt 2 (now (s .entry)) at ⌝ }
 {
     sixteen(s, at) | sixteen(s, at + 16)
 }
 
 fn sixty_four(s: &[u8], at: usize) -> u64
     requires { ⌜ at + 64 ≤ length (now s) ⌝ }
-    ensures { λ r. ⌜ eqb r 0 ≡ allZero (take 64 (drop at (now (s .entry)))) ⌝ }
+    ensures { λ r. ⌜ r ≡ bitsAt 3 (now (s .entry)) at ⌝ }
 {
     thirty_two(s, at) | thirty_two(s, at + 32)
 }

@@ -20,38 +20,38 @@ use Rattle.protocol.specs.declared.Phase.{Phase}
 use Rattle.protocol.specs.Answers.{answerNumber, effectBy, effectOf, isDone}
 use Rattle.protocol.specs.Phases.{restingPhase}
 use Rattle.calls.specs.declared.Outcome.{Outcome}
-use Rattle.calls.specs.Outcomes.{After, after, refusal, settleOf, untouched, failedOn, releasedOn, leftBy}
-use Rattle.calls.specs.State.{numbersOf}
+use Rattle.calls.specs.Outcomes.{After, afterWith, refusal, settleOf, untouched, failedOn, releasedOn, leftBy}
+use Rattle.calls.specs.State.{stateOfNumbers}
 use Rattle.calls.proofs.Putting.{break-puts, release-puts}
 
 -- ---- as connection failed; the premises are what the callees ensure
 module _ (a : Answer) (im o : List ℕ) (s : IsSound im) (byte : Bytes im) {h : Header} {ph : Phase} {b : Bool}
-    (e₁ : h ≡ decode im .header) (e₂ : ph ≡ restingPhase (numbersOf h)) (e₃ : b ≡ unprotected (decode im .labels)) where
+    (e₁ : h ≡ decode im .header) (e₂ : ph ≡ restingPhase (stateOfNumbers h)) (e₃ : b ≡ unprotected (decode im .labels)) where
   -- no label is used without protection: the image stays as it is
-  pub fail-none : {r : Outcome} → b ≡ false → r ≡ refusal a ph → after r im o ≡ failedOn a im o
+  pub fail-none : {r : Outcome} → b ≡ false → r ≡ refusal a ph → afterWith r im o ≡ failedOn a im o
   unfolding failedOn
   fail-none f e = rw (break-puts im s, break-same im s byte (sym e₃ ∙ f), differ-self, e, e₂, e₁)
 
   pub fail-some : {im′ : List ℕ} → b ≡ true → im′ ≡ breakOf im
-      → after (record { answer = a; phase = ph; written = 0; slot = 0; block0 = true }) im′ o ≡ failedOn a im o
+      → afterWith (record { answer = a; phase = ph; written = 0; slot = 0; block0 = true }) im′ o ≡ failedOn a im o
   unfolding failedOn
   fail-some t e = rw (break-puts im s, ← break-changed im s byte (sym e₃ ∙ t), e, e₂, e₁)
 
 -- ---- released
 module _ (a : Answer) (im o : List ℕ) (s : IsSound im) {h : Header} (e : h ≡ decode im .header) where
   -- with kept 0 the image stays as it is
-  pub release-none : {r : Outcome} → Bytes im → h .kept ≡ 0 → r ≡ refusal a Phase.Idle → after r im o ≡ releasedOn a im o
+  pub release-none : {r : Outcome} → Bytes im → h .kept ≡ 0 → r ≡ refusal a Phase.Idle → afterWith r im o ≡ releasedOn a im o
   unfolding releasedOn
   release-none byte idle p = rw (release-puts im, release-same im s byte (rw e at idle), differ-self, p)
 
   pub release-some : {im′ : List ℕ} → h .kept ≢ 0 → im′ ≡ releaseOf im
-      → after (record { answer = a; phase = Phase.Idle; written = 0; slot = 0; block0 = true }) im′ o ≡ releasedOn a im o
+      → afterWith (record { answer = a; phase = Phase.Idle; written = 0; slot = 0; block0 = true }) im′ o ≡ releasedOn a im o
   unfolding releasedOn
   release-some kept p = rw (release-puts im, ← release-changed im (s .size) (rw e at kept), p)
 
 -- ---- by the answer's effect
 module _ (a : Answer) (ph : Phase) (im o : List ℕ) (done : After) {f : Effect} (e : f ≡ effectOf a) where
-  pub settle-nothing : {r : Outcome} → f ≡ Effect.Nothing → r ≡ refusal a ph → after r im o ≡ settleOf a ph im o done
+  pub settle-nothing : {r : Outcome} → f ≡ Effect.Nothing → r ≡ refusal a ph → afterWith r im o ≡ settleOf a ph im o done
   unfolding settleOf
   settle-nothing t p = rw (← e, t, p)
 
@@ -91,5 +91,5 @@ pub settle-refusal : (a : Answer) (ph : Phase) (im o : List ℕ) (d : After) →
 unfolding settleOf
 settle-refusal a ph im o d e = rw e
 
-pub unchanged-is : (a : Answer) (ph : Phase) (im o : List ℕ) {r : Outcome} → r ≡ refusal a ph → after r im o ≡ untouched a ph im o
+pub unchanged-is : (a : Answer) (ph : Phase) (im o : List ℕ) {r : Outcome} → r ≡ refusal a ph → afterWith r im o ≡ untouched a ph im o
 unchanged-is a ph im o e = rw e

@@ -10,7 +10,7 @@ use Rattle.image.specs.State.{decode}
 use Rattle.protocol.specs.declared.Phase.{Phase}
 use Rattle.protocol.specs.Phases.{countOf, issuedCount, phaseFits}
 use Rattle.protocol.specs.State.{State}
-use Rattle.calls.specs.State.{stateBy, stateOf, numbersOf}
+use Rattle.calls.specs.State.{stateBy, stateOf, stateOfNumbers}
 
 pub issued-is : (s : State) (x t : Steps) → x ≡ stepsOf (s .released .0) (s .issued .0) → x ≡ t → countOf t ≡ issuedCount s
 unfolding issuedCount
@@ -18,11 +18,11 @@ issued-is s x t e g = rw (← e, g)
 
 -- the numbers decide alone which have a number and which phase fits
 module _ (h : Header) (words : List ℕ) (queue : List (List ℕ)) where
-  pub issued-alone : issuedCount (stateBy h words queue) ≡ issuedCount (numbersOf h)
+  pub issued-alone : issuedCount (stateBy h words queue) ≡ issuedCount (stateOfNumbers h)
   unfolding issuedCount
   issued-alone = refl
 
-  fits-alone : (ph : Phase) → phaseFits ph (stateBy h words queue) ≡ phaseFits ph (numbersOf h)
+  fits-alone : (ph : Phase) → phaseFits ph (stateBy h words queue) ≡ phaseFits ph (stateOfNumbers h)
   unfolding phaseFits issuedCount
   fits-alone Phase.Idle = refl
   fits-alone (Phase.InitWait v) = refl
@@ -31,5 +31,5 @@ module _ (h : Header) (words : List ℕ) (queue : List (List ℕ)) where
   fits-alone Phase.Failed = refl
 
 -- a test's result, of a header that was read
-pub fits-read : (im : List ℕ) (ph : Phase) {h : Header} {b t : Bool} → b ≡ phaseFits ph (numbersOf h) → h ≡ decode im .header → b ≡ t → phaseFits ph (stateOf im) ≡ t
+pub fits-read : (im : List ℕ) (ph : Phase) {h : Header} {b t : Bool} → b ≡ phaseFits ph (stateOfNumbers h) → h ≡ decode im .header → b ≡ t → phaseFits ph (stateOf im) ≡ t
 fits-read im ph e f g = rw (fits-alone (decode im .header) (decode im .labels) (decode im .queue) ph, ← f, ← e) g

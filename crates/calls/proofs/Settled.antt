@@ -1,11 +1,10 @@
 -- The first tests of a call, and what its answer leaves. Assumes nothing.
 use Prim.Native.Nat.{ℕ, _<_}
-use mathlib.Core.Bool.{Bool, true, false, not, true≢false}
+use mathlib.Core.Bool.{Bool, true, false, true≢false}
 use mathlib.Core.List.{List}
 use mathlib.Core.Path.{_≡_, refl, sym, ap, _∙_}
 use native.Mathlib.Omega.{arith}
 use borrow.Author.Tests.{eqb-true}
-use Rattle.octets.specs.Pick.{pick}
 use Rattle.image.specs.declared.Verdict.{Verdict}
 use Rattle.image.specs.Verdict.{verdict, IsSound}
 use Rattle.image.proofs.Sound.{sound-parts}
@@ -13,7 +12,7 @@ use Rattle.protocol.specs.declared.Answer.{Answer}
 use Rattle.protocol.specs.declared.Phase.{Phase}
 use Rattle.protocol.specs.Answers.{answerNumber, isDone}
 use Rattle.protocol.specs.Phases.{phaseFits}
-use Rattle.protocol.specs.Step.{admitted}
+use Rattle.protocol.specs.Step.{whereOpen, admitted}
 use Rattle.calls.specs.Outcomes.{checked, admittedOn}
 use Rattle.calls.specs.State.{stateOf}
 
@@ -37,7 +36,7 @@ module _ (P : Answer → Type 0) (refused : (x : Answer) → 0 < answerNumber x 
   unfolding admittedOn admitted
   admitted-all im ph {a} p = checked-all (verdict im) (λ s. by (phaseFits ph (stateOf im)) refl s)
     where
-      by : (b : Bool) → phaseFits ph (stateOf im) ≡ b → verdict im ≡ Verdict.Sound → P (pick (not b) Answer.WrongPhase a)
+      by : (b : Bool) → phaseFits ph (stateOf im) ≡ b → verdict im ≡ Verdict.Sound → P (whereOpen b a)
       by true f s = p (record { passes = s; fits = f })
       by false f s = refused Answer.WrongPhase (omega arith) (omega arith)
 
@@ -54,8 +53,8 @@ pub admitted-done : (im : List ℕ) (ph : Phase) (a : Answer) → isDone (admitt
 admitted-done im ph a =
     admitted-all (λ (x : Answer). isDone x ≡ true → Admitted im ph × (isDone a ≡ true)) (λ x l m t. absurd (not-done x l t)) im ph (λ d t. (d, t))
 
-refused-same : (v : Verdict) (b : Bool) (a c : Answer) → (isDone a ≡ false → a ≡ c) → isDone (checked v (pick (not b) Answer.WrongPhase a)) ≡ false
-    → checked v (pick (not b) Answer.WrongPhase a) ≡ checked v (pick (not b) Answer.WrongPhase c)
+refused-same : (v : Verdict) (b : Bool) (a c : Answer) → (isDone a ≡ false → a ≡ c) → isDone (checked v (whereOpen b a)) ≡ false
+    → checked v (whereOpen b a) ≡ checked v (whereOpen b c)
 refused-same Verdict.Sound true a c h n = h n
 refused-same Verdict.Sound false a c h n = refl
 refused-same Verdict.WrongSize b a c h n = refl
@@ -72,7 +71,7 @@ module _ (im : List ℕ) (ph : Phase) where
   pub admit-checks : (a : Answer) {r : Answer} → r ≡ checked (verdict im) Answer.Done → isDone r ≡ false → r ≡ admittedOn im ph a
   unfolding admittedOn admitted
   admit-checks a e n =
-      e ∙ refused-same (verdict im) true Answer.Done (pick (not (phaseFits ph (stateOf im))) Answer.WrongPhase a) (λ z. absurd (true≢false z)) (ap isDone (sym e) ∙ n)
+      e ∙ refused-same (verdict im) true Answer.Done (whereOpen (phaseFits ph (stateOf im)) a) (λ z. absurd (true≢false z)) (ap isDone (sym e) ∙ n)
 
   pub admit-phase : (a : Answer) → verdict im ≡ Verdict.Sound → phaseFits ph (stateOf im) ≡ false → Answer.WrongPhase ≡ admittedOn im ph a
   unfolding admittedOn admitted

@@ -24,20 +24,20 @@ pub record After : Type 0 where
   pub image : List ℕ
   pub out : List ℕ
 
-abbrev pub after : Outcome → List ℕ → List ℕ → After
-after r im o = record { outcome = r; image = im; out = o }
+abbrev pub afterWith : Outcome → List ℕ → List ℕ → After
+afterWith r im o = record { outcome = r; image = im; out = o }
 
 -- "nothing changed"
 abbrev pub refusal : Answer → Phase → Outcome
 refusal a ph = record { answer = a; phase = ph; written = 0; slot = 0; block0 = false }
 
 abbrev pub untouched : Answer → Phase → List ℕ → List ℕ → After
-untouched a ph im o = after (refusal a ph) im o
+untouched a ph im o = afterWith (refusal a ph) im o
 
 -- what the protocol's step leaves is stored, and its output written: "0 writes the message from the start and no byte after it"
 abbrev pub stepStored : List ℕ → Slots → Step → List ℕ → After
 stepStored im slots x o =
-    after
+    afterWith
     (record {
       answer = x .answer;
       phase = x .phase;

@@ -22,5 +22,5 @@ abbrev pub stateOf : List ℕ → State
 stateOf im = stateBy (decode im .header) (decode im .labels) (decode im .queue)
 
 -- what the numbers say alone: R, I, S, kept and the terms
-abbrev pub numbersOf : Header → State
-numbersOf h = stateBy h [] []
+abbrev pub stateOfNumbers : Header → State
+stateOfNumbers h = stateBy h [] []

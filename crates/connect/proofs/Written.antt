@@ -1,6 +1,6 @@
 -- The returns of Open and KeepAlive. Assumes nothing.
 use Prim.Native.Nat.{ℕ}
-use mathlib.Core.Bool.{Bool, true, false, not}
+use mathlib.Core.Bool.{Bool, true, false}
 use mathlib.Core.List.{List}
 use mathlib.Core.Path.{_≡_, refl, sym, ap, _∙_}
 use lib.Dec.{ltb}
@@ -27,11 +27,11 @@ use Rattle.protocol.specs.KeepAlive.{aliveAck, aliveBytes, keepalive}
 use Rattle.protocol.specs.Open.{keptAck, openBytes, openSession}
 use Rattle.protocol.specs.Phases.{isUp, mayOpen, waitingFor}
 use Rattle.protocol.specs.State.{State}
-use Rattle.protocol.specs.Step.{roomFor, stepped}
+use Rattle.protocol.specs.Step.{whereOpen, roomFor, stepped}
 use Rattle.protocol.specs.Writer.{writer}
 use Rattle.calls.specs.declared.Outcome.{Outcome}
-use Rattle.calls.specs.Outcomes.{After, after, refusal, admittedOn, callOf, settleOf, stepStored}
-use Rattle.calls.specs.State.{stateOf, numbersOf}
+use Rattle.calls.specs.Outcomes.{After, afterWith, refusal, admittedOn, callOf, settleOf, stepStored}
+use Rattle.calls.specs.State.{stateOf, stateOfNumbers}
 use Rattle.calls.specs.Storing.{stay}
 use Rattle.calls.proofs.Called.{call-is}
 use Rattle.calls.proofs.Ends.{settle-done}
@@ -57,11 +57,11 @@ module _ (im : List ℕ) (ph : Phase) (next : Phase) (out bytes : List ℕ) wher
 
   -- what was written, by the room: the image says already what is stored
   wrote-by : {w : Written} {out′ : List ℕ} {x : Outcome} → IsSound im → Bytes im → (w, out′) ≡ writtenOf out bytes → x ≡ writtenAs w ph next
-      → after x im out′ ≡ settleOf (roomFor bytes (length out)) ph im out done
+      → afterWith x im out′ ≡ settleOf (roomFor bytes (length out)) ph im out done
   unfolding writtenOf effectOf
   wrote-by {w} {out′} {x} s byte e p = by (ltb (length out) (length bytes)) refl
     where
-      by : (b : Bool) → ltb (length out) (length bytes) ≡ b → after x im out′ ≡ settleOf (pick b Answer.OutputTooShort Answer.Done) ph im out done
+      by : (b : Bool) → ltb (length out) (length bytes) ≡ b → afterWith x im out′ ≡ settleOf (pick b Answer.OutputTooShort Answer.Done) ph im out done
       by true t =
           let z : _≡_ {A = Written × List ℕ} (w, out′) (Written.TooShort, out) = e ∙ rw t in
           rw (ap (λ (q : Written × List ℕ). q .1) z)
@@ -72,7 +72,7 @@ module _ (im : List ℕ) (ph : Phase) (next : Phase) (out bytes : List ℕ) wher
 
   module _ (may : Bool) where
     abbrev rule : Answer
-    rule = pick (not may) Answer.WrongPhase (roomFor bytes (length out))
+    rule = whereOpen may (roomFor bytes (length out))
 
     abbrev left : After
     left = callOf im ph out stay (writer (stateOf im) ph may next bytes (length out))
@@ -82,47 +82,47 @@ module _ (im : List ℕ) (ph : Phase) (next : Phase) (out bytes : List ℕ) wher
     writer-settles = sym (call-is im ph out stay rule (stepped Answer.Done (stateOf im) next bytes) refl)
 
     module _ {r : Answer} (e : r ≡ admittedOn im ph Answer.Done) where
-      writer-refused : {x : Outcome} → isDone r ≡ false → x ≡ refusal r ph → after x im out ≡ left
+      writer-refused : {x : Outcome} → isDone r ≡ false → x ≡ refusal r ph → afterWith x im out ≡ left
       writer-refused n p = call-refused im ph e out rule done n p ∙ writer-settles
 
-      writer-barred : {x : Outcome} → isDone r ≡ true → may ≡ false → x ≡ refusal Answer.WrongPhase ph → after x im out ≡ left
+      writer-barred : {x : Outcome} → isDone r ≡ true → may ≡ false → x ≡ refusal Answer.WrongPhase ph → afterWith x im out ≡ left
       unfolding effectOf
       writer-barred t f p = call-own im ph e out rule done t (rw f (own-refused Answer.WrongPhase ph im out done refl p)) ∙ writer-settles
 
       writer-wrote : {x : Outcome} {w : Written} {out′ : List ℕ} → Bytes im → isDone r ≡ true → may ≡ true → (w, out′) ≡ writtenOf out bytes
-          → x ≡ writtenAs w ph next → after x im out′ ≡ left
+          → x ≡ writtenAs w ph next → afterWith x im out′ ≡ left
       writer-wrote byte t f q p =
           call-own im ph e out rule done t (rw f (wrote-by (admitted-sound (admit-passed im ph e t)) byte q p)) ∙ writer-settles
 
 -- ---- Open: the premises are what the callees ensure, and the tests
 module _ (im : List ℕ) (ph : Phase) (id : MessageId) (o : OwnParameters) (t : Proposal) (out : List ℕ) {r : Answer} (e : r ≡ admittedOn im ph Answer.Done) where
-  pub open-refused : {x : Outcome} → isDone r ≡ false → x ≡ refusal r ph → after x im out ≡ openOf im ph id o t out
+  pub open-refused : {x : Outcome} → isDone r ≡ false → x ≡ refusal r ph → afterWith x im out ≡ openOf im ph id o t out
   unfolding openOf openSession
   open-refused n p = writer-refused im ph (waitingFor (proposedOf t)) out (openBytes (stateOf im) id o t) (mayOpen ph) e n p
 
-  pub open-barred : {x : Outcome} → isDone r ≡ true → mayOpen ph ≡ false → x ≡ refusal Answer.WrongPhase ph → after x im out ≡ openOf im ph id o t out
+  pub open-barred : {x : Outcome} → isDone r ≡ true → mayOpen ph ≡ false → x ≡ refusal Answer.WrongPhase ph → afterWith x im out ≡ openOf im ph id o t out
   unfolding openOf openSession
   open-barred d f p = writer-barred im ph (waitingFor (proposedOf t)) out (openBytes (stateOf im) id o t) (mayOpen ph) e d f p
 
   pub open-wrote : {x : Outcome} {s : ℕ} {h : Header} {ack : FtField} {w : Written} {out′ : List ℕ} → Bytes im → isDone r ≡ true → mayOpen ph ≡ true
-      → s ≡ proposedOf t → h ≡ decode im .header → ack ≡ keptAck (numbersOf h) → (w, out′) ≡ writtenOf out (initBytes id o s ack)
-      → x ≡ writtenAs w ph (waitingFor s) → after x im out′ ≡ openOf im ph id o t out
+      → s ≡ proposedOf t → h ≡ decode im .header → ack ≡ keptAck (stateOfNumbers h) → (w, out′) ≡ writtenOf out (initBytes id o s ack)
+      → x ≡ writtenAs w ph (waitingFor s) → afterWith x im out′ ≡ openOf im ph id o t out
   unfolding openOf openSession keptAck
   open-wrote byte d f es eh ea q p =
       writer-wrote im ph (waitingFor (proposedOf t)) out (openBytes (stateOf im) id o t) (mayOpen ph) e byte d f (rw (ea, eh, es) at q) (rw es at p)
 
 -- ---- KeepAlive
 module _ (im : List ℕ) (ph : Phase) (id : MessageId) (out : List ℕ) {r : Answer} (e : r ≡ admittedOn im ph Answer.Done) where
-  pub alive-refused : {x : Outcome} → isDone r ≡ false → x ≡ refusal r ph → after x im out ≡ keepaliveOf im ph id out
+  pub alive-refused : {x : Outcome} → isDone r ≡ false → x ≡ refusal r ph → afterWith x im out ≡ keepaliveOf im ph id out
   unfolding keepaliveOf keepalive
   alive-refused n p = writer-refused im ph ph out (aliveBytes (stateOf im) ph id) (isUp ph) e n p
 
-  pub alive-barred : {x : Outcome} → isDone r ≡ true → isUp ph ≡ false → x ≡ refusal Answer.WrongPhase ph → after x im out ≡ keepaliveOf im ph id out
+  pub alive-barred : {x : Outcome} → isDone r ≡ true → isUp ph ≡ false → x ≡ refusal Answer.WrongPhase ph → afterWith x im out ≡ keepaliveOf im ph id out
   unfolding keepaliveOf keepalive
   alive-barred d f p = writer-barred im ph ph out (aliveBytes (stateOf im) ph id) (isUp ph) e d f p
 
   pub alive-wrote : {x : Outcome} {h : Header} {ack : FtField} {w : Written} {out′ : List ℕ} → Bytes im → isDone r ≡ true → isUp ph ≡ true
       → h ≡ decode im .header → ack ≡ aliveAck ph (h .secured) → (w, out′) ≡ writtenOf out (keepaliveBytes id ack) → x ≡ writtenAs w ph ph
-      → after x im out′ ≡ keepaliveOf im ph id out
+      → afterWith x im out′ ≡ keepaliveOf im ph id out
   unfolding keepaliveOf keepalive
   alive-wrote byte d f eh ea q p = writer-wrote im ph ph out (aliveBytes (stateOf im) ph id) (isUp ph) e byte d f (rw (ea, eh) at q) p

@@ -1,7 +1,7 @@
 // Format and Restore.
 ghost use mathlib.Core.List.{[]};
 ghost use mathlib.Core.Path.{_≡_};
-ghost use Rattle.calls.specs.Outcomes.{after};
+ghost use Rattle.calls.specs.Outcomes.{afterWith};
 ghost use Rattle.connect.specs.Start.{formatOf, restoreOf};
 use calls::Answer;
 use calls::Outcome;
@@ -9,7 +9,7 @@ use calls::Phase;
 
 // A new image; every block of it is to be stored.
 pub fn format(image: &mut [u8]) -> Outcome
-    ensures { λ r. ⌜ after r (now (image .exit)) [] ≡ formatOf (now (image .entry)) ⌝ }
+    ensures { λ r. ⌜ afterWith r (now (image .exit)) [] ≡ formatOf (now (image .entry)) ⌝ }
 {
     let verdict = image::format(image);
     if image::verdict_number(verdict) != 0 {
@@ -26,7 +26,7 @@ pub fn format(image: &mut [u8]) -> Outcome
 
 // The session of a stored image, as after a break.
 pub fn restore(image: &mut [u8]) -> Outcome
-    ensures { λ r. ⌜ after r (now (image .exit)) [] ≡ restoreOf (now (image .entry)) ⌝ }
+    ensures { λ r. ⌜ afterWith r (now (image .exit)) [] ≡ restoreOf (now (image .entry)) ⌝ }
 {
     let a = calls::check(image);
     if !calls::is_done(a) {

@@ -3,8 +3,8 @@ ghost use mathlib.Core.Path.{_≡_};
 ghost use Rattle.protocol.specs.KeepAlive.{aliveAck};
 ghost use Rattle.protocol.specs.Open.{keptAck};
 ghost use Rattle.protocol.specs.Phases.{isUp, mayOpen};
-ghost use Rattle.calls.specs.Outcomes.{after};
-ghost use Rattle.calls.specs.State.{numbersOf};
+ghost use Rattle.calls.specs.Outcomes.{afterWith};
+ghost use Rattle.calls.specs.State.{stateOfNumbers};
 ghost use Rattle.connect.specs.Writers.{openOf, keepaliveOf, writtenAs};
 use block0::Header;
 use calls::Answer;
@@ -20,7 +20,7 @@ use tlv::FtField;
 
 // The ACK that our Init bears, and with it R: of kept state alone.
 fn kept_ack(h: Header) -> FtField
-    ensures { λ r. ⌜ r ≡ keptAck (numbersOf h) ⌝ }
+    ensures { λ r. ⌜ r ≡ keptAck (stateOfNumbers h) ⌝ }
 {
     let secured = h.secured;
     if h.kept == 1 {
@@ -93,7 +93,7 @@ pub fn open_session(
     proposal: Proposal,
     out: &mut [u8],
 ) -> Outcome
-    ensures { λ r. ⌜ after r (now (image .entry)) (now (out .exit)) ≡ openOf (now (image .entry)) phase id parameters proposal (now (out .entry)) ⌝ }
+    ensures { λ r. ⌜ afterWith r (now (image .entry)) (now (out .exit)) ≡ openOf (now (image .entry)) phase id parameters proposal (now (out .entry)) ⌝ }
 {
     let a = calls::admit(image, phase);
     if !calls::is_done(a) {
@@ -114,7 +114,7 @@ pub fn open_session(
 
 // Writes a KeepAlive.
 pub fn keepalive(image: &[u8], phase: Phase, id: MessageId, out: &mut [u8]) -> Outcome
-    ensures { λ r. ⌜ after r (now (image .entry)) (now (out .exit)) ≡ keepaliveOf (now (image .entry)) phase id (now (out .entry)) ⌝ }
+    ensures { λ r. ⌜ afterWith r (now (image .entry)) (now (out .exit)) ≡ keepaliveOf (now (image .entry)) phase id (now (out .entry)) ⌝ }
 {
     let a = calls::admit(image, phase);
     if !calls::is_done(a) {

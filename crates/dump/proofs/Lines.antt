@@ -6,7 +6,7 @@ use native.Mathlib.Nat.{sub-zero}
 use native.Mathlib.Omega.{arith}
 use lib.ListN.{length}
 use Rattle.pdu.specs.declared.Opened.{Opened}
-use Rattle.pdu.specs.Pdu.{placeOf, messageOf, openedOf}
+use Rattle.pdu.specs.Pdu.{messagePlace, placeBytes, openedOf}
 use Rattle.pdu.specs.Split.{handedOut}
 use Rattle.pdu.proofs.Split.{Reach, Next, reach-next, opened-reach}
 use Rattle.text.specs.Text.{Put}
@@ -41,7 +41,7 @@ module _ (before : List ℕ) (number : ℕ) (pdu : List ℕ) (count : ℕ) where
         same = refl;
       }
 
-  module _ (out : List ℕ) (at end k : ℕ) (a : After out at end k) (more : k < count) (m : List ℕ) (handed : m ≡ messageOf pdu (placeOf pdu at)) where
+  module _ (out : List ℕ) (at end k : ℕ) (a : After out at end k) (more : k < count) (m : List ℕ) (handed : m ≡ placeBytes pdu (messagePlace pdu at)) where
     left : count - k ≡ suc (count - (k + 1))
     left = omega arith
 

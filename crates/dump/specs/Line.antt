@@ -50,5 +50,5 @@ abbrev pub lineRoom : ℕ → ℕ
 lineRoom size = 2 * size + 276
 
 -- room for the lines of the largest PDU, which has at most 8,191 messages
-abbrev pub textRoom : ℕ
-textRoom = 2400000
+abbrev pub pduTextRoom : ℕ
+pduTextRoom = 2400000

@@ -9,7 +9,7 @@ ghost use Rattle.pdu.specs.declared.Opened.the-variants.{Whole};
 ghost use Rattle.pdu.specs.Pdu.{openedOf};
 ghost use Rattle.pdu.specs.Split.{handedOut};
 ghost use Rattle.text.specs.Text.{Put};
-ghost use Rattle.dump.specs.Line.{linesOf, pduText, isWhole, textRoom, largestPdu};
+ghost use Rattle.dump.specs.Line.{linesOf, pduText, isWhole, pduTextRoom, largestPdu};
 
 // Where the text of a PDU ends, and whether the PDU was whole.
 pub struct Dumped {
@@ -19,9 +19,9 @@ pub struct Dumped {
 
 // The lines of a PDU's messages, each as it is handed out.
 fn put_lines(out: &mut [u8], number: u64, pdu: &[u8], count: u32) -> usize
-    requires { ⌜ (openedOf (now pdu) ≡ Whole count) × (length (now pdu) ≤ largestPdu) × (textRoom ≤ length (now out)) ⌝ }
+    requires { ⌜ (openedOf (now pdu) ≡ Whole count) × (length (now pdu) ≤ largestPdu) × (pduTextRoom ≤ length (now out)) ⌝ }
     ensures { λ r. ⌜ Put (now (out .entry)) 0 (linesOf number 0 (handedOut (now (pdu .entry)) count 10)) (now (out .exit)) r ⌝ }
-    ensures { λ r. ⌜ r ≤ textRoom ⌝ }
+    ensures { λ r. ⌜ r ≤ pduTextRoom ⌝ }
 {
     let mut at: usize = 10;
     let mut end: usize = 0;
@@ -37,9 +37,9 @@ fn put_lines(out: &mut [u8], number: u64, pdu: &[u8], count: u32) -> usize
 
 // The text of a PDU with its number: the lines of its messages, numbered from 0, or that it is malformed; and whether it was whole.
 pub fn dump_pdu(out: &mut [u8], number: u64, pdu: &[u8]) -> Dumped
-    requires { ⌜ (length (now pdu) ≤ largestPdu) × (textRoom ≤ length (now out)) ⌝ }
+    requires { ⌜ (length (now pdu) ≤ largestPdu) × (pduTextRoom ≤ length (now out)) ⌝ }
     ensures { λ r. ⌜ Put (now (out .entry)) 0 (pduText number (now (pdu .entry))) (now (out .exit)) (r .end) ⌝ }
-    ensures { λ r. ⌜ (r .end ≤ textRoom) × (r .whole ≡ isWhole (openedOf (now (pdu .entry)))) ⌝ }
+    ensures { λ r. ⌜ (r .end ≤ pduTextRoom) × (r .whole ≡ isWhole (openedOf (now (pdu .entry)))) ⌝ }
 {
     match pdu::open_pdu(pdu) {
         pdu::Opened::Whole(count) => {

@@ -1,7 +1,7 @@
 // A stream of PDUs of any length, read PDU by PDU and written as text to standard output.
 ghost use Prim.Native.Nat.{_≤_};
 ghost use lib.ListN.{length};
-ghost use Rattle.dump.specs.Line.{textRoom, largestPdu};
+ghost use Rattle.dump.specs.Line.{pduTextRoom, largestPdu};
 use crate::dump_pdu;
 use libc::STDOUT_FILENO;
 
@@ -22,7 +22,7 @@ fn read_pdu(fd: i32, buffer: &mut [u8]) -> usize
 
 // Reads the next PDU, writes its text and answers whether to go on: not at the stream's end, nor after a malformed PDU.
 fn dump_next(fd: i32, number: u64, buffer: &mut [u8], out: &mut [u8]) -> bool
-    requires { ⌜ (largestPdu ≤ length (now buffer)) × (textRoom ≤ length (now out)) ⌝ }
+    requires { ⌜ (largestPdu ≤ length (now buffer)) × (pduTextRoom ≤ length (now out)) ⌝ }
 {
     let size = read_pdu(fd, buffer);
     if size == 0 {

@@ -5,13 +5,13 @@ use mathlib.Core.Bool.{Bool, true, false}
 use mathlib.Core.Path.{_≡_, refl, sym, ap, _∙_}
 use native.Mathlib.Numerals.{add-one}
 use native.Mathlib.Omega.{arith}
-use lib.Dec.{leb}
-use borrow.Author.Tests.{ne-eqb, leb-true}
+use lib.Dec.{ltb}
+use borrow.Author.Tests.{ne-eqb, ltb-false}
 use Rattle.octets.specs.Pick.{pick}
 use Rattle.ft_number.specs.declared.Ack.the-variants.{Releases, SequenceError}
 use Rattle.ft_number.specs.declared.Steps.{Steps}
 use Rattle.ft_number.specs.declared.Steps.the-variants.{Count, Unreachable}
-use Rattle.ft_number.specs.Ack.{within, ackOf}
+use Rattle.ft_number.specs.Ack.{inWindow, ackOf}
 use Rattle.ft_number.specs.Circle.{circle, next, after, forward, stepsOf}
 use Rattle.ft_number.proofs.Laws.{steps-none, steps-on}
 
@@ -125,11 +125,11 @@ pub ack-releases : (r i a k : ℕ) → ackOf r i a ≡ Releases k → Acknowledg
 unfolding ackOf
 ack-releases r i a k e = by (stepsOf r a) (stepsOf r i) refl refl e
   where
-    chosen : (j n : ℕ) (b : Bool) → leb j n ≡ b → stepsOf r a ≡ Count j → stepsOf r i ≡ Count n → pick b (Releases j) SequenceError ≡ Releases k → Acknowledged r i a k
-    chosen j n true t p q e = let same : j ≡ k = cc in record { names = p ∙ ap Count same; issued = n; window = q; few = omega (arith, leb-true j n t) }
-    chosen j n false t p q e = let z : _≡_ {A = ℕ} 0 1 = cc in absurd (omega arith)
+    chosen : (j n : ℕ) (b : Bool) → ltb n j ≡ b → stepsOf r a ≡ Count j → stepsOf r i ≡ Count n → pick b SequenceError (Releases j) ≡ Releases k → Acknowledged r i a k
+    chosen j n true t p q e = let z : _≡_ {A = ℕ} 0 1 = cc in absurd (omega arith)
+    chosen j n false t p q e = let same : j ≡ k = cc in record { names = p ∙ ap Count same; issued = n; window = q; few = omega (arith, ltb-false n j t) }
 
-    by : (s t : Steps) → stepsOf r a ≡ s → stepsOf r i ≡ t → within s t ≡ Releases k → Acknowledged r i a k
-    by (Count j) (Count n) p q e = chosen j n (leb j n) refl p q e
+    by : (s t : Steps) → stepsOf r a ≡ s → stepsOf r i ≡ t → inWindow s t ≡ Releases k → Acknowledged r i a k
+    by (Count j) (Count n) p q e = chosen j n (ltb n j) refl p q e
     by (Count j) Unreachable p q e = let z : _≡_ {A = ℕ} 0 1 = cc in absurd (omega arith)
     by Unreachable t p q e = let z : _≡_ {A = ℕ} 0 1 = cc in absurd (omega arith)

@@ -3,12 +3,13 @@ use Prim.Native.Nat.{ℕ, zero, suc, _≤_, _<_, _-_, _^_, min}
 use mathlib.Core.Path.{_≡_, refl}
 use native.Mathlib.Omega.{arith}
 use lib.IntN.{pos, negℤ, _-ℤ_, +ℤ-idl}
-use borrow.Author.Tests.{le-leb, lt-leb, eq-eqb, ne-eqb}
+use borrow.Author.Tests.{le-leb, lt-leb, le-ltb, lt-ltb, eq-eqb, ne-eqb}
 use mir.Facts.{toZ-pos, toZ-ofZ}
 use mir.Syntax.{Width, w32}
 use mir.Val.{hbits, SFits, toZ, ofZ}
 use Rattle.ft_number.specs.declared.Ack.the-variants.{Releases, SequenceError}
-use Rattle.ft_number.specs.declared.Distance.the-variants.{Steps as Way, Refused}
+use Rattle.ft_number.specs.declared.Distance.{Distance}
+use Rattle.ft_number.specs.declared.Distance.the-variants.{Refused}
 use Rattle.ft_number.specs.declared.Steps.{Steps}
 use Rattle.ft_number.specs.declared.Steps.the-variants.{Count, Unreachable}
 use Rattle.ft_number.specs.Ack.{ackOf}
@@ -46,11 +47,11 @@ module _ (r i a : ℕ) {s t : Steps} {k : ℕ} (e₁ : s ≡ stepsOf r a) (g₁ 
 
   pub releases : {n : ℕ} → t ≡ Count n → k ≤ n → Releases k ≡ ackOf r i a
   unfolding ackOf
-  releases g₂ h = rw (← e₁, ← e₂, g₁, g₂, le-leb _ _ h)
+  releases g₂ h = rw (← e₁, ← e₂, g₁, g₂, le-ltb _ _ h)
 
   pub past : {n : ℕ} → t ≡ Count n → n < k → SequenceError ≡ ackOf r i a
   unfolding ackOf
-  past g₂ h = rw (← e₁, ← e₂, g₁, g₂, lt-leb _ _ h)
+  past g₂ h = rw (← e₁, ← e₂, g₁, g₂, lt-ltb _ _ h)
 
 -- The negation of an m that fits, at a signed width: the machine has it as 0 - m.
 neg-fits : (w : Width) (m : ℕ) → m < 2 ^ hbits w → SFits w (negℤ (pos m))
@@ -76,10 +77,10 @@ unfolding distanceOf
 refused-to a b h k = simp (ne-eqb a 0 h, eq-eqb b 0 k)
 
 module _ (a b : ℕ) {d : ℕ} (h : a ≡ 0 → ⊥) (k : b ≡ 0 → ⊥) (e : d ≡ forward a b) where
-  pub ahead : d ≤ 2147483647 → Way (toZ w32 d) ≡ distanceOf a b
+  pub ahead : d ≤ 2147483647 → Distance.Steps (toZ w32 d) ≡ distanceOf a b
   unfolding distanceOf
   ahead l = simp (ne-eqb a 0 h, ne-eqb b 0 k, ← e, le-leb d 2147483647 l, toZ-pos w32 {n = d} (omega arith))
 
-  pub behind : 2147483647 < d → Way (toZ w32 (ofZ w32 (pos 0 -ℤ toZ w32 (circle - d)))) ≡ distanceOf a b
+  pub behind : 2147483647 < d → Distance.Steps (toZ w32 (ofZ w32 (pos 0 -ℤ toZ w32 (circle - d)))) ≡ distanceOf a b
   unfolding distanceOf
   behind l = simp (ne-eqb a 0 h, ne-eqb b 0 k, ← e, lt-leb d 2147483647 l, minus w32 (circle - d) (omega arith))

@@ -8,6 +8,11 @@ use Rattle.ft_number.specs.declared.Distance.{Distance}
 use Rattle.ft_number.specs.declared.Distance.the-variants.{Steps, Refused}
 use Rattle.ft_number.specs.Circle.{circle, forward}
 
+-- 01's number: "with a zero it is refused (2)"
+abbrev pub distanceNumber : Distance → ℕ
+distanceNumber (Steps n) = 0
+distanceNumber Refused = 2
+
 -- the farthest that a shorter way can be: half of circle - 1
 abbrev pub half : ℕ
 half = 2147483647

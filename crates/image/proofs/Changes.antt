@@ -21,7 +21,7 @@ use Rattle.block0.specs.Layout.{slotCount, releasedHeader, noLabels}
 use Rattle.block0.proofs.Rules.{none-valid}
 use Rattle.label_meaning.proofs.Meaning.{valid-means, means-valid}
 use Rattle.label_meaning.proofs.Swept.{sweep-valid}
-use Rattle.image.specs.Events.{released, releaseOf, newImage, broken, breakOf}
+use Rattle.image.specs.Events.{releasedContents, releaseOf, newImage, brokenContents, breakOf}
 use Rattle.image.specs.Ring.{ring}
 use Rattle.image.specs.Sizes.{imageSize, block, blockOf}
 use Rattle.image.specs.State.{InRange, decode}
@@ -48,7 +48,7 @@ fits-released = record {
 words-none : Words wordCount noLabels
 words-none = none-fit wordCount
 
-pub in-range-released : InRange released
+pub in-range-released : InRange releasedContents
 in-range-released = record { header = fits-released; labels = words-none }
 
 pub valid-released : Valid releasedHeader noLabels
@@ -64,7 +64,7 @@ valid-released = record {
 
 module _ (image : List ℕ) (size : length image ≡ imageSize) where
   -- a released image stands for the released state
-  pub release-decodes : decode (releaseOf image) ≡ released
+  pub release-decodes : decode (releaseOf image) ≡ releasedContents
   unfolding releaseOf ring
   release-decodes = decode-store0 image size releasedHeader noLabels fits-released words-none
 
@@ -84,7 +84,7 @@ unfolding newImage releaseOf
 is-released = refl
 
 -- a new image stands for the released state
-pub new-decodes : decode newImage ≡ released
+pub new-decodes : decode newImage ≡ releasedContents
 new-decodes = rw is-released (release-decodes (replicate imageSize 0) (length-zeros imageSize))
 
 -- and is sound
@@ -128,7 +128,7 @@ module _ (image : List ℕ) (s : IsSound image) (range : InRange (decode image))
       }
 
   -- as after a break only the label words change
-  pub break-decodes : decode (breakOf image) ≡ broken (decode image)
+  pub break-decodes : decode (breakOf image) ≡ brokenContents (decode image)
   unfolding breakOf freed
   break-decodes = decode-keep image (decode image .header) freed (s .size) (range .header) freed-words refl refl
 
@@ -138,6 +138,6 @@ module _ (image : List ℕ) (s : IsSound image) (range : InRange (decode image))
   break-sound = sound-keep image (decode image .header) freed s (range .header) freed-words freed-fields refl refl
 
   -- its numbers keep their widths
-  pub in-range-broken : InRange (broken (decode image))
+  pub in-range-broken : InRange (brokenContents (decode image))
   unfolding freed
   in-range-broken = record { header = range .header; labels = freed-words }

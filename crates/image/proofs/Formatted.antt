@@ -11,7 +11,7 @@ use Rattle.octets.proofs.Fill.{length-zeros, zeros-at, zeroed-all}
 use Rattle.octets.proofs.Part.{part-at}
 use Rattle.block.specs.Check.{blockSize}
 use Rattle.image.specs.declared.Verdict.the-variants.{Sound, WrongSize}
-use Rattle.image.specs.Events.{sizeVerdict, releaseOf, newImage, formatOf}
+use Rattle.image.specs.Events.{sizeVerdict, releaseOf, newImage, formattedImage}
 use Rattle.image.specs.Sizes.{imageSize, block}
 use Rattle.image.proofs.Blocks.{length-block}
 
@@ -23,10 +23,10 @@ block-zeros n b h =
     part-at (replicate n 0) (b * 512) (b * 512 + 512) i (omega arith) ∙ zeros-at n (b * 512 + i) ∙ sym (zeros-at blockSize i))
 
 module _ (s : List ℕ) where
-  pub format-refused : (length s ≡ imageSize → ⊥) → (WrongSize ≡ sizeVerdict s) × (s ≡ formatOf s)
-  unfolding sizeVerdict formatOf
+  pub format-refused : (length s ≡ imageSize → ⊥) → (WrongSize ≡ sizeVerdict s) × (s ≡ formattedImage s)
+  unfolding sizeVerdict formattedImage
   format-refused h = simp (ne-eqb (length s) imageSize h) (refl, refl)
 
-  pub format-done : length s ≡ imageSize → {z t : List ℕ} → z ≡ zeroed s 0 imageSize → t ≡ releaseOf z → (Sound ≡ sizeVerdict s) × (t ≡ formatOf s)
-  unfolding sizeVerdict formatOf newImage releaseOf
+  pub format-done : length s ≡ imageSize → {z t : List ℕ} → z ≡ zeroed s 0 imageSize → t ≡ releaseOf z → (Sound ≡ sizeVerdict s) × (t ≡ formattedImage s)
+  unfolding sizeVerdict formattedImage newImage releaseOf
   format-done size ez et = simp (eq-eqb (length s) imageSize size) (refl, et ∙ rw (ez, zeroed-all s imageSize size))

@@ -10,7 +10,7 @@ use Rattle.block0.specs.Layout.{headerOf}
 use Rattle.message.specs.Storable.{Storable, kindIn, labelIn}
 use Rattle.message.specs.Submission.{submissionOf}
 use Rattle.slot.specs.Fields.{slotOk}
-use Rattle.slot.specs.Layout.{kindOf, labelOf, messageOf}
+use Rattle.slot.specs.Layout.{slotKind, slotLabel, slotMessage}
 use Rattle.slot.proofs.Holding.{holds-kind, holds-label, holds-storable}
 use Rattle.image.specs.Sizes.{block, blockOf, slotAt}
 use Rattle.image.specs.State.{decode, slotsOf, heldBlock}
@@ -25,7 +25,7 @@ unfolding decode
 queue-length image = ring-length (slotsOf image) (headerOf (block image 0) .first) (headerOf (block image 0) .held)
 
 -- the message at place i of the queue stands in slot i past the first
-pub queue-at : (image : List ℕ) (i : ℕ) → i < decode image .header .held → getD (decode image .queue) i [] ≡ messageOf (heldBlock image i)
+pub queue-at : (image : List ℕ) (i : ℕ) → i < decode image .header .held → getD (decode image .queue) i [] ≡ slotMessage (heldBlock image i)
 unfolding decode heldBlock slotsOf
 queue-at image i l = ring-at (slotsOf image) [] (headerOf (block image 0) .first) (headerOf (block image 0) .held) i l
 
@@ -49,13 +49,13 @@ module _ (image : List ℕ) (s : IsSound image) (i : ℕ) (l : i < decode image 
     pub held-ok : slotOk b ≡ true
     held-ok = rw eb (held-good .fields)
 
-    pub held-read : {m : List ℕ} → m ≡ messageOf b → m ≡ getD (decode image .queue) i []
+    pub held-read : {m : List ℕ} → m ≡ slotMessage b → m ≡ getD (decode image .queue) i []
     held-read e = e ∙ rw eb (sym (queue-at image i l))
 
-    pub kind-read : {k : ℕ} → k ≡ kindOf b → k ≡ kindIn (submissionOf (getD (decode image .queue) i []))
+    pub kind-read : {k : ℕ} → k ≡ slotKind b → k ≡ kindIn (submissionOf (getD (decode image .queue) i []))
     kind-read e = e ∙ holds-kind b held-ok ∙ rw (eb, ← queue-at image i l)
 
-    pub label-read : {k : ℕ} → k ≡ labelOf b → k ≡ labelIn (submissionOf (getD (decode image .queue) i []))
+    pub label-read : {k : ℕ} → k ≡ slotLabel b → k ≡ labelIn (submissionOf (getD (decode image .queue) i []))
     label-read e = e ∙ holds-label b held-ok ∙ rw (eb, ← queue-at image i l)
 
 pub ruleset helds = (held-ok, held-read, kind-read, label-read)

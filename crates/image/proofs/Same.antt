@@ -24,11 +24,11 @@ use Rattle.block0.specs.Fields.{Fits}
 use Rattle.block0.specs.Layout.{headerOf, labelsOf}
 use Rattle.block0.specs.Unprotected.{isUnprotected, unprotected}
 use Rattle.block0.proofs.Same.{block0-same}
-use Rattle.label_meaning.specs.Valid.{InRange, IsValid}
+use Rattle.label_meaning.specs.Valid.{WordInRange, IsValid}
 use Rattle.label_meaning.proofs.Meaning.{any-none, valid-means, range-listed}
 use Rattle.image.specs.Events.{releaseOf, breakOf}
 use Rattle.image.specs.Sizes.{imageSize, block}
-use Rattle.image.specs.State.{State, decode, store0}
+use Rattle.image.specs.State.{Contents, decode, store0}
 use Rattle.image.specs.Verdict.{IsSound}
 use Rattle.image.proofs.Changes.{release-decodes, break-decodes}
 use Rattle.image.proofs.Ranges.{bytes-block, bytes-in-range}
@@ -54,7 +54,7 @@ pub store-changed : (image : List ℕ) (h : Header) (ls : List ℕ) → length i
     → (h ≡ decode image .header → ls ≡ decode image .labels → ⊥) → true ≡ differ (block image 0) (block (store0 image h ls) 0)
 store-changed image h ls size fh fl other =
     let e = decode-store0 image size h ls fh fl in
-    said-changed image (store0 image h ls) (λ p q. other (sym (p ∙ ap (λ (t : State). t .header) e)) (sym (q ∙ ap (λ (t : State). t .labels) e)))
+    said-changed image (store0 image h ls) (λ p q. other (sym (p ∙ ap (λ (t : Contents). t .header) e)) (sym (q ∙ ap (λ (t : Contents). t .labels) e)))
 
 -- ---- a release: with kept 0 the image says so already
 pub release-same : (image : List ℕ) → IsSound image → Bytes image → decode image .header .kept ≡ 0 → releaseOf image ≡ image
@@ -66,11 +66,11 @@ release-same image s byte idle =
 -- with kept 1 the bytes of block 0 are others
 pub release-changed : (image : List ℕ) → length image ≡ imageSize → (decode image .header .kept ≡ 0 → ⊥) → true ≡ differ (block image 0) (block (releaseOf image) 0)
 release-changed image size kept =
-    said-changed image (releaseOf image) (λ p q. kept (ap (λ (h : Header). h .kept) (p ∙ ap (λ (t : State). t .header) (release-decodes image size))))
+    said-changed image (releaseOf image) (λ p q. kept (ap (λ (h : Header). h .kept) (p ∙ ap (λ (t : Contents). t .header) (release-decodes image size))))
 
 -- ---- a break
 -- a word that is free or in range, and whose code is not 6
-pub word-kept : (w : ℕ) → (w ≢ 0 → InRange w) → (codeOf w ≡ 6 → ⊥) → wordSwept AfterBreak w ≡ w
+pub word-kept : (w : ℕ) → (w ≢ 0 → WordInRange w) → (codeOf w ≡ 6 → ⊥) → wordSwept AfterBreak w ≡ w
 unfolding wordSwept wordOf codeSwept
 word-kept w range other =
     rw (ne-eqb (codeOf w) 6 other) (by-test (eqb (codeOf w) 0)
@@ -105,4 +105,4 @@ swept-other (w ∷ ws) some same =
 pub break-changed : (image : List ℕ) → IsSound image → Bytes image → unprotected (decode image .labels) ≡ true → true ≡ differ (block image 0) (block (breakOf image) 0)
 break-changed image s byte some =
     said-changed image (breakOf image) (λ p q.
-    swept-other (decode image .labels) some (q ∙ ap (λ (t : State). t .labels) (break-decodes image s (bytes-in-range image byte))))
+    swept-other (decode image .labels) some (q ∙ ap (λ (t : Contents). t .labels) (break-decodes image s (bytes-in-range image byte))))

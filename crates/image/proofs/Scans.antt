@@ -17,14 +17,14 @@ use Rattle.block0.specs.declared.Header.{Header}
 use Rattle.block0.specs.Fields.{fieldsOk}
 use Rattle.block0.specs.Layout.{slotCount, headerOf}
 use Rattle.slot.specs.declared.SlotVerdict.{SlotVerdict}
-use Rattle.slot.specs.Fields.{slotOk, slotVerdict}
+use Rattle.slot.specs.Fields.{slotOk, slotVerdict, slotVerdictNumber}
 use Rattle.image.specs.declared.Judgement.{Judgement}
 use Rattle.image.specs.declared.Verdict.{Verdict}
 use Rattle.image.specs.declared.Verdict.the-variants.{Sound, WrongSize, BadBlock, BadField}
 use Rattle.image.specs.Ring.{ring}
 use Rattle.image.specs.Sizes.{blockCount, imageSize, block, blockOf, slotAt}
 use Rattle.image.specs.State.{decode}
-use Rattle.image.specs.Verdict.{looked, fieldsRight, bytesJudged, blockJudged, faultThen, firstFault, verdict, verdictNumber, verdictBlock}
+use Rattle.image.specs.Verdict.{looked, fieldsRight, bytesJudged, blockJudged, faultThen, firstFault, verdict, verdictNumber, verdictBlock, judgementNumber}
 use Rattle.image.proofs.Faults.{fault-same, named-below}
 use Rattle.image.proofs.Rings.{ring-length, ring-at}
 use Rattle.image.proofs.Stored.{Idle}
@@ -89,10 +89,25 @@ slot-bytes s k = rw (slot-fields s k) (by (sound (block s (blockOf k))) (slotOk 
   where
     by : (c f : Bool)
         → pick (not c) Judgement.BadCheck (pick (not f) Judgement.BadFields Judgement.Good)
-        ≡ slotJudged (pick c (pick f SlotVerdict.Good SlotVerdict.BadFields) SlotVerdict.BadCheck)
+        ≡ slotJudged (pick (not c) SlotVerdict.BadCheck (pick (not f) SlotVerdict.BadFields SlotVerdict.Good))
     by true true = refl
     by true false = refl
     by false f = refl
+
+-- the numbers agree: of a slot's verdict and the judgement of its block, and of a judgement that is a fault and the image's verdict
+pub slot-numbered : (s : List ℕ) (k : ℕ) → judgementNumber (bytesJudged s (blockOf k)) ≡ slotVerdictNumber (slotVerdict (block s (blockOf k)))
+slot-numbered s k = rw (slot-bytes s k) (by (slotVerdict (block s (blockOf k))))
+  where
+    by : (v : SlotVerdict) → judgementNumber (slotJudged v) ≡ slotVerdictNumber v
+    by SlotVerdict.Good = refl
+    by SlotVerdict.BadCheck = refl
+    by SlotVerdict.BadFields = refl
+
+pub fault-numbered : (j : Judgement) (b : ℕ) (rest : Verdict) → judgementNumber j ≢ 0 → verdictNumber (faultThen j b rest) ≡ judgementNumber j
+fault-numbered Judgement.Good b rest bad = absurd (bad refl)
+fault-numbered Judgement.BadCheck b rest bad = refl
+fault-numbered Judgement.BadFields b rest bad = refl
+fault-numbered Judgement.Idle b rest bad = absurd (bad refl)
 
 module _ (s : List ℕ) (f n : ℕ) where
   pub scan-start : firstFault (bytesJudged s) (ring blockOf (f + 0) (n - 0)) ≡ firstFault (bytesJudged s) (ring blockOf f n)

@@ -14,16 +14,16 @@ use Rattle.block0.specs.Layout.{slotCount, headerOf, labelsOf, block0}
 use Rattle.block0.proofs.Written.{length-block0, header-block0, labels-block0}
 use Rattle.message.specs.Storable.{Storable}
 use Rattle.slot.specs.Held.{slotFor}
-use Rattle.slot.specs.Layout.{messageOf}
+use Rattle.slot.specs.Layout.{slotMessage}
 use Rattle.slot.proofs.Holding.{length-slotFor, slotFor-message}
 use Rattle.image.specs.Ring.{ring}
 use Rattle.image.specs.Sizes.{block, blockOf, slotAt, imageSize}
-use Rattle.image.specs.State.{State, slotsOf, decode, storeSlot, store0}
+use Rattle.image.specs.State.{Contents, slotsOf, decode, storeSlot, store0}
 use Rattle.image.proofs.Blocks.{length-block, length-put, block-put, block-other}
 use Rattle.image.proofs.Rings.{ring-same, ring-snoc, ring-drop}
 
 pub state-eq : {h h′ : Header} {l l′ : List ℕ} {q q′ : List (List ℕ)} → h ≡ h′ → l ≡ l′ → q ≡ q′
-    → _≡_ {A = State} (record { header = h; labels = l; queue = q }) (record { header = h′; labels = l′; queue = q′ })
+    → _≡_ {A = Contents} (record { header = h; labels = l; queue = q }) (record { header = h′; labels = l′; queue = q′ })
 state-eq p q r = λ i. record { header = p i; labels = q i; queue = r i }
 
 -- slot k is not live
@@ -53,11 +53,11 @@ module _ (image : List ℕ) (size : length image ≡ imageSize) (k : ℕ) (room 
 
   pub slots-put : slotsOf (storeSlot image k m) k ≡ m
   unfolding slotsOf
-  slots-put = ap messageOf slot-put ∙ slotFor-message (block image (blockOf k)) m (length-block image (blockOf k) inside) s
+  slots-put = ap slotMessage slot-put ∙ slotFor-message (block image (blockOf k)) m (length-block image (blockOf k) inside) s
 
   pub slots-other : (j : ℕ) → j ≢ k → slotsOf (storeSlot image k m) j ≡ slotsOf image j
   unfolding slotsOf
-  slots-other j apart = ap messageOf (slot-other (blockOf j) (omega arith))
+  slots-other j apart = ap slotMessage (slot-other (blockOf j) (omega arith))
 
   -- "With only the slot stored, restore gives the state before the call": the slot is not live
   pub decode-slot : Idle image k → decode (storeSlot image k m) ≡ decode image
@@ -95,7 +95,7 @@ module _ (image : List ℕ) (size : length image ≡ imageSize) (h : Header) (ls
 
   slots-store0 : (j : ℕ) → slotsOf (store0 image h ls) j ≡ slotsOf image j
   unfolding slotsOf
-  slots-store0 j = ap messageOf (zeroth-other (blockOf j) (omega arith))
+  slots-store0 j = ap slotMessage (zeroth-other (blockOf j) (omega arith))
 
   module _ (fh : Fits h) (fl : Words wordCount ls) where
     pub decode-store0 : decode (store0 image h ls) ≡ record { header = h; labels = ls; queue = ring (slotsOf image) (h .first) (h .held) }

@@ -1,5 +1,6 @@
 -- What is made of a whole image: a new one, one released, one as after a break.
 use Prim.Native.Nat.{ℕ}
+use mathlib.Core.Bool.{not}
 use mathlib.Core.List.{List, []}
 use lib.Dec.{eqb}
 use lib.ListN.{length, replicate}
@@ -10,30 +11,30 @@ use Rattle.block0.specs.Layout.{releasedHeader, noLabels}
 use Rattle.image.specs.declared.Verdict.{Verdict}
 use Rattle.image.specs.declared.Verdict.the-variants.{Sound, WrongSize}
 use Rattle.image.specs.Sizes.{imageSize}
-use Rattle.image.specs.State.{State, decode, store}
+use Rattle.image.specs.State.{Contents, decode, store}
 
 -- "Released means block 0 with kept 0": nothing is held, and no label is listed
-abbrev pub released : State
-released = record { header = releasedHeader; labels = noLabels; queue = [] }
+abbrev pub releasedContents : Contents
+releasedContents = record { header = releasedHeader; labels = noLabels; queue = [] }
 
 unfoldable pub releaseOf : List ℕ → List ℕ
-releaseOf image = store image released
+releaseOf image = store image releasedContents
 
 -- a new image: block 0 with kept 0, and 64 slots of 512 zeros
 unfoldable pub newImage : List ℕ
-newImage = store (replicate imageSize 0) released
+newImage = store (replicate imageSize 0) releasedContents
 
 -- "12: image not 33,280 bytes"
 unfoldable pub sizeVerdict : List ℕ → Verdict
-sizeVerdict image = pick (eqb (length image) imageSize) Sound WrongSize
+sizeVerdict image = pick (not (eqb (length image) imageSize)) WrongSize Sound
 
 -- an image of another size is left as it is
-unfoldable pub formatOf : List ℕ → List ℕ
-formatOf image = pick (eqb (length image) imageSize) newImage image
+unfoldable pub formattedImage : List ℕ → List ℕ
+formattedImage image = pick (not (eqb (length image) imageSize)) image newImage
 
 -- "Connection failed ..: code 6 words are freed"
-abbrev pub broken : State → State
-broken s = record { header = s .header; labels = sweptOf (s .labels) AfterBreak; queue = s .queue }
+abbrev pub brokenContents : Contents → Contents
+brokenContents s = record { header = s .header; labels = sweptOf (s .labels) AfterBreak; queue = s .queue }
 
 unfoldable pub breakOf : List ℕ → List ℕ
-breakOf image = store image (broken (decode image))
+breakOf image = store image (brokenContents (decode image))

@@ -8,21 +8,21 @@ use Rattle.block0.specs.declared.Header.{Header}
 use Rattle.block0.specs.Fields.{Fits}
 use Rattle.block0.specs.Layout.{headerOf, labelsOf, block0}
 use Rattle.slot.specs.Held.{slotFor}
-use Rattle.slot.specs.Layout.{messageOf}
+use Rattle.slot.specs.Layout.{slotMessage}
 use Rattle.image.specs.Ring.{ring}
 use Rattle.image.specs.Sizes.{block, withBlock, blockOf, slotAt}
 
 -- the numbers of block 0, its label words, and the messages held, the oldest first
-pub record State : Type 0 where
+pub record Contents : Type 0 where
   pub header : Header
   pub labels : List ℕ
   pub queue : List (List ℕ)
 
 -- the message of slot k, live or not
 unfoldable pub slotsOf : List ℕ → ℕ → List ℕ
-slotsOf image k = messageOf (block image (blockOf k))
+slotsOf image k = slotMessage (block image (blockOf k))
 
-unfoldable pub decode : List ℕ → State
+unfoldable pub decode : List ℕ → Contents
 decode image = record {
   header = headerOf (block image 0);
   labels = labelsOf (block image 0);
@@ -44,10 +44,10 @@ storeSlot image k m = withBlock image (blockOf k) (slotFor (block image (blockOf
 unfoldable pub store0 : List ℕ → Header → List ℕ → List ℕ
 store0 image h ls = withBlock image 0 (block0 (block image 0) h ls)
 
-abbrev pub store : List ℕ → State → List ℕ
+abbrev pub store : List ℕ → Contents → List ℕ
 store image s = store0 image (s .header) (s .labels)
 
 -- each number of the state has its width
-pub record InRange (s : State) : Type 0 where
+pub record InRange (s : Contents) : Type 0 where
   pub header : Fits (s .header)
   pub labels : Words wordCount (s .labels)

@@ -36,6 +36,13 @@ bytesJudged image b = pick (not (sound (block image b))) BadCheck (pick (not (fi
 unfoldable pub blockJudged : List ℕ → ℕ → Judgement
 blockJudged image b = pick (not (any (eqb b) (looked (headerOf (block image 0))))) Idle (bytesJudged image b)
 
+-- the number of the answer that a judgement leads to: "10: bad block. 11: bad field"
+abbrev pub judgementNumber : Judgement → ℕ
+judgementNumber Good = 0
+judgementNumber BadCheck = 10
+judgementNumber BadFields = 11
+judgementNumber Idle = 0
+
 -- ---- the first fault
 -- block b, and then the rest: a good block is no fault, nor is an idle one
 abbrev pub faultThen : Judgement → ℕ → Verdict → Verdict

@@ -2,7 +2,7 @@
 ghost use mathlib.Core.Path.{_≡_};
 ghost use lib.ListN.{length};
 ghost use Rattle.block0.specs.Unprotected.{unprotected};
-ghost use Rattle.image.specs.Events.{sizeVerdict, formatOf, releaseOf, breakOf};
+ghost use Rattle.image.specs.Events.{sizeVerdict, formattedImage, releaseOf, breakOf};
 ghost use Rattle.image.specs.Sizes.{imageSize};
 ghost use Rattle.image.specs.State.{decode};
 use crate::Verdict;
@@ -18,7 +18,7 @@ pub fn release(image: &mut [u8])
 
 // A new image: released, with slots of zeros. Bytes of another size are left as they are (12).
 pub fn format(image: &mut [u8]) -> Verdict
-    ensures { λ r. ⌜ (r ≡ sizeVerdict (now (image .entry))) × (now (image .exit) ≡ formatOf (now (image .entry))) ⌝ }
+    ensures { λ r. ⌜ (r ≡ sizeVerdict (now (image .entry))) × (now (image .exit) ≡ formattedImage (now (image .entry))) ⌝ }
 {
     if image.len() != crate::IMAGE_SIZE {
         return Verdict::WrongSize;

@@ -8,11 +8,11 @@ use borrow.Author.Tests.{leb-true, eq-eqb, ne-eqb}
 use Rattle.ft_number.specs.declared.Steps.{Steps}
 use Rattle.ft_number.specs.declared.Steps.the-variants.{Count, Unreachable}
 use Rattle.ft_number.specs.Circle.{stepsOf}
-use Rattle.label_list.specs.Find.{countOf}
+use Rattle.label_list.specs.Find.{listedCount}
 use Rattle.block0.specs.declared.Header.{Header}
 use Rattle.block0.specs.Fields.{atMost}
 use Rattle.image.specs.declared.Verdict.{Verdict}
-use Rattle.image.specs.State.{State, decode}
+use Rattle.image.specs.State.{Contents, decode}
 use Rattle.image.specs.Verdict.{verdict, verdictNumber, verdictBlock, IsSound}
 use Rattle.image.proofs.Scans.{number-sound}
 use Rattle.image.proofs.Sound.{sound-parts}
@@ -49,7 +49,7 @@ module _ (s : List ℕ) {v : Verdict} {n : ℕ} (e : v ≡ verdict s) (en : n �
   unfolding reportOf
   report-refusal z eb = rw (← e, ← en, ne-eqb n 0 z, eb)
 
-pub counts-is : (s : State) (h : Header) (ws : List ℕ) (p l : ℕ) → h ≡ s .header → ws ≡ s .labels → p ≡ pendedOf h → l ≡ countOf ws
+pub counts-is : (s : Contents) (h : Header) (ws : List ℕ) (p l : ℕ) → h ≡ s .header → ws ≡ s .labels → p ≡ pendedOf h → l ≡ listedCount ws
     → _≡_ {A = Counts} (record { released = h .released; issued = h .issued; secured = h .secured; held = h .held; pended = p; labels = l }) (countsOf s)
 unfolding countsOf
 counts-is s h ws p l eh ew ep el = rw (ep, el, eh, ew)

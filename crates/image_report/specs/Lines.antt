@@ -7,8 +7,8 @@ use Rattle.image_report.specs.declared.Report.{Report}
 use Rattle.image_report.specs.declared.Report.the-variants.{Counted, Refused}
 
 -- no report is longer: six lines of a name, at most 20 digits and the line's end
-abbrev pub textRoom : ℕ
-textRoom = 186
+abbrev pub reportRoom : ℕ
+reportRoom = 186
 
 abbrev pub line : List ℕ → ℕ → List ℕ
 line name n = name ++ (decimal n ++ ascii "\n")

@@ -2,7 +2,7 @@
 ghost use Prim.Native.Nat.{_+_, _≤_};
 ghost use lib.ListN.{length};
 ghost use Rattle.text.specs.Text.{Put};
-ghost use Rattle.image_report.specs.Lines.{textRoom, line, numbersText, countsText, refusedText, textOf};
+ghost use Rattle.image_report.specs.Lines.{reportRoom, line, numbersText, countsText, refusedText, textOf};
 use crate::Counts;
 use crate::Report;
 
@@ -18,7 +18,7 @@ fn put_line(out: &mut [u8], at: usize, name: &[u8], n: u64) -> usize
 }
 
 fn put_numbers(out: &mut [u8], c: Counts) -> usize
-    requires { ⌜ textRoom ≤ length (now out) ⌝ }
+    requires { ⌜ reportRoom ≤ length (now out) ⌝ }
     ensures { λ r. ⌜ Put (now (out .entry)) 0 (numbersText c) (now (out .exit)) r ⌝ }
     ensures { λ r. ⌜ r ≤ 93 ⌝ }
 {
@@ -38,9 +38,9 @@ fn put_counts(out: &mut [u8], at: usize, c: Counts) -> usize
 }
 
 fn put_refusal(out: &mut [u8], answer: u32, block: usize) -> usize
-    requires { ⌜ textRoom ≤ length (now out) ⌝ }
+    requires { ⌜ reportRoom ≤ length (now out) ⌝ }
     ensures { λ r. ⌜ Put (now (out .entry)) 0 (refusedText answer block) (now (out .exit)) r ⌝ }
-    ensures { λ r. ⌜ r ≤ textRoom ⌝ }
+    ensures { λ r. ⌜ r ≤ reportRoom ⌝ }
 {
     let after = text::put_text(out, 0, b"refused ");
     let end = text::put_decimal(out, after, answer as u64);
@@ -49,9 +49,9 @@ fn put_refusal(out: &mut [u8], answer: u32, block: usize) -> usize
 
 // Puts a report at the start of `out` and answers its length; no byte after it changes.
 pub fn put_report(out: &mut [u8], report: Report) -> usize
-    requires { ⌜ textRoom ≤ length (now out) ⌝ }
+    requires { ⌜ reportRoom ≤ length (now out) ⌝ }
     ensures { λ r. ⌜ Put (now (out .entry)) 0 (textOf report) (now (out .exit)) r ⌝ }
-    ensures { λ r. ⌜ r ≤ textRoom ⌝ }
+    ensures { λ r. ⌜ r ≤ reportRoom ⌝ }
 {
     match report {
         Report::Counted(c) => {

@@ -18,7 +18,7 @@ use Rattle.message.specs.declared.Reading.{Reading}
 use Rattle.protocol.specs.declared.Terms.{Terms}
 use Rattle.protocol.specs.Init.{termsOf, resumedBy, equalParameters, bothSet, peerSet, sessionStart, parametersStart, startOf}
 use Rattle.protocol.specs.Received.{isInit}
-use Rattle.calls.specs.State.{numbersOf}
+use Rattle.calls.specs.State.{stateOfNumbers}
 use Rattle.init.specs.Fitting.{StartFits}
 
 -- an ACK that releases names no more than are held
@@ -33,26 +33,26 @@ module _ (h : Header) (window : atMost (h .held) (stepsOf (h .released .0) (h .i
   ack-fits t a (Ack.Releases k) e = ack-held h a k window e
   ack-fits t a Ack.SequenceError e = tt
 
-  both-fits : (t : Terms) (a : ℕ) → StartFits (h .held) (bothSet (numbersOf h) t a)
+  both-fits : (t : Terms) (a : ℕ) → StartFits (h .held) (bothSet (stateOfNumbers h) t a)
   unfolding bothSet
   both-fits t a =
-      pick-all (StartFits (h .held)) (not (equalParameters (numbersOf h .terms) t)) tt (ack-fits t a (ackOf (h .released .0) (h .issued .0) a) refl)
+      pick-all (StartFits (h .held)) (not (equalParameters (stateOfNumbers h .terms) t)) tt (ack-fits t a (ackOf (h .released .0) (h .issued .0) a) refl)
 
-  peer-fits : (t : Terms) (ack : FtField) → StartFits (h .held) (peerSet (numbersOf h) t ack)
+  peer-fits : (t : Terms) (ack : FtField) → StartFits (h .held) (peerSet (stateOfNumbers h) t ack)
   peer-fits t FtField.Absent = tt
-  peer-fits t (FtField.Number a) = pick-all (StartFits (h .held)) (numbersOf h .kept) (both-fits t (a .0)) tt
+  peer-fits t (FtField.Number a) = pick-all (StartFits (h .held)) (stateOfNumbers h .kept) (both-fits t (a .0)) tt
 
   module _ (p : ℕ) where
-    session-fits : (ka mp : ℕ) (ack : FtField) (s : Session) → StartFits (h .held) (sessionStart (numbersOf h) p ka mp ack s)
+    session-fits : (ka mp : ℕ) (ack : FtField) (s : Session) → StartFits (h .held) (sessionStart (stateOfNumbers h) p ka mp ack s)
     session-fits ka mp ack Session.Absent = tt
     session-fits ka mp ack (Session.Given true n) = peer-fits (termsOf p n ka mp) ack
     session-fits ka mp ack (Session.Given false n) = tt
 
-    parameters-fit : (ack : FtField) (s : Session) (q : Parameters) → StartFits (h .held) (parametersStart (numbersOf h) p ack s q)
+    parameters-fit : (ack : FtField) (s : Session) (q : Parameters) → StartFits (h .held) (parametersStart (stateOfNumbers h) p ack s q)
     parameters-fit ack s Parameters.Absent = tt
     parameters-fit ack s (Parameters.Given ka mp) = session-fits ka mp ack s
 
-    pub start-fits : (rd : Reading) → StartFits (h .held) (startOf (numbersOf h) p rd)
+    pub start-fits : (rd : Reading) → StartFits (h .held) (startOf (stateOfNumbers h) p rd)
     unfolding startOf
     start-fits Reading.Malformed = tt
     start-fits (Reading.Whole g) = pick-all (StartFits (h .held)) (not (isInit (g .typename))) tt (parameters-fit (g .ack) (g .session) (g .parameters))

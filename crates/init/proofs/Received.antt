@@ -1,9 +1,8 @@
 -- The returns of `init_received`. Assumes nothing.
 use Prim.Native.Nat.{ℕ}
-use mathlib.Core.Bool.{true, false, not}
+use mathlib.Core.Bool.{true, false}
 use mathlib.Core.List.{List, []}
 use mathlib.Core.Path.{_≡_, refl, _∙_, sym}
-use Rattle.octets.specs.Pick.{pick}
 use Rattle.block0.specs.declared.Header.{Header}
 use Rattle.message.specs.declared.Reading.{Reading}
 use Rattle.message.specs.Reading.{readingOf}
@@ -16,10 +15,10 @@ use Rattle.protocol.specs.declared.Start.{Start}
 use Rattle.protocol.specs.Answers.{effectOf, isDone}
 use Rattle.protocol.specs.Init.{startOf, startAnswer, startPhase, startState, initStart, initReceived}
 use Rattle.protocol.specs.Phases.{awaits, proposalOf}
-use Rattle.protocol.specs.Step.{stepped}
+use Rattle.protocol.specs.Step.{whereOpen, stepped}
 use Rattle.calls.specs.declared.Outcome.{Outcome}
-use Rattle.calls.specs.Outcomes.{After, after, refusal, untouched, admittedOn, settleOf}
-use Rattle.calls.specs.State.{numbersOf, stateOf}
+use Rattle.calls.specs.Outcomes.{After, afterWith, refusal, untouched, admittedOn, settleOf}
+use Rattle.calls.specs.State.{stateOfNumbers, stateOf}
 use Rattle.calls.proofs.Called.{call-is}
 use Rattle.calls.proofs.Ends.{settle-other}
 use Rattle.call_meaning.proofs.Calling.{call-refused, call-own, own-done, own-refused}
@@ -30,7 +29,7 @@ use Rattle.init.proofs.Starts.{start-alone}
 
 module _ (im : List ℕ) (ph : Phase) (m : List ℕ) where
   own : Answer
-  own = pick (not (awaits ph)) Answer.WrongPhase (startAnswer (initStart (stateOf im) ph m))
+  own = whereOpen (awaits ph) (startAnswer (initStart (stateOf im) ph m))
 
   init-is : initReceivedOf im ph m ≡ settleOf (admittedOn im ph own) ph im [] (begunOn im ph (initStart (stateOf im) ph m))
   unfolding initReceivedOf initReceived begunOn own
@@ -39,19 +38,19 @@ module _ (im : List ℕ) (ph : Phase) (m : List ℕ) where
       call-is im ph [] (startSlots st) own (stepped Answer.Done (startState (stateOf im) st) (startPhase ph st) []) refl
 
   module _ {r : Answer} (e : r ≡ admittedOn im ph Answer.Done) where
-    pub init-refused : {x : Outcome} → isDone r ≡ false → x ≡ refusal r ph → after x im [] ≡ initReceivedOf im ph m
+    pub init-refused : {x : Outcome} → isDone r ≡ false → x ≡ refusal r ph → afterWith x im [] ≡ initReceivedOf im ph m
     init-refused n p = call-refused im ph e [] own (begunOn im ph (initStart (stateOf im) ph m)) n p ∙ sym init-is
 
     module _ (t : isDone r ≡ true) where
       owned : {x : After} → x ≡ settleOf own ph im [] (begunOn im ph (initStart (stateOf im) ph m)) → x ≡ initReceivedOf im ph m
       owned p = call-own im ph e [] own (begunOn im ph (initStart (stateOf im) ph m)) t p ∙ sym init-is
 
-      pub init-barred : {x : Outcome} → awaits ph ≡ false → x ≡ refusal Answer.WrongPhase ph → after x im [] ≡ initReceivedOf im ph m
+      pub init-barred : {x : Outcome} → awaits ph ≡ false → x ≡ refusal Answer.WrongPhase ph → afterWith x im [] ≡ initReceivedOf im ph m
       unfolding effectOf own
       init-barred f p = owned (rw f (own-refused Answer.WrongPhase ph im [] (begunOn im ph (initStart (stateOf im) ph m)) refl p))
 
       module _ (w : awaits ph ≡ true) {h : Header} {p : ℕ} {rd : Reading} {st : Start} (eh : h ≡ decode im .header) (ep : p ≡ proposalOf ph) (er : rd ≡ readingOf m)
-          (es : st ≡ startOf (numbersOf h) p rd) where
+          (es : st ≡ startOf (stateOfNumbers h) p rd) where
         start-is : st ≡ initStart (stateOf im) ph m
         start-is = es ∙ rw (eh, ep, er) (start-alone (decode im .header) (decode im .labels) (decode im .queue) (proposalOf ph) (readingOf m))
 

@@ -19,7 +19,7 @@ use Rattle.protocol.specs.declared.Terms.{Terms}
 use Rattle.protocol.specs.Init.{termsOf, resumedBy, bothSet, peerSet, sessionStart, parametersStart, startOf}
 use Rattle.protocol.specs.Received.{isInit}
 use Rattle.protocol.specs.State.{State}
-use Rattle.calls.specs.State.{stateBy, numbersOf}
+use Rattle.calls.specs.State.{stateBy, stateOfNumbers}
 
 -- ---- both R set
 module _ (s : State) (t : Terms) (a : ℕ) where
@@ -75,24 +75,24 @@ start-malformed s p w = rw w
 
 -- ---- neither the label words nor the messages held are asked
 module _ (h : Header) (words : List ℕ) (queue : List (List ℕ)) (p : ℕ) where
-  both-alone : (t : Terms) (a : ℕ) → bothSet (numbersOf h) t a ≡ bothSet (stateBy h words queue) t a
+  both-alone : (t : Terms) (a : ℕ) → bothSet (stateOfNumbers h) t a ≡ bothSet (stateBy h words queue) t a
   unfolding bothSet
   both-alone t a = refl
 
-  peer-alone : (t : Terms) (ack : FtField) → peerSet (numbersOf h) t ack ≡ peerSet (stateBy h words queue) t ack
+  peer-alone : (t : Terms) (ack : FtField) → peerSet (stateOfNumbers h) t ack ≡ peerSet (stateBy h words queue) t ack
   peer-alone t FtField.Absent = refl
   peer-alone t (FtField.Number a) = rw (both-alone t (a .0))
 
-  session-alone : (ka mp : ℕ) (ack : FtField) (s : Session) → sessionStart (numbersOf h) p ka mp ack s ≡ sessionStart (stateBy h words queue) p ka mp ack s
+  session-alone : (ka mp : ℕ) (ack : FtField) (s : Session) → sessionStart (stateOfNumbers h) p ka mp ack s ≡ sessionStart (stateBy h words queue) p ka mp ack s
   session-alone ka mp ack Session.Absent = refl
   session-alone ka mp ack (Session.Given true n) = peer-alone (termsOf p n ka mp) ack
   session-alone ka mp ack (Session.Given false n) = refl
 
-  parameters-alone : (ack : FtField) (s : Session) (q : Parameters) → parametersStart (numbersOf h) p ack s q ≡ parametersStart (stateBy h words queue) p ack s q
+  parameters-alone : (ack : FtField) (s : Session) (q : Parameters) → parametersStart (stateOfNumbers h) p ack s q ≡ parametersStart (stateBy h words queue) p ack s q
   parameters-alone ack s Parameters.Absent = refl
   parameters-alone ack s (Parameters.Given ka mp) = session-alone ka mp ack s
 
-  pub start-alone : (rd : Reading) → startOf (numbersOf h) p rd ≡ startOf (stateBy h words queue) p rd
+  pub start-alone : (rd : Reading) → startOf (stateOfNumbers h) p rd ≡ startOf (stateBy h words queue) p rd
   unfolding startOf
   start-alone Reading.Malformed = refl
   start-alone (Reading.Whole g) = rw (parameters-alone (g .ack) (g .session) (g .parameters))

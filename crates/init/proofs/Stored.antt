@@ -18,7 +18,7 @@ use Rattle.protocol.specs.Acked.{releasedLabels, acked}
 use Rattle.protocol.specs.Init.{resumed, startPhase, startState}
 use Rattle.protocol.specs.State.{releasedState}
 use Rattle.calls.specs.declared.Outcome.{Outcome}
-use Rattle.calls.specs.Outcomes.{after, releasedOn}
+use Rattle.calls.specs.Outcomes.{afterWith, releasedOn}
 use Rattle.calls.specs.State.{stateOf}
 use Rattle.calls.specs.Storing.{empty, fewer, headerFor, slotNamed, stored}
 use Rattle.calls.proofs.Acknowledged.{header-acked}
@@ -43,7 +43,7 @@ module _ (im : List ℕ) (s : IsSound im) (t : Terms) (k a : ℕ) {h h₂ : Head
   resumed-none z e = e ∙ rw (numbers, z)
 
 -- ---- released
-pub released-is : (im : List ℕ) {o : Outcome} {im′ : List ℕ} → after o im′ [] ≡ releasedOn Answer.Done im []
+pub released-is : (im : List ℕ) {o : Outcome} {im′ : List ℕ} → afterWith o im′ [] ≡ releasedOn Answer.Done im []
     → (im′ ≡ stored im empty releasedState) × (o .block0 ≡ differ (block im 0) (block im′ 0))
 unfolding releasedOn
 released-is im e = (ap (λ x. x .image) e, ap (λ x. x .outcome .block0) e ∙ ap (λ x. differ (block im 0) (block x 0)) (sym (ap (λ x. x .image) e)))
@@ -58,6 +58,6 @@ slotless im (Start.Resumed t k a) = refl
 
 pub begun-is : (im : List ℕ) (ph : Phase) (st : Start) {im′ : List ℕ} {next : Phase} {b : Bool} → im′ ≡ stored im (startSlots st) (startState (stateOf im) st)
     → next ≡ startPhase ph st → b ≡ differ (block im 0) (block im′ 0)
-    → after (record { answer = Answer.Done; phase = next; written = 0; slot = 0; block0 = b }) im′ [] ≡ begunOn im ph st
+    → afterWith (record { answer = Answer.Done; phase = next; written = 0; slot = 0; block0 = b }) im′ [] ≡ begunOn im ph st
 unfolding begunOn
 begun-is im ph st ei en eb = rw (eb, ei, en, ← slotless im st)

@@ -9,7 +9,7 @@ ghost use Rattle.image.specs.Verdict.{IsSound};
 ghost use Rattle.protocol.specs.Init.{fresh, resumed, startPhase, startState};
 ghost use Rattle.protocol.specs.Phases.{awaits, proposalOf};
 ghost use Rattle.protocol.specs.State.{releasedState};
-ghost use Rattle.calls.specs.Outcomes.{after};
+ghost use Rattle.calls.specs.Outcomes.{afterWith};
 ghost use Rattle.calls.specs.State.{stateOf};
 ghost use Rattle.calls.specs.Storing.{empty, fewer, stored};
 ghost use Rattle.init.specs.Fitting.{StartFits};
@@ -126,7 +126,7 @@ fn start_phase(start: Start, phase: Phase) -> Phase
 // Begins the session.
 fn begin(image: &mut [u8], phase: Phase, start: Start) -> Outcome
     requires { ⌜ IsSound (now image) × StartFits (decode (now image) .header .held) start ⌝ }
-    ensures { λ r. ⌜ after r (now (image .exit)) [] ≡ begunOn (now (image .entry)) phase start ⌝ }
+    ensures { λ r. ⌜ afterWith r (now (image .exit)) [] ≡ begunOn (now (image .entry)) phase start ⌝ }
 {
     Outcome {
         answer: Answer::Done,
@@ -139,7 +139,7 @@ fn begin(image: &mut [u8], phase: Phase, start: Start) -> Outcome
 
 // The peer's Init was received.
 pub fn init_received(image: &mut [u8], phase: Phase, msg: &[u8]) -> Outcome
-    ensures { λ r. ⌜ after r (now (image .exit)) [] ≡ initReceivedOf (now (image .entry)) phase (now (msg .entry)) ⌝ }
+    ensures { λ r. ⌜ afterWith r (now (image .exit)) [] ≡ initReceivedOf (now (image .entry)) phase (now (msg .entry)) ⌝ }
 {
     let a = calls::admit(image, phase);
     if !calls::is_done(a) {

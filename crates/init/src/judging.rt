@@ -2,7 +2,7 @@
 ghost use mathlib.Core.Path.{_≡_};
 ghost use Rattle.ft_number.specs.Timeout.{lesserOf};
 ghost use Rattle.protocol.specs.Init.{bothSet, peerSet, sessionStart, parametersStart, startOf, startAnswer};
-ghost use Rattle.calls.specs.State.{numbersOf};
+ghost use Rattle.calls.specs.State.{stateOfNumbers};
 use block0::Header;
 use calls::Answer;
 use ft_number::Ack;
@@ -24,7 +24,7 @@ fn agreed_timeout(ours: u16, peers: u16) -> u16
 
 // Both R set.
 fn judge_both(h: Header, terms: Terms, ack: FtNumber) -> Start
-    ensures { λ r. ⌜ r ≡ bothSet (numbersOf h) terms (ack .0) ⌝ }
+    ensures { λ r. ⌜ r ≡ bothSet (stateOfNumbers h) terms (ack .0) ⌝ }
 {
     if h.keepalive != terms.keepalive {
         return Start::Refused(Answer::ParametersChanged);
@@ -40,7 +40,7 @@ fn judge_both(h: Header, terms: Terms, ack: FtNumber) -> Start
 
 // The peer's R set; ours is set where the state is kept.
 fn judge_reconnect(h: Header, terms: Terms, ack: FtField) -> Start
-    ensures { λ r. ⌜ r ≡ peerSet (numbersOf h) terms ack ⌝ }
+    ensures { λ r. ⌜ r ≡ peerSet (stateOfNumbers h) terms ack ⌝ }
 {
     match ack {
         FtField::Absent => Start::Refused(Answer::BadInit),
@@ -62,7 +62,7 @@ fn judge_session(
     ack: FtField,
     session: Session,
 ) -> Start
-    ensures { λ r. ⌜ r ≡ sessionStart (numbersOf h) proposed keepalive maxpdu ack session ⌝ }
+    ensures { λ r. ⌜ r ≡ sessionStart (stateOfNumbers h) proposed keepalive maxpdu ack session ⌝ }
 {
     match session {
         Session::Absent => Start::Plain,
@@ -82,7 +82,7 @@ fn judge_session(
 
 // An Init.
 fn judge_init(h: Header, proposed: u16, g: Message) -> Start
-    ensures { λ r. ⌜ r ≡ parametersStart (numbersOf h) proposed (g .ack) (g .session) (g .parameters) ⌝ }
+    ensures { λ r. ⌜ r ≡ parametersStart (stateOfNumbers h) proposed (g .ack) (g .session) (g .parameters) ⌝ }
 {
     let ack = g.ack;
     let session = g.session;
@@ -98,7 +98,7 @@ fn judge_init(h: Header, proposed: u16, g: Message) -> Start
 
 // How the session begins with what was read, with the image's header and our proposed timeout.
 pub fn judge_start(h: Header, proposed: u16, reading: Reading) -> Start
-    ensures { λ r. ⌜ r ≡ startOf (numbersOf h) proposed reading ⌝ }
+    ensures { λ r. ⌜ r ≡ startOf (stateOfNumbers h) proposed reading ⌝ }
 {
     match reading {
         Reading::Malformed => Start::Refused(Answer::MalformedReceived),

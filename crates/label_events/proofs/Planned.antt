@@ -1,6 +1,6 @@
 -- The ways through the definitions of a change, of a message accepted, acknowledged and received. Assumes nothing.
 use Prim.Native.Nat.{ℕ, _≤_, _<_}
-use mathlib.Core.Bool.{Bool, true, false}
+use mathlib.Core.Bool.{Bool, true, false, not}
 use mathlib.Core.List.{List}
 use mathlib.Core.Logic.{_≢_}
 use mathlib.Core.Path.{_≡_, refl, sym, _∙_}
@@ -12,7 +12,7 @@ use Rattle.label_list.specs.declared.Found.{Found}
 use Rattle.label_list.specs.declared.Found.the-variants.{At, Nowhere}
 use Rattle.label_list.specs.declared.LabelMessage.{LabelMessage}
 use Rattle.label_list.specs.declared.Next.{Next}
-use Rattle.label_list.specs.declared.Next.the-variants.{Code, NotAllowed as Never}
+use Rattle.label_list.specs.declared.Next.the-variants.{Code}
 use Rattle.label_list.specs.declared.Protection.{Protection}
 use Rattle.label_list.specs.declared.Side.{Side}
 use Rattle.label_list.specs.Find.{findOf, FoundIn}
@@ -31,7 +31,7 @@ use Rattle.label_events.specs.declared.Reception.{Reception}
 use Rattle.label_events.specs.declared.Reception.the-variants.{Taken}
 use Rattle.label_events.specs.declared.Touched.{Touched}
 use Rattle.label_events.specs.declared.Touched.the-variants.{Label, Every, Nothing}
-use Rattle.label_events.specs.Accept.{planBy, planOf, acceptanceOf, acceptedOf}
+use Rattle.label_events.specs.Accept.{planBy, planOf, acceptanceOf, acceptedOf, planChange, acceptedBy}
 use Rattle.label_events.specs.Ack.{ackedAt, ackedOf}
 use Rattle.label_events.specs.Change.{ChangeIn, codeIn, codeAt, changeAt, changed}
 use Rattle.label_events.specs.Protect.{protectionOf}
@@ -90,30 +90,45 @@ module _ (words : List ℕ) (message : LabelMessage) (label : ℕ) where
     pub plan-allowed : {code : ℕ} {change : Change} → n ≡ Code code → change ≡ changeAt f (findOf isFree words) label code → Allowed change ≡ planOf words message label
     plan-allowed e ex = rw (ex, ef) (rw e at plan-is)
 
-    pub plan-refused : n ≡ Never → Refused ≡ planOf words message label
+    pub plan-refused : n ≡ Next.NotAllowed → Refused ≡ planOf words message label
     plan-refused e = rw e at plan-is
 
   by-in : (n : Next) (s : Side) → PlanIn words (planBy n words s label)
   by-in (Code code) s = change-of-in words s label code
-  by-in Never s = tt
+  by-in Next.NotAllowed s = tt
+
+  plan-inside : PlanIn words (planOf words message label)
+  unfolding planOf
+  plan-inside = pick-all (PlanIn words) (not (listable label)) tt (by-in (codeAccepted message (codeAt words (sentSide message) label)) (sentSide message))
 
   pub plan-in : {p : Plan} {change : Change} → p ≡ planOf words message label → p ≡ Allowed change → ChangeIn words change
-  unfolding planOf
-  plan-in {p} {change} e g =
-      let inside : PlanIn words p =
-      rw e (pick-all (PlanIn words) (listable label) (by-in (codeAccepted message (codeAt words (sentSide message) label)) (sentSide message)) tt) in
-      rw g at inside
+  plan-in {p} {change} e g = let inside : PlanIn words p = rw e plan-inside in rw g at inside
 
+  -- the answer, the change told and the list afterwards
   pub accepted-is : {p : Plan} {change : Change} {a : Acceptance} {after : List ℕ}
       → p ≡ planOf words message label → p ≡ Allowed change → a ≡ acceptanceOf change → after ≡ changed words change
-      → (a ≡ acceptedOf words message label .0) × (after ≡ acceptedOf words message label .1) × (after ≡ changed words change) × ChangeIn words change
+      → (a ≡ acceptedOf words message label .0) × (change ≡ planChange (planOf words message label)) × (after ≡ acceptedOf words message label .1)
   unfolding acceptedOf
-  accepted-is e g ea el = (rw (← e, g) ea, rw (← e, g) el, el, plan-in e g)
+  accepted-is e g ea el = (rw (← e, g) ea, rw (← e, g), rw (← e, g) el)
 
   pub refused-is : {p : Plan} → p ≡ planOf words message label → p ≡ Refused
-      → (NotAllowed ≡ acceptedOf words message label .0) × (words ≡ acceptedOf words message label .1) × (words ≡ changed words Keep) × ChangeIn words Keep
-  unfolding acceptedOf changed
-  refused-is e g = (rw (← e, g), rw (← e, g), refl, tt)
+      → (NotAllowed ≡ acceptedOf words message label .0) × (Keep ≡ planChange (planOf words message label)) × (words ≡ acceptedOf words message label .1)
+  unfolding acceptedOf
+  refused-is e g = (rw (← e, g), rw (← e, g), rw (← e, g))
+
+  -- the change told makes the list, and writes inside it
+  told-in : (p : Plan) → PlanIn words p → ChangeIn words (planChange p)
+  told-in (Allowed change) h = h
+  told-in Refused h = tt
+
+  told-makes : (p : Plan) → acceptedBy words p .1 ≡ changed words (planChange p)
+  unfolding changed
+  told-makes (Allowed change) = refl
+  told-makes Refused = refl
+
+  pub told-change : {change : Change} → change ≡ planChange (planOf words message label) → (acceptedOf words message label .1 ≡ changed words change) × ChangeIn words change
+  unfolding acceptedOf
+  told-change e = (rw e (told-makes (planOf words message label)), rw e (told-in (planOf words message label) plan-inside))
 
   -- an ACK of it
   module _ {s : Side} {f : Found} (es : s ≡ sentSide message) (ef : f ≡ findOf (standsFor s label) words) where
@@ -158,7 +173,7 @@ module _ (words : List ℕ) (message : LabelMessage) (protected : Bool) where
 
     pub received-in : {change : Change} → change ≡ receivedChange words message protected label → ChangeIn words change
     unfolding receivedChange
-    received-in e = rw e (pick-all (ChangeIn words) (listable label) (change-of-in words (receivedSide message) label (codeReceived message protected (codeAt words (receivedSide message) label))) tt)
+    received-in e = rw e (pick-all (ChangeIn words) (not (listable label)) tt (change-of-in words (receivedSide message) label (codeReceived message protected (codeAt words (receivedSide message) label))))
 
     pub received-label : {t : Touched} {change : Change} {a : Reception} {after : List ℕ}
         → t ≡ Label label → change ≡ receivedChange words message protected label → a ≡ receptionOf change → after ≡ changed words change

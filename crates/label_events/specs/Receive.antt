@@ -1,6 +1,6 @@
 -- A message of the peer's is received: the answer and the list afterwards.
 use Prim.Native.Nat.{ℕ}
-use mathlib.Core.Bool.{Bool}
+use mathlib.Core.Bool.{Bool, not}
 use mathlib.Core.List.{List}
 use Rattle.octets.specs.Pick.{pick}
 use Rattle.label_list.specs.declared.Found.{Found}
@@ -13,7 +13,6 @@ use Rattle.label_list.specs.Rules.{receivedSide, codeReceived}
 use Rattle.label_list.specs.Sweep.{sweptOf}
 use Rattle.label_list.specs.Word.{listable, standsFor}
 use Rattle.label_events.specs.declared.Change.{Change}
-use Rattle.label_events.specs.declared.Change.the-variants.{Keep, Put, NoRoom as Full}
 use Rattle.label_events.specs.declared.Reception.{Reception}
 use Rattle.label_events.specs.declared.Reception.the-variants.{Taken, NoRoom}
 use Rattle.label_events.specs.declared.Touched.{Touched}
@@ -34,12 +33,12 @@ receivedPlace words message Nothing = Nowhere
 -- 01: "Labels 0 to 15 are never listed, and passed on when received"; so is what is no label of 20 bits
 unfoldable pub receivedChange : List ℕ → LabelMessage → Bool → ℕ → Change
 receivedChange words message protected label =
-    pick (listable label) (changeOf words (receivedSide message) label (codeReceived message protected (codeAt words (receivedSide message) label))) Keep
+    pick (not (listable label)) Change.Keep (changeOf words (receivedSide message) label (codeReceived message protected (codeAt words (receivedSide message) label)))
 
 abbrev pub receptionOf : Change → Reception
-receptionOf Keep = Taken
-receptionOf (Put i w) = Taken
-receptionOf Full = NoRoom
+receptionOf Change.Keep = Taken
+receptionOf (Change.Put i w) = Taken
+receptionOf Change.NoRoom = NoRoom
 
 -- 01: "Withdraw or Release of the wildcard FEC .. acts on every label"; a Mapping names its label
 unfoldable pub everyReceived : LabelMessage → List ℕ → List ℕ

@@ -1,8 +1,7 @@
 // Messages of ours: accepted for sending, and released by an ACK.
 ghost use mathlib.Core.Path.{_≡_};
-ghost use Rattle.label_events.specs.Accept.{planOf, acceptanceOf, acceptedOf};
+ghost use Rattle.label_events.specs.Accept.{planOf, planChange, acceptanceOf, acceptedOf};
 ghost use Rattle.label_events.specs.Ack.{ackedOf};
-ghost use Rattle.label_events.specs.Change.{ChangeIn, changed};
 use crate::Acceptance;
 use crate::Accepted;
 use crate::Change;
@@ -49,7 +48,7 @@ fn acceptance(change: Change) -> Acceptance
 
 // Accepts the message for sending; a refusal, NotAllowed (6) or NoRoom (13), leaves the list as it was. The change says which word is another now.
 pub fn accept(words: &mut [u32], message: LabelMessage, label: u32) -> Accepted
-    ensures { λ r. ⌜ (r .acceptance ≡ acceptedOf (now (words .entry)) message label .0) × (now (words .exit) ≡ acceptedOf (now (words .entry)) message label .1) × (now (words .exit) ≡ changed (now (words .entry)) (r .change)) × ChangeIn (now (words .entry)) (r .change) ⌝ }
+    ensures { λ r. ⌜ (r .acceptance ≡ acceptedOf (now (words .entry)) message label .0) × (r .change ≡ planChange (planOf (now (words .entry)) message label)) × (now (words .exit) ≡ acceptedOf (now (words .entry)) message label .1) ⌝ }
 {
     match plan_accept(words, message, label) {
         Plan::Allowed(change) => {

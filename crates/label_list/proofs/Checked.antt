@@ -11,7 +11,7 @@ use borrow.Author.Tests.{le-leb, lt-leb, eq-eqb, ne-eqb}
 use Rattle.octets.specs.Pick.{both}
 use Rattle.octets.proofs.Choice.{both-true, by-test}
 use Rattle.label_list.specs.declared.Side.the-variants.{Given, Used}
-use Rattle.label_list.specs.Marks.{Marked}
+use Rattle.label_list.specs.Marks.{MarksTell}
 use Rattle.label_list.specs.Valid.{absent, validWord, validOf}
 use Rattle.label_list.specs.Word.{labelOf, codeOf, isFree, onSide}
 use Rattle.label_list.proofs.Marks.{marked-none}
@@ -20,7 +20,7 @@ use Rattle.label_list.proofs.Marks.{marked-none}
 pub record Checked (words marks : List ℕ) (i : ℕ) : Type 0 where
   pub inside : i ≤ length words
   pub right : validOf (drop i words) ≡ true
-  pub known : Marked (drop i words) marks
+  pub known : MarksTell (drop i words) marks
 
 -- Where the words from some index on are not valid, the list is not.
 pub valid-drop : (words : List ℕ) (i : ℕ) → validOf words ≡ true → validOf (drop i words) ≡ true
@@ -72,7 +72,7 @@ module _ (words : List ℕ) where
   checked-all (suc i) c h = absurd (omega arith)
 
   module _ {before : List ℕ} (i : ℕ) (c : Checked words before i) where
-    pub checked-known : Marked (later words i) before
+    pub checked-known : MarksTell (later words i) before
     checked-known = rw later-is (c .known)
 
     module _ (more : 0 < i) where
@@ -93,7 +93,7 @@ module _ (words : List ℕ) where
           (λ all. absurd (false≢true (bad ∙ both-true _ _ (valid-step ∙ valid-drop words (i - 1) all) .0)))
           sym
 
-      pub checked-more : {marks : List ℕ} → true ≡ validWord (getD words (i - 1) 0) (later words i) → Marked (getD words (i - 1) 0 ∷ later words i) marks → Checked words marks (i - 1)
+      pub checked-more : {marks : List ℕ} → true ≡ validWord (getD words (i - 1) 0) (later words i) → MarksTell (getD words (i - 1) 0 ∷ later words i) marks → Checked words marks (i - 1)
       checked-more good known =
           record {
             inside = omega (arith, c .inside);

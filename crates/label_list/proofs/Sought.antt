@@ -13,7 +13,7 @@ use Rattle.octets.specs.Pick.{pick}
 use Rattle.octets.proofs.Choice.{by-test, no}
 use Rattle.label_list.specs.declared.Found.{Found}
 use Rattle.label_list.specs.declared.Found.the-variants.{At, Nowhere}
-use Rattle.label_list.specs.Find.{findOf, findFrom, nextOf, any, countOf}
+use Rattle.label_list.specs.Find.{findOf, findFrom, nextOf, any, listedCount}
 use Rattle.label_list.specs.Word.{isFree}
 
 -- A search is one from the first word on.
@@ -107,7 +107,7 @@ any-cons test w ws e = rw e
 pub record Counted (words : List ℕ) (count i : ℕ) : Type 0 where
   pub inside : i ≤ length words
   pub low : count ≤ i
-  pub rest : countOf words ≡ count + countOf (drop i words)
+  pub rest : listedCount words ≡ count + listedCount (drop i words)
 
 module _ (words : List ℕ) where
   pub counted-none : Counted words 0 0
@@ -115,19 +115,19 @@ module _ (words : List ℕ) where
 
   module _ (count i : ℕ) (s : Counted words count i) where
     pub counted-listed : i < length words → getD words i 0 ≢ 0 → Counted words (count + 1) (i + 1)
-    unfolding countOf isFree
+    unfolding listedCount isFree
     counted-listed h e =
-        let step : countOf (drop i words) ≡ suc (countOf (drop (i + 1) words)) = rw (drop-cons words i 0 h, ne-eqb (getD words i 0) 0 e, add-one) in
+        let step : listedCount (drop i words) ≡ suc (listedCount (drop (i + 1) words)) = rw (drop-cons words i 0 h, ne-eqb (getD words i 0) 0 e, add-one) in
         record { inside = omega arith; low = omega arith; rest = omega arith }
 
     pub counted-free : i < length words → getD words i 0 ≡ 0 → Counted words count (i + 1)
-    unfolding countOf isFree
+    unfolding listedCount isFree
     counted-free h e =
-        let step : countOf (drop i words) ≡ countOf (drop (i + 1) words) = rw (drop-cons words i 0 h, e, add-one) in
+        let step : listedCount (drop i words) ≡ listedCount (drop (i + 1) words) = rw (drop-cons words i 0 h, e, add-one) in
         record { inside = omega arith; low = omega arith; rest = omega arith }
 
-    pub counted-all : length words ≤ i → count ≡ countOf words
-    unfolding countOf
+    pub counted-all : length words ≤ i → count ≡ listedCount words
+    unfolding listedCount
     counted-all h =
-        let none : countOf (drop i words) ≡ 0 = rw (drop-of-length-le words h) in
+        let none : listedCount (drop i words) ≡ 0 = rw (drop-of-length-le words h) in
         omega (arith, s .rest)

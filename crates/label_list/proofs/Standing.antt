@@ -9,7 +9,7 @@ use borrow.Author.Tests.{le-leb, lt-leb, leb-true, eq-eqb, eqb-true}
 use Rattle.octets.proofs.Choice.{both-true, both-commutes}
 use Rattle.label_list.specs.declared.Side.{Side}
 use Rattle.label_list.specs.declared.Side.the-variants.{Given, Used}
-use Rattle.label_list.specs.Find.{bears}
+use Rattle.label_list.specs.Find.{bearsLabel}
 use Rattle.label_list.specs.Word.{labelOf, codeOf, within, onSide, standsFor}
 
 module _ (low high n : ℕ) where
@@ -62,12 +62,12 @@ unfolding standsFor
 parts-stands s l w p q = simp (p, eq-eqb (labelOf w) l q)
 
 -- Of a word that bears the label the side decides; another stands for it on no side.
-pub bears-stands : (s : Side) (l w : ℕ) → bears l w ≡ true → standsFor s l w ≡ onSide s (codeOf w)
-unfolding standsFor bears
+pub bears-stands : (s : Side) (l w : ℕ) → bearsLabel l w ≡ true → standsFor s l w ≡ onSide s (codeOf w)
+unfolding standsFor bearsLabel
 bears-stands s l w e = rw (both-commutes (onSide s (codeOf w)) (eqb (labelOf w) l), e)
 
-pub other-stands : (s : Side) (l w : ℕ) → bears l w ≡ false → standsFor s l w ≡ false
-unfolding standsFor bears
+pub other-stands : (s : Side) (l w : ℕ) → bearsLabel l w ≡ false → standsFor s l w ≡ false
+unfolding standsFor bearsLabel
 other-stands s l w e = rw (both-commutes (onSide s (codeOf w)) (eqb (labelOf w) l), e)
 
 pub free-stands : (s : Side) (l : ℕ) → standsFor s l 0 ≡ false

@@ -30,8 +30,8 @@ unfoldable pub nextOf : (ℕ → Bool) → List ℕ → ℕ → Found
 nextOf test words k = findFrom test k (drop k words)
 
 -- the word bears that label, whatever its code
-unfoldable pub bears : ℕ → ℕ → Bool
-bears label w = eqb (labelOf w) label
+unfoldable pub bearsLabel : ℕ → ℕ → Bool
+bearsLabel label w = eqb (labelOf w) label
 
 -- whether any word passes
 unfoldable pub any : (ℕ → Bool) → List ℕ → Bool
@@ -39,9 +39,9 @@ any test [] = false
 any test (w ∷ ws) = pick (test w) true (any test ws)
 
 -- the printer's count: "words not zero .., code 6 included"
-unfoldable pub countOf : List ℕ → ℕ
-countOf [] = 0
-countOf (w ∷ ws) = pick (isFree w) (countOf ws) (suc (countOf ws))
+unfoldable pub listedCount : List ℕ → ℕ
+listedCount [] = 0
+listedCount (w ∷ ws) = pick (isFree w) (listedCount ws) (suc (listedCount ws))
 
 -- what was found is inside the list
 abbrev pub FoundIn : List ℕ → Found → Type 0

@@ -10,10 +10,10 @@ use Rattle.label_list.specs.Find.{any}
 use Rattle.label_list.specs.Word.{standsFor}
 
 -- 256 places for each side
-unfoldable pub placeOf : Side → ℕ → ℕ
-placeOf Given label = label % 256
-placeOf Used label = 256 + label % 256
+unfoldable pub markAt : Side → ℕ → ℕ
+markAt Given label = label % 256
+markAt Used label = 256 + label % 256
 
-pub record Marked (words marks : List ℕ) : Type 0 where
+pub record MarksTell (words marks : List ℕ) : Type 0 where
   pub size : length marks ≡ 512
-  pub unmarked : (side : Side) (label : ℕ) → getD marks (placeOf side label) 0 ≡ 0 → any (standsFor side label) words ≡ false
+  pub unmarked : (side : Side) (label : ℕ) → getD marks (markAt side label) 0 ≡ 0 → any (standsFor side label) words ≡ false

@@ -1,6 +1,6 @@
 // Searches of the label words.
 ghost use mathlib.Core.Path.{_≡_};
-ghost use Rattle.label_list.specs.Find.{passes, bears, nextOf, findOf, countOf};
+ghost use Rattle.label_list.specs.Find.{passes, bearsLabel, nextOf, findOf, listedCount};
 ghost use Rattle.label_list.specs.Word.{standsFor};
 use crate::Found;
 use crate::Side;
@@ -34,7 +34,7 @@ pub fn find(words: &[u32], wanted: Wanted) -> Found
 
 // The first word from an index on that bears the label, on either side: one short test a word.
 fn next_bearing(words: &[u32], label: u32, from: usize) -> Found
-    ensures { λ r. ⌜ r ≡ nextOf (bears label) (now (words .entry)) from ⌝ }
+    ensures { λ r. ⌜ r ≡ nextOf (bearsLabel label) (now (words .entry)) from ⌝ }
 {
     let mut at = from;
     while at < words.len() {
@@ -69,7 +69,7 @@ pub fn find_label(words: &[u32], side: Side, label: u32) -> Found
 
 // How many words are not free, those of code 6 included.
 pub fn count_listed(words: &[u32]) -> usize
-    ensures { λ r. ⌜ r ≡ countOf (now (words .entry)) ⌝ }
+    ensures { λ r. ⌜ r ≡ listedCount (now (words .entry)) ⌝ }
 {
     let mut count: usize = 0;
     let mut i = 0;

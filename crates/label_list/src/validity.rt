@@ -5,7 +5,7 @@ ghost use Prim.Native.Nat.{ℕ, _<_};
 ghost use mathlib.Core.Bool.{true};
 ghost use mathlib.Core.List.{_∷_};
 ghost use mathlib.Core.Path.{_≡_};
-ghost use Rattle.label_list.specs.Marks.{placeOf, Marked};
+ghost use Rattle.label_list.specs.Marks.{markAt, MarksTell};
 ghost use Rattle.label_list.specs.Valid.{absent, validWord, validOf};
 ghost use Rattle.label_list.specs.Word.{standsFor};
 use crate::Found;
@@ -17,7 +17,7 @@ use crate::word::on_side;
 
 // The place of a side and a label in the table of marks.
 fn place_of(side: Side, label: u32) -> usize
-    ensures { λ r. ⌜ (r ≡ placeOf side label) × (r < 512) ⌝ }
+    ensures { λ r. ⌜ (r ≡ markAt side label) × (r < 512) ⌝ }
 {
     match side {
         Side::Given => (label % 256) as usize,
@@ -37,8 +37,8 @@ fn is_absent(side: Side, label: u32, words: &[u32]) -> bool
 
 // Whether the label stands in no later word of that side; its place is marked then.
 fn mark_label(side: Side, label: u32, later: &[u32], marks: &mut [u8]) -> bool
-    requires { ⌜ Marked (now later) (now marks) ⌝ }
-    ensures { λ r. ⌜ (r ≡ absent side label (now (later .entry))) × ((w : ℕ) → standsFor side label w ≡ true → Marked (w ∷ now (later .entry)) (now (marks .exit))) ⌝ }
+    requires { ⌜ MarksTell (now later) (now marks) ⌝ }
+    ensures { λ r. ⌜ (r ≡ absent side label (now (later .entry))) × ((w : ℕ) → standsFor side label w ≡ true → MarksTell (w ∷ now (later .entry)) (now (marks .exit))) ⌝ }
 {
     let place = place_of(side, label);
     if marks[place] == 0 {
@@ -50,8 +50,8 @@ fn mark_label(side: Side, label: u32, later: &[u32], marks: &mut [u8]) -> bool
 
 // Whether a word may stand before the later words; it is marked then.
 fn mark_word(word: u32, later: &[u32], marks: &mut [u8]) -> bool
-    requires { ⌜ Marked (now later) (now marks) ⌝ }
-    ensures { λ r. ⌜ (r ≡ validWord word (now (later .entry))) × (r ≡ true → Marked (word ∷ now (later .entry)) (now (marks .exit))) ⌝ }
+    requires { ⌜ MarksTell (now later) (now marks) ⌝ }
+    ensures { λ r. ⌜ (r ≡ validWord word (now (later .entry))) × (r ≡ true → MarksTell (word ∷ now (later .entry)) (now (marks .exit))) ⌝ }
 {
     if word == 0 {
         return true;

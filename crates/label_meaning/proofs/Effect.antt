@@ -19,7 +19,7 @@ use Rattle.label_list.proofs.Reached.{found-in, found-place, found-passes}
 use Rattle.label_list.proofs.Standing.{side-listed, parts-stands, free-stands}
 use Rattle.label_events.specs.declared.Change.the-variants.{NoRoom}
 use Rattle.label_events.specs.Change.{takeFree, changeAt, changeOf, changed}
-use Rattle.label_meaning.specs.Valid.{InRange, IsValid}
+use Rattle.label_meaning.specs.Valid.{WordInRange, IsValid}
 use Rattle.label_meaning.specs.View.{CodeIs, listed, absent, Effect}
 use Rattle.label_meaning.proofs.Meaning.{stands-same}
 use Rattle.label_meaning.proofs.Proper.{Proper}
@@ -29,7 +29,7 @@ use Rattle.label_meaning.proofs.View.{found-none}
 pub record Lists (s : Side) (l c w : ℕ) : Type 0 where
   pub stands : standsFor s l w ≡ true
   pub code : codeOf w ≡ c
-  pub range : InRange w
+  pub range : WordInRange w
 
 abbrev pub Written : Side → ℕ → ℕ → ℕ → Type 0
 Written s l c w = ((w ≡ 0) × (c ≡ 0)) ⊎ Lists s l c w
@@ -79,10 +79,10 @@ module _ (words : List ℕ) (v : IsValid words) (s : Side) (l c i w : ℕ) (insi
       (λ (q : standsFor s l (getD words i 0) ≡ true). stands-same t s k l (getD words i 0) p q)
       was
 
-  after-each : (j : ℕ) → getD (set words i w) j 0 ≢ 0 → InRange (getD (set words i w) j 0)
+  after-each : (j : ℕ) → getD (set words i w) j 0 ≢ 0 → WordInRange (getD (set words i w) j 0)
   after-each j =
       at
-      (λ (x : ℕ). x ≢ 0 → InRange x)
+      (λ (x : ℕ). x ≢ 0 → WordInRange x)
       j
       (λ e h. ⊎-elim (λ (z : (w ≡ 0) × (c ≡ 0)). absurd (h (z .0))) (λ (new : Lists s l c w). new .range) written)
       (λ e h. v .each j h)

@@ -24,7 +24,7 @@ use Rattle.label_events.specs.Accept.{planOf, acceptedBy, acceptedOf}
 use Rattle.label_events.specs.Ack.{ackedAt}
 use Rattle.label_events.specs.Change.{changed}
 use Rattle.label_events.specs.Receive.{receivedChange, everyReceived, receivedOf}
-use Rattle.label_meaning.specs.Event.{Event, Accepted, Acked, Received, Broken, step}
+use Rattle.label_meaning.specs.Event.{LabelEvent, Accepted, Acked, Received, Broken, afterEvent}
 use Rattle.label_meaning.specs.Keep.{OneWord, OneLabel}
 
 -- A change leaves the length and all words but one.
@@ -83,16 +83,16 @@ received-word words m p Every one = absurd one
 received-word words m p Nothing one = same-word words
 
 -- No event changes the number of words.
-pub step-length : (words : List ℕ) (e : Event) → length (step words e) ≡ length words
-unfolding step acceptedOf
+pub step-length : (words : List ℕ) (e : LabelEvent) → length (afterEvent words e) ≡ length words
+unfolding afterEvent acceptedOf
 step-length words (Accepted m l) = accepted-length words (planOf words m l)
 step-length words (Acked m l) = acked-length words (findOf (standsFor (sentSide m) l) words) m l
 step-length words (Received m p t) = received-length words m p t
 step-length words Broken = length-map words (wordSwept AfterBreak)
 
 -- Except under the wildcard FEC and at the end of a connection one word changes at most.
-pub step-one : (words : List ℕ) (e : Event) → OneLabel e → OneWord words (step words e)
-unfolding step acceptedOf
+pub step-one : (words : List ℕ) (e : LabelEvent) → OneLabel e → OneWord words (afterEvent words e)
+unfolding afterEvent acceptedOf
 step-one words (Accepted m l) one = accepted-word words (planOf words m l)
 step-one words (Acked m l) one = acked-word words (findOf (standsFor (sentSide m) l) words) m l
 step-one words (Received m p t) one = received-word words m p t one

@@ -19,7 +19,7 @@ use Rattle.label_events.specs.declared.Touched.{Touched}
 use Rattle.label_events.specs.declared.Touched.the-variants.{Label}
 use Rattle.label_events.specs.Change.{codeAt}
 use Rattle.label_events.specs.Receive.{everyReceived, receivedOf}
-use Rattle.label_meaning.specs.Event.{Event, Accepted, Acked, Received, step, Touches, named, every, Moves, given, withdrawn, released, returned, withdraw-acked, release-acked, taken, taken-again, taken-bare, asked-back, bare-withdrawn, given-back, withdrawn-back, bare-lost}
+use Rattle.label_meaning.specs.Event.{LabelEvent, Accepted, Acked, Received, afterEvent, Touches, named, every, Moves, given, withdrawn, released, returned, withdraw-acked, release-acked, taken, taken-again, taken-bare, asked-back, bare-withdrawn, given-back, withdrawn-back, bare-lost}
 use Rattle.label_meaning.specs.Life.{EndsWithdrawal, by-ack, by-release, Frees, release-of-given, release-of-withdrawing, ack-of-withdraw, our-release, ack-of-release}
 use Rattle.label_meaning.specs.Valid.{IsValid}
 use Rattle.label_meaning.specs.View.{Effect}
@@ -29,14 +29,14 @@ use Rattle.label_meaning.proofs.Swept.{sweep-valid, sweep-code}
 use Rattle.label_meaning.proofs.View.{code-is, is-code}
 
 -- The moves from one code, taken apart.
-ends : {e : Event} {k c d : ℕ} → c ≡ 2 → Moves e Given k c d → (d ≡ 0) × EndsWithdrawal e k
+ends : {e : LabelEvent} {k c d : ℕ} → c ≡ 2 → Moves e Given k c d → (d ≡ 0) × EndsWithdrawal e k
 ends z given = absurd (omega arith)
 ends z withdrawn = absurd (omega arith)
 ends z withdraw-acked = (refl, by-ack)
 ends z (given-back touches) = absurd (omega arith)
 ends z (withdrawn-back touches) = (refl, by-release touches)
 
-gives-back : {e : Event} {k c d : ℕ} → c ≡ 4 → Moves e Used k c d → (d ≡ 0) × (e ≡ Accepted Release k)
+gives-back : {e : LabelEvent} {k c d : ℕ} → c ≡ 4 → Moves e Used k c d → (d ≡ 0) × (e ≡ Accepted Release k)
 gives-back z returned = (refl, refl)
 gives-back z released = absurd (omega arith)
 gives-back z release-acked = absurd (omega arith)
@@ -47,7 +47,7 @@ gives-back z (asked-back touches) = absurd (omega arith)
 gives-back z (bare-withdrawn touches) = absurd (omega arith)
 gives-back z bare-lost = absurd (omega arith)
 
-frees : {e : Event} {s : Side} {k c d : ℕ} → d ≡ 0 → c ≢ withoutProtection → Moves e s k c d → Frees e s k c
+frees : {e : LabelEvent} {s : Side} {k c d : ℕ} → d ≡ 0 → c ≢ withoutProtection → Moves e s k c d → Frees e s k c
 frees z kept given = absurd (omega arith)
 frees z kept withdrawn = absurd (omega arith)
 frees z kept released = absurd (omega arith)
@@ -65,29 +65,29 @@ frees z kept bare-lost = absurd (omega arith)
 
 module _ (words : List ℕ) (v : IsValid words) where
   -- A withdrawn label stays withdrawing until the first of Release and ACK, which frees it.
-  pub withdrawing-stays : (e : Event) (k : ℕ) → codeAt words Given k ≡ 2
-      → (codeAt (step words e) Given k ≡ 2) ⊎ ((codeAt (step words e) Given k ≡ 0) × EndsWithdrawal e k)
+  pub withdrawing-stays : (e : LabelEvent) (k : ℕ) → codeAt words Given k ≡ 2
+      → (codeAt (afterEvent words e) Given k ≡ 2) ⊎ ((codeAt (afterEvent words e) Given k ≡ 0) × EndsWithdrawal e k)
   withdrawing-stays e k two =
       ⊎-elim
-      (λ (same : codeAt (step words e) Given k ≡ codeAt words Given k). inl (same ∙ two))
-      (λ (move : Moves e Given k (codeAt words Given k) (codeAt (step words e) Given k)). inr (ends two move))
+      (λ (same : codeAt (afterEvent words e) Given k ≡ codeAt words Given k). inl (same ∙ two))
+      (λ (move : Moves e Given k (codeAt words Given k) (codeAt (afterEvent words e) Given k)). inr (ends two move))
       (every-move words v e Given k)
 
   -- A label that the peer asked back stays in use until our Release of it is accepted.
-  pub asked-back-stays : (e : Event) (k : ℕ) → codeAt words Used k ≡ 4
-      → (codeAt (step words e) Used k ≡ 4) ⊎ ((codeAt (step words e) Used k ≡ 0) × (e ≡ Accepted Release k))
+  pub asked-back-stays : (e : LabelEvent) (k : ℕ) → codeAt words Used k ≡ 4
+      → (codeAt (afterEvent words e) Used k ≡ 4) ⊎ ((codeAt (afterEvent words e) Used k ≡ 0) × (e ≡ Accepted Release k))
   asked-back-stays e k four =
       ⊎-elim
-      (λ (same : codeAt (step words e) Used k ≡ codeAt words Used k). inl (same ∙ four))
-      (λ (move : Moves e Used k (codeAt words Used k) (codeAt (step words e) Used k)). inr (gives-back four move))
+      (λ (same : codeAt (afterEvent words e) Used k ≡ codeAt words Used k). inl (same ∙ four))
+      (λ (move : Moves e Used k (codeAt words Used k) (codeAt (afterEvent words e) Used k)). inr (gives-back four move))
       (every-move words v e Used k)
 
   -- A listed label of any code but 6 vanishes only by the message that 01 names.
-  pub freed-by : (e : Event) (s : Side) (k : ℕ) → codeAt words s k ≢ 0 → codeAt words s k ≢ withoutProtection → codeAt (step words e) s k ≡ 0 → Frees e s k (codeAt words s k)
+  pub freed-by : (e : LabelEvent) (s : Side) (k : ℕ) → codeAt words s k ≢ 0 → codeAt words s k ≢ withoutProtection → codeAt (afterEvent words e) s k ≡ 0 → Frees e s k (codeAt words s k)
   freed-by e s k listed kept gone =
       ⊎-elim
-      (λ (same : codeAt (step words e) s k ≡ codeAt words s k). absurd (listed (sym same ∙ gone)))
-      (λ (move : Moves e s k (codeAt words s k) (codeAt (step words e) s k)). frees gone kept move)
+      (λ (same : codeAt (afterEvent words e) s k ≡ codeAt words s k). absurd (listed (sym same ∙ gone)))
+      (λ (move : Moves e s k (codeAt words s k) (codeAt (afterEvent words e) s k)). frees gone kept move)
       (every-move words v e s k)
 
   -- What 01 says of a listed label happens.
@@ -98,31 +98,31 @@ module _ (words : List ℕ) (v : IsValid words) where
   effect-code : {after : List ℕ} {s : Side} {k : ℕ} (n d : ℕ) → Effect words after s k n → n ≡ d → codeAt after s k ≡ d
   effect-code {after} {s} {k} n d x e = is-code after s k (x .valid) (x .there) ∙ e
 
-  accept-happens : (m : LabelMessage) (k c d : ℕ) → codeAt words (sentSide m) k ≡ c → c ≢ 0 → codeAccepted m c ≡ Code d → codeAt (step words (Accepted m k)) (sentSide m) k ≡ d
-  unfolding step
+  accept-happens : (m : LabelMessage) (k c d : ℕ) → codeAt words (sentSide m) k ≡ c → c ≢ 0 → codeAccepted m c ≡ Code d → codeAt (afterEvent words (Accepted m k)) (sentSide m) k ≡ d
+  unfolding afterEvent
   accept-happens m k c d e h f = effect-code d d (accepted-listed words v m k d (rw e h) (rw e f)) refl
 
-  ack-happens : (m : LabelMessage) (k c d : ℕ) → codeAt words (sentSide m) k ≡ c → codeAcked m c ≡ d → codeAt (step words (Acked m k)) (sentSide m) k ≡ d
-  unfolding step
+  ack-happens : (m : LabelMessage) (k c d : ℕ) → codeAt words (sentSide m) k ≡ c → codeAcked m c ≡ d → codeAt (afterEvent words (Acked m k)) (sentSide m) k ≡ d
+  unfolding afterEvent
   ack-happens m k c d e f = effect-code (codeAcked m (codeAt words (sentSide m) k)) d (acked-effect words v m k) (rw e f)
 
-  receive-happens : (m : LabelMessage) (p : Bool) (k c d : ℕ) → codeAt words (receivedSide m) k ≡ c → c ≢ 0 → codeReceived m p c ≡ d → codeAt (step words (Received m p (Label k))) (receivedSide m) k ≡ d
-  unfolding step
+  receive-happens : (m : LabelMessage) (p : Bool) (k c d : ℕ) → codeAt words (receivedSide m) k ≡ c → c ≢ 0 → codeReceived m p c ≡ d → codeAt (afterEvent words (Received m p (Label k))) (receivedSide m) k ≡ d
+  unfolding afterEvent
   receive-happens m p k c d e h f = effect-code (codeReceived m p (codeAt words (receivedSide m) k)) d (received-listed words v m p k (rw e h)) (rw e f)
 
-  withdraw-happens : (p : Bool) (t : Touched) (k c d : ℕ) → Touches t k → codeAt words Used k ≡ c → c ≢ 0 → ((q : Bool) → codeReceived Withdraw q c ≡ d) → codeAt (step words (Received Withdraw p t)) Used k ≡ d
-  unfolding step receivedOf everyReceived codeSwept receivedSide
+  withdraw-happens : (p : Bool) (t : Touched) (k c d : ℕ) → Touches t k → codeAt words Used k ≡ c → c ≢ 0 → ((q : Bool) → codeReceived Withdraw q c ≡ d) → codeAt (afterEvent words (Received Withdraw p t)) Used k ≡ d
+  unfolding afterEvent receivedOf everyReceived codeSwept receivedSide
   withdraw-happens p t k c d named e h f = receive-happens Withdraw p k c d e h (f p)
   withdraw-happens p t k c d every e h f = sweep-happens WithdrawAll Used k c d e (f true)
 
-  release-happens : (p : Bool) (t : Touched) (k c d : ℕ) → Touches t k → codeAt words Given k ≡ c → c ≢ 0 → ((q : Bool) → codeReceived Release q c ≡ d) → codeAt (step words (Received Release p t)) Given k ≡ d
-  unfolding step receivedOf everyReceived codeSwept receivedSide
+  release-happens : (p : Bool) (t : Touched) (k c d : ℕ) → Touches t k → codeAt words Given k ≡ c → c ≢ 0 → ((q : Bool) → codeReceived Release q c ≡ d) → codeAt (afterEvent words (Received Release p t)) Given k ≡ d
+  unfolding afterEvent receivedOf everyReceived codeSwept receivedSide
   release-happens p t k c d named e h f = receive-happens Release p k c d e h (f p)
   release-happens p t k c d every e h f = sweep-happens ReleaseAll Given k c d e (f true)
 
   -- Each move of a listed label takes place.
-  pub move-happens : {e : Event} {s : Side} {k c d : ℕ} → Moves e s k c d → c ≢ 0 → codeAt words s k ≡ c → codeAt (step words e) s k ≡ d
-  unfolding sentSide receivedSide codeAccepted codeAcked codeReceived codeSwept step
+  pub move-happens : {e : LabelEvent} {s : Side} {k c d : ℕ} → Moves e s k c d → c ≢ 0 → codeAt words s k ≡ c → codeAt (afterEvent words e) s k ≡ d
+  unfolding sentSide receivedSide codeAccepted codeAcked codeReceived codeSwept afterEvent
   move-happens given h e = absurd (h refl)
   move-happens (withdrawn {k}) h e = accept-happens Withdraw k 1 2 e h refl
   move-happens (released {k}) h e = accept-happens Release k 3 5 e h refl
@@ -139,6 +139,6 @@ module _ (words : List ℕ) (v : IsValid words) where
   move-happens (bare-lost {k}) h e = sweep-happens AfterBreak Used k withoutProtection 0 e refl
 
   -- So both the ACK and a Release free a withdrawn label.
-  pub withdrawal-ends : (e : Event) (k : ℕ) → codeAt words Given k ≡ 2 → EndsWithdrawal e k → codeAt (step words e) Given k ≡ 0
+  pub withdrawal-ends : (e : LabelEvent) (k : ℕ) → codeAt words Given k ≡ 2 → EndsWithdrawal e k → codeAt (afterEvent words e) Given k ≡ 0
   withdrawal-ends e k two by-ack = move-happens withdraw-acked (omega arith) two
   withdrawal-ends e k two (by-release touches) = move-happens (withdrawn-back touches) (omega arith) two

@@ -17,7 +17,7 @@ use Rattle.label_list.specs.Valid.{absent, standsOnce, validWord, validOf}
 use Rattle.label_list.specs.Word.{labelCount, labelOf, codeOf, isFree, onSide, standsFor}
 use Rattle.label_list.proofs.Checked.{word-free, word-given, word-used}
 use Rattle.label_list.proofs.Standing.{off-high, side-listed, one-side, stands-parts, parts-stands, free-stands}
-use Rattle.label_meaning.specs.Valid.{InRange, IsValid}
+use Rattle.label_meaning.specs.Valid.{WordInRange, IsValid}
 
 -- No word passes a test exactly if none does at any index.
 pick-none : (b r : Bool) → pick b true r ≡ false → (b ≡ false) × (r ≡ false)
@@ -43,12 +43,12 @@ stands-same s t l k w p q =
     (one-side s t (codeOf w) (first .0) (second .0), sym (first .1) ∙ second .1)
 
 -- A listed word has not code 0.
-pub range-listed : {w : ℕ} → InRange w → codeOf w ≢ 0
+pub range-listed : {w : ℕ} → WordInRange w → codeOf w ≢ 0
 range-listed {w} range = side-listed (range .side) (codeOf w) (range .on)
 
 -- What the check of one word says, where the word is listed.
 record Stands (w : ℕ) (later : List ℕ) : Type 0 where
-  pub range : InRange w
+  pub range : WordInRange w
   pub alone : any (standsFor (range .side) (labelOf w)) later ≡ false
 
 not-any : (b : Bool) → not b ≡ true → b ≡ false
@@ -90,7 +90,7 @@ suc-same e = omega arith
 
 -- One word more.
 module _ (w : ℕ) (ws : List ℕ) where
-  cons-each : validWord w ws ≡ true → IsValid ws → (i : ℕ) → getD (w ∷ ws) i 0 ≢ 0 → InRange (getD (w ∷ ws) i 0)
+  cons-each : validWord w ws ≡ true → IsValid ws → (i : ℕ) → getD (w ∷ ws) i 0 ≢ 0 → WordInRange (getD (w ∷ ws) i 0)
   cons-each e v zero h = word-stands w ws e h .range
   cons-each e v (suc i) h = v .each i h
 
@@ -119,7 +119,7 @@ module _ (w : ℕ) (ws : List ℕ) where
       (λ z. word-free w ws (eqb-true w 0 z))
       (λ z.
       let listed : w ≢ 0 = eqb-false w 0 z in
-      let range : InRange w = v .each 0 listed in
+      let range : WordInRange w = v .each 0 listed in
       by-test
       (onSide Given (codeOf w))
       (λ on. later-absent v Given on ∙ word-given w ws listed (range .label) on)
@@ -149,7 +149,7 @@ valid-range {words} v i =
     (eqb (getD words i 0) 0)
     (λ z. omega (arith, eqb-true (getD words i 0) 0 z))
     (λ z.
-    let range : InRange (getD words i 0) = v .each i (eqb-false (getD words i 0) 0 z) in
+    let range : WordInRange (getD words i 0) = v .each i (eqb-false (getD words i 0) 0 z) in
     let code : ℕ = codeOf (getD words i 0) in
     ⊎-elim
     (λ (high : 6 < code). absurd (false≢true (off-high (range .side) code high ∙ range .on)))

@@ -24,7 +24,7 @@ use Rattle.label_events.specs.declared.Touched.the-variants.{Label, Every, Noth
 use Rattle.label_events.specs.Accept.{acceptedOf}
 use Rattle.label_events.specs.Change.{codeAt}
 use Rattle.label_events.specs.Receive.{everyReceived, receivedOf}
-use Rattle.label_meaning.specs.Event.{Event, Accepted, Acked, Received, Broken, step, Touches, named, every, Moves, given, withdrawn, released, returned, withdraw-acked, release-acked, taken, taken-again, taken-bare, asked-back, bare-withdrawn, given-back, withdrawn-back, bare-lost}
+use Rattle.label_meaning.specs.Event.{LabelEvent, Accepted, Acked, Received, Broken, afterEvent, Touches, named, every, Moves, given, withdrawn, released, returned, withdraw-acked, release-acked, taken, taken-again, taken-bare, asked-back, bare-withdrawn, given-back, withdrawn-back, bare-lost}
 use Rattle.label_meaning.specs.Life.{Moved}
 use Rattle.label_meaning.specs.Valid.{IsValid}
 use Rattle.label_meaning.specs.View.{Effect}
@@ -34,7 +34,7 @@ use Rattle.label_meaning.proofs.Swept.{sweep-valid, sweep-code}
 use Rattle.label_meaning.proofs.View.{code-is, is-code}
 
 -- The rules, as moves of one code: it stays, or it is a move.
-abbrev Move : Event → Side → ℕ → ℕ → ℕ → Type 0
+abbrev Move : LabelEvent → Side → ℕ → ℕ → ℕ → Type 0
 Move e s k c d = (d ≡ c) ⊎ Moves e s k c d
 
 accepted-move : (m : LabelMessage) (k c n : ℕ) → codeAccepted m c ≡ Code n → Move (Accepted m k) (sentSide m) k c n
@@ -140,14 +140,14 @@ by-place {P} s t k l same other = by-test (eqb k l) (λ e. by-sides s t (eqb-tru
     by-sides Used Given e same other = other (λ both. let z : _≡_ {A = ℕ} 0 1 = cc (both .0) in omega arith)
 
 -- The map's moves, from those of the codes.
-abbrev MovedTo : List ℕ → List ℕ → Event → Side → ℕ → Type 0
+abbrev MovedTo : List ℕ → List ℕ → LabelEvent → Side → ℕ → Type 0
 MovedTo words after e t k = Move e t k (codeAt words t k) (codeAt after t k)
 
 module _ (words : List ℕ) (v : IsValid words) where
-  same-moved : {after : List ℕ} (e : Event) → after ≡ words → (t : Side) (k : ℕ) → MovedTo words after e t k
+  same-moved : {after : List ℕ} (e : LabelEvent) → after ≡ words → (t : Side) (k : ℕ) → MovedTo words after e t k
   same-moved e same t k = inl (rw same)
 
-  effect-moved : {after : List ℕ} (e : Event) (s : Side) (l n : ℕ) → Effect words after s l n → Move e s l (codeAt words s l) n → (t : Side) (k : ℕ) → MovedTo words after e t k
+  effect-moved : {after : List ℕ} (e : LabelEvent) (s : Side) (l n : ℕ) → Effect words after s l n → Move e s l (codeAt words s l) n → (t : Side) (k : ℕ) → MovedTo words after e t k
   effect-moved {after} e s l n x move t k =
       by-place
       t
@@ -157,7 +157,7 @@ module _ (words : List ℕ) (v : IsValid words) where
       (λ same. rw (same .0, same .1, is-code after s l (x .valid) (x .there)) move)
       (λ other. inl (is-code after t k (x .valid) (x .elsewhere t k (codeAt words t k) other (code-is words t k))))
 
-  swept-moved : (e : Event) (r : SweepRule) → ((t : Side) (k c : ℕ) → Proper t c → Move e t k c (codeSwept r c)) → (t : Side) (k : ℕ) → MovedTo words (sweptOf words r) e t k
+  swept-moved : (e : LabelEvent) (r : SweepRule) → ((t : Side) (k c : ℕ) → Proper t c → Move e t k c (codeSwept r c)) → (t : Side) (k : ℕ) → MovedTo words (sweptOf words r) e t k
   swept-moved e r move t k =
       rw (is-code (sweptOf words r) t k (sweep-valid words v r) (sweep-code words v r t k (codeAt words t k) (code-is words t k)))
       (move t k (codeAt words t k) (code-proper words t k))
@@ -186,8 +186,8 @@ module _ (words : List ℕ) (v : IsValid words) where
   received-moved m p Nothing t k = inl refl
 
   -- Every event leaves every label's code, or moves it as 01 says.
-  pub every-move : (e : Event) (side : Side) (label : ℕ) → Moved words e side label
-  unfolding step
+  pub every-move : (e : LabelEvent) (side : Side) (label : ℕ) → Moved words e side label
+  unfolding afterEvent
   every-move (Accepted m l) t k =
       ⊎-elim
       (λ (same : acceptedOf words m l .1 ≡ words). same-moved (Accepted m l) same t k)

@@ -25,7 +25,7 @@ use Rattle.label_events.specs.declared.Touched.{Touched}
 use Rattle.label_events.specs.declared.Touched.the-variants.{Label, Every, Nothing}
 use Rattle.label_events.specs.Change.{codeAt}
 use Rattle.label_events.specs.Protect.{protectionOf}
-use Rattle.label_meaning.specs.Event.{Received, step, Touches, named, every, Moves, taken-bare, asked-back, bare-withdrawn, given-back, withdrawn-back}
+use Rattle.label_meaning.specs.Event.{Received, afterEvent, Touches, named, every, Moves, taken-bare, asked-back, bare-withdrawn, given-back, withdrawn-back}
 use Rattle.label_meaning.specs.Protected.{TouchesProtected}
 use Rattle.label_meaning.specs.Valid.{IsValid}
 use Rattle.label_meaning.specs.View.{CodeIs, listed, absent}
@@ -111,9 +111,9 @@ protected-names words Release l u e = λ bare. let z : _≡_ {A = ℕ} 0 1 = cc 
 
 -- What is right never loses a protected label to an unprotected message.
 pub unprotected-harmless : (words : List ℕ) → IsValid words → (m : LabelMessage) (t : Touched) → protectionOf words m false t ≡ Right
-    → (s : Side) (k : ℕ) → codeAt words s k ≢ 0 → codeAt words s k ≢ withoutProtection → codeAt (step words (Received m false t)) s k ≡ codeAt words s k
+    → (s : Side) (k : ℕ) → codeAt words s k ≢ 0 → codeAt words s k ≢ withoutProtection → codeAt (afterEvent words (Received m false t)) s k ≡ codeAt words s k
 unprotected-harmless words v m t right s k there kept =
     ⊎-elim
-    (λ (same : codeAt (step words (Received m false t)) s k ≡ codeAt words s k). same)
-    (λ (move : Moves (Received m false t) s k (codeAt words s k) (codeAt (step words (Received m false t)) s k)). absurd (no-move words refl there kept right move))
+    (λ (same : codeAt (afterEvent words (Received m false t)) s k ≡ codeAt words s k). same)
+    (λ (move : Moves (Received m false t) s k (codeAt words s k) (codeAt (afterEvent words (Received m false t)) s k)). absurd (no-move words refl there kept right move))
     (every-move words v (Received m false t) s k)

@@ -31,7 +31,7 @@ use Rattle.label_events.specs.Accept.{planBy, planOf, acceptanceOf, acceptedBy,
 use Rattle.label_events.specs.Change.{codeIn, codeAt, takeFree, changeAt, changeOf, changed}
 use Rattle.label_events.specs.Receive.{receivedChange, receptionOf, receivedOf}
 use Rattle.label_events.proofs.Planned.{change-full}
-use Rattle.label_meaning.specs.Event.{Event, Accepted, Acked, Received, Broken, step, Moves, given, withdrawn, released, returned, withdraw-acked, release-acked, taken, taken-again, taken-bare, asked-back, bare-withdrawn, given-back, withdrawn-back, bare-lost}
+use Rattle.label_meaning.specs.Event.{LabelEvent, Accepted, Acked, Received, Broken, afterEvent, Moves, given, withdrawn, released, returned, withdraw-acked, release-acked, taken, taken-again, taken-bare, asked-back, bare-withdrawn, given-back, withdrawn-back, bare-lost}
 use Rattle.label_meaning.specs.Room.{NeedsWord, NoneFree, LacksRoom, sent, received, NoRoomAnswered, FirstTaken}
 use Rattle.label_meaning.proofs.Effect.{free-word}
 
@@ -139,7 +139,7 @@ module _ (words : List ℕ) where
       received-lacks m p l (rw (full .0 .lacking) at (full .1)) (full .0) (full .2)
 
   -- 13 and 21 come only so
-  pub no-room-lacks : (e : Event) → NoRoomAnswered words e → LacksRoom words e
+  pub no-room-lacks : (e : LabelEvent) → NoRoomAnswered words e → LacksRoom words e
   unfolding acceptedOf planOf receivedOf receivedChange
   no-room-lacks (Accepted m l) a =
       by-test
@@ -164,7 +164,7 @@ module _ (words : List ℕ) where
   mapping-new false z = omega arith
 
   -- and always so
-  pub lacks-no-room : (e : Event) → LacksRoom words e → NoRoomAnswered words e
+  pub lacks-no-room : (e : LabelEvent) → LacksRoom words e → NoRoomAnswered words e
   unfolding acceptedOf planOf codeAccepted sentSide receivedOf receivedChange receivedSide
   lacks-no-room (Accepted m k) (sent needs none) = rw (needs .may, needs .lacking, lacks-full words Given k 1 needs (omega arith) none)
   lacks-no-room (Received m p t) (received {k = k} needs none) =
@@ -190,8 +190,8 @@ module _ (words : List ℕ) where
       inr
       (absent-change words Used k d (needs .lacking) (rw e at (mapping-new p))))
 
-  from-absent : {e : Event} {s : Side} {k c d : ℕ} → c ≡ 0 → Moves e s k c d → NeedsWord words s k → NoRoomAnswered words e ⊎ FirstTaken words (step words e) k d
-  unfolding step codeReceived
+  from-absent : {e : LabelEvent} {s : Side} {k c d : ℕ} → c ≡ 0 → Moves e s k c d → NeedsWord words s k → NoRoomAnswered words e ⊎ FirstTaken words (afterEvent words e) k d
+  unfolding afterEvent codeReceived
   from-absent z (given {k}) needs = sent-takes k needs
   from-absent z withdrawn needs = absurd (omega arith)
   from-absent z released needs = absurd (omega arith)
@@ -208,5 +208,5 @@ module _ (words : List ℕ) where
   from-absent z bare-lost needs = absurd (omega arith)
 
   -- each move from absent (to 1, 3, 6) takes place in the first free word, all others as they were, or is answered 13 or 21
-  pub absent-takes : {e : Event} {s : Side} {k d : ℕ} → Moves e s k 0 d → NeedsWord words s k → NoRoomAnswered words e ⊎ FirstTaken words (step words e) k d
+  pub absent-takes : {e : LabelEvent} {s : Side} {k d : ℕ} → Moves e s k 0 d → NeedsWord words s k → NoRoomAnswered words e ⊎ FirstTaken words (afterEvent words e) k d
   absent-takes = from-absent refl

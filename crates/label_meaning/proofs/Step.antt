@@ -29,8 +29,8 @@ use Rattle.label_events.specs.Accept.{planBy, planOf, acceptedBy, acceptedOf}
 use Rattle.label_events.specs.Ack.{ackedAt, ackedOf}
 use Rattle.label_events.specs.Change.{codeIn, codeAt, changeAt, changeOf, changed}
 use Rattle.label_events.specs.Receive.{receivedChange, everyReceived, receivedOf}
-use Rattle.label_meaning.specs.Event.{Event, Accepted, Acked, Received, Broken, step}
-use Rattle.label_meaning.specs.Valid.{InRange, IsValid}
+use Rattle.label_meaning.specs.Event.{LabelEvent, Accepted, Acked, Received, Broken, afterEvent}
+use Rattle.label_meaning.specs.Valid.{WordInRange, IsValid}
 use Rattle.label_meaning.specs.View.{CodeIs, listed, absent, Effect}
 use Rattle.label_meaning.proofs.Effect.{keep-effect, effect-found, change-effect}
 use Rattle.label_meaning.proofs.Meaning.{valid-means, means-valid}
@@ -92,7 +92,7 @@ module _ (words : List ℕ) (v : IsValid words) where
   listed-label s l i p =
       let label : labelOf (getD words i 0) ≡ l = stands-parts s l (getD words i 0) p .1 in
       let listed-i : getD words i 0 ≢ 0 = λ z. true≢false (sym p ∙ rw z (free-stands s l)) in
-      let range : InRange (getD words i 0) = v .each i listed-i in
+      let range : WordInRange (getD words i 0) = v .each i listed-i in
       (omega (arith, range .label), omega arith)
 
   module _ (s : Side) (l n : ℕ) (proper : Proper s n) where
@@ -171,8 +171,8 @@ module _ (words : List ℕ) (v : IsValid words) where
   received-valid m p Every = every-valid m
   received-valid m p Nothing = v
 
-  pub step-is-valid : (e : Event) → IsValid (step words e)
-  unfolding step
+  pub step-is-valid : (e : LabelEvent) → IsValid (afterEvent words e)
+  unfolding afterEvent
   step-is-valid (Accepted m l) =
       ⊎-elim
       (λ (same : acceptedOf words m l .1 ≡ words). rw same v)
@@ -183,5 +183,5 @@ module _ (words : List ℕ) (v : IsValid words) where
   step-is-valid Broken = sweep-valid words v AfterBreak
 
 -- Every event leaves a valid list valid.
-pub step-valid : (words : List ℕ) (e : Event) → validOf words ≡ true → validOf (step words e) ≡ true
-step-valid words e valid = means-valid (step words e) (step-is-valid words (valid-means words valid) e)
+pub step-valid : (words : List ℕ) (e : LabelEvent) → validOf words ≡ true → validOf (afterEvent words e) ≡ true
+step-valid words e valid = means-valid (afterEvent words e) (step-is-valid words (valid-means words valid) e)

@@ -16,7 +16,7 @@ use Rattle.label_list.specs.Rules.{codeReceived, codeSwept}
 use Rattle.label_list.specs.Sweep.{wordSwept, sweptOf}
 use Rattle.label_list.specs.Word.{labelOf, codeOf, wordOf, onSide, standsFor}
 use Rattle.label_list.proofs.Standing.{stands-parts, parts-stands, free-stands}
-use Rattle.label_meaning.specs.Valid.{InRange, IsValid}
+use Rattle.label_meaning.specs.Valid.{WordInRange, IsValid}
 use Rattle.label_meaning.specs.View.{CodeIs, listed, absent}
 use Rattle.label_meaning.proofs.Effect.{Lists, Written, word-written}
 use Rattle.label_meaning.proofs.Meaning.{stands-same}
@@ -35,20 +35,20 @@ module _ (r : SweepRule) where
   swept-free = rw (rule-none r)
 
   -- a listed word becomes one for the same label on the same side
-  swept-written : (s : Side) (w : ℕ) → InRange w → onSide s (codeOf w) ≡ true → Written s (labelOf w) (codeSwept r (codeOf w)) (wordSwept r w)
+  swept-written : (s : Side) (w : ℕ) → WordInRange w → onSide s (codeOf w) ≡ true → Written s (labelOf w) (codeSwept r (codeOf w)) (wordSwept r w)
   unfolding wordSwept
   swept-written s w range on =
       word-written s (labelOf w) (codeSwept r (codeOf w)) (range .label) (omega arith) (swept-proper r s (codeOf w) (inr on))
 
   -- so what a rewritten word stands for, the word stood for
-  swept-back : (s : Side) (l w : ℕ) → (w ≢ 0 → InRange w) → standsFor s l (wordSwept r w) ≡ true → standsFor s l w ≡ true
+  swept-back : (s : Side) (l w : ℕ) → (w ≢ 0 → WordInRange w) → standsFor s l (wordSwept r w) ≡ true → standsFor s l w ≡ true
   swept-back s l w ranged p =
       by-test
       (eqb w 0)
       (λ z. absurd (true≢false (sym p ∙ rw (eqb-true w 0 z, swept-free) (free-stands s l))))
       (λ z. listed-back (ranged (eqb-false w 0 z)))
     where
-      listed-back : InRange w → standsFor s l w ≡ true
+      listed-back : WordInRange w → standsFor s l w ≡ true
       listed-back range =
           ⊎-elim
           (λ (e : (wordSwept r w ≡ 0) × (codeSwept r (codeOf w) ≡ 0)). absurd (true≢false (sym p ∙ rw (e .0) (free-stands s l))))
@@ -58,7 +58,7 @@ module _ (r : SweepRule) where
           (swept-written (range .side) w range (range .on))
 
 module _ (words : List ℕ) (v : IsValid words) (r : SweepRule) where
-  ranged : (i : ℕ) → getD words i 0 ≢ 0 → InRange (getD words i 0)
+  ranged : (i : ℕ) → getD words i 0 ≢ 0 → WordInRange (getD words i 0)
   ranged i h = v .each i h
 
   at : (i : ℕ) → getD (sweptOf words r) i 0 ≡ wordSwept r (getD words i 0)
@@ -69,10 +69,10 @@ module _ (words : List ℕ) (v : IsValid words) (r : SweepRule) where
   back : (s : Side) (l i : ℕ) → standsFor s l (getD (sweptOf words r) i 0) ≡ true → standsFor s l (getD words i 0) ≡ true
   back s l i p = swept-back r s l (getD words i 0) (ranged i) (rw (at i) at p)
 
-  swept-each : (i : ℕ) → getD (sweptOf words r) i 0 ≢ 0 → InRange (getD (sweptOf words r) i 0)
+  swept-each : (i : ℕ) → getD (sweptOf words r) i 0 ≢ 0 → WordInRange (getD (sweptOf words r) i 0)
   swept-each i h =
       let listed : getD words i 0 ≢ 0 = λ z. h (at i ∙ rw (z, swept-free r)) in
-      let range : InRange (getD words i 0) = v .each i listed in
+      let range : WordInRange (getD words i 0) = v .each i listed in
       rw (at i)
       (⊎-elim
       (λ (e : (wordSwept r (getD words i 0) ≡ 0) × (codeSwept r (codeOf (getD words i 0)) ≡ 0)). absurd (h (at i ∙ e .0)))

@@ -16,17 +16,17 @@ use Rattle.label_events.specs.Ack.{ackedOf}
 use Rattle.label_events.specs.Receive.{receivedOf}
 
 -- a message of ours is accepted for sending or released by an ACK, one of the peer's is received (the Bool: protected), a connection ends
-pub data Event : Type 0 where
-  Accepted : LabelMessage → ℕ → Event
-  Acked : LabelMessage → ℕ → Event
-  Received : LabelMessage → Bool → Touched → Event
-  Broken : Event
+pub data LabelEvent : Type 0 where
+  Accepted : LabelMessage → ℕ → LabelEvent
+  Acked : LabelMessage → ℕ → LabelEvent
+  Received : LabelMessage → Bool → Touched → LabelEvent
+  Broken : LabelEvent
 
-unfoldable pub step : List ℕ → Event → List ℕ
-step words (Accepted message label) = acceptedOf words message label .1
-step words (Acked message label) = ackedOf words message label
-step words (Received message protected touched) = receivedOf words message protected touched .1
-step words Broken = sweptOf words AfterBreak
+unfoldable pub afterEvent : List ℕ → LabelEvent → List ℕ
+afterEvent words (Accepted message label) = acceptedOf words message label .1
+afterEvent words (Acked message label) = ackedOf words message label
+afterEvent words (Received message protected touched) = receivedOf words message protected touched .1
+afterEvent words Broken = sweptOf words AfterBreak
 
 -- the labels that a received message touches
 pub data Touches : Touched → ℕ → Type 0 where
@@ -34,7 +34,7 @@ pub data Touches : Touched → ℕ → Type 0 where
   every : {k : ℕ} → Touches Every k
 
 -- an event moves a label on a side from a code to a code; 0: absent
-pub data Moves : Event → Side → ℕ → ℕ → ℕ → Type 0 where
+pub data Moves : LabelEvent → Side → ℕ → ℕ → ℕ → Type 0 where
   -- "Accepted for sending: Mapping, absent or 1, becomes 1; Withdraw, 1 becomes 2; Release, 3 becomes 5, 4 becomes free."
   given : {k : ℕ} → Moves (Accepted Mapping k) Given k 0 1
   withdrawn : {k : ℕ} → Moves (Accepted Withdraw k) Given k 1 2

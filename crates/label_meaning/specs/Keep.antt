@@ -6,7 +6,7 @@ use mathlib.Core.Path.{_≡_}
 use lib.ListN.{getD}
 use Rattle.label_events.specs.declared.Touched.{Touched}
 use Rattle.label_events.specs.declared.Touched.the-variants.{Label, Every, Nothing}
-use Rattle.label_meaning.specs.Event.{Event, Accepted, Acked, Received, Broken}
+use Rattle.label_meaning.specs.Event.{LabelEvent, Accepted, Acked, Received, Broken}
 
 -- the lists differ in one word at most
 pub record OneWord (before after : List ℕ) : Type 0 where
@@ -19,7 +19,7 @@ OneLabelTouched (Label label) = Unit {0}
 OneLabelTouched Every = ⊥
 OneLabelTouched Nothing = Unit {0}
 
-abbrev pub OneLabel : Event → Type 0
+abbrev pub OneLabel : LabelEvent → Type 0
 OneLabel (Accepted message label) = Unit {0}
 OneLabel (Acked message label) = Unit {0}
 OneLabel (Received message protected touched) = OneLabelTouched touched

@@ -9,20 +9,20 @@ use Rattle.label_list.specs.declared.Side.{Side}
 use Rattle.label_list.specs.declared.Side.the-variants.{Given, Used}
 use Rattle.label_events.specs.declared.Touched.{Touched}
 use Rattle.label_events.specs.Change.{codeAt}
-use Rattle.label_meaning.specs.Event.{Event, Accepted, Acked, Received, step, Touches, Moves}
+use Rattle.label_meaning.specs.Event.{LabelEvent, Accepted, Acked, Received, afterEvent, Touches, Moves}
 
 -- the event leaves the label's code on that side, or moves it as 01 says
-abbrev pub Moved : List ℕ → Event → Side → ℕ → Type 0
+abbrev pub Moved : List ℕ → LabelEvent → Side → ℕ → Type 0
 Moved words e side label =
-    (codeAt (step words e) side label ≡ codeAt words side label) ⊎ Moves e side label (codeAt words side label) (codeAt (step words e) side label)
+    (codeAt (afterEvent words e) side label ≡ codeAt words side label) ⊎ Moves e side label (codeAt words side label) (codeAt (afterEvent words e) side label)
 
 -- 01: "So the first of Release and ACK frees a withdrawn label."
-pub data EndsWithdrawal : Event → ℕ → Type 0 where
+pub data EndsWithdrawal : LabelEvent → ℕ → Type 0 where
   by-ack : {k : ℕ} → EndsWithdrawal (Acked Withdraw k) k
   by-release : {p : Bool} {t : Touched} {k : ℕ} → Touches t k → EndsWithdrawal (Received Release p t) k
 
 -- the events that free a label of any code but 6, and from which code
-pub data Frees : Event → Side → ℕ → ℕ → Type 0 where
+pub data Frees : LabelEvent → Side → ℕ → ℕ → Type 0 where
   release-of-given : {p : Bool} {t : Touched} {k : ℕ} → Touches t k → Frees (Received Release p t) Given k 1
   release-of-withdrawing : {p : Bool} {t : Touched} {k : ℕ} → Touches t k → Frees (Received Release p t) Given k 2
   ack-of-withdraw : {k : ℕ} → Frees (Acked Withdraw k) Given k 2

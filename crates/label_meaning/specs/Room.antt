@@ -15,7 +15,7 @@ use Rattle.label_events.specs.declared.Touched.the-variants.{Label}
 use Rattle.label_events.specs.Accept.{acceptedOf}
 use Rattle.label_events.specs.Change.{codeAt}
 use Rattle.label_events.specs.Receive.{receivedOf}
-use Rattle.label_meaning.specs.Event.{Event, Accepted, Acked, Received, Broken}
+use Rattle.label_meaning.specs.Event.{LabelEvent, Accepted, Acked, Received, Broken}
 
 -- a label that may be listed and that the side lacks
 pub record NeedsWord (words : List ℕ) (side : Side) (label : ℕ) : Type 0 where
@@ -26,12 +26,12 @@ abbrev pub NoneFree : List ℕ → Type 0
 NoneFree words = (i : ℕ) → i < length words → getD words i 0 ≢ 0
 
 -- 01's 13, "Mapping that needs a word, none free", and 21, "Mapping received that needs a word, none free"
-pub data LacksRoom (words : List ℕ) : Event → Type 0 where
+pub data LacksRoom (words : List ℕ) : LabelEvent → Type 0 where
   sent : {k : ℕ} → NeedsWord words Given k → NoneFree words → LacksRoom words (Accepted Mapping k)
   received : {p : Bool} {k : ℕ} → NeedsWord words Used k → NoneFree words → LacksRoom words (Received Mapping p (Label k))
 
 -- the event is answered 13 or 21; an ACK and the end of a connection have no such answer
-abbrev pub NoRoomAnswered : List ℕ → Event → Type 0
+abbrev pub NoRoomAnswered : List ℕ → LabelEvent → Type 0
 NoRoomAnswered words (Accepted message label) = acceptedOf words message label .0 ≡ Acceptance.NoRoom
 NoRoomAnswered words (Acked message label) = ⊥
 NoRoomAnswered words (Received message protected touched) = receivedOf words message protected touched .0 ≡ Reception.NoRoom

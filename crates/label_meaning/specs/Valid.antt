@@ -9,13 +9,13 @@ use Rattle.label_list.specs.declared.Side.{Side}
 use Rattle.label_list.specs.Word.{labelOf, codeOf, onSide, standsFor}
 
 -- "Labels 0 to 15 are never listed"; the code is one of a side
-pub record InRange (w : ℕ) : Type 0 where
+pub record WordInRange (w : ℕ) : Type 0 where
   pub label : 16 ≤ labelOf w
   pub side : Side
   pub on : onSide side (codeOf w) ≡ true
 
 pub record IsValid (words : List ℕ) : Type 0 where
   -- "0 is free, and no other word has code 0"
-  pub each : (i : ℕ) → getD words i 0 ≢ 0 → InRange (getD words i 0)
+  pub each : (i : ℕ) → getD words i 0 ≢ 0 → WordInRange (getD words i 0)
   -- "A label stands once among codes 1-2 and once among 3-6": two words that list one label on one side are one word
   pub once : (side : Side) (label i j : ℕ) → standsFor side label (getD words i 0) ≡ true → standsFor side label (getD words j 0) ≡ true → i ≡ j

@@ -10,34 +10,34 @@ use Rattle.protocol.specs.declared.Answer.{Answer}
 use Rattle.protocol.specs.declared.Phase.{Phase}
 use Rattle.protocol.specs.Answers.{isDone}
 use Rattle.calls.specs.declared.Outcome.{Outcome}
-use Rattle.calls.specs.Outcomes.{After, after, refusal, checked}
+use Rattle.calls.specs.Outcomes.{After, afterWith, refusal, checked}
 use Rattle.calls.proofs.Settled.{checks-sound}
 use Rattle.ldp_ft.specs.declared.Given.{Given}
 use Rattle.ldp_ft.specs.declared.OutcomeNumbers.{OutcomeNumbers}
 use Rattle.ldp_ft.specs.declared.SessionNumbers.{SessionNumbers}
-use Rattle.ldp_ft.specs.Outcome.{Narrow, numbersOf, shown, shownFrom, unknownPhase, called}
+use Rattle.ldp_ft.specs.Outcome.{Narrow, outcomeNumbers, shown, shownFrom, unknownPhase, shownCall}
 use Rattle.ldp_ft.specs.Session.{givenOf}
 use Rattle.ldp_ft.proofs.Named.{none, checked-named}
 use Rattle.ldp_ft.proofs.Narrow.{unchanged-narrow}
 
 -- a call's outcome has 32 bits in each number where what it leaves has
-pub narrow-is : {x : Outcome} {im o : List ℕ} {a : After} → after x im o ≡ a → Narrow (a .outcome) → Narrow x
+pub narrow-is : {x : Outcome} {im o : List ℕ} {a : After} → afterWith x im o ≡ a → Narrow (a .outcome) → Narrow x
 narrow-is e n = rw (ap (λ (b : After). b .outcome) e) n
 
 -- the numbers of what a call leaves
-pub shown-is : (s : SessionNumbers) {x : Outcome} {im o : List ℕ} {a : After} {r : OutcomeNumbers} → after x im o ≡ a → r ≡ numbersOf s x → shown r im o ≡ shownFrom s a
+pub shown-is : (s : SessionNumbers) {x : Outcome} {im o : List ℕ} {a : After} {r : OutcomeNumbers} → afterWith x im o ≡ a → r ≡ outcomeNumbers s x → shown r im o ≡ shownFrom s a
 shown-is s e p = rw p (ap (shownFrom s) e)
 
 -- the numbers stand for a phase: the session's call in that phase
 pub called-known : (s : SessionNumbers) (im o : List ℕ) (call : Phase → After) {g : Given} {ph : Phase} {x : Outcome} {im′ o′ : List ℕ} {r : OutcomeNumbers}
-    → g ≡ givenOf s → g ≡ Given.Known ph → after x im′ o′ ≡ call ph → r ≡ numbersOf s x → shown r im′ o′ ≡ called s im o call
-unfolding called
+    → g ≡ givenOf s → g ≡ Given.Known ph → afterWith x im′ o′ ≡ call ph → r ≡ outcomeNumbers s x → shown r im′ o′ ≡ shownCall s im o call
+unfolding shownCall
 called-known s im o call eg k e p = shown-is s e p ∙ (rw (← eg, k))
 
 -- they stand for none
 pub called-unknown : (s : SessionNumbers) (im o : List ℕ) (call : Phase → After) {g : Given} {r : OutcomeNumbers}
-    → g ≡ givenOf s → g ≡ Given.Unknown → r ≡ numbersOf s (unknownPhase im) → shown r im o ≡ called s im o call
-unfolding called
+    → g ≡ givenOf s → g ≡ Given.Unknown → r ≡ outcomeNumbers s (unknownPhase im) → shown r im o ≡ shownCall s im o call
+unfolding shownCall
 called-unknown s im o call eg k p = rw (p, ← eg, k)
 
 -- ---- no phase: restore's checks, and then 1
@@ -48,10 +48,10 @@ unchecked (Verdict.BadBlock b) n = refl
 unchecked (Verdict.BadField b) n = refl
 
 module _ (s : SessionNumbers) (im : List ℕ) {a : Answer} (e : a ≡ checked (verdict im) Answer.Done) where
-  pub unknown-refused : {x : Outcome} {r : OutcomeNumbers} → isDone a ≡ false → x ≡ refusal a Phase.Idle → r ≡ numbersOf s x → r ≡ numbersOf s (unknownPhase im)
+  pub unknown-refused : {x : Outcome} {r : OutcomeNumbers} → isDone a ≡ false → x ≡ refusal a Phase.Idle → r ≡ outcomeNumbers s x → r ≡ outcomeNumbers s (unknownPhase im)
   unknown-refused n p q = q ∙ (rw (p, e, unchecked (verdict im) (ap isDone (sym e) ∙ n)))
 
-  pub unknown-sound : {x : Outcome} {r : OutcomeNumbers} → isDone a ≡ true → x ≡ refusal Answer.WrongPhase Phase.Idle → r ≡ numbersOf s x → r ≡ numbersOf s (unknownPhase im)
+  pub unknown-sound : {x : Outcome} {r : OutcomeNumbers} → isDone a ≡ true → x ≡ refusal Answer.WrongPhase Phase.Idle → r ≡ outcomeNumbers s x → r ≡ outcomeNumbers s (unknownPhase im)
   unknown-sound t p q = q ∙ (rw (p, checks-sound im e t))
 
 pub unknown-narrow : (im : List ℕ) {a : Answer} {x : Outcome} → a ≡ checked (verdict im) Answer.Done → x ≡ refusal a Phase.Idle → Narrow x

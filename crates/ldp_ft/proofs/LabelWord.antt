@@ -11,9 +11,9 @@ use Rattle.image.specs.State.{decode}
 use Rattle.image.specs.Verdict.{verdict, verdictNumber}
 use Rattle.image.proofs.Scans.{number-sound}
 use Rattle.image.proofs.Sound.{sound-parts}
-use Rattle.ldp_ft.specs.Numbers.{none, labelBy, labelAt}
+use Rattle.ldp_ft.specs.Numbers.{refusedNumber, labelBy, labelAt}
 
-refused-by : (v : Verdict) (words : List ℕ) (place : ℕ) → (verdictNumber v ≡ 0 → ⊥) → none ≡ labelBy v words place
+refused-by : (v : Verdict) (words : List ℕ) (place : ℕ) → (verdictNumber v ≡ 0 → ⊥) → refusedNumber ≡ labelBy v words place
 refused-by Verdict.Sound words place n = absurd (n refl)
 refused-by Verdict.WrongSize words place n = refl
 refused-by (Verdict.BadBlock b) words place n = refl
@@ -21,14 +21,14 @@ refused-by (Verdict.BadField b) words place n = refl
 
 -- v is what the checks answered, and n its number
 module _ (im : List ℕ) (place : ℕ) {v : Verdict} {n : ℕ} (ev : v ≡ verdict im) (en : n ≡ verdictNumber v) where
-  pub label-refused : (n ≡ 0 → ⊥) → none ≡ labelAt im place
+  pub label-refused : (n ≡ 0 → ⊥) → refusedNumber ≡ labelAt im place
   unfolding labelAt
   label-refused h = rw (← ev) (refused-by v (decode im .labels) place (λ e. h (en ∙ e)))
 
   passes : n ≡ 0 → verdict im ≡ Verdict.Sound
   passes z = sym ev ∙ number-sound v (sym en ∙ z)
 
-  pub label-past : n ≡ 0 → wordCount ≤ place → none ≡ labelAt im place
+  pub label-past : n ≡ 0 → wordCount ≤ place → refusedNumber ≡ labelAt im place
   unfolding labelAt
   label-past z l = rw (passes z, le-ltb place wordCount l)
 

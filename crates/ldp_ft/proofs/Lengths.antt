@@ -1,4 +1,4 @@
--- What a call writes is a message of at most 504 bytes. Assumes nothing.
+-- What a call writes is a message of at most 496 bytes. Assumes nothing.
 use Prim.Native.Nat.{ℕ, _≤_}
 use mathlib.Core.Bool.{Bool}
 use mathlib.Core.List.{List}
@@ -25,7 +25,7 @@ use Rattle.protocol.specs.KeepAlive.{aliveAck}
 use Rattle.protocol.specs.Open.{keptAck}
 use Rattle.protocol.specs.Phases.{sentOf}
 use Rattle.protocol.specs.Receive.{takenAs}
-use Rattle.protocol.specs.Send.{nextMessage, numberAt, ackAsked, sendBytes, sendRule}
+use Rattle.protocol.specs.Send.{nextMessage, queueNumber, ackAsked, sendBytes, sendRule}
 use Rattle.protocol.specs.State.{State}
 use Rattle.protocol.specs.Step.{Step, roomFor}
 use Rattle.protocol.specs.TimePassed.{expired}
@@ -34,21 +34,22 @@ use Rattle.protocol.proofs.Settles.{ends}
 use Rattle.protocol.proofs.Settling.{admitted-done}
 use Rattle.calls.specs.State.{stateOf}
 use Rattle.send.proofs.Acts.{next-fits}
+use Rattle.ldp_ft.specs.Outcome.{longestWritten}
 
 ack-short : (ack : FtField) → length (ackTlv ack) ≤ 8
 ack-short FtField.Absent = omega arith
 ack-short (FtField.Number a) = omega arith
 
-init-short : (id : MessageId) (p : OwnParameters) (seconds : ℕ) (ack : FtField) → length (initBytes id p seconds ack) ≤ 504
+init-short : (id : MessageId) (p : OwnParameters) (seconds : ℕ) (ack : FtField) → length (initBytes id p seconds ack) ≤ longestWritten
 init-short id p seconds FtField.Absent = omega arith
 init-short id p seconds (FtField.Number a) = omega arith
 
-alive-short : (id : MessageId) (ack : FtField) → length (keepaliveBytes id ack) ≤ 504
+alive-short : (id : MessageId) (ack : FtField) → length (keepaliveBytes id ack) ≤ longestWritten
 alive-short id FtField.Absent = omega arith
 alive-short id (FtField.Number a) = omega arith
 
 -- nothing is written to what is received
-taken-short : (s : State) (ph : Phase) (r : Reading) → length (takenAs s ph r .output) ≤ 504
+taken-short : (s : State) (ph : Phase) (r : Reading) → length (takenAs s ph r .output) ≤ longestWritten
 taken-short s Phase.Idle r = omega arith
 taken-short s (Phase.InitWait v) r = omega arith
 taken-short s (Phase.UpFT u) Reading.Malformed = omega arith
@@ -58,21 +59,21 @@ taken-short s Phase.Failed r = omega arith
 
 module _ (im : List ℕ) (ph : Phase) (sound : IsSound im) where
   -- a held message has 480 bytes at most, and two TLVs of 8 are added
-  sent-short : (ask : Bool) → Sendable (stateOf im) ph → length (sendBytes (stateOf im) (sentOf ph) ask) ≤ 504
+  sent-short : (ask : Bool) → Sendable (stateOf im) ph → length (sendBytes (stateOf im) (sentOf ph) ask) ≤ longestWritten
   unfolding sendBytes
   sent-short ask d =
       let f = next-fits im (sentOf ph) sound (omega (arith, d .some, queue-length im)) refl in
-      let t : List ℕ = ftTlvs (numberAt (stateOf im) (sentOf ph)) (ackAsked ask (stateOf im)) in
+      let t : List ℕ = ftTlvs (queueNumber (stateOf im) (sentOf ph)) (ackAsked ask (stateOf im)) in
       omega (arith, f, length-raised (nextMessage (stateOf im) (sentOf ph)) (f .0) t, ack-short (ackAsked ask (stateOf im)))
 
-  done-short : (c : Call) (room : ℕ) → judged c (stateOf im) ph room ≡ Answer.Done → length (done c (stateOf im) ph .output) ≤ 504
+  done-short : (c : Call) (room : ℕ) → judged c (stateOf im) ph room ≡ Answer.Done → length (done c (stateOf im) ph .output) ≤ longestWritten
   unfolding judged done
   done-short formats room e = omega arith
   done-short restores room e = omega arith
   done-short fails room e = omega arith
   done-short (opens id own proposal) room e = init-short id own (proposedOf proposal) (keptAck (stateOf im))
   done-short (greets m) room e = omega arith
-  done-short (passes elapsed) room e = pick-all (λ (x : Step). length (x .output) ≤ 504) (expired (stateOf im) elapsed) (omega arith) (omega arith)
+  done-short (passes elapsed) room e = pick-all (λ (x : Step). length (x .output) ≤ longestWritten) (expired (stateOf im) elapsed) (omega arith) (omega arith)
   done-short (submits m) room e = omega arith
   done-short (sends ask) room e =
       let own = roomFor (sendBytes (stateOf im) (sentOf ph) ask) room in
@@ -80,6 +81,7 @@ module _ (im : List ℕ) (ph : Phase) (sound : IsSound im) where
   done-short (keeps-alive id) room e = alive-short id (aliveAck ph (stateOf im .secured))
   done-short (receives m) room e = taken-short (stateOf im) ph (readingOf m)
 
-  pub step-short : (c : Call) (room : ℕ) → length (step c (stateOf im) ph room .output) ≤ 504
+  -- the output of every call on a sound image
+  pub step-short : (c : Call) (room : ℕ) → length (step c (stateOf im) ph room .output) ≤ longestWritten
   step-short c room =
-      ends c (stateOf im) ph room (λ (x : Step). length (x .output) ≤ 504) (λ e. omega arith) (λ e. omega arith) (λ e. omega arith) (done-short c room)
+      ends c (stateOf im) ph room (λ (x : Step). length (x .output) ≤ longestWritten) (λ e. omega arith) (λ e. omega arith) (λ e. omega arith) (done-short c room)

@@ -2,6 +2,7 @@ pub mod Named
 pub mod Rules
 pub mod Lengths
 pub mod Narrow
+pub mod Written
 pub mod Called
 pub mod Parts
 pub mod LabelWord

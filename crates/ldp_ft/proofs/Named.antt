@@ -4,6 +4,7 @@ use mathlib.Core.Bool.{not}
 use mathlib.Core.List.{List}
 use native.Mathlib.Omega.{arith}
 use Rattle.octets.proofs.Choice.{pick-all}
+use Rattle.block0.specs.Layout.{slotCount}
 use Rattle.image.specs.declared.Verdict.{Verdict}
 use Rattle.image.specs.Verdict.{verdict, verdictBlock}
 use Rattle.image.proofs.Scans.{verdict-below}
@@ -17,14 +18,14 @@ use Rattle.calls.specs.Outcomes.{checked}
 
 -- an image has the blocks 0 to 64
 abbrev pub Named : Answer → Type 0
-Named a = answerBlock a ≤ 64
+Named a = answerBlock a ≤ slotCount
 
 -- an answer that names none
-pub none : 0 ≤ 64
+pub none : 0 ≤ slotCount
 none = omega arith
 
 -- what the checks name
-checked-by : (v : Verdict) (a : Answer) → verdictBlock v ≤ 64 → Named a → Named (checked v a)
+checked-by : (v : Verdict) (a : Answer) → verdictBlock v ≤ slotCount → Named a → Named (checked v a)
 checked-by Verdict.Sound a l n = n
 checked-by Verdict.WrongSize a l n = none
 checked-by (Verdict.BadBlock b) a l n = l

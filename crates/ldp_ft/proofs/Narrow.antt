@@ -9,6 +9,7 @@ use lib.ListN.{length}
 use Rattle.octets.proofs.Choice.{by-test, pick-all}
 use Rattle.ft_number.specs.declared.MessageId.{MessageId}
 use Rattle.ft_number.specs.declared.Proposal.{Proposal}
+use Rattle.block0.specs.Layout.{slotCount}
 use Rattle.message_writer.specs.declared.OwnParameters.{OwnParameters}
 use Rattle.image.specs.declared.Verdict.{Verdict}
 use Rattle.image.specs.Sizes.{imageSize}
@@ -55,7 +56,7 @@ module _ (a : Answer) (ph : Phase) (im o : List ℕ) (n : Named a) where
       by Effect.Act e = by-test (isDone a) w (λ f. absurd (act-done a e f))
 
 -- a slot stands in one of the blocks 1 to 64
-slot-low : (im : List ℕ) (slots : Slots) → slotNamed im slots ≤ 64
+slot-low : (im : List ℕ) (slots : Slots) → slotNamed im slots ≤ slotCount
 slot-low im stay = omega arith
 slot-low im empty = omega arith
 slot-low im (one-more m) = omega arith

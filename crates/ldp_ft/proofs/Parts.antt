@@ -6,7 +6,7 @@ use native.Mathlib.Omega.{arith}
 use Rattle.octets.specs.Bytes.{Bytes}
 use Rattle.octets.proofs.Be.{beAt-lt}
 use Rattle.pdu.specs.declared.Place.{Place}
-use Rattle.pdu.specs.Pdu.{placeOf}
+use Rattle.pdu.specs.Pdu.{messagePlace}
 use Rattle.pdu.proofs.Message.{place-within}
 use Rattle.tlv.specs.declared.Found.{Found}
 use Rattle.tlv.specs.declared.Part.{Part}
@@ -31,5 +31,5 @@ pub part-narrow : (m : List ℕ) (f : Found) → NarrowMessage (messageOf m f) �
 unfolding messageOf
 part-narrow m f n p e = (rw e (n .start), rw e (n .end))
 
-pub place-ordered : (pdu : List ℕ) (at start end : ℕ) → placeOf pdu at ≡ Place.Message start end → start ≤ end
+pub place-ordered : (pdu : List ℕ) (at start end : ℕ) → messagePlace pdu at ≡ Place.Message start end → start ≤ end
 place-ordered pdu at start end e = let w = place-within pdu at start end e in omega (arith, w .starts, w .least)

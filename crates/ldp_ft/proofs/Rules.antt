@@ -4,7 +4,6 @@ use mathlib.Core.Bool.{Bool, not}
 use mathlib.Core.List.{List}
 use lib.Dec.{leb, ltb}
 use lib.ListN.{length}
-use Rattle.octets.specs.Pick.{pick}
 use Rattle.octets.proofs.Choice.{pick-all}
 use Rattle.message.specs.declared.Reading.{Reading}
 use Rattle.message.specs.Reading.{readingOf}
@@ -21,7 +20,7 @@ use Rattle.protocol.specs.Open.{openBytes}
 use Rattle.protocol.specs.Phases.{connected, waiting, mayOpen, awaits, isUp, isUpFT, sentOf, proposalOf}
 use Rattle.protocol.specs.Send.{sendBytes, sendRule}
 use Rattle.protocol.specs.State.{State, held}
-use Rattle.protocol.specs.Step.{roomFor}
+use Rattle.protocol.specs.Step.{whereOpen, roomFor}
 use Rattle.protocol.specs.SubmitCases.{SubmitCase, not-kept, too-short, too-long, malformed-submission, not-sent, still-held, code-forbids, no-free-word, store-full, queues}
 use Rattle.protocol.proofs.Cases.{cases}
 use Rattle.protocol.proofs.InitCases.{start-cases}
@@ -32,7 +31,7 @@ use Rattle.ldp_ft.proofs.Named.{Named, none, admitted-named}
 room-named : (bytes : List ℕ) (room : ℕ) → Named (roomFor bytes room)
 room-named bytes room = pick-all Named (ltb room (length bytes)) none none
 
-may-named : (may : Bool) (a : Answer) → Named a → Named (pick (not may) Answer.WrongPhase a)
+may-named : (may : Bool) (a : Answer) → Named a → Named (whereOpen may a)
 may-named may a n = pick-all Named (not may) none n
 
 send-named : (s : State) (ph : Phase) (a : Answer) → Named a → Named (sendRule s ph a)

@@ -12,6 +12,6 @@ abbrev pub parametersOf : ℕ → ℕ → ℕ → ℕ → OwnParameters
 parametersOf ka mp lsr space = record { keepalive = ka; pdulength = mp; lsr = lsr; space = space }
 
 -- a proposal that is not given is the default; its seconds are not read
-abbrev pub proposalOf : Bool → ℕ → Proposal
-proposalOf true seconds = Proposal.Seconds seconds
-proposalOf false seconds = Proposal.NotGiven
+abbrev pub proposalGiven : Bool → ℕ → Proposal
+proposalGiven true seconds = Proposal.Seconds seconds
+proposalGiven false seconds = Proposal.NotGiven

@@ -2,12 +2,13 @@
 use Prim.Native.Nat.{ℕ, _≤_}
 use mathlib.Core.Bool.{Bool, true, false}
 use mathlib.Core.List.{List}
+use Rattle.block0.specs.Layout.{slotCount}
 use Rattle.image.specs.Verdict.{verdict}
 use Rattle.protocol.specs.declared.Answer.{Answer}
 use Rattle.protocol.specs.declared.Phase.{Phase}
 use Rattle.protocol.specs.Answers.{answerNumber, answerBlock, effectOf}
 use Rattle.calls.specs.declared.Outcome.{Outcome}
-use Rattle.calls.specs.Outcomes.{After, after, refusal, checked}
+use Rattle.calls.specs.Outcomes.{After, afterWith, refusal, checked}
 use Rattle.ldp_ft.specs.declared.Given.{Given}
 use Rattle.ldp_ft.specs.declared.OutcomeNumbers.{OutcomeNumbers}
 use Rattle.ldp_ft.specs.declared.SessionNumbers.{SessionNumbers}
@@ -18,8 +19,8 @@ bitOf true = 1
 bitOf false = 0
 
 -- the numbers of an outcome, where the session was given as s; each number is the outcome's own, none is cut to 32 bits
-unfoldable pub numbersOf : SessionNumbers → Outcome → OutcomeNumbers
-numbersOf s o = record {
+unfoldable pub outcomeNumbers : SessionNumbers → Outcome → OutcomeNumbers
+outcomeNumbers s o = record {
   answer = answerNumber (o .answer);
   block = answerBlock (o .answer);
   session = sessionLeft (effectOf (o .answer)) s (o .phase);
@@ -28,11 +29,15 @@ numbersOf s o = record {
   block0 = bitOf (o .block0);
 }
 
--- an outcome whose numbers have 32 bits: 504 bytes at most are written, and an image has 65 blocks
+-- the longest message that a call writes: "8 to 480" as it was submitted, and at its end FT Protection and FT ACK of 8 bytes each
+abbrev pub longestWritten : ℕ
+longestWritten = 496
+
+-- an outcome whose numbers have 32 bits: what is written is such a message, and an image has block 0 and those of its slots
 pub record Narrow (o : Outcome) : Type 0 where
-  pub block : answerBlock (o .answer) ≤ 64
-  pub written : o .written ≤ 504
-  pub slot : o .slot ≤ 64
+  pub block : answerBlock (o .answer) ≤ slotCount
+  pub written : o .written ≤ longestWritten
+  pub slot : o .slot ≤ slotCount
 
 -- what a call leaves: the numbers returned, the image and the output; a call with no output has the empty list here
 pub record Shown : Type 0 where
@@ -45,7 +50,7 @@ shown r im o = record { numbers = r; image = im; out = o }
 
 -- what the session's call leaves, with numbers for enums
 abbrev pub shownFrom : SessionNumbers → After → Shown
-shownFrom s x = shown (numbersOf s (x .outcome)) (x .image) (x .out)
+shownFrom s x = shown (outcomeNumbers s (x .outcome)) (x .image) (x .out)
 
 -- format and restore are given no session; where they refuse they answer Idle
 abbrev pub idle : SessionNumbers
@@ -58,7 +63,7 @@ unknownPhase im = refusal (checked (verdict im) Answer.WrongPhase) Phase.Idle
 -- the session's call in the phase that the numbers stand for
 abbrev pub calledIn : Given → List ℕ → List ℕ → (Phase → After) → After
 calledIn (Given.Known ph) im o call = call ph
-calledIn Given.Unknown im o call = after (unknownPhase im) im o
+calledIn Given.Unknown im o call = afterWith (unknownPhase im) im o
 
-unfoldable pub called : SessionNumbers → List ℕ → List ℕ → (Phase → After) → Shown
-called s im o call = shownFrom s (calledIn (givenOf s) im o call)
+unfoldable pub shownCall : SessionNumbers → List ℕ → List ℕ → (Phase → After) → Shown
+shownCall s im o call = shownFrom s (calledIn (givenOf s) im o call)

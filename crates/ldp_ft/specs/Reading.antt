@@ -5,6 +5,7 @@ use lib.Dec.{eqb, ltb}
 use Rattle.octets.specs.Pick.{pick}
 use Rattle.pdu.specs.declared.Opened.{Opened}
 use Rattle.pdu.specs.declared.Place.{Place}
+use Rattle.pdu.specs.Pdu.{openedNumber, placeNumber}
 use Rattle.tlv.specs.declared.Field.{Field}
 use Rattle.tlv.specs.declared.Found.{Found}
 use Rattle.tlv.specs.declared.FtField.{FtField}
@@ -21,15 +22,15 @@ use Rattle.ldp_ft.specs.declared.PduNumbers.{PduNumbers}
 
 -- "0 or 4; number of messages"
 abbrev pub pduNumbers : Opened → PduNumbers
-pduNumbers (Opened.Whole count) = record { answer = 0; count = count }
-pduNumbers Opened.Malformed = record { answer = answerNumber Answer.Malformed; count = 0 }
+pduNumbers (Opened.Whole count) = record { answer = openedNumber (Opened.Whole count); count = count }
+pduNumbers Opened.Malformed = record { answer = openedNumber Opened.Malformed; count = 0 }
 
 -- "4, 0, 0 where none does"; so too where 32 bits do not name the place, which no PDU reaches: it has 65,539 bytes at most
 abbrev pub noPart : PartNumbers
-noPart = record { answer = answerNumber Answer.Malformed; start = 0; end = 0 }
+noPart = record { answer = placeNumber Place.None; start = 0; end = 0 }
 
 abbrev pub partOf : ℕ → ℕ → PartNumbers
-partOf start end = pick (ltb 4294967295 end) noPart (record { answer = 0; start = start; end = end })
+partOf start end = pick (ltb 4294967295 end) noPart (record { answer = placeNumber (Place.Message start end); start = start; end = end })
 
 abbrev pub partNumbers : Place → PartNumbers
 partNumbers (Place.Message start end) = partOf start end
@@ -61,13 +62,13 @@ abbrev pub secondsOf : Session → ℕ
 secondsOf Session.Absent = 0
 secondsOf (Session.Given reconnect seconds) = seconds
 
-abbrev pub keepaliveOf : Parameters → ℕ
-keepaliveOf Parameters.Absent = 0
-keepaliveOf (Parameters.Given ka mp) = ka
+abbrev pub keepaliveIn : Parameters → ℕ
+keepaliveIn Parameters.Absent = 0
+keepaliveIn (Parameters.Given ka mp) = ka
 
-abbrev pub maxpduOf : Parameters → ℕ
-maxpduOf Parameters.Absent = 0
-maxpduOf (Parameters.Given ka mp) = mp
+abbrev pub maxpduIn : Parameters → ℕ
+maxpduIn Parameters.Absent = 0
+maxpduIn (Parameters.Given ka mp) = mp
 
 -- a message whose parts have 32 bits: a message has 65,539 bytes at most
 pub record NarrowMessage (g : Message) : Type 0 where
@@ -96,7 +97,7 @@ noMessage = record {
 
 unfoldable pub wholeMessage : Message → MessageNumbers
 wholeMessage g = record {
-  answer = 0;
+  answer = answerNumber Answer.Done;
   typenumber = g .typenumber;
   id = g .id .0;
   kind = kindNumber (kindOf g);
@@ -109,8 +110,8 @@ wholeMessage g = record {
   ack = ftNumber (g .ack);
   reconnect = reconnectOf (g .session);
   timeout = secondsOf (g .session);
-  keepalive = keepaliveOf (g .parameters);
-  maxpdu = maxpduOf (g .parameters);
+  keepalive = keepaliveIn (g .parameters);
+  maxpdu = maxpduIn (g .parameters);
 }
 
 abbrev pub messageNumbers : Reading → MessageNumbers

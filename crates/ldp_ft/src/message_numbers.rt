@@ -3,7 +3,7 @@ ghost use Prim.Native.Nat.{_≤_};
 ghost use mathlib.Core.Path.{_≡_};
 ghost use Rattle.tlv.specs.Value.{Places};
 ghost use Rattle.message.specs.Reading.{messageOf};
-ghost use Rattle.ldp_ft.specs.Reading.{borne, hasOf, fieldNumber, ftNumber, reconnectOf, secondsOf, keepaliveOf, maxpduOf, NarrowMessage, noMessage, wholeMessage};
+ghost use Rattle.ldp_ft.specs.Reading.{borne, hasOf, fieldNumber, ftNumber, reconnectOf, secondsOf, keepaliveIn, maxpduIn, NarrowMessage, noMessage, wholeMessage};
 use crate::MessageNumbers;
 use message::Field;
 use message::Found;
@@ -77,7 +77,7 @@ fn seconds_of(session: Session) -> u32
 }
 
 fn keepalive_of(parameters: Parameters) -> u32
-    ensures { λ r. ⌜ r ≡ keepaliveOf parameters ⌝ }
+    ensures { λ r. ⌜ r ≡ keepaliveIn parameters ⌝ }
 {
     match parameters {
         Parameters::Absent => 0,
@@ -89,7 +89,7 @@ fn keepalive_of(parameters: Parameters) -> u32
 }
 
 fn maxpdu_of(parameters: Parameters) -> u32
-    ensures { λ r. ⌜ r ≡ maxpduOf parameters ⌝ }
+    ensures { λ r. ⌜ r ≡ maxpduIn parameters ⌝ }
 {
     match parameters {
         Parameters::Absent => 0,

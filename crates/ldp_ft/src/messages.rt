@@ -1,7 +1,7 @@
 // PDUs and messages, read.
 ghost use Prim.Native.Nat.{_≤_};
 ghost use mathlib.Core.Path.{_≡_};
-ghost use Rattle.pdu.specs.Pdu.{placeOf, openedOf};
+ghost use Rattle.pdu.specs.Pdu.{messagePlace, openedOf};
 ghost use Rattle.message.specs.Reading.{readingOf};
 ghost use Rattle.ldp_ft.specs.Reading.{pduNumbers, partOf, partNumbers, messageNumbers};
 use crate::MessageNumbers;
@@ -52,7 +52,7 @@ fn part_numbers(start: usize, end: usize) -> PartNumbers
 // Where the message lies that starts at `at`: 0 and its place, or 4 and zeros; 4 too where 32 bits do not name its end.
 #[no_mangle]
 pub extern "C" fn ldp_ft_pdu_message(pdu: &[u8], at: usize) -> PartNumbers
-    ensures { λ r. ⌜ r ≡ partNumbers (placeOf (now (pdu .entry)) at) ⌝ }
+    ensures { λ r. ⌜ r ≡ partNumbers (messagePlace (now (pdu .entry)) at) ⌝ }
 {
     match pdu::message_at(pdu, at) {
         Place::Message(start, end) => part_numbers(start, end),

@@ -1,8 +1,9 @@
 // An outcome as numbers.
 ghost use Prim.Native.Nat.{_≤_};
 ghost use mathlib.Core.Path.{_≡_};
+ghost use Rattle.block0.specs.Layout.{slotCount};
 ghost use Rattle.protocol.specs.Answers.{answerBlock};
-ghost use Rattle.ldp_ft.specs.Outcome.{bitOf, Narrow, numbersOf, unknownPhase};
+ghost use Rattle.ldp_ft.specs.Outcome.{bitOf, Narrow, outcomeNumbers, unknownPhase};
 use crate::OutcomeNumbers;
 use crate::SessionNumbers;
 use crate::phases::session_left;
@@ -12,7 +13,7 @@ use calls::Phase;
 
 // The block that an answer names.
 fn answer_block(a: Answer) -> u32
-    requires { ⌜ answerBlock a ≤ 64 ⌝ }
+    requires { ⌜ answerBlock a ≤ slotCount ⌝ }
     ensures { λ r. ⌜ r ≡ answerBlock a ⌝ }
 {
     match a {
@@ -56,7 +57,7 @@ fn bit_of(b: bool) -> u32
 // The numbers of an outcome, where the session was given as s.
 pub fn outcome_numbers(s: SessionNumbers, o: Outcome) -> OutcomeNumbers
     requires { ⌜ Narrow o ⌝ }
-    ensures { λ r. ⌜ r ≡ numbersOf s o ⌝ }
+    ensures { λ r. ⌜ r ≡ outcomeNumbers s o ⌝ }
 {
     let a = o.answer;
     let phase = o.phase;
@@ -72,7 +73,7 @@ pub fn outcome_numbers(s: SessionNumbers, o: Outcome) -> OutcomeNumbers
 
 // What a call answers where the numbers stand for no phase: restore's checks, and then 1.
 pub fn refuse_unknown(image: &[u8], s: SessionNumbers) -> OutcomeNumbers
-    ensures { λ r. ⌜ r ≡ numbersOf s (unknownPhase (now (image .entry))) ⌝ }
+    ensures { λ r. ⌜ r ≡ outcomeNumbers s (unknownPhase (now (image .entry))) ⌝ }
 {
     let a = calls::check(image);
     if !calls::is_done(a) {

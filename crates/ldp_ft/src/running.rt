@@ -7,7 +7,7 @@ ghost use Rattle.send.specs.Send.{sendOf};
 ghost use Rattle.submit.specs.Call.{submitOf};
 ghost use Rattle.timers.specs.Events.{connectionFailedOf, timePassedOf};
 ghost use Rattle.ldp_ft.specs.Opening.{idOf};
-ghost use Rattle.ldp_ft.specs.Outcome.{shown, called};
+ghost use Rattle.ldp_ft.specs.Outcome.{shown, shownCall};
 use crate::Given;
 use crate::OutcomeNumbers;
 use crate::SessionNumbers;
@@ -19,7 +19,7 @@ use ft_number::MessageId;
 // The connection has failed.
 #[no_mangle]
 pub extern "C" fn ldp_ft_connection_failed(image: &mut [u8], s: SessionNumbers) -> OutcomeNumbers
-    ensures { λ r. ⌜ shown r (now (image .exit)) [] ≡ called s (now (image .entry)) [] (λ ph. connectionFailedOf (now (image .entry)) ph) ⌝ }
+    ensures { λ r. ⌜ shown r (now (image .exit)) [] ≡ shownCall s (now (image .entry)) [] (λ ph. connectionFailedOf (now (image .entry)) ph) ⌝ }
 {
     match phase_given(s) {
         Given::Known(phase) => {
@@ -37,7 +37,7 @@ pub extern "C" fn ldp_ft_time_passed(
     s: SessionNumbers,
     elapsed: u32,
 ) -> OutcomeNumbers
-    ensures { λ r. ⌜ shown r (now (image .exit)) [] ≡ called s (now (image .entry)) [] (λ ph. timePassedOf (now (image .entry)) ph elapsed) ⌝ }
+    ensures { λ r. ⌜ shown r (now (image .exit)) [] ≡ shownCall s (now (image .entry)) [] (λ ph. timePassedOf (now (image .entry)) ph elapsed) ⌝ }
 {
     match phase_given(s) {
         Given::Known(phase) => {
@@ -51,7 +51,7 @@ pub extern "C" fn ldp_ft_time_passed(
 // A message to be sent.
 #[no_mangle]
 pub extern "C" fn ldp_ft_submit(image: &mut [u8], s: SessionNumbers, msg: &[u8]) -> OutcomeNumbers
-    ensures { λ r. ⌜ shown r (now (image .exit)) [] ≡ called s (now (image .entry)) [] (λ ph. submitOf (now (image .entry)) ph (now (msg .entry))) ⌝ }
+    ensures { λ r. ⌜ shown r (now (image .exit)) [] ≡ shownCall s (now (image .entry)) [] (λ ph. submitOf (now (image .entry)) ph (now (msg .entry))) ⌝ }
 {
     match phase_given(s) {
         Given::Known(phase) => {
@@ -70,7 +70,7 @@ pub extern "C" fn ldp_ft_send_next(
     ack: bool,
     out: &mut [u8],
 ) -> OutcomeNumbers
-    ensures { λ r. ⌜ shown r (now (image .exit)) (now (out .exit)) ≡ called s (now (image .entry)) (now (out .entry)) (λ ph. sendOf (now (image .entry)) ph ack (now (out .entry))) ⌝ }
+    ensures { λ r. ⌜ shown r (now (image .exit)) (now (out .exit)) ≡ shownCall s (now (image .entry)) (now (out .entry)) (λ ph. sendOf (now (image .entry)) ph ack (now (out .entry))) ⌝ }
 {
     match phase_given(s) {
         Given::Known(phase) => {
@@ -89,7 +89,7 @@ pub extern "C" fn ldp_ft_keepalive(
     id: u32,
     out: &mut [u8],
 ) -> OutcomeNumbers
-    ensures { λ r. ⌜ shown r (now (image .exit)) (now (out .exit)) ≡ called s (now (image .entry)) (now (out .entry)) (λ ph. keepaliveOf (now (image .entry)) ph (idOf id) (now (out .entry))) ⌝ }
+    ensures { λ r. ⌜ shown r (now (image .exit)) (now (out .exit)) ≡ shownCall s (now (image .entry)) (now (out .entry)) (λ ph. keepaliveOf (now (image .entry)) ph (idOf id) (now (out .entry))) ⌝ }
 {
     match phase_given(s) {
         Given::Known(phase) => {
@@ -103,7 +103,7 @@ pub extern "C" fn ldp_ft_keepalive(
 // A message of the peer's.
 #[no_mangle]
 pub extern "C" fn ldp_ft_receive(image: &mut [u8], s: SessionNumbers, msg: &[u8]) -> OutcomeNumbers
-    ensures { λ r. ⌜ shown r (now (image .exit)) [] ≡ called s (now (image .entry)) [] (λ ph. receiveOf (now (image .entry)) ph (now (msg .entry))) ⌝ }
+    ensures { λ r. ⌜ shown r (now (image .exit)) [] ≡ shownCall s (now (image .entry)) [] (λ ph. receiveOf (now (image .entry)) ph (now (msg .entry))) ⌝ }
 {
     match phase_given(s) {
         Given::Known(phase) => {

@@ -4,8 +4,8 @@ ghost use mathlib.Core.Path.{_≡_};
 ghost use Rattle.connect.specs.Start.{formatOf, restoreOf};
 ghost use Rattle.connect.specs.Writers.{openOf};
 ghost use Rattle.init.specs.Received.{initReceivedOf};
-ghost use Rattle.ldp_ft.specs.Opening.{idOf, parametersOf, proposalOf};
-ghost use Rattle.ldp_ft.specs.Outcome.{shown, shownFrom, idle, called};
+ghost use Rattle.ldp_ft.specs.Opening.{idOf, parametersOf, proposalGiven};
+ghost use Rattle.ldp_ft.specs.Outcome.{shown, shownFrom, idle, shownCall};
 use crate::Given;
 use crate::OutcomeNumbers;
 use crate::SessionNumbers;
@@ -23,8 +23,8 @@ use message_writer::OwnParameters;
 pub extern "C" fn ldp_ft_format(image: &mut [u8]) -> OutcomeNumbers
     ensures { λ r. ⌜ shown r (now (image .exit)) [] ≡ shownFrom idle (formatOf (now (image .entry))) ⌝ }
 {
-    let o = connect::format(image);
-    outcome_numbers(session_of(Phase::Idle), o)
+    let formatted = connect::format(image);
+    outcome_numbers(session_of(Phase::Idle), formatted)
 }
 
 // The session of a stored image.
@@ -32,12 +32,12 @@ pub extern "C" fn ldp_ft_format(image: &mut [u8]) -> OutcomeNumbers
 pub extern "C" fn ldp_ft_restore(image: &mut [u8]) -> OutcomeNumbers
     ensures { λ r. ⌜ shown r (now (image .exit)) [] ≡ shownFrom idle (restoreOf (now (image .entry))) ⌝ }
 {
-    let o = connect::restore(image);
-    outcome_numbers(session_of(Phase::Idle), o)
+    let restored = connect::restore(image);
+    outcome_numbers(session_of(Phase::Idle), restored)
 }
 
 fn proposal_of(given: bool, seconds: u16) -> Proposal
-    ensures { λ r. ⌜ r ≡ proposalOf given seconds ⌝ }
+    ensures { λ r. ⌜ r ≡ proposalGiven given seconds ⌝ }
 {
     if given {
         return Proposal::Seconds(seconds);
@@ -59,7 +59,7 @@ pub extern "C" fn ldp_ft_open(
     seconds: u16,
     out: &mut [u8],
 ) -> OutcomeNumbers
-    ensures { λ r. ⌜ shown r (now (image .exit)) (now (out .exit)) ≡ called s (now (image .entry)) (now (out .entry)) (λ ph. openOf (now (image .entry)) ph (idOf id) (parametersOf keepalive maxpdu lsr space) (proposalOf given seconds) (now (out .entry))) ⌝ }
+    ensures { λ r. ⌜ shown r (now (image .exit)) (now (out .exit)) ≡ shownCall s (now (image .entry)) (now (out .entry)) (λ ph. openOf (now (image .entry)) ph (idOf id) (parametersOf keepalive maxpdu lsr space) (proposalGiven given seconds) (now (out .entry))) ⌝ }
 {
     let parameters = OwnParameters {
         keepalive: keepalive,
@@ -84,7 +84,7 @@ pub extern "C" fn ldp_ft_init_received(
     s: SessionNumbers,
     msg: &[u8],
 ) -> OutcomeNumbers
-    ensures { λ r. ⌜ shown r (now (image .exit)) [] ≡ called s (now (image .entry)) [] (λ ph. initReceivedOf (now (image .entry)) ph (now (msg .entry))) ⌝ }
+    ensures { λ r. ⌜ shown r (now (image .exit)) [] ≡ shownCall s (now (image .entry)) [] (λ ph. initReceivedOf (now (image .entry)) ph (now (msg .entry))) ⌝ }
 {
     match phase_given(s) {
         Given::Known(phase) => {

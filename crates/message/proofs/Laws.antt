@@ -1,6 +1,6 @@
 -- What a whole reading and an accepted submission tell their callers. Assumes nothing.
 use Prim.Native.Nat.{ℕ, _+_, _≤_, _<_}
-use mathlib.Core.Bool.{Bool, true, false}
+use mathlib.Core.Bool.{Bool, true, false, not}
 use mathlib.Core.List.{List}
 use mathlib.Core.Path.{_≡_, refl, sym, _∙_, ap}
 use native.Mathlib.Omega.{arith}
@@ -23,7 +23,7 @@ use Rattle.message.specs.declared.Reading.{Reading}
 use Rattle.message.specs.declared.Submission.{Submission}
 use Rattle.message.specs.Kinds.{kindOf, kindNumber}
 use Rattle.message.specs.Reading.{typeOf, numberIn, idIn, bearsOf, placesBy, placesOf, messageOf, readingBy, readingOf}
-use Rattle.message.specs.Submission.{bearsFt, noLabel, labelledAs, acceptedAs, judged, submissionOf}
+use Rattle.message.specs.Submission.{bearsFt, noLabel, labelledAs, submissionByKind, submissionByReading, submissionOf}
 
 -- a message that is read whole
 pub record Whole (m : List ℕ) (g : Message) : Type 0 where
@@ -36,7 +36,7 @@ unfolding readingOf placesOf messageOf
 whole m g e = by-walk (tlvsOf m) refl e
   where
     by-bears : (f : Found) (b : Bool) → tlvsOf m ≡ Walk.Whole f → bearsOf (typeOf (numberIn m)) f ≡ b
-        → readingBy m (pick b (Walk.Whole f) Walk.Malformed) ≡ Reading.Whole g → Whole m g
+        → readingBy m (pick (not b) Walk.Malformed (Walk.Whole f)) ≡ Reading.Whole g → Whole m g
     by-bears f false q p h = let z : _≡_ {A = ℕ} 0 1 = cc in absurd (omega arith)
     by-bears f true q p h =
         let is : messageOf m f ≡ g = cc in
@@ -110,7 +110,7 @@ pub record Labelled (g : Message) (k : Kind) (l : ℕ) : Type 0 where
   pub label : kindNumber k ≤ 3 → g .label ≡ Field.Value l
   pub none : 3 < kindNumber k → l ≡ noLabel
 
-labelled : (g : Message) (kind k : Kind) (l : ℕ) → acceptedAs kind (g .label) ≡ Submission.Accepted k l → (kind ≡ k) × Labelled g k l
+labelled : (g : Message) (kind k : Kind) (l : ℕ) → submissionByKind kind (g .label) ≡ Submission.Accepted k l → (kind ≡ k) × Labelled g k l
 labelled g kind k l e = by-kind kind (g .label) refl e
   where
     named : (j : Kind) (field : Field) → 1 ≤ kindNumber j → kindNumber j ≤ 3 → g .label ≡ field → labelledAs j field ≡ Submission.Accepted k l → (j ≡ k) × Labelled g k l
@@ -128,7 +128,7 @@ labelled g kind k l e = by-kind kind (g .label) refl e
         let value : noLabel ≡ l = cc in
         (same, record { some = omega arith; kinds = omega arith; label = λ z. absurd (omega arith); none = λ z. sym value })
 
-    by-kind : (j : Kind) (field : Field) → g .label ≡ field → acceptedAs j field ≡ Submission.Accepted k l → (j ≡ k) × Labelled g k l
+    by-kind : (j : Kind) (field : Field) → g .label ≡ field → submissionByKind j field ≡ Submission.Accepted k l → (j ≡ k) × Labelled g k l
     by-kind Kind.Mapping field q h = named Kind.Mapping field (omega arith) (omega arith) q h
     by-kind Kind.Withdraw field q h = named Kind.Withdraw field (omega arith) (omega arith) q h
     by-kind Kind.Release field q h = named Kind.Release field (omega arith) (omega arith) q h
@@ -151,12 +151,12 @@ unfolding submissionOf
 accepted m k l e = by-reading (readingOf m) refl e
   where
     by-ft : (g : Message) (b : Bool) → readingOf m ≡ Reading.Whole g → bearsFt (g .found) ≡ b
-        → pick b Submission.Refused (acceptedAs (kindOf g) (g .label)) ≡ Submission.Accepted k l → Accepted m k l
+        → pick b Submission.Refused (submissionByKind (kindOf g) (g .label)) ≡ Submission.Accepted k l → Accepted m k l
     by-ft g true q p h = let z : _≡_ {A = ℕ} 0 1 = cc in absurd (omega arith)
     by-ft g false q p h =
         let by = labelled g (kindOf g) k l h in
         record { message = g; reading = q; noFt = no-ft (g .found) p; kind = by .0; labelled = by .1 }
 
-    by-reading : (r : Reading) → readingOf m ≡ r → judged r ≡ Submission.Accepted k l → Accepted m k l
+    by-reading : (r : Reading) → readingOf m ≡ r → submissionByReading r ≡ Submission.Accepted k l → Accepted m k l
     by-reading Reading.Malformed q h = let z : _≡_ {A = ℕ} 0 1 = cc in absurd (omega arith)
     by-reading (Reading.Whole g) q h = by-ft g (bearsFt (g .found)) q refl h

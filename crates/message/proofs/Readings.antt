@@ -5,7 +5,7 @@ use mathlib.Core.List.{List}
 use mathlib.Core.Path.{_≡_, refl, sym, _∙_, ap}
 use lib.ListN.{length}
 use borrow.Author.Tests.{not-true, not-false}
-use Rattle.octets.proofs.Choice.{no, passed}
+use Rattle.octets.proofs.Choice.{no, cleared}
 use Rattle.tlv.specs.declared.Found.{Found}
 use Rattle.tlv.specs.declared.walk.Walk.{Walk}
 use Rattle.tlv.specs.Value.{Places}
@@ -48,7 +48,7 @@ places-tlvs m f e = by-walk (tlvsOf m) refl e
     by-walk : (w : Walk) → tlvsOf m ≡ w → placesBy m w ≡ Walk.Whole f → tlvsOf m ≡ Walk.Whole f
     by-walk Walk.Malformed q h = no (cc)
     by-walk (Walk.Whole g) q h =
-        let p = passed (bearsOf (typeOf (numberIn m)) g) (Walk.Whole g) Walk.Malformed (Walk.Whole f) (λ z. cc) h in
+        let p = cleared (not (bearsOf (typeOf (numberIn m)) g)) Walk.Malformed (Walk.Whole g) (Walk.Whole f) (λ z. cc) h in
         q ∙ p .1
 
 module _ (m : List ℕ) (w : Walk) (wq : w ≡ placesOf m) where

@@ -19,9 +19,9 @@ use Rattle.tlv.specs.Walk.{tlvsOf}
 use Rattle.message.specs.declared.Kind.{Kind}
 use Rattle.message.specs.declared.MessageType.{MessageType}
 use Rattle.message.specs.declared.Submission.{Submission}
-use Rattle.message.specs.Kinds.{fatalOf, codeOf, resourcesAvailable, notificationKind, kindFor, kindOf, kindNumber}
+use Rattle.message.specs.Kinds.{fatalOf, statusCode, resourcesAvailable, notificationKind, kindFor, kindOf, kindNumber}
 use Rattle.message.specs.Reading.{typeOf, numberIn, bearsOf, placesOf, messageOf, readingOf}
-use Rattle.message.specs.Submission.{bearsFt, noLabel, labelledAs, acceptedAs, submissionOf}
+use Rattle.message.specs.Submission.{bearsFt, noLabel, labelledAs, submissionByKind, submissionOf}
 use Rattle.message.proofs.Readings.{tlvs-head, tlvs-places}
 
 -- the kind of a Notification
@@ -35,7 +35,7 @@ module _ (status : Field) where
     unfolding notificationKind
     kind-fatal h = simp (e, sym fatalq, h)
 
-    module _ (h : fatal ≡ false) (code : ℕ) (codeq : code ≡ codeOf v) where
+    module _ (h : fatal ≡ false) (code : ℕ) (codeq : code ≡ statusCode v) where
       pub kind-code : (code ≡ resourcesAvailable → ⊥) → Kind.NoKind ≡ notificationKind status
       unfolding notificationKind
       kind-code k = simp (e, sym fatalq, h, sym codeq, ne-eqb code resourcesAvailable k)
@@ -66,7 +66,7 @@ pub ruleset fts = (ft-session, ft-protection, ft-ack)
 abbrev byNumber : ℕ → Kind → Field → Submission
 byNumber n k label = pick (eqb n 0) Submission.Refused (pick (ltb 3 n) (Submission.Accepted k noLabel) (labelledAs k label))
 
-accepted-by : (k : Kind) (label : Field) → acceptedAs k label ≡ byNumber (kindNumber k) k label
+accepted-by : (k : Kind) (label : Field) → submissionByKind k label ≡ byNumber (kindNumber k) k label
 accepted-by Kind.Mapping label = refl
 accepted-by Kind.Withdraw label = refl
 accepted-by Kind.Release label = refl
@@ -106,8 +106,8 @@ module _ (m : List ℕ) (w : Walk) (wq : w ≡ tlvsOf m) where
           judged-as : (a : Submission) → a ≡ byNumber n k (fieldAt m (f .label)) → a ≡ submissionOf m
           unfolding submissionOf readingOf placesOf messageOf kindOf
           judged-as a aq =
-              let accepted : byNumber n k (fieldAt m (f .label)) ≡ acceptedAs k (fieldAt m (f .label)) = rw nq (sym (accepted-by k (fieldAt m (f .label)))) in
-              let all : acceptedAs k (fieldAt m (f .label)) ≡ submissionOf m = simp (kq, sq, sym wq ∙ e, sym cq, sym tq, sym bq ∙ not-false b h, sym ftq ∙ p) in
+              let accepted : byNumber n k (fieldAt m (f .label)) ≡ submissionByKind k (fieldAt m (f .label)) = rw nq (sym (accepted-by k (fieldAt m (f .label)))) in
+              let all : submissionByKind k (fieldAt m (f .label)) ≡ submissionOf m = simp (kq, sq, sym wq ∙ e, sym cq, sym tq, sym bq ∙ not-false b h, sym ftq ∙ p) in
               aq ∙ accepted ∙ all
 
           pub judged-none : n ≡ 0 → Submission.Refused ≡ submissionOf m

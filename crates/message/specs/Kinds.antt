@@ -21,12 +21,16 @@ kindNumber Kind.AddressWithdraw = 5
 kindNumber Kind.ResourcesAvailable = 6
 kindNumber Kind.NoKind = 0
 
+-- "that code in its low 30 bits": the codes below this one
+abbrev pub statusCodeRange : ℕ
+statusCodeRange = 1073741824
+
 -- the E bit of a Status, and its code
 abbrev pub fatalOf : ℕ → Bool
 fatalOf v = topBit v
 
-abbrev pub codeOf : ℕ → ℕ
-codeOf v = v % 1073741824
+abbrev pub statusCode : ℕ → ℕ
+statusCode v = v % statusCodeRange
 
 -- RFC 3036's number of 'Label Resources Available'
 abbrev pub resourcesAvailable : ℕ
@@ -35,7 +39,7 @@ resourcesAvailable = 0x0000000F
 -- the kind of a Notification
 unfoldable pub notificationKind : Field → Kind
 notificationKind Field.Absent = Kind.NoKind
-notificationKind (Field.Value v) = pick (fatalOf v) Kind.NoKind (pick (eqb (codeOf v) resourcesAvailable) Kind.ResourcesAvailable Kind.NoKind)
+notificationKind (Field.Value v) = pick (fatalOf v) Kind.NoKind (pick (eqb (statusCode v) resourcesAvailable) Kind.ResourcesAvailable Kind.NoKind)
 
 abbrev pub kindFor : MessageType → Field → Kind
 kindFor MessageType.Notification status = notificationKind status

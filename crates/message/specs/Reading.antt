@@ -16,34 +16,62 @@ use Rattle.message.specs.declared.Message.{Message}
 use Rattle.message.specs.declared.MessageType.{MessageType}
 use Rattle.message.specs.declared.Reading.{Reading}
 
-abbrev pub initializationNumber : ℕ
-initializationNumber = 0x0200
-
-abbrev pub keepaliveNumber : ℕ
-keepaliveNumber = 0x0201
-
 -- 01: "Types: Notification 0x0001, Initialization 0x0200, KeepAlive 0x0201, Address 0x0300, Address Withdraw 0x0301, Mapping 0x0400,
 -- Request 0x0401, Withdraw 0x0402, Release 0x0403, Abort 0x0404."
+abbrev pub notificationType : ℕ
+notificationType = 0x0001
+
+abbrev pub initializationType : ℕ
+initializationType = 0x0200
+
+abbrev pub keepaliveType : ℕ
+keepaliveType = 0x0201
+
+abbrev pub addressType : ℕ
+addressType = 0x0300
+
+abbrev pub addressWithdrawType : ℕ
+addressWithdrawType = 0x0301
+
+abbrev pub mappingType : ℕ
+mappingType = 0x0400
+
+abbrev pub requestType : ℕ
+requestType = 0x0401
+
+abbrev pub withdrawType : ℕ
+withdrawType = 0x0402
+
+abbrev pub releaseType : ℕ
+releaseType = 0x0403
+
+abbrev pub abortType : ℕ
+abortType = 0x0404
+
 abbrev pub types : List (ℕ × MessageType)
 types =
-    (0x0001, MessageType.Notification)
-    ∷ (initializationNumber, MessageType.Initialization)
-    ∷ (keepaliveNumber, MessageType.KeepAlive)
-    ∷ (0x0300, MessageType.Address)
-    ∷ (0x0301, MessageType.AddressWithdraw)
-    ∷ (0x0400, MessageType.Mapping)
-    ∷ (0x0401, MessageType.Request)
-    ∷ (0x0402, MessageType.Withdraw)
-    ∷ (0x0403, MessageType.Release)
-    ∷ (0x0404, MessageType.Abort)
+    (notificationType, MessageType.Notification)
+    ∷ (initializationType, MessageType.Initialization)
+    ∷ (keepaliveType, MessageType.KeepAlive)
+    ∷ (addressType, MessageType.Address)
+    ∷ (addressWithdrawType, MessageType.AddressWithdraw)
+    ∷ (mappingType, MessageType.Mapping)
+    ∷ (requestType, MessageType.Request)
+    ∷ (withdrawType, MessageType.Withdraw)
+    ∷ (releaseType, MessageType.Release)
+    ∷ (abortType, MessageType.Abort)
     ∷ []
 
 unfoldable pub typeOf : ℕ → MessageType
 typeOf n = lookup MessageType.Other types n
 
+-- "U bit and type (2)": the numbers below this one; U is the bit above
+abbrev pub messageTypeRange : ℕ
+messageTypeRange = 32768
+
 -- the type's number: "a message's U .. ignored"
 abbrev pub numberIn : List ℕ → ℕ
-numberIn m = beAt 2 m 0 % 32768
+numberIn m = beAt 2 m 0 % messageTypeRange
 
 abbrev pub idIn : List ℕ → MessageId
 idIn m = record { 0 = beAt 4 m 4 }
@@ -68,7 +96,7 @@ bearsOf t f = bearsBy t (not (eqb (f .fec) 0)) (not (eqb (f .label) 0))
 -- where the TLVs of a well-formed message stand
 abbrev pub placesBy : List ℕ → Walk → Walk
 placesBy m Walk.Malformed = Walk.Malformed
-placesBy m (Walk.Whole f) = pick (bearsOf (typeOf (numberIn m)) f) (Walk.Whole f) Walk.Malformed
+placesBy m (Walk.Whole f) = pick (not (bearsOf (typeOf (numberIn m)) f)) Walk.Malformed (Walk.Whole f)
 
 unfoldable pub placesOf : List ℕ → Walk
 placesOf m = placesBy m (tlvsOf m)

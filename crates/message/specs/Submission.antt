@@ -13,6 +13,12 @@ use Rattle.message.specs.declared.Submission.{Submission}
 use Rattle.message.specs.Kinds.{kindOf}
 use Rattle.message.specs.Reading.{readingOf}
 
+-- the numbers; a message that is accepted passes both
+abbrev pub submissionNumber : Submission → ℕ
+submissionNumber Submission.Malformed = 4
+submissionNumber Submission.Refused = 5
+submissionNumber (Submission.Accepted kind label) = 0
+
 -- an FT TLV is present: FT Session, FT Protection or FT ACK
 unfoldable pub bearsFt : Found → Bool
 bearsFt f = not (both (eqb (f .session) 0) (both (eqb (f .protection) 0) (eqb (f .ack) 0)))
@@ -25,18 +31,18 @@ abbrev pub labelledAs : Kind → Field → Submission
 labelledAs k Field.Absent = Submission.Refused
 labelledAs k (Field.Value l) = Submission.Accepted k l
 
-abbrev pub acceptedAs : Kind → Field → Submission
-acceptedAs Kind.Mapping label = labelledAs Kind.Mapping label
-acceptedAs Kind.Withdraw label = labelledAs Kind.Withdraw label
-acceptedAs Kind.Release label = labelledAs Kind.Release label
-acceptedAs Kind.Address label = Submission.Accepted Kind.Address noLabel
-acceptedAs Kind.AddressWithdraw label = Submission.Accepted Kind.AddressWithdraw noLabel
-acceptedAs Kind.ResourcesAvailable label = Submission.Accepted Kind.ResourcesAvailable noLabel
-acceptedAs Kind.NoKind label = Submission.Refused
+abbrev pub submissionByKind : Kind → Field → Submission
+submissionByKind Kind.Mapping label = labelledAs Kind.Mapping label
+submissionByKind Kind.Withdraw label = labelledAs Kind.Withdraw label
+submissionByKind Kind.Release label = labelledAs Kind.Release label
+submissionByKind Kind.Address label = Submission.Accepted Kind.Address noLabel
+submissionByKind Kind.AddressWithdraw label = Submission.Accepted Kind.AddressWithdraw noLabel
+submissionByKind Kind.ResourcesAvailable label = Submission.Accepted Kind.ResourcesAvailable noLabel
+submissionByKind Kind.NoKind label = Submission.Refused
 
-abbrev pub judged : Reading → Submission
-judged Reading.Malformed = Submission.Malformed
-judged (Reading.Whole g) = pick (bearsFt (g .found)) Submission.Refused (acceptedAs (kindOf g) (g .label))
+abbrev pub submissionByReading : Reading → Submission
+submissionByReading Reading.Malformed = Submission.Malformed
+submissionByReading (Reading.Whole g) = pick (bearsFt (g .found)) Submission.Refused (submissionByKind (kindOf g) (g .label))
 
 unfoldable pub submissionOf : List ℕ → Submission
-submissionOf m = judged (readingOf m)
+submissionOf m = submissionByReading (readingOf m)

@@ -4,7 +4,7 @@ ghost use mathlib.Core.Path.{_≡_};
 ghost use lib.ListN.{length};
 ghost use Rattle.tlv.specs.Value.{Places};
 ghost use Rattle.tlv.specs.Walk.{headSize};
-ghost use Rattle.message.specs.Kinds.{fatalOf, codeOf, notificationKind, kindFor, kindOf, kindNumber};
+ghost use Rattle.message.specs.Kinds.{fatalOf, statusCode, notificationKind, kindFor, kindOf, kindNumber};
 ghost use Rattle.message.specs.Reading.{typeOf, numberIn, idIn, bearsOf, placesOf, messageOf, readingOf};
 ghost use Rattle.message.specs.Submission.{bearsFt, submissionOf};
 use ft_number::MessageId;
@@ -184,7 +184,7 @@ pub fn is_fatal(status: u32) -> bool
 
 // The code of a Status: its low 30 bits.
 pub fn status_code(status: u32) -> u32
-    ensures { λ r. ⌜ r ≡ codeOf status ⌝ }
+    ensures { λ r. ⌜ r ≡ statusCode status ⌝ }
 {
     status % 1073741824
 }

@@ -1,14 +1,14 @@
 -- The walk over two runs of TLVs: the second starts where the first ends, with what the first found. Assumes nothing.
-use Prim.Native.Nat.{ℕ, _+_, _-_, _≤_, _<_, _%_}
+use Prim.Native.Nat.{ℕ, _+_, _-_, _≤_, _<_}
 use mathlib.Core.Bool.{Bool, true, false}
-use mathlib.Core.List.{List, [], _∷_, _++_}
+use mathlib.Core.List.{List, _++_}
 use mathlib.Core.Path.{_≡_, refl, sym, _∙_, ap}
 use native.Mathlib.Nat.{add-zero}
 use native.Mathlib.Omega.{arith}
 use lib.Dec.{eqb, ltb}
 use lib.ListN.{length, drop, length-drop, length-append}
 use lib.Seq.{drop-append-le}
-use borrow.Author.Tests.{ne-eqb, le-ltb, eqb-true}
+use borrow.Author.Tests.{ne-eqb, le-ltb}
 use Rattle.octets.specs.Be.{beAt}
 use Rattle.octets.specs.Pick.{pick}
 use Rattle.octets.proofs.Bytes.{beAt-append}
@@ -17,49 +17,22 @@ use Rattle.tlv.specs.declared.Found.{Found}
 use Rattle.tlv.specs.declared.walk.Tlv.{Tlv}
 use Rattle.tlv.specs.declared.walk.Turn.{Turn}
 use Rattle.tlv.specs.declared.walk.Walk.{Walk}
-use Rattle.tlv.specs.Tlv.{tlvOf, lengthFits, headOf, sizeOf, labelIn, largestLabel}
-use Rattle.tlv.specs.Walk.{placeOf, placedOf, notedOf, takenOf, turnOf, Rest, leftOf, onTurn, walkOf}
+use Rattle.tlv.specs.Tlv.{lengthFits, headOf, sizeOf, labelValue, largestLabel}
+use Rattle.tlv.specs.Walk.{placeOf, placedOf, notedOf, turnOf, Rest, leftOf, onTurn, walkOf}
 use Rattle.tlv.proofs.Turns.{Goes, goes, walkRest, walk-step}
-
-nil : (ts : List ℕ) → length ts ≡ 0 → ts ≡ []
-nil [] e = refl
-nil (x ∷ xs) e = absurd (omega arith)
-
-pub end-empty : (f : Found) (at : ℕ) (ts : List ℕ) → turnOf f at ts ≡ Turn.End → ts ≡ []
-unfolding turnOf
-end-empty f at ts e = go (eqb (length ts) 0) (ltb (length ts) (sizeOf ts)) (notedOf f (headOf ts) (beAt 2 ts 2) at ts) refl e
-  where
-    go : (b₁ b₂ : Bool) (w : Walk) → eqb (length ts) 0 ≡ b₁ → pick b₁ Turn.End (pick b₂ Turn.Malformed (takenOf w (sizeOf ts))) ≡ Turn.End → ts ≡ []
-    go true b₂ w q h = nil ts (eqb-true (length ts) 0 q)
-    go false true w q h = let z : _≡_ {A = ℕ} 0 1 = cc in absurd (omega arith)
-    go false false Walk.Malformed q h = let z : _≡_ {A = ℕ} 0 1 = cc in absurd (omega arith)
-    go false false (Walk.Whole g) q h = let z : _≡_ {A = ℕ} 0 1 = cc in absurd (omega arith)
-
--- what a whole TLV says does not depend on what stands behind it
-label-append : (tlv : Tlv) (n : ℕ) (ts us : List ℕ) → lengthFits tlv n ≡ true → 4 + n ≤ length ts → labelIn tlv (ts ++ us) ≡ labelIn tlv ts
-label-append Tlv.Fec n ts us fits h = refl
-label-append Tlv.Label n ts us fits h = beAt-append 4 ts us 4 (omega (arith, eqb-true n 4 fits))
-label-append Tlv.Status n ts us fits h = refl
-label-append Tlv.Parameters n ts us fits h = refl
-label-append Tlv.Session n ts us fits h = refl
-label-append Tlv.Protection n ts us fits h = refl
-label-append Tlv.Ack n ts us fits h = refl
-label-append Tlv.Other n ts us fits h = refl
+use Rattle.tlv.proofs.Whole.{end-empty, head-append, label-append}
 
 noted-append : (f : Found) (tlv : Tlv) (n at : ℕ) (ts us : List ℕ) → 4 + n ≤ length ts → notedOf f tlv n at (ts ++ us) ≡ notedOf f tlv n at ts
 unfolding notedOf
 noted-append f tlv n at ts us h = go (lengthFits tlv n) refl
   where
     go : (b : Bool) → lengthFits tlv n ≡ b
-        → pick b (pick (eqb (placeOf f tlv) 0) (pick (ltb largestLabel (labelIn tlv (ts ++ us))) Walk.Malformed (Walk.Whole (placedOf f tlv at))) Walk.Malformed) Walk.Malformed
-        ≡ pick b (pick (eqb (placeOf f tlv) 0) (pick (ltb largestLabel (labelIn tlv ts)) Walk.Malformed (Walk.Whole (placedOf f tlv at))) Walk.Malformed) Walk.Malformed
+        → pick b (pick (eqb (placeOf f tlv) 0) (pick (ltb largestLabel (labelValue tlv (ts ++ us))) Walk.Malformed (Walk.Whole (placedOf f tlv at))) Walk.Malformed) Walk.Malformed
+        ≡ pick b (pick (eqb (placeOf f tlv) 0) (pick (ltb largestLabel (labelValue tlv ts)) Walk.Malformed (Walk.Whole (placedOf f tlv at))) Walk.Malformed) Walk.Malformed
     go true q = rw (label-append tlv n ts us q h)
     go false q = refl
 
--- the TLV that stands first is the same with more behind it
-pub head-append : (ts us : List ℕ) → 4 ≤ length ts → headOf (ts ++ us) ≡ headOf ts
-head-append ts us h = ap (λ (n : ℕ). tlvOf (n % 16384)) (beAt-append 2 ts us 0 (omega arith))
-
+-- the size of the TLV that stands first is the same with more behind it
 pub size-append : (ts us : List ℕ) → 4 ≤ length ts → sizeOf (ts ++ us) ≡ sizeOf ts
 size-append ts us h = ap (λ (n : ℕ). 4 + n) (beAt-append 2 ts us 2 (omega arith))
 

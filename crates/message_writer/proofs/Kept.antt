@@ -22,13 +22,14 @@ use Rattle.tlv.specs.Tlv.{tlvOf, headOf, sizeOf}
 use Rattle.tlv.specs.Walk.{noneFound, placeOf, placedOf, turnOf, Rest, leftOf, onTurn, walkOf}
 use Rattle.tlv.proofs.Places.{noted, Each, each-placed, walk-keeps, WholeTlvs, whole-tlvs}
 use Rattle.tlv.proofs.Turns.{Goes, goes, walkRest, walk-step}
+use Rattle.tlv.proofs.Whole.{end-empty, head-append}
 use Rattle.message.specs.declared.Message.{Message}
 use Rattle.message.specs.declared.Reading.{Reading}
 use Rattle.message.specs.Reading.{readingOf}
 use Rattle.message.proofs.Laws.{NoFt, whole}
 use Rattle.message_writer.specs.Forms.{raised, ftTlvs, protectedBytes}
 use Rattle.message_writer.specs.Payload.{isFt, keepStep, keptOf, payloadOf}
-use Rattle.message_writer.proofs.Append.{end-empty, head-append, size-append}
+use Rattle.message_writer.proofs.Append.{size-append}
 use Rattle.message_writer.proofs.Raised.{raised-tlvs, raised-front, raised-behind}
 
 shrinks : Shrinks length keepStep

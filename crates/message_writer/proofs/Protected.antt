@@ -19,7 +19,7 @@ use Rattle.tlv.specs.declared.Found.{Found}
 use Rattle.tlv.specs.declared.FtField.{FtField}
 use Rattle.tlv.specs.declared.walk.Tlv.{Tlv}
 use Rattle.tlv.specs.declared.walk.Walk.{Walk}
-use Rattle.tlv.specs.Tlv.{tlvOf, lengthFits, headOf, labelIn, protectionNumber, ackNumber}
+use Rattle.tlv.specs.Tlv.{tlvOf, lengthFits, headOf, labelValue, protectionType, ackType}
 use Rattle.tlv.specs.Value.{Within, Places, partAt, fecAt, fieldAt, numberAt, parametersAt, sessionAt}
 use Rattle.tlv.specs.Walk.{placeOf, placedOf, notedOf, turnOf, walkOf, headSize, tlvsOf}
 use Rattle.tlv.proofs.Places.{Each, Lies, found-lies, places}
@@ -40,7 +40,7 @@ walk-nil at f = walk-step at [] f
 
 -- a TLV of 32 bits that is listed, bears no label, and was not found before
 tlv-walk : (number : ℕ) (tlv : Tlv) (at v : ℕ) (f : Found) → headOf (tlvBytes number (bytes 4 v)) ≡ tlv → lengthFits tlv 4 ≡ true
-    → labelIn tlv (tlvBytes number (bytes 4 v)) ≡ 0 → placeOf f tlv ≡ 0 → walkOf at (tlvBytes number (bytes 4 v)) f ≡ Walk.Whole (placedOf f tlv at)
+    → labelValue tlv (tlvBytes number (bytes 4 v)) ≡ 0 → placeOf f tlv ≡ 0 → walkOf at (tlvBytes number (bytes 4 v)) f ≡ Walk.Whole (placedOf f tlv at)
 unfolding turnOf notedOf
 tlv-walk number tlv at v f is fits label once =
     walk-step at (tlvBytes number (bytes 4 v)) f ∙ simp (is, fits, eq-eqb (placeOf f tlv) 0 once, label) (walk-nil (at + 8) (placedOf f tlv at))
@@ -49,12 +49,12 @@ tlv-walk number tlv at v f is fits label once =
 ft-walk : (at : ℕ) (n : FtNumber) (ack : FtField) (f : Found) → NoFt f → walkOf at (ftTlvs n ack) f ≡ Walk.Whole (protectedPlaces f at ack)
 unfolding tlvOf
 ft-walk at n FtField.Absent f none =
-    tlv-walk protectionNumber Tlv.Protection at (n .0) f refl refl refl (none .protection)
+    tlv-walk protectionType Tlv.Protection at (n .0) f refl refl refl (none .protection)
     ∙ ap (λ (a : ℕ). Walk.Whole (ftPlaces f at a)) (none .ack)
 ft-walk at n (FtField.Number x) f none =
-    walk-append at (tlvBytes protectionNumber (bytes 4 (n .0))) (ackTlv (FtField.Number x)) f (placedOf f Tlv.Protection at)
-    (tlv-walk protectionNumber Tlv.Protection at (n .0) f refl refl refl (none .protection))
-    ∙ tlv-walk ackNumber Tlv.Ack (at + 8) (x .0) (placedOf f Tlv.Protection at) refl refl refl (none .ack)
+    walk-append at (tlvBytes protectionType (bytes 4 (n .0))) (ackTlv (FtField.Number x)) f (placedOf f Tlv.Protection at)
+    (tlv-walk protectionType Tlv.Protection at (n .0) f refl refl refl (none .protection))
+    ∙ tlv-walk ackType Tlv.Ack (at + 8) (x .0) (placedOf f Tlv.Protection at) refl refl refl (none .ack)
 
 -- what a place says is the same in two messages that agree behind the head of the first
 module _ (m t : List ℕ) (same : (w at : ℕ) → headSize ≤ at → at + w ≤ length m → beAt w t at ≡ beAt w m at) where

@@ -14,8 +14,8 @@ use Rattle.octets.proofs.Part.{length-withPart}
 use Rattle.ft_number.specs.declared.FtNumber.{FtNumber}
 use Rattle.ft_number.specs.declared.MessageId.{MessageId}
 use Rattle.tlv.specs.declared.FtField.{FtField}
-use Rattle.tlv.specs.Tlv.{protectionNumber}
-use Rattle.message.specs.Reading.{initializationNumber}
+use Rattle.tlv.specs.Tlv.{protectionType}
+use Rattle.message.specs.Reading.{initializationType}
 use Rattle.message_writer.specs.declared.OwnParameters.{OwnParameters}
 use Rattle.message_writer.specs.declared.Written.{Written}
 use Rattle.message_writer.specs.Forms.{tlvBytes, headBytes, parametersTlv, sessionTlv, initHead, ackTlv, raisedTo, raised, ftTlvs, protectedBytes}
@@ -59,10 +59,10 @@ module _ (s : List ℕ) where
       then-put l₆ 2 (p .space) 24 e₇ refl (omega arith) .is
 
   pub init-laid : (x₁ x₂ x₃ : List ℕ) (size : ℕ) (id : MessageId) (p : OwnParameters) (session : ℕ) → 34 ≤ length s
-      → x₁ ≡ laid s 0 (headBytes initializationNumber size (id .0)) → x₂ ≡ laid x₁ 8 (parametersTlv p) → x₃ ≡ laid x₂ 26 (sessionTlv session)
+      → x₁ ≡ laid s 0 (headBytes initializationType size (id .0)) → x₂ ≡ laid x₁ 8 (parametersTlv p) → x₃ ≡ laid x₂ 26 (sessionTlv session)
       → x₃ ≡ laid s 0 (initHead size id p session)
   init-laid x₁ x₂ x₃ size id p session h e₁ e₂ e₃ =
-      let l₁ = then-part (laid-start s 0 (omega arith)) (headBytes initializationNumber size (id .0)) 0 e₁ refl (omega arith) in
+      let l₁ = then-part (laid-start s 0 (omega arith)) (headBytes initializationType size (id .0)) 0 e₁ refl (omega arith) in
       let l₂ = then-part l₁ (parametersTlv p) 8 e₂ refl (omega arith) in
       then-part l₂ (sessionTlv session) 26 e₃ refl (omega arith) .is
 
@@ -88,13 +88,13 @@ module _ (s : List ℕ) where
         ∙ ap (λ (n : ℕ). raisedTo m size ++ drop (0 + n) s) (sym (length-raisedTo m head size))
 
     pub protected-laid : (x₁ x₂ x₃ : List ℕ) (size number : ℕ) → length m + 8 ≤ length s
-        → x₁ ≡ copied s 0 m → x₂ ≡ putBe 2 x₁ 2 size → x₃ ≡ laid x₂ (length m) (tlvBytes protectionNumber (bytes 4 number))
-        → x₃ ≡ laid s 0 (raisedTo m size ++ tlvBytes protectionNumber (bytes 4 number))
+        → x₁ ≡ copied s 0 m → x₂ ≡ putBe 2 x₁ 2 size → x₃ ≡ laid x₂ (length m) (tlvBytes protectionType (bytes 4 number))
+        → x₃ ≡ laid s 0 (raisedTo m size ++ tlvBytes protectionType (bytes 4 number))
     protected-laid x₁ x₂ x₃ size number h e₁ e₂ e₃ =
         let raisedq : x₂ ≡ laid s 0 (raisedTo m size) = raised-laid x₁ x₂ size (omega arith) (e₁ ∙ laid-copied s 0 m (omega arith)) e₂ in
         let long : length (raisedTo m size) ≡ length m = length-raisedTo m head size in
         let l : Laid s 0 (raisedTo m size) x₂ = record { is = raisedq; room = omega arith } in
-        then-part l (tlvBytes protectionNumber (bytes 4 number)) (length m) e₃ (omega arith) (omega arith) .is
+        then-part l (tlvBytes protectionType (bytes 4 number)) (length m) e₃ (omega arith) (omega arith) .is
 
     -- the two forms of a protected message, written
     pub protected-short : (n : FtNumber) (ack : FtField) (end : ℕ) → end ≡ length m + length (ftTlvs n ack) → length s < end
@@ -107,17 +107,17 @@ module _ (s : List ℕ) where
         let long : length (protectedBytes m n ack) ≡ length m + length (ftTlvs n ack) = length-raised m head (ftTlvs n ack) in
         written-whole s (protectedBytes m n ack) y e (omega arith) end (endq ∙ sym long)
 
-    pub protected-plain : (n : FtNumber) (x : List ℕ) → x ≡ laid s 0 (raisedTo m (length m + 8 - 4) ++ tlvBytes protectionNumber (bytes 4 (n .0)))
+    pub protected-plain : (n : FtNumber) (x : List ℕ) → x ≡ laid s 0 (raisedTo m (length m + 8 - 4) ++ tlvBytes protectionType (bytes 4 (n .0)))
         → x ≡ laid s 0 (protectedBytes m n FtField.Absent)
     unfolding raised
     protected-plain n x e = e
 
     pub protected-acked : (n a : FtNumber) (x y : List ℕ) → length m + 16 ≤ length s
-        → x ≡ laid s 0 (raisedTo m (length m + 16 - 4) ++ tlvBytes protectionNumber (bytes 4 (n .0)))
+        → x ≡ laid s 0 (raisedTo m (length m + 16 - 4) ++ tlvBytes protectionType (bytes 4 (n .0)))
         → y ≡ laid x (length m + 8) (ackTlv (FtField.Number a)) → y ≡ laid s 0 (protectedBytes m n (FtField.Number a))
     unfolding raised
     protected-acked n a x y h e₁ e₂ =
-        let t : List ℕ = tlvBytes protectionNumber (bytes 4 (n .0)) in
+        let t : List ℕ = tlvBytes protectionType (bytes 4 (n .0)) in
         let body : List ℕ = raisedTo m (length m + 16 - 4) in
         let long : length (body ++ t) ≡ length m + 8 = length-append body t ∙ ap (λ (k : ℕ). k + 8) (length-raisedTo m head (length m + 16 - 4)) in
         ack-laid (body ++ t) x y (length m + 8) a e₁ e₂ (sym long) (omega arith) ∙ ap (laid s 0) (append-assoc body t (ackTlv (FtField.Number a)))

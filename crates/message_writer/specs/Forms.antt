@@ -10,8 +10,8 @@ use Rattle.octets.specs.Part.{withPart}
 use Rattle.ft_number.specs.declared.FtNumber.{FtNumber}
 use Rattle.ft_number.specs.declared.MessageId.{MessageId}
 use Rattle.tlv.specs.declared.FtField.{FtField}
-use Rattle.tlv.specs.Tlv.{parametersNumber, sessionNumber, protectionNumber, ackNumber}
-use Rattle.message.specs.Reading.{initializationNumber, keepaliveNumber}
+use Rattle.tlv.specs.Tlv.{parametersType, sessionType, protectionType, ackType}
+use Rattle.message.specs.Reading.{initializationType, keepaliveType}
 use Rattle.message_writer.specs.declared.OwnParameters.{OwnParameters}
 
 -- a TLV: type (2), length of the value (2), value
@@ -28,12 +28,12 @@ messageBytes number id tlvs = headBytes number (4 + length tlvs) (id .0) ++ tlvs
 -- FT ACK where a number is given
 abbrev pub ackTlv : FtField → List ℕ
 ackTlv FtField.Absent = []
-ackTlv (FtField.Number a) = tlvBytes ackNumber (bytes 4 (a .0))
+ackTlv (FtField.Number a) = tlvBytes ackType (bytes 4 (a .0))
 
 -- protocol version 1 (2), KeepAlive time (2), the A and D bits (1), PVLim (1), maximum PDU length (2), receiver's LSR ID (4) and label space (2)
 abbrev pub parametersTlv : OwnParameters → List ℕ
 parametersTlv p =
-    tlvBytes parametersNumber
+    tlvBytes parametersType
     (bytes 2 1 ++ (bytes 2 (p .keepalive) ++ (bytes 1 0 ++ (bytes 1 0 ++ (bytes 2 (p .pdulength) ++ (bytes 4 (p .lsr) ++ bytes 2 (p .space)))))))
 
 -- the 32 bits of FT Session: the top bit is R, set where there is an ACK; the last 16 are the seconds
@@ -43,17 +43,17 @@ sessionValue (FtField.Number a) seconds = 0x80000000 + seconds
 
 -- FT Session, its U bit set
 abbrev pub sessionTlv : ℕ → List ℕ
-sessionTlv session = tlvBytes (0x8000 + sessionNumber) (bytes 4 session)
+sessionTlv session = tlvBytes (0x8000 + sessionType) (bytes 4 session)
 
 -- an Init up to its FT Session, with the length of the whole
 abbrev pub initHead : ℕ → MessageId → OwnParameters → ℕ → List ℕ
-initHead size id p session = headBytes initializationNumber size (id .0) ++ (parametersTlv p ++ sessionTlv session)
+initHead size id p session = headBytes initializationType size (id .0) ++ (parametersTlv p ++ sessionTlv session)
 
 abbrev pub initBytes : MessageId → OwnParameters → ℕ → FtField → List ℕ
-initBytes id p seconds ack = messageBytes initializationNumber id (parametersTlv p ++ (sessionTlv (sessionValue ack seconds) ++ ackTlv ack))
+initBytes id p seconds ack = messageBytes initializationType id (parametersTlv p ++ (sessionTlv (sessionValue ack seconds) ++ ackTlv ack))
 
 abbrev pub keepaliveBytes : MessageId → FtField → List ℕ
-keepaliveBytes id ack = messageBytes keepaliveNumber id (ackTlv ack)
+keepaliveBytes id ack = messageBytes keepaliveType id (ackTlv ack)
 
 -- the message m with another number in its length
 abbrev pub raisedTo : List ℕ → ℕ → List ℕ
@@ -65,7 +65,7 @@ raised m tlvs = raisedTo m (length m + length tlvs - 4) ++ tlvs
 
 -- FT Protection, then FT ACK
 abbrev pub ftTlvs : FtNumber → FtField → List ℕ
-ftTlvs n ack = tlvBytes protectionNumber (bytes 4 (n .0)) ++ ackTlv ack
+ftTlvs n ack = tlvBytes protectionType (bytes 4 (n .0)) ++ ackTlv ack
 
 abbrev pub protectedBytes : List ℕ → FtNumber → FtField → List ℕ
 protectedBytes m n ack = raised m (ftTlvs n ack)

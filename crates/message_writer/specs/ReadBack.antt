@@ -14,7 +14,7 @@ use Rattle.tlv.specs.declared.walk.Tlv.{Tlv}
 use Rattle.tlv.specs.Walk.{noneFound, placedOf, headSize}
 use Rattle.message.specs.declared.Message.{Message}
 use Rattle.message.specs.declared.MessageType.{MessageType}
-use Rattle.message.specs.Reading.{initializationNumber, keepaliveNumber}
+use Rattle.message.specs.Reading.{initializationType, keepaliveType}
 use Rattle.message_writer.specs.declared.OwnParameters.{OwnParameters}
 
 -- an ACK that is given has 32 bits
@@ -91,10 +91,10 @@ reconnects (FtField.Number a) = true
 
 abbrev pub initMessage : MessageId → OwnParameters → ℕ → FtField → Message
 initMessage id p seconds ack =
-    ownMessage MessageType.Initialization initializationNumber id
+    ownMessage MessageType.Initialization initializationType id
     (ackPlaces (placedOf (placedOf noneFound Tlv.Parameters headSize) Tlv.Session 26) 34 ack)
     (Parameters.Given (p .keepalive) (p .pdulength)) (record { start = 12; end = 26 }) (Session.Given (reconnects ack) seconds) ack
 
 abbrev pub keepaliveMessage : MessageId → FtField → Message
 keepaliveMessage id ack =
-    ownMessage MessageType.KeepAlive keepaliveNumber id (ackPlaces noneFound headSize ack) Parameters.Absent (record { start = 0; end = 0 }) Session.Absent ack
+    ownMessage MessageType.KeepAlive keepaliveType id (ackPlaces noneFound headSize ack) Parameters.Absent (record { start = 0; end = 0 }) Session.Absent ack

@@ -7,6 +7,11 @@ use Rattle.octets.specs.Part.{overlaid}
 use Rattle.octets.specs.Pick.{pick}
 use Rattle.message_writer.specs.declared.Written.{Written}
 
+-- the answer's number
+abbrev pub writtenNumber : Written → ℕ
+writtenNumber (Written.Bytes n) = 0
+writtenNumber Written.TooShort = 9
+
 -- the answer and the output after the message p is written to `out`; exact room is enough
 unfoldable pub writtenOf : List ℕ → List ℕ → Written × List ℕ
 writtenOf out p = pick (ltb (length out) (length p)) (Written.TooShort, out) (Written.Bytes (length p), overlaid out p)

@@ -5,7 +5,7 @@ ghost use mathlib.Core.Path.{_≡_};
 ghost use lib.ListN.{length};
 ghost use Rattle.octets.specs.Be.{bytes};
 ghost use Rattle.octets.specs.Part.{laid};
-ghost use Rattle.tlv.specs.Tlv.{protectionNumber};
+ghost use Rattle.tlv.specs.Tlv.{protectionType};
 ghost use Rattle.message_writer.specs.Forms.{tlvBytes, headBytes, parametersTlv, initHead, initBytes, keepaliveBytes, raisedTo, protectedBytes};
 ghost use Rattle.message_writer.specs.Written.{writtenOf};
 use ft_number::FtNumber;
@@ -126,7 +126,7 @@ pub fn write_keepalive(out: &mut [u8], id: MessageId, ack: FtField) -> Written
 // Writes a message with its length raised by the bytes added behind it, and FT Protection there.
 fn put_protected(out: &mut [u8], m: &[u8], added: usize, number: u32)
     requires { ⌜ (8 ≤ length (now m)) × ((length (now m) ≤ 480) × ((added ≤ 16) × (length (now m) + 8 ≤ length (now out)))) ⌝ }
-    ensures { λ _. ⌜ now (out .exit) ≡ laid (now (out .entry)) 0 (raisedTo (now (m .entry)) (length (now (m .entry)) + added - 4) ++ tlvBytes protectionNumber (bytes 4 number)) ⌝ }
+    ensures { λ _. ⌜ now (out .exit) ≡ laid (now (out .entry)) 0 (raisedTo (now (m .entry)) (length (now (m .entry)) + added - 4) ++ tlvBytes protectionType (bytes 4 number)) ⌝ }
 {
     octets::copy_to(out, 0, m);
     octets::put_u16(out, 2, (m.len() + added - 4) as u16);

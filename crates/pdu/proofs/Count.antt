@@ -11,28 +11,28 @@ use Rattle.octets.specs.Pick.{pick}
 use Rattle.octets.proofs.Fix.{Shrinks, fix-step}
 use Rattle.pdu.specs.declared.Opened.{Opened}
 use Rattle.pdu.specs.declared.Place.{Place}
-use Rattle.pdu.specs.Pdu.{placeOf, onPlace, countStep, bytesLeft, countedFrom, openedOf}
+use Rattle.pdu.specs.Pdu.{messagePlace, onPlace, countStep, bytesLeft, countedFrom, openedOf}
 use Rattle.pdu.proofs.Message.{Within, place-within}
 
 -- a turn asks only of what lies past a message
 turn-shrinks : (pdu : List ℕ) → Shrinks (bytesLeft pdu) (countStep pdu)
-turn-shrinks pdu g h spot same = simp (go (placeOf pdu (spot .at)) refl)
+turn-shrinks pdu g h spot same = simp (go (messagePlace pdu (spot .at)) refl)
   where
-    go : (p : Place) → placeOf pdu (spot .at) ≡ p → onPlace g (spot .count) p ≡ onPlace h (spot .count) p
+    go : (p : Place) → messagePlace pdu (spot .at) ≡ p → onPlace g (spot .count) p ≡ onPlace h (spot .count) p
     go (Place.Message start end) q =
         let w : Within pdu (spot .at) start end = place-within pdu (spot .at) start end q in
         same (record { at = end; count = spot .count + 1 }) (omega arith)
     go Place.None q = refl
 
 pub count-turn : (pdu : List ℕ) (at count : ℕ) → countedFrom pdu at count
-    ≡ pick (eqb at (length pdu)) (Opened.Whole count) (onPlace (λ s. countedFrom pdu (s .at) (s .count)) count (placeOf pdu at))
+    ≡ pick (eqb at (length pdu)) (Opened.Whole count) (onPlace (λ s. countedFrom pdu (s .at) (s .count)) count (messagePlace pdu at))
 unfolding countedFrom
 count-turn pdu at count = fix-step (bytesLeft pdu) (countStep pdu) Opened.Malformed (turn-shrinks pdu) (record { at = at; count = count })
 
 pub count-end : (pdu : List ℕ) (at count : ℕ) → at ≡ length pdu → countedFrom pdu at count ≡ Opened.Whole count
 count-end pdu at count e = count-turn pdu at count ∙ simp (eq-eqb at (length pdu) e)
 
-module _ (pdu : List ℕ) (at count : ℕ) (more : at ≡ length pdu → ⊥) (place : Place) (found : place ≡ placeOf pdu at) where
+module _ (pdu : List ℕ) (at count : ℕ) (more : at ≡ length pdu → ⊥) (place : Place) (found : place ≡ messagePlace pdu at) where
   pub count-next : (start end : ℕ) → place ≡ Place.Message start end → countedFrom pdu at count ≡ countedFrom pdu end (count + 1)
   count-next start end e = count-turn pdu at count ∙ simp (ne-eqb at (length pdu) more, sym found ∙ e)
 

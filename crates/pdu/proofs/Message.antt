@@ -10,7 +10,7 @@ use borrow.Author.Tests.{ltb-false, lt-ltb, le-ltb}
 use Rattle.octets.specs.Be.{beAt}
 use Rattle.octets.specs.Pick.{pick}
 use Rattle.pdu.specs.declared.Place.{Place}
-use Rattle.pdu.specs.Pdu.{placeOf}
+use Rattle.pdu.specs.Pdu.{messagePlace}
 
 -- where a message lies that was found, and what its length says
 pub record Within (pdu : List ℕ) (at start end : ℕ) : Type 0 where
@@ -33,31 +33,31 @@ module _ (pdu : List ℕ) (at start end : ℕ) where
       let room : at + 4 + beAt 2 pdu (at + 2) ≤ length pdu = ltb-false (length pdu) (at + 4 + beAt 2 pdu (at + 2)) q in
       record { starts = cc; ends = cc; least = omega arith; inside = omega arith }
 
-  pub place-within : placeOf pdu at ≡ Place.Message start end → Within pdu at start end
-  unfolding placeOf
+  pub place-within : messagePlace pdu at ≡ Place.Message start end → Within pdu at start end
+  unfolding messagePlace
   place-within e =
       cases (ltb (length pdu) (at + 4)) (ltb (beAt 2 pdu (at + 2)) 4) (ltb (length pdu) (at + 4 + beAt 2 pdu (at + 2))) refl refl e
 
 -- no room for a type and a length
-pub place-past : (pdu : List ℕ) (at : ℕ) → length pdu < at + 4 → Place.None ≡ placeOf pdu at
-unfolding placeOf
+pub place-past : (pdu : List ℕ) (at : ℕ) → length pdu < at + 4 → Place.None ≡ messagePlace pdu at
+unfolding messagePlace
 place-past pdu at h = simp (lt-ltb (length pdu) (at + 4) h)
 
-pub place-short : (pdu : List ℕ) (at : ℕ) → length pdu < 4 → Place.None ≡ placeOf pdu at
+pub place-short : (pdu : List ℕ) (at : ℕ) → length pdu < 4 → Place.None ≡ messagePlace pdu at
 place-short pdu at h = place-past pdu at (omega arith)
 
-pub place-late : (pdu : List ℕ) (at : ℕ) → 4 ≤ length pdu → length pdu - 4 < at → Place.None ≡ placeOf pdu at
+pub place-late : (pdu : List ℕ) (at : ℕ) → 4 ≤ length pdu → length pdu - 4 < at → Place.None ≡ messagePlace pdu at
 place-late pdu at h k = place-past pdu at (omega arith)
 
 -- no message ID
-pub place-small : (pdu : List ℕ) (at n : ℕ) → 4 ≤ length pdu → at ≤ length pdu - 4 → n ≡ beAt 2 pdu (at + 2) → n < 4 → Place.None ≡ placeOf pdu at
-unfolding placeOf
+pub place-small : (pdu : List ℕ) (at n : ℕ) → 4 ≤ length pdu → at ≤ length pdu - 4 → n ≡ beAt 2 pdu (at + 2) → n < 4 → Place.None ≡ messagePlace pdu at
+unfolding messagePlace
 place-small pdu at n h k e l = simp (le-ltb (length pdu) (at + 4) (omega arith), lt-ltb (beAt 2 pdu (at + 2)) 4 (omega arith))
 
 -- fewer bytes than its length says
 pub place-cut : (pdu : List ℕ) (at n : ℕ) → 4 ≤ length pdu → at ≤ length pdu - 4 → n ≡ beAt 2 pdu (at + 2) → 4 ≤ n → length pdu - 4 - at < n
-    → Place.None ≡ placeOf pdu at
-unfolding placeOf
+    → Place.None ≡ messagePlace pdu at
+unfolding messagePlace
 place-cut pdu at n h k e l m =
     simp (
       le-ltb (length pdu) (at + 4) (omega arith),
@@ -66,8 +66,8 @@ place-cut pdu at n h k e l m =
     )
 
 pub place-whole : (pdu : List ℕ) (at n : ℕ) → 4 ≤ length pdu → at ≤ length pdu - 4 → n ≡ beAt 2 pdu (at + 2) → 4 ≤ n → n ≤ length pdu - 4 - at
-    → Place.Message at (at + 4 + n) ≡ placeOf pdu at
-unfolding placeOf
+    → Place.Message at (at + 4 + n) ≡ messagePlace pdu at
+unfolding messagePlace
 place-whole pdu at n h k e l m =
     simp (
       e,

@@ -1,6 +1,6 @@
 -- A PDU is taken exactly where it is a head and whole messages, and these are what is handed out: nothing is skipped or shown twice. Assumes nothing.
 use Prim.Native.Nat.{ℕ, suc, _+_, _-_, _≤_, _<_}
-use mathlib.Core.Bool.{Bool, true, false}
+use mathlib.Core.Bool.{Bool, true, false, not}
 use mathlib.Core.List.{List, [], _∷_, _++_, flatten}
 use mathlib.Core.Path.{_≡_, refl, sym, ap, _∙_}
 use native.Mathlib.Nat.{add-zero, sub-zero}
@@ -17,7 +17,7 @@ use Rattle.octets.proofs.Fix.{size-ind}
 use Rattle.octets.proofs.Part.{length-part}
 use Rattle.pdu.specs.declared.Opened.{Opened}
 use Rattle.pdu.specs.declared.Place.{Place}
-use Rattle.pdu.specs.Pdu.{placeOf, messageOf, countedFrom, openedOf}
+use Rattle.pdu.specs.Pdu.{messagePlace, placeBytes, countedFrom, openedOf}
 use Rattle.pdu.specs.Split.{handedOut, thenFrom, IsMessage, AreMessages, none, one, IsPdu}
 use Rattle.pdu.proofs.Count.{count-end, count-next, count-none, opened-counted}
 use Rattle.pdu.proofs.Message.{Within, place-within, place-whole}
@@ -37,7 +37,7 @@ found-whole pdu at start end w =
     record { head = omega arith; adds = omega arith }
 
 -- one message more before those that reach to the end
-reach-more : (pdu : List ℕ) (at start end k : ℕ) → placeOf pdu at ≡ Place.Message start end → Reach pdu end k → Reach pdu at (suc k)
+reach-more : (pdu : List ℕ) (at start end k : ℕ) → messagePlace pdu at ≡ Place.Message start end → Reach pdu end k → Reach pdu at (suc k)
 unfolding flatten
 reach-more pdu at start end k e r =
     let w : Within pdu at start end = place-within pdu at start end e in
@@ -61,15 +61,15 @@ module _ (pdu : List ℕ) (n : ℕ) where
   counted-turn : (at : ℕ) → ((to : ℕ) → length pdu - to < length pdu - at → Counted to) → Counted at
   counted-turn at shorter count e inside = ended (eqb at (length pdu)) refl
     where
-      found : (p : Place) → (at ≡ length pdu → ⊥) → placeOf pdu at ≡ p → (count ≤ n) × Reach pdu at (n - count)
+      found : (p : Place) → (at ≡ length pdu → ⊥) → messagePlace pdu at ≡ p → (count ≤ n) × Reach pdu at (n - count)
       found (Place.Message start end) more q =
           let w : Within pdu at start end = place-within pdu at start end q in
-          let next : countedFrom pdu end (count + 1) ≡ Opened.Whole n = sym (count-next pdu at count more (placeOf pdu at) refl start end q) ∙ e in
+          let next : countedFrom pdu end (count + 1) ≡ Opened.Whole n = sym (count-next pdu at count more (messagePlace pdu at) refl start end q) ∙ e in
           let r = shorter end (omega arith) (count + 1) next (w .inside) in
           let k : n - count ≡ suc (n - (count + 1)) = omega (arith, r .0) in
           (omega (arith, r .0), rw k (reach-more pdu at start end (n - (count + 1)) q (r .1)))
       found Place.None more q =
-          let z : Opened.Malformed ≡ Opened.Whole n = sym (count-none pdu at count more (placeOf pdu at) refl q) ∙ e in
+          let z : Opened.Malformed ≡ Opened.Whole n = sym (count-none pdu at count more (messagePlace pdu at) refl q) ∙ e in
           let y : _≡_ {A = ℕ} 0 1 = cc in absurd (omega arith)
 
       ended : (b : Bool) → eqb at (length pdu) ≡ b → (count ≤ n) × Reach pdu at (n - count)
@@ -79,7 +79,7 @@ module _ (pdu : List ℕ) (n : ℕ) where
           let k : count ≡ n = cc in
           let z : n - count ≡ 0 = omega arith in
           (omega arith, rw (z, here) (reach-end pdu))
-      ended false q = found (placeOf pdu at) (eqb-false at (length pdu) q) refl
+      ended false q = found (messagePlace pdu at) (eqb-false at (length pdu) q) refl
 
   counted-reach : (at : ℕ) → Counted at
   counted-reach = size-ind (λ at. length pdu - at) Counted counted-turn
@@ -93,7 +93,7 @@ record Passed (pdu : List ℕ) (n : ℕ) : Type 0 where
 
 module _ (pdu : List ℕ) (n : ℕ) where
   passed-cases : (a b c : Bool) → ltb (length pdu) 10 ≡ a → eqb (beAt 2 pdu 0) 1 ≡ b → eqb (beAt 2 pdu 2 + 4) (length pdu) ≡ c
-      → pick a Opened.Malformed (pick b (pick c (countedFrom pdu 10 0) Opened.Malformed) Opened.Malformed) ≡ Opened.Whole n
+      → pick a Opened.Malformed (pick (not b) Opened.Malformed (pick (not c) Opened.Malformed (countedFrom pdu 10 0))) ≡ Opened.Whole n
       → Passed pdu n
   passed-cases true b c p q s e = let z : _≡_ {A = ℕ} 0 1 = cc in absurd (omega arith)
   passed-cases false false c p q s e = let z : _≡_ {A = ℕ} 0 1 = cc in absurd (omega arith)
@@ -125,7 +125,7 @@ module _ (pdu : List ℕ) (n : ℕ) where
       )
 
 -- a whole message that lies at `at` is found there
-message-found : (pdu m rest : List ℕ) (at : ℕ) → IsMessage m → m ++ rest ≡ drop at pdu → Place.Message at (at + length m) ≡ placeOf pdu at
+message-found : (pdu m rest : List ℕ) (at : ℕ) → IsMessage m → m ++ rest ≡ drop at pdu → Place.Message at (at + length m) ≡ messagePlace pdu at
 message-found pdu m rest at w e =
     let size : length m + length rest ≡ length pdu - at = sym (length-append m rest) ∙ ap length e ∙ length-drop at pdu in
     let field : beAt 2 m 2 ≡ beAt 2 pdu (at + 2) = beAt-same 2 m pdu 2 (at + 2) (λ k h.
@@ -146,13 +146,13 @@ messages-counted pdu [] at count none e inside =
 messages-counted pdu (m ∷ ms) at count (one w ws) e inside =
     let size : length m + length (flatten ms) ≡ length pdu - at = sym (length-append m (flatten ms)) ∙ ap length e ∙ length-drop at pdu in
     let more : (at ≡ length pdu → ⊥) = λ h. omega (arith, w .head) in
-    let place : Place.Message at (at + length m) ≡ placeOf pdu at = message-found pdu m (flatten ms) at w e in
+    let place : Place.Message at (at + length m) ≡ messagePlace pdu at = message-found pdu m (flatten ms) at w e in
     let rest : flatten ms ≡ drop (at + length m) pdu =
     sym (drop-at m (flatten ms) (length m) refl) ∙ ap (drop (length m)) e ∙ drop-drop (length m) at pdu in
     let r = messages-counted pdu ms (at + length m) (count + 1) ws rest (omega arith) in
     let total : count + 1 + length ms ≡ count + suc (length ms) = omega arith in
     let wide : at + length m - at ≡ length m = omega arith in (
-      count-next pdu at count more (placeOf pdu at) refl at (at + length m) (sym place) ∙ r .0 ∙ ap Opened.Whole total,
+      count-next pdu at count more (messagePlace pdu at) refl at (at + length m) (sym place) ∙ r .0 ∙ ap Opened.Whole total,
       rw (← place, wide, ← e, take-at m (flatten ms) (length m) refl, r .1) refl,
     )
 
@@ -175,12 +175,12 @@ pub record Next (pdu : List ℕ) (at k : ℕ) (m : List ℕ) : Type 0 where
   pub rest : Reach pdu (at + length m) k
 
 -- what a caller knows that hands the messages out one by one
-pub reach-next : (pdu : List ℕ) (at k : ℕ) → Reach pdu at (suc k) → Next pdu at k (messageOf pdu (placeOf pdu at))
+pub reach-next : (pdu : List ℕ) (at k : ℕ) → Reach pdu at (suc k) → Next pdu at k (placeBytes pdu (messagePlace pdu at))
 unfolding flatten
-reach-next pdu at k r = go (placeOf pdu at) refl (r .whole) (r .count) (r .joined)
+reach-next pdu at k r = go (messagePlace pdu at) refl (r .whole) (r .count) (r .joined)
   where
-    go : (p : Place) → placeOf pdu at ≡ p → AreMessages (thenFrom pdu (handedOut pdu k) p) → length (thenFrom pdu (handedOut pdu k) p) ≡ suc k
-        → flatten (thenFrom pdu (handedOut pdu k) p) ≡ drop at pdu → Next pdu at k (messageOf pdu p)
+    go : (p : Place) → messagePlace pdu at ≡ p → AreMessages (thenFrom pdu (handedOut pdu k) p) → length (thenFrom pdu (handedOut pdu k) p) ≡ suc k
+        → flatten (thenFrom pdu (handedOut pdu k) p) ≡ drop at pdu → Next pdu at k (placeBytes pdu p)
     go Place.None q ms n j = absurd (omega arith)
     go (Place.Message start end) q (one w ws) n j =
         let l : Within pdu at start end = place-within pdu at start end q in

@@ -6,7 +6,7 @@ use lib.ListN.{length, take}
 use Rattle.octets.specs.Be.{beAt}
 use Rattle.octets.specs.Part.{part}
 use Rattle.pdu.specs.declared.Place.{Place}
-use Rattle.pdu.specs.Pdu.{placeOf}
+use Rattle.pdu.specs.Pdu.{messagePlace}
 
 -- the message at a place, and then what `rest` says of where it ends; nothing where there is no message
 abbrev pub thenFrom : List ℕ → (ℕ → List (List ℕ)) → Place → List (List ℕ)
@@ -16,7 +16,7 @@ thenFrom pdu rest Place.None = []
 -- k messages from `at` on, as they are handed out: the one that starts at `at`, then those from its end on
 abbrev pub handedOut : List ℕ → ℕ → ℕ → List (List ℕ)
 handedOut pdu zero at = []
-handedOut pdu (suc k) at = thenFrom pdu (handedOut pdu k) (placeOf pdu at)
+handedOut pdu (suc k) at = thenFrom pdu (handedOut pdu k) (messagePlace pdu at)
 
 -- "Message: U bit and type (2), length (2, bytes after it), message ID (4), TLVs"
 pub record IsMessage (m : List ℕ) : Type 0 where

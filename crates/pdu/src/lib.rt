@@ -2,7 +2,7 @@
 ghost use Prim.Native.Nat.{_+_, _≤_, _<_};
 ghost use mathlib.Core.Path.{_≡_};
 ghost use lib.ListN.{length};
-ghost use Rattle.pdu.specs.Pdu.{placeOf, messageOf, startOf, countedFrom, openedOf};
+ghost use Rattle.pdu.specs.Pdu.{messagePlace, placeBytes, messageStart, countedFrom, openedOf};
 
 // What a whole PDU is: one that splits into so many messages, or malformed.
 pub enum Opened {
@@ -59,7 +59,7 @@ fn count_messages(pdu: &[u8]) -> Opened
 
 // Where the message lies that starts at `at`, if one does; no other byte of the PDU is looked at.
 pub fn message_at(pdu: &[u8], at: usize) -> Place
-    ensures { λ r. ⌜ r ≡ placeOf (now (pdu .entry)) at ⌝ }
+    ensures { λ r. ⌜ r ≡ messagePlace (now (pdu .entry)) at ⌝ }
 {
     if pdu.len() < 4 {
         return Place::None;
@@ -79,8 +79,8 @@ pub fn message_at(pdu: &[u8], at: usize) -> Place
 
 // The message that starts at `at`, as that very part of the PDU; the empty part at the PDU's start where none does.
 pub fn message_part(pdu: &[u8], at: usize) -> &[u8]
-    ensures bytes { λ r. ⌜ now r ≡ messageOf (now (pdu .entry)) (placeOf (now (pdu .entry)) at) ⌝ }
-    ensures place { λ r. ⌜ (r .ptr .0 ≡ pdu .entry .ptr .0) × (r .ptr .1 ≡ startOf (placeOf (now (pdu .entry)) at) + pdu .entry .ptr .1) ⌝ }
+    ensures bytes { λ r. ⌜ now r ≡ placeBytes (now (pdu .entry)) (messagePlace (now (pdu .entry)) at) ⌝ }
+    ensures place { λ r. ⌜ (r .ptr .0 ≡ pdu .entry .ptr .0) × (r .ptr .1 ≡ messageStart (messagePlace (now (pdu .entry)) at) + pdu .entry .ptr .1) ⌝ }
 {
     match message_at(pdu, at) {
         Place::Message(start, end) => &pdu[start..end],

@@ -1,13 +1,12 @@
 -- What every call leaves by the number of its answer, and what each answers. Assumes nothing.
 use Prim.Native.Nat.{ℕ, _≤_, _<_}
-use mathlib.Core.Bool.{true, false, not}
+use mathlib.Core.Bool.{true, false}
 use mathlib.Core.List.{List, []}
 use mathlib.Core.Logic.{_≢_}
 use mathlib.Core.Path.{_≡_, refl, sym, ap, _∙_}
 use native.Mathlib.Omega.{arith}
 use lib.Dec.{ltb}
 use borrow.Author.Tests.{ltb-true, ltb-false, ne-eqb}
-use Rattle.octets.specs.Pick.{pick}
 use Rattle.octets.proofs.Choice.{by-test, no}
 use Rattle.message.specs.Reading.{readingOf}
 use Rattle.protocol.specs.declared.Answer.{Answer}
@@ -23,7 +22,7 @@ use Rattle.protocol.specs.Phases.{phaseFits, awaits}
 use Rattle.protocol.specs.Proper.{Proper}
 use Rattle.protocol.specs.Receive.{receiveRule, takenAs, receive}
 use Rattle.protocol.specs.State.{State, held, withTable}
-use Rattle.protocol.specs.Step.{Step, stepped, unchanged, failedWith, releasedWith, admitted, settle}
+use Rattle.protocol.specs.Step.{Step, stepped, unchanged, failedWith, releasedWith, admitted, settle, whereOpen}
 use Rattle.protocol.specs.Submit.{submitRule, submitted, submit}
 use Rattle.protocol.proofs.Effects.{effect-nothing, effect-fail, effect-release}
 use Rattle.protocol.proofs.Hearing.{harmless}
@@ -113,9 +112,9 @@ module _ (s : State) (ph : Phase) (m : List ℕ) where
   begun = stepped Answer.Done (startState s (initStart s ph m)) (startPhase ph (initStart s ph m)) []
 
   own : Answer
-  own = pick (not (awaits ph)) Answer.WrongPhase (startAnswer (initStart s ph m))
+  own = whereOpen (awaits ph) (startAnswer (initStart s ph m))
 
-  pub init-says : initReceived s ph m .answer ≡ admitted s ph (pick (not (awaits ph)) Answer.WrongPhase (startAnswer (initStart s ph m)))
+  pub init-says : initReceived s ph m .answer ≡ admitted s ph (whereOpen (awaits ph) (startAnswer (initStart s ph m)))
   unfolding initReceived begun own
   init-says = settle-answer (admitted s ph own) s ph begun refl
 

@@ -8,7 +8,7 @@ use Rattle.label_list.specs.declared.SweepRule.the-variants.{AfterBreak}
 use Rattle.label_list.specs.Sweep.{sweptOf}
 use Rattle.label_list.specs.Valid.{validOf}
 use Rattle.label_list.specs.Word.{wordCount}
-use Rattle.label_meaning.specs.Event.{Event, Accepted, Acked, Received, Broken, step as event}
+use Rattle.label_meaning.specs.Event.{LabelEvent, Accepted, Acked, Received, Broken, afterEvent}
 use Rattle.label_meaning.proofs.Kept.{step-length}
 use Rattle.label_meaning.proofs.Step.{step-valid}
 use Rattle.message.specs.declared.Submission.{Submission}
@@ -26,11 +26,11 @@ pub none-words : WordsValid (noTable .words)
 none-words = (refl, none-valid)
 
 -- what happens to the words is one event of the list after another
-event-keeps : (ls : List ℕ) (e : Event) → WordsValid ls → WordsValid (event ls e)
+event-keeps : (ls : List ℕ) (e : LabelEvent) → WordsValid ls → WordsValid (afterEvent ls e)
 event-keeps ls e v = (step-length ls e ∙ v .0, step-valid ls e (v .1))
 
 pub broken-words : (ls : List ℕ) → WordsValid ls → WordsValid (sweptOf ls AfterBreak)
-unfolding event
+unfolding afterEvent
 broken-words ls v = event-keeps ls Broken v
 
 -- released by an ACK
@@ -43,6 +43,6 @@ accepted-words ls v j = accepted-keeps WordsValid ls v (λ message label. event-
 
 -- received: a message is one event, or none
 pub effect-words : (ls : List ℕ) (p : Bool) (e : LabelEffect) → WordsValid ls → WordsValid (effectLabels ls p e)
-unfolding event
+unfolding afterEvent
 effect-words ls p LabelEffect.Nothing v = v
 effect-words ls p (LabelEffect.Change m t) v = event-keeps ls (Received m p t) v

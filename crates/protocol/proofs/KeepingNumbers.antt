@@ -6,17 +6,17 @@ use native.Mathlib.Numerals.{add-one}
 use native.Mathlib.Omega.{arith}
 use lib.Dec.{ltb}
 use lib.ListN.{length-drop}
-use borrow.Author.Tests.{le-leb}
+use borrow.Author.Tests.{le-ltb}
 use Rattle.octets.specs.Pick.{pick}
 use Rattle.ft_number.specs.declared.Ack.{Ack}
 use Rattle.ft_number.specs.declared.Steps.the-variants.{Count}
 use Rattle.ft_number.specs.Ack.{ackOf}
-use Rattle.ft_number.specs.Circle.{next, after as successors, stepsOf}
+use Rattle.ft_number.specs.Circle.{next, after, stepsOf}
 use Rattle.ft_number.proofs.Circle.{after-none, after-suc, after-add, after-small, steps-after, steps-reach, steps-rest, Acknowledged, ack-releases}
 use Rattle.protocol.specs.Acked.{acked}
 use Rattle.protocol.specs.Lawful.{Window, Lawful}
 use Rattle.protocol.specs.Phases.{issuedCount}
-use Rattle.protocol.specs.Send.{numberAt, numbered, sentState}
+use Rattle.protocol.specs.Send.{queueNumber, numbered, sentState}
 use Rattle.protocol.specs.State.{State, held, capacity}
 
 -- ---- what is issued
@@ -62,26 +62,26 @@ pub ack-again : (s : State) → s .released .0 < 4294967296 → Window s → ack
 unfolding ackOf
 ack-again s lr w =
     let none : stepsOf (s .released .0) (s .released .0) ≡ Count 0 = rw (after-none (s .released .0)) at (steps-after (s .released .0) 0 (omega arith) (omega arith)) in
-    rw (none, w .reaches, le-leb 0 (w .steps) (omega arith))
+    rw (none, w .reaches, le-ltb (w .steps) 0 (omega arith))
 
 -- ---- a message that is numbered
-pub number-fits : (s : State) (sent : ℕ) → numberAt s sent .0 < 4294967296
-unfolding numberAt
+pub number-fits : (s : State) (sent : ℕ) → queueNumber s sent .0 < 4294967296
+unfolding queueNumber
 number-fits s sent = omega (arith, after-small sent (s .released .0))
 
 -- the first message that has no number gets the number after I
-pub number-next : (s : State) → Lawful s → (sent : ℕ) → sent ≡ issuedCount s → numberAt s sent .0 ≡ next (s .issued .0)
-unfolding numberAt
+pub number-next : (s : State) → Lawful s → (sent : ℕ) → sent ≡ issuedCount s → queueNumber s sent .0 ≡ next (s .issued .0)
+unfolding queueNumber
 number-next s law sent e =
-    let reached : successors (issuedCount s) (s .released .0) ≡ s .issued .0 =
+    let reached : after (issuedCount s) (s .released .0) ≡ s .issued .0 =
     rw (window-count s (law .window))
     (steps-reach (s .released .0) (s .issued .0) (law .window .steps) (omega (arith, law .released)) (omega (arith, law .issued)) (law .window .reaches)) in
     rw (add-one sent, after-suc sent, e, reached)
 
 -- then it is the last that has one
 module _ (s : State) (lr : s .released .0 < 4294967296) (sent : ℕ) (few : sent < capacity) where
-  steps-numbered : stepsOf (s .released .0) (numberAt s sent .0) ≡ Count (sent + 1)
-  unfolding numberAt
+  steps-numbered : stepsOf (s .released .0) (queueNumber s sent .0) ≡ Count (sent + 1)
+  unfolding queueNumber
   steps-numbered = steps-after (s .released .0) (sent + 1) (omega arith) (omega arith)
 
   pub numbered-issued : issuedCount (numbered s sent) ≡ sent + 1
@@ -94,19 +94,19 @@ module _ (s : State) (lr : s .released .0 < 4294967296) (sent : ℕ) (few : sent
 
 -- ---- no message's number changes
 -- as older ones are released
-pub number-kept : (s : State) (k place : ℕ) → numberAt (acked s k (successors k (s .released .0))) place ≡ numberAt s (k + place)
-unfolding numberAt acked
+pub number-kept : (s : State) (k place : ℕ) → queueNumber (acked s k (after k (s .released .0))) place ≡ queueNumber s (k + place)
+unfolding queueNumber acked
 number-kept s k place =
     let e : place + 1 + k ≡ k + place + 1 = omega arith in
-    let f : successors (place + 1) (successors k (s .released .0)) ≡ successors (k + place + 1) (s .released .0) =
-    sym (after-add (place + 1) k (s .released .0)) ∙ ap (λ (x : ℕ). successors x (s .released .0)) e in
+    let f : after (place + 1) (after k (s .released .0)) ≡ after (k + place + 1) (s .released .0) =
+    sym (after-add (place + 1) k (s .released .0)) ∙ ap (λ (x : ℕ). after x (s .released .0)) e in
     λ i. record { 0 = f i }
 
 -- as one is sent
-pub number-stays : (s : State) (sent place : ℕ) → numberAt (sentState s sent) place ≡ numberAt s place
-unfolding numberAt sentState numbered
+pub number-stays : (s : State) (sent place : ℕ) → queueNumber (sentState s sent) place ≡ queueNumber s place
+unfolding queueNumber sentState numbered
 number-stays s sent place = by (ltb sent (issuedCount s))
   where
-    by : (b : Bool) → numberAt (pick b s (numbered s sent)) place ≡ numberAt s place
+    by : (b : Bool) → queueNumber (pick b s (numbered s sent)) place ≡ queueNumber s place
     by true = refl
     by false = refl

@@ -9,7 +9,7 @@ use Rattle.label_list.specs.declared.LabelMessage.{LabelMessage}
 use Rattle.label_list.specs.declared.Side.{Side}
 use Rattle.label_events.specs.declared.Acceptance.{Acceptance}
 use Rattle.label_events.specs.Change.{codeAt}
-use Rattle.label_meaning.specs.Event.{Accepted, step as event, withdraw-acked, release-acked}
+use Rattle.label_meaning.specs.Event.{Accepted, afterEvent, withdraw-acked, release-acked}
 use Rattle.label_meaning.specs.Valid.{IsValid}
 use Rattle.label_meaning.proofs.Life.{move-happens}
 use Rattle.message.specs.declared.Kind.{Kind}
@@ -18,8 +18,8 @@ use Rattle.protocol.specs.Acked.{releasedKind}
 use Rattle.protocol.specs.MeaningLabels.{NeverBare, address, address-withdraw, resources, SentKind, sent-mapping, sent-withdraw, sent-release}
 
 -- ---- "Accepted for sending": kinds 1 to 3 are events of the label, kinds 4 to 6 change nothing
-pub accepted-event : (ls : List ℕ) (label : ℕ) {kind : Kind} {message : LabelMessage} → SentKind kind message → acceptedAs ls kind label .1 ≡ event ls (Accepted message label)
-unfolding acceptedAs event
+pub accepted-event : (ls : List ℕ) (label : ℕ) {kind : Kind} {message : LabelMessage} → SentKind kind message → acceptedAs ls kind label .1 ≡ afterEvent ls (Accepted message label)
+unfolding acceptedAs afterEvent
 accepted-event ls label sent-mapping = refl
 accepted-event ls label sent-withdraw = refl
 accepted-event ls label sent-release = refl
@@ -34,12 +34,12 @@ accepted-bare ls label resources = refl
 module _ (ls : List ℕ) (v : IsValid ls) (label : ℕ) where
   -- the ACK of a Withdraw frees its label of code 2
   pub withdraw-released : codeAt ls Side.Given label ≡ 2 → codeAt (releasedKind 2 label ls) Side.Given label ≡ 0
-  unfolding releasedKind event
+  unfolding releasedKind afterEvent
   withdraw-released two = move-happens ls v withdraw-acked (omega arith) two
 
   -- that of a Release frees its label of code 5
   pub release-released : codeAt ls Side.Used label ≡ 5 → codeAt (releasedKind 3 label ls) Side.Used label ≡ 0
-  unfolding releasedKind event
+  unfolding releasedKind afterEvent
   release-released five = move-happens ls v release-acked (omega arith) five
 
   -- of every other kind nothing changes

@@ -4,7 +4,6 @@ use mathlib.Core.Bool.{Bool, true, not}
 use mathlib.Core.List.{List, []}
 use mathlib.Core.Path.{_≡_, refl}
 use native.Mathlib.Omega.{arith}
-use Rattle.octets.specs.Pick.{pick}
 use Rattle.octets.proofs.Choice.{pick-all}
 use Rattle.ft_number.specs.declared.FtNumber.{FtNumber}
 use Rattle.ft_number.proofs.Timeout.{lesser-zero}
@@ -23,7 +22,7 @@ use Rattle.protocol.specs.InitCases.{InitWith, Reconnects, StartCase, un
 use Rattle.protocol.specs.MeaningInit.{BothR, BearsTerms, Agreed, BegunFrom, ResumedFrom}
 use Rattle.protocol.specs.Phases.{phaseFits, awaits, proposalOf}
 use Rattle.protocol.specs.State.{State, noNumber, noTable}
-use Rattle.protocol.specs.Step.{admitted, stepped}
+use Rattle.protocol.specs.Step.{admitted, stepped, whereOpen}
 use Rattle.protocol.proofs.Answered.{init-says}
 use Rattle.protocol.proofs.Effects.{done-is}
 use Rattle.protocol.proofs.InitCases.{start-cases}
@@ -112,7 +111,7 @@ module _ (s : State) (ph : Phase) (m : List ℕ) where
       own : Answer
       own = startAnswer (initStart s ph m)
 
-      by : (f w : Bool) → 30 ≤ answerNumber (pick (not f) Answer.WrongPhase (pick (not w) Answer.WrongPhase own)) → 30 ≤ answerNumber own
+      by : (f w : Bool) → 30 ≤ answerNumber (whereOpen f (whereOpen w own)) → 30 ≤ answerNumber own
       by f w =
           pick-all (λ (a : Answer). 30 ≤ answerNumber a → 30 ≤ answerNumber own) (not f) (λ late. absurd (omega arith))
           (pick-all (λ (a : Answer). 30 ≤ answerNumber a → 30 ≤ answerNumber own) (not w) (λ late. absurd (omega arith)) (λ late. late))
@@ -123,6 +122,6 @@ module _ (s : State) (ph : Phase) (m : List ℕ) where
   unfolding initReceived
   init-begins fits w d =
       let st : Start = initStart s ph m in
-      let own : Answer = pick (not (awaits ph)) Answer.WrongPhase (startAnswer st) in
+      let own : Answer = whereOpen (awaits ph) (startAnswer st) in
       let e : own ≡ Answer.Done = rw w (done-is (startAnswer st) d) in
       rw (admitted-does s ph fits own e (stepped Answer.Done (startState s st) (startPhase ph st) [])) (record { answer = refl; state = refl; phase = refl; output = refl })

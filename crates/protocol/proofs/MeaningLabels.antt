@@ -1,11 +1,14 @@
 -- The labels that a received message touches are those that 01 names, and its protection is missing or wrong exactly where 01 says so. Assumes nothing.
-use Prim.Native.Nat.{ℕ}
+use Prim.Native.Nat.{ℕ, _≤_}
 use mathlib.Core.Bool.{Bool, true, false, not}
 use mathlib.Core.List.{List}
-use mathlib.Core.Path.{_≡_, refl, ap, _∙_}
-use borrow.Author.Tests.{eq-eqb, eqb-true}
+use mathlib.Core.Logic.{_≢_}
+use mathlib.Core.Path.{_≡_, refl, ap, _∙_, sym}
+use native.Mathlib.Omega.{arith}
+use lib.Dec.{eqb}
+use borrow.Author.Tests.{eq-eqb, eqb-true, eqb-false, ne-eqb, not-true}
 use Rattle.octets.specs.Pick.{pick, both}
-use Rattle.octets.proofs.Choice.{by-test, no, passed, cleared}
+use Rattle.octets.proofs.Choice.{by-test, no, passed, cleared, both-true}
 use Rattle.ft_number.specs.declared.FtNumber.{FtNumber}
 use Rattle.label_list.specs.declared.LabelMessage.{LabelMessage}
 use Rattle.label_list.specs.declared.Protection.{Protection}
@@ -13,6 +16,8 @@ use Rattle.label_list.specs.declared.Side.{Side}
 use Rattle.label_list.specs.Find.{any}
 use Rattle.label_list.specs.Protection.{needsProtection, barsProtection, codeProtection, protectedOn}
 use Rattle.label_list.specs.Rules.{receivedSide}
+use Rattle.label_list.specs.Word.{onSide, within}
+use Rattle.label_list.proofs.Standing.{within-range, within-in}
 use Rattle.label_events.specs.declared.Touched.{Touched}
 use Rattle.label_events.specs.Change.{codeAt}
 use Rattle.label_events.specs.Protect.{protectionOf}
@@ -29,7 +34,7 @@ use Rattle.message.specs.declared.MessageType.{MessageType}
 use Rattle.message.specs.Kinds.{kindOf}
 use Rattle.protocol.specs.declared.LabelEffect.{LabelEffect}
 use Rattle.protocol.specs.Labels.{touchedBy, effectOn, labelEffect, isProtected, alwaysProtected, effectProtection, protectionRule}
-use Rattle.protocol.specs.MeaningLabels.{LabelType, is-mapping, is-withdraw, is-release, Touching, names, under-wildcard, NeverBare, address, address-withdraw, resources, Demands, by-kind, by-label, WronglyProtected}
+use Rattle.protocol.specs.MeaningLabels.{LabelType, is-mapping, is-withdraw, is-release, Touching, names, under-wildcard, NeverBare, address, address-withdraw, resources, Demands, by-kind, by-label, WronglyProtected, Guarded, to-mapping, to-withdraw, to-release}
 
 -- ---- what a message touches
 -- its type is one of the three
@@ -96,6 +101,29 @@ never-missing ls m (Touched.Label l) e = by (barsProtection m (codeAt ls (receiv
 never-missing ls m Touched.Every e = cc
 never-missing ls m Touched.Nothing e = cc
 
+-- codes 3 to 6 without 6
+but-six : (code : ℕ) → both (not (eqb code 6)) (within 3 6 code) ≡ true → (3 ≤ code) × (code ≤ 5)
+but-six code e =
+    let p = both-true (not (eqb code 6)) (within 3 6 code) e in
+    let r = within-range 3 6 code (p .1) in
+    let other : code ≢ 6 = eqb-false code 6 (not-true (eqb code 6) (p .0)) in
+    (r .0, omega arith)
+
+-- the codes that need protection, by their ranges
+needs-guarded : (m : LabelMessage) (code : ℕ) → needsProtection (receivedSide m) code ≡ true → Guarded m code
+unfolding needsProtection receivedSide onSide
+needs-guarded LabelMessage.Mapping code e = let r = but-six code e in to-mapping (r .0) (r .1)
+needs-guarded LabelMessage.Withdraw code e = let r = but-six code e in to-withdraw (r .0) (r .1)
+needs-guarded LabelMessage.Release code e =
+    let r = within-range 1 2 code (both-true (not (eqb code 6)) (within 1 2 code) e .1) in
+    to-release (r .0) (r .1)
+
+guarded-needs : (m : LabelMessage) (code : ℕ) → Guarded m code → needsProtection (receivedSide m) code ≡ true
+unfolding needsProtection receivedSide onSide
+guarded-needs LabelMessage.Mapping code (to-mapping l h) = rw (ne-eqb code 6 (λ e. omega arith)) (sym (within-in 3 6 code l (omega arith)))
+guarded-needs LabelMessage.Withdraw code (to-withdraw l h) = rw (ne-eqb code 6 (λ e. omega arith)) (sym (within-in 3 6 code l (omega arith)))
+guarded-needs LabelMessage.Release code (to-release l h) = rw (ne-eqb code 6 (λ e. omega arith)) (sym (within-in 1 2 code l h))
+
 module _ (ls : List ℕ) (g : Message) where
   -- an unprotected message is judged by its kind, then by its labels
   bare-rule : g .protection ≡ FtField.Absent → protectionRule ls g ≡ pick (alwaysProtected (kindOf g)) Protection.Missing (effectProtection ls false (labelEffect g))
@@ -106,7 +134,7 @@ module _ (ls : List ℕ) (g : Message) where
   bare-effect v LabelEffect.Nothing q e = no (cc)
   bare-effect v (LabelEffect.Change m t) q e =
       let p : TouchesProtected ls m t = missing-touches ls v m t e in
-      by-label (effect-touches g m t q (p .touches)) (p .needs)
+      by-label (effect-touches g m t q (p .touches)) (needs-guarded m _ (p .needs))
 
   -- 33 comes only where 01 says so
   pub missing-means : IsValid ls → protectionRule ls g ≡ Protection.Missing → (g .protection ≡ FtField.Absent) × Demands ls g
@@ -132,12 +160,12 @@ module _ (ls : List ℕ) (g : Message) where
   -- and always there
   pub means-missing : g .protection ≡ FtField.Absent → Demands ls g → protectionRule ls g ≡ Protection.Missing
   means-missing q (by-kind k) = bare-rule q ∙ rw (kind-bare k)
-  means-missing q (by-label {m} {l} p needs) =
+  means-missing q (by-label {m} {l} p guarded) =
       let e = touching-effect g m p in
       bare-rule q
       ∙ by-test (alwaysProtected (kindOf g))
       (λ t. rw t)
-      (λ f. rw (f, e .1) (touched-missing ls m (e .0) l (e .2) needs))
+      (λ f. rw (f, e .1) (touched-missing ls m (e .0) l (e .2) (guarded-needs m _ guarded)))
 
 -- ---- 32
 bars-used : (m : LabelMessage) (code : ℕ) → barsProtection m code ≡ true → (receivedSide m ≡ Side.Used) × (code ≡ 6)

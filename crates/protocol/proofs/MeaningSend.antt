@@ -17,7 +17,7 @@ use Rattle.protocol.specs.declared.Progress.{Progress}
 use Rattle.protocol.specs.Lawful.{Lawful}
 use Rattle.protocol.specs.MeaningSend.{SentFrom, NumberedFrom}
 use Rattle.protocol.specs.Phases.{phaseFits, issuedCount, upWith}
-use Rattle.protocol.specs.Send.{nextMessage, numberAt, ackAsked, sendBytes, sendRule, numbered, sentState, sendNext}
+use Rattle.protocol.specs.Send.{nextMessage, queueNumber, ackAsked, sendBytes, sendRule, numbered, sentState, sendNext}
 use Rattle.protocol.specs.State.{State, held}
 use Rattle.protocol.specs.Step.{stepped, roomFor}
 use Rattle.protocol.proofs.KeepingNumbers.{number-next, number-stays}
@@ -38,7 +38,7 @@ module _ (s : State) (u : Progress) (fits : phaseFits (Phase.UpFT u) s ≡ true)
       let own : Answer = sendRule s (Phase.UpFT u) (roomFor bytes room) in
       let d : own ≡ Answer.Done = rw (lt-leb (held s) (u .sent) l, le-ltb room (length bytes) enough) in
       rw (admitted-does s (Phase.UpFT u) fits own d (stepped Answer.Done (sentState s (u .sent)) (upWith (u .sent + 1)) bytes))
-      (record { answer = refl; phase = refl; state = refl; output = ap (protectedBytes (nextMessage s (u .sent)) (numberAt s (u .sent))) (asked ask s) })
+      (record { answer = refl; phase = refl; state = refl; output = ap (protectedBytes (nextMessage s (u .sent)) (queueNumber s (u .sent))) (asked ask s) })
 
   -- "it numbers it if it has no number"
   pub send-numbers : Lawful s → NumberedFrom s (u .sent)

@@ -1,6 +1,6 @@
 -- What a failed connection, a restored image and passed time leave. Assumes nothing.
 use Prim.Native.Nat.{ℕ}
-use mathlib.Core.Bool.{Bool, true, false, not}
+use mathlib.Core.Bool.{Bool, true, false}
 use mathlib.Core.List.{List, map}
 use mathlib.Core.Logic.{_≢_}
 use mathlib.Core.Path.{_≡_, refl, sym, ap, _∙_}
@@ -15,7 +15,7 @@ use Rattle.label_list.specs.declared.SweepRule.the-variants.{AfterBreak}
 use Rattle.label_list.specs.Rules.{codeSwept}
 use Rattle.label_list.specs.Sweep.{wordSwept, sweptOf}
 use Rattle.label_list.specs.Word.{codeOf, wordOf}
-use Rattle.label_meaning.specs.Valid.{InRange, IsValid}
+use Rattle.label_meaning.specs.Valid.{WordInRange, IsValid}
 use Rattle.label_meaning.proofs.Meaning.{valid-means, range-listed}
 use Rattle.protocol.specs.declared.Answer.{Answer}
 use Rattle.protocol.specs.declared.Phase.{Phase}
@@ -25,13 +25,13 @@ use Rattle.protocol.specs.Lawful.{Lawful}
 use Rattle.protocol.specs.MeaningTimers.{freed, FailedFrom, TimePassed}
 use Rattle.protocol.specs.Phases.{phaseFits, connected}
 use Rattle.protocol.specs.State.{State, withTable}
-use Rattle.protocol.specs.Step.{unchanged, failedWith, releasedWith}
+use Rattle.protocol.specs.Step.{unchanged, failedWith, releasedWith, whereOpen}
 use Rattle.protocol.specs.TimePassed.{expired, timePassed}
 use Rattle.protocol.proofs.Settling.{admitted-does}
 
 -- ---- the words
 -- a word that is free or in range is freed exactly if its code is 6
-word-freed : (w : ℕ) → (w ≢ 0 → InRange w) → wordSwept AfterBreak w ≡ freed w
+word-freed : (w : ℕ) → (w ≢ 0 → WordInRange w) → wordSwept AfterBreak w ≡ freed w
 unfolding wordSwept wordOf codeSwept
 word-freed w range =
     by-test (eqb (codeOf w) 6)
@@ -66,7 +66,7 @@ module _ (s : State) (law : Lawful s) where
   pub failed-leaves : (ph : Phase) → phaseFits ph s ≡ true → connected ph ≡ true → FailedFrom s (connectionFailed s ph)
   unfolding connectionFailed
   failed-leaves ph fits c =
-      let own : Answer = pick (not (connected ph)) Answer.WrongPhase Answer.Done in
+      let own : Answer = whereOpen (connected ph) Answer.Done in
       let d : own ≡ Answer.Done = rw c in
       rw (admitted-does s ph fits own d (failedWith Answer.Done s)) failed-from
 

@@ -1,11 +1,10 @@
 -- What Open and KeepAlive leave and write. Assumes nothing.
 use Prim.Native.Nat.{ℕ, _≤_}
-use mathlib.Core.Bool.{true, false, not}
+use mathlib.Core.Bool.{true, false}
 use mathlib.Core.List.{List}
 use mathlib.Core.Path.{_≡_, refl}
 use lib.ListN.{length}
 use borrow.Author.Tests.{le-ltb}
-use Rattle.octets.specs.Pick.{pick}
 use Rattle.ft_number.specs.declared.MessageId.{MessageId}
 use Rattle.ft_number.specs.declared.Proposal.{Proposal}
 use Rattle.ft_number.specs.Timeout.{proposedOf}
@@ -20,7 +19,7 @@ use Rattle.protocol.specs.MeaningWriters.{OpenedFrom, AliveFrom}
 use Rattle.protocol.specs.Open.{keptAck, openBytes, openSession}
 use Rattle.protocol.specs.Phases.{phaseFits, mayOpen, waitingFor}
 use Rattle.protocol.specs.State.{State}
-use Rattle.protocol.specs.Step.{stepped, roomFor}
+use Rattle.protocol.specs.Step.{stepped, roomFor, whereOpen}
 use Rattle.protocol.specs.Writer.{writer}
 use Rattle.protocol.proofs.Settling.{admitted-does}
 
@@ -31,8 +30,8 @@ module _ (s : State) (ph : Phase) (id : MessageId) (own : OwnParameters) (propos
   unfolding openSession writer
   opened {ack} e =
       let bytes : List ℕ = openBytes s id own proposal in
-      let d : pick (not (mayOpen ph)) Answer.WrongPhase (roomFor bytes room) ≡ Answer.Done = rw (may, le-ltb room (length bytes) enough) in
-      rw (admitted-does s ph fits (pick (not (mayOpen ph)) Answer.WrongPhase (roomFor bytes room)) d (stepped Answer.Done s (waitingFor (proposedOf proposal)) bytes))
+      let d : whereOpen (mayOpen ph) (roomFor bytes room) ≡ Answer.Done = rw (may, le-ltb room (length bytes) enough) in
+      rw (admitted-does s ph fits (whereOpen (mayOpen ph) (roomFor bytes room)) d (stepped Answer.Done s (waitingFor (proposedOf proposal)) bytes))
       (record { answer = refl; state = refl; phase = refl; reads = rw e (init-reads id own (proposedOf proposal) ack) })
 
   -- our Init as the peer reads it: with kept state R, the ACK S and the seconds proposed

@@ -1,12 +1,11 @@
 -- What a call leaves of kept, of the peer's two parameters and of the store. Assumes nothing.
 use Prim.Native.Nat.{_≤_, ℕ}
-use mathlib.Core.Bool.{Bool, false, not, true, true≢false}
+use mathlib.Core.Bool.{Bool, false, true, true≢false}
 use mathlib.Core.List.{[], _++_, List, append-nil, _∷_}
 use mathlib.Core.Logic.{inl, inr, _⊎_}
 use mathlib.Core.Path.{_≡_, refl, sym}
 use lib.Dec.{ltb}
 use lib.ListN.{drop}
-use Rattle.octets.specs.Pick.{pick}
 use Rattle.octets.proofs.Choice.{by-test, pick-all}
 use Rattle.ft_number.specs.declared.MessageId.{MessageId}
 use Rattle.ft_number.specs.declared.Proposal.{Proposal}
@@ -26,7 +25,7 @@ use Rattle.protocol.specs.Phases.{connected, isUp, issuedCount, mayOpen,
 use Rattle.protocol.specs.Receive.{ackCount, ackOn, receive, receivedState, takenAs, taken}
 use Rattle.protocol.specs.Send.{numbered, sendBytes, sendNext, sendRule, sentState}
 use Rattle.protocol.specs.State.{State}
-use Rattle.protocol.specs.Step.{Step, admitted, broken, roomFor, settle, stepped}
+use Rattle.protocol.specs.Step.{Step, admitted, broken, roomFor, settle, stepped, whereOpen}
 use Rattle.protocol.specs.Submit.{submit, submitRule, submitted}
 use Rattle.protocol.specs.TimePassed.{expired, timePassed}
 use Rattle.protocol.specs.Writer.{writer}
@@ -101,7 +100,7 @@ module _ (s : State) (ph : Phase) where
       call-moves _ _ (may-harmless (waiting ph) Answer.Done done-harmless) (λ t.
       by-test (expired s elapsed) (λ e. absurd (n (waits (waiting ph) t) e)) (λ e. rw e (stays s)))
     where
-      waits : (b : Bool) → isDone (pick (not b) Answer.WrongPhase Answer.Done) ≡ true → b ≡ true
+      waits : (b : Bool) → isDone (whereOpen b Answer.Done) ≡ true → b ≡ true
       waits true d = refl
       waits false d = absurd (true≢false (sym d))
 

@@ -5,7 +5,6 @@ use mathlib.Core.List.{List}
 use mathlib.Core.Path.{refl}
 use lib.Dec.{leb, ltb}
 use lib.ListN.{length}
-use Rattle.octets.specs.Pick.{pick}
 use Rattle.octets.proofs.Choice.{pick-all}
 use Rattle.protocol.specs.declared.Answer.{Answer}
 use Rattle.protocol.specs.declared.Phase.{Phase}
@@ -13,7 +12,7 @@ use Rattle.protocol.specs.Answers.{effectOf}
 use Rattle.protocol.specs.Phases.{isUpFT, sentOf}
 use Rattle.protocol.specs.Send.{sendRule}
 use Rattle.protocol.specs.State.{State, held}
-use Rattle.protocol.specs.Step.{roomFor}
+use Rattle.protocol.specs.Step.{roomFor, whereOpen}
 use Rattle.protocol.proofs.Settling.{Harmless, done-harmless}
 
 -- "9: output too short"
@@ -22,7 +21,7 @@ unfolding effectOf
 room-harmless bytes room = pick-all Harmless (ltb room (length bytes)) (λ n. refl) done-harmless
 
 -- "1: wrong phase"
-pub may-harmless : (may : Bool) (a : Answer) → Harmless a → Harmless (pick (not may) Answer.WrongPhase a)
+pub may-harmless : (may : Bool) (a : Answer) → Harmless a → Harmless (whereOpen may a)
 unfolding effectOf
 may-harmless may a h = pick-all Harmless (not may) (λ n. refl) h
 

@@ -1,6 +1,6 @@
 -- What Send next answers, and what it leaves of kept and of the store. Assumes nothing.
 use Prim.Native.Nat.{_<_, ℕ}
-use mathlib.Core.Bool.{Bool, false, not, true}
+use mathlib.Core.Bool.{Bool, false, true}
 use mathlib.Core.Path.{_≡_, refl}
 use lib.Dec.{leb, ltb}
 use borrow.Author.Tests.{leb-false}
@@ -12,9 +12,10 @@ use Rattle.protocol.specs.Answers.{isDone}
 use Rattle.protocol.specs.Phases.{isUpFT, issuedCount, sentOf}
 use Rattle.protocol.specs.Send.{numbered, sendRule, sentState}
 use Rattle.protocol.specs.State.{State, held}
+use Rattle.protocol.specs.Step.{whereOpen}
 
 -- ---- an answer that is Done tells that a message is unsent
-rule-done : (u l : Bool) (a : Answer) → isDone (pick (not u) Answer.WrongPhase (pick l Answer.NothingUnsent a)) ≡ true → (u ≡ true) × (l ≡ false)
+rule-done : (u l : Bool) (a : Answer) → isDone (whereOpen u (pick l Answer.NothingUnsent a)) ≡ true → (u ≡ true) × (l ≡ false)
 rule-done true false a t = (refl, refl)
 rule-done true true a t = no (cc)
 rule-done false l a t = no (cc)

@@ -1,8 +1,7 @@
 -- What an answer leaves, by its number. Assumes nothing.
 use Prim.Native.Nat.{_≤_, _<_}
-use mathlib.Core.Bool.{Bool, true, false, not, true≢false}
+use mathlib.Core.Bool.{Bool, true, false, true≢false}
 use mathlib.Core.Path.{_≡_, refl, sym, _∙_}
-use Rattle.octets.specs.Pick.{pick}
 use Rattle.octets.proofs.Choice.{by-test}
 use Rattle.protocol.specs.declared.Answer.{Answer}
 use Rattle.protocol.specs.declared.Effect.{Effect}
@@ -10,7 +9,7 @@ use Rattle.protocol.specs.declared.Phase.{Phase}
 use Rattle.protocol.specs.Answers.{answerNumber, effectOf, isDone}
 use Rattle.protocol.specs.Phases.{phaseFits}
 use Rattle.protocol.specs.State.{State}
-use Rattle.protocol.specs.Step.{Step, unchanged, failedWith, releasedWith, settledBy, settle, admitted}
+use Rattle.protocol.specs.Step.{Step, unchanged, failedWith, releasedWith, settledBy, settle, admitted, whereOpen}
 use Rattle.protocol.proofs.Effects.{act-done, done-is, effect-fail, effect-release}
 
 module _ (a : Answer) (s : State) (ph : Phase) (d : Step) where
@@ -65,7 +64,7 @@ pub admitted-harmless : (s : State) (ph : Phase) (a : Answer) → Harmless a →
 unfolding admitted effectOf
 admitted-harmless s ph a h = by (phaseFits ph s)
   where
-    by : (b : Bool) → Harmless (pick (not b) Answer.WrongPhase a)
+    by : (b : Bool) → Harmless (whereOpen b a)
     by true = h
     by false = λ n. refl
 
@@ -73,6 +72,6 @@ pub admitted-done : (s : State) (ph : Phase) (a : Answer) → isDone (admitted s
 unfolding admitted
 admitted-done s ph a t = by (phaseFits ph s) t
   where
-    by : (b : Bool) → isDone (pick (not b) Answer.WrongPhase a) ≡ true → isDone a ≡ true
+    by : (b : Bool) → isDone (whereOpen b a) ≡ true → isDone a ≡ true
     by true e = e
     by false e = absurd (true≢false (sym e))

@@ -1,6 +1,6 @@
 -- The judgement of a submission is the list of its cases. Assumes nothing.
 use Prim.Native.Nat.{ℕ, _≤_, _<_}
-use mathlib.Core.Bool.{Bool, true, false, not}
+use mathlib.Core.Bool.{Bool, true, false}
 use mathlib.Core.List.{List}
 use mathlib.Core.Path.{_≡_, refl, _∙_}
 use lib.Dec.{leb, ltb}
@@ -16,6 +16,7 @@ use Rattle.message.specs.Submission.{submissionOf}
 use Rattle.protocol.specs.declared.Answer.{Answer}
 use Rattle.protocol.specs.Accepting.{isBarred, acceptedAs}
 use Rattle.protocol.specs.State.{State, capacity, held}
+use Rattle.protocol.specs.Step.{whereOpen}
 use Rattle.protocol.specs.Submit.{acceptanceRule, kindRule, submissionRule, submitRule}
 use Rattle.protocol.specs.SubmitCases.{Fitting, Unbarred, SubmitCase, not-kept, too-short, too-long, malformed-submission, not-sent, still-held, code-forbids, no-free-word, store-full, queues}
 
@@ -58,7 +59,7 @@ module _ (s : State) (m : List ℕ) where
   submit-cases = by (s .kept) refl (ltb (length m) shortest) refl (ltb longest (length m)) refl
     where
       by : (k : Bool) → s .kept ≡ k → (l : Bool) → ltb (length m) shortest ≡ l → (h : Bool) → ltb longest (length m) ≡ h
-          → Here (pick (not k) Answer.WrongPhase (pick l Answer.LengthOutOfRange (pick h Answer.LengthOutOfRange (submissionRule s (submissionOf m)))))
+          → Here (whereOpen k (pick l Answer.LengthOutOfRange (pick h Answer.LengthOutOfRange (submissionRule s (submissionOf m)))))
       by false k l p h q = not-kept k
       by true k true p h q = too-short k (ltb-true (length m) shortest p)
       by true k false p true q = too-long k (ltb-true longest (length m) q)

@@ -10,7 +10,8 @@ use Rattle.label_list.specs.declared.SweepRule.the-variants.{AfterBreak}
 use Rattle.label_list.specs.Sweep.{sweptOf}
 use Rattle.label_list.specs.Valid.{validOf, validWord}
 use Rattle.label_list.specs.Word.{isFree}
-use Rattle.label_meaning.specs.Event.{Accepted as Offered, Acked, Received, Broken, step}
+use Rattle.label_meaning.specs.Event
+use Rattle.label_meaning.specs.Event.{Acked, Received, Broken, afterEvent}
 use Rattle.label_meaning.proofs.Step.{step-valid}
 use Rattle.message.specs.declared.Kind.{Kind}
 use Rattle.message.specs.declared.Submission.{Submission}
@@ -25,9 +26,9 @@ use Rattle.protocol.specs.State.{noTable}
 use Rattle.protocol.specs.Submit.{acceptedLabels}
 
 -- ---- a message is accepted
-module _ (P : List ℕ → Type 0) (words : List ℕ) (here : P words) (each : (message : LabelMessage) (label : ℕ) → P (step words (Offered message label))) where
+module _ (P : List ℕ → Type 0) (words : List ℕ) (here : P words) (each : (message : LabelMessage) (label : ℕ) → P (afterEvent words (Event.Accepted message label))) where
   kept-as : (kind : Kind) (label : ℕ) → P (acceptedAs words kind label .1)
-  unfolding acceptedAs step
+  unfolding acceptedAs afterEvent
   kept-as Kind.Mapping label = each LabelMessage.Mapping label
   kept-as Kind.Withdraw label = each LabelMessage.Withdraw label
   kept-as Kind.Release label = each LabelMessage.Release label
@@ -42,9 +43,9 @@ module _ (P : List ℕ → Type 0) (words : List ℕ) (here : P words) (each : (
   accepted-keeps (Submission.Accepted kind label) = kept-as kind label
 
 -- ---- messages are released
-module _ (P : List ℕ → Type 0) (each : (words : List ℕ) → P words → (message : LabelMessage) (label : ℕ) → P (step words (Acked message label))) where
+module _ (P : List ℕ → Type 0) (each : (words : List ℕ) → P words → (message : LabelMessage) (label : ℕ) → P (afterEvent words (Acked message label))) where
   kind-keeps : (kind label : ℕ) (words : List ℕ) → P words → P (releasedKind kind label words)
-  unfolding releasedKind step
+  unfolding releasedKind afterEvent
   kind-keeps kind label words p =
       pick-all P (eqb kind (kindNumber Kind.Withdraw)) (each words p LabelMessage.Withdraw label)
       (pick-all P (eqb kind (kindNumber Kind.Release)) (each words p LabelMessage.Release label) p)
@@ -67,15 +68,15 @@ none-valid = refl
 
 module _ (words : List ℕ) (valid : Valid words) where
   pub accepted-valid : (j : Submission) → Valid (acceptedLabels words j)
-  accepted-valid j = accepted-keeps Valid words valid (λ message label. step-valid words (Offered message label) valid) j
+  accepted-valid j = accepted-keeps Valid words valid (λ message label. step-valid words (Event.Accepted message label) valid) j
 
   pub received-valid : (protected : Bool) (e : LabelEffect) → Valid (effectLabels words protected e)
-  unfolding step
+  unfolding afterEvent
   received-valid protected LabelEffect.Nothing = valid
   received-valid protected (LabelEffect.Change m t) = step-valid words (Received m protected t) valid
 
   pub broken-valid : Valid (sweptOf words AfterBreak)
-  unfolding step
+  unfolding afterEvent
   broken-valid = step-valid words Broken valid
 
 pub released-valid : (ms : List (List ℕ)) (words : List ℕ) → Valid words → Valid (releasedLabels ms words)

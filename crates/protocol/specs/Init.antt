@@ -23,7 +23,7 @@ use Rattle.protocol.specs.Acked.{acked}
 use Rattle.protocol.specs.Phases.{upWith, awaits, proposalOf}
 use Rattle.protocol.specs.Received.{isInit}
 use Rattle.protocol.specs.State.{State, keptBy, releasedState, withTimeout}
-use Rattle.protocol.specs.Step.{Step, admitted, settle, stepped}
+use Rattle.protocol.specs.Step.{Step, admitted, settle, stepped, whereOpen}
 
 -- what both ends keep of the two Inits: the lesser timeout and the peer's two parameters
 abbrev pub termsOf : ℕ → ℕ → ℕ → ℕ → Terms
@@ -97,7 +97,11 @@ startState s (Start.Resumed t k a) = resumed s t k (a .0)
 abbrev pub initStart : State → Phase → List ℕ → Start
 initStart s ph m = startOf s (proposalOf ph) (readingOf m)
 
+abbrev pub initRule : State → Phase → List ℕ → Answer
+initRule s ph m = whereOpen (awaits ph) (startAnswer (initStart s ph m))
+
+abbrev pub initDeed : State → Phase → List ℕ → Step
+initDeed s ph m = stepped Answer.Done (startState s (initStart s ph m)) (startPhase ph (initStart s ph m)) []
+
 unfoldable pub initReceived : State → Phase → List ℕ → Step
-initReceived s ph m =
-    settle (admitted s ph (pick (not (awaits ph)) Answer.WrongPhase (startAnswer (initStart s ph m)))) s ph
-    (stepped Answer.Done (startState s (initStart s ph m)) (startPhase ph (initStart s ph m)) [])
+initReceived s ph m = settle (admitted s ph (initRule s ph m)) s ph (initDeed s ph m)

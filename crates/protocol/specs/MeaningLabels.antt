@@ -1,12 +1,10 @@
 -- Which labels a received message touches, and when its protection is missing or wrong, clause by clause.
-use Prim.Native.Nat.{ℕ}
-use mathlib.Core.Bool.{true}
+use Prim.Native.Nat.{ℕ, _≤_}
 use mathlib.Core.List.{List}
 use mathlib.Core.Path.{_≡_}
 use Rattle.ft_number.specs.declared.FtNumber.{FtNumber}
 use Rattle.label_list.specs.declared.LabelMessage.{LabelMessage}
 use Rattle.label_list.specs.declared.Side.{Side}
-use Rattle.label_list.specs.Protection.{needsProtection}
 use Rattle.label_list.specs.Rules.{receivedSide}
 use Rattle.label_events.specs.Change.{codeAt}
 use Rattle.tlv.specs.declared.Fec.{Fec}
@@ -34,10 +32,16 @@ pub data NeverBare : Kind → Type 0 where
   address-withdraw : NeverBare Kind.AddressWithdraw
   resources : NeverBare Kind.ResourcesAvailable
 
--- ".. and on a message touching codes 1 to 5 on its own side .., a named label or any under a wildcard"
+-- ".. on a message touching codes 1 to 5 on its own side (Mapping and Withdraw 3-5, Release 1-2) .."
+pub data Guarded : LabelMessage → ℕ → Type 0 where
+  to-mapping : {code : ℕ} → 3 ≤ code → code ≤ 5 → Guarded LabelMessage.Mapping code
+  to-withdraw : {code : ℕ} → 3 ≤ code → code ≤ 5 → Guarded LabelMessage.Withdraw code
+  to-release : {code : ℕ} → 1 ≤ code → code ≤ 2 → Guarded LabelMessage.Release code
+
+-- ".., a named label or any under a wildcard"
 pub data Demands (ls : List ℕ) (g : Message) : Type 0 where
   by-kind : NeverBare (kindOf g) → Demands ls g
-  by-label : {m : LabelMessage} {l : ℕ} → Touching g m l → needsProtection (receivedSide m) (codeAt ls (receivedSide m) l) ≡ true → Demands ls g
+  by-label : {m : LabelMessage} {l : ℕ} → Touching g m l → Guarded m (codeAt ls (receivedSide m) l) → Demands ls g
 
 -- "It is wrong (32) on a Mapping or Withdraw that names a label of code 6."
 pub record WronglyProtected (ls : List ℕ) (g : Message) : Type 0 where

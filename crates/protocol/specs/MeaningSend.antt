@@ -8,7 +8,7 @@ use Rattle.tlv.specs.declared.FtField.{FtField}
 use Rattle.message_writer.specs.Forms.{protectedBytes}
 use Rattle.protocol.specs.declared.Answer.{Answer}
 use Rattle.protocol.specs.Phases.{issuedCount, upWith}
-use Rattle.protocol.specs.Send.{nextMessage, numberAt, sentState}
+use Rattle.protocol.specs.Send.{nextMessage, queueNumber, sentState}
 use Rattle.protocol.specs.State.{State}
 use Rattle.protocol.specs.Step.{Step}
 
@@ -18,17 +18,17 @@ pub record SentFrom (s : State) (sent : ℕ) (ask : Bool) (x : Step) : Type 0 wh
   pub phase : x .phase ≡ upWith (sent + 1)
   pub state : x .state ≡ sentState s sent
   -- the ACK says S
-  pub output : x .output ≡ protectedBytes (nextMessage s sent) (numberAt s sent) (pick ask (FtField.Number (s .secured)) FtField.Absent)
+  pub output : x .output ≡ protectedBytes (nextMessage s sent) (queueNumber s sent) (pick ask (FtField.Number (s .secured)) FtField.Absent)
 
 -- "it numbers it if it has no number"
 pub record NumberedFrom (s : State) (sent : ℕ) : Type 0 where
   -- one that has a number keeps it, and nothing is issued
   pub again : sent < issuedCount s → sentState s sent ≡ s
   -- one that has none gets the number after I, and I moves to it
-  pub first : issuedCount s ≤ sent → numberAt s sent .0 ≡ next (s .issued .0)
-  pub moves : issuedCount s ≤ sent → sentState s sent .issued ≡ numberAt s sent
+  pub first : issuedCount s ≤ sent → queueNumber s sent .0 ≡ next (s .issued .0)
+  pub moves : issuedCount s ≤ sent → sentState s sent .issued ≡ queueNumber s sent
   -- whatever is sent, every message held has the number that it had or would have got, and nothing but I changes
-  pub others : (place : ℕ) → numberAt (sentState s sent) place ≡ numberAt s place
+  pub others : (place : ℕ) → queueNumber (sentState s sent) place ≡ queueNumber s place
   pub released : sentState s sent .released ≡ s .released
   pub secured : sentState s sent .secured ≡ s .secured
   pub kept : sentState s sent .kept ≡ s .kept

@@ -22,7 +22,7 @@ use Rattle.protocol.specs.declared.Answer.{Answer}
 use Rattle.protocol.specs.declared.Phase.{Phase}
 use Rattle.protocol.specs.Acked.{ackBorne, acked}
 use Rattle.protocol.specs.Labels.{effectLabels, effectReception, isProtected, labelEffect, protectionRule}
-use Rattle.protocol.specs.Phases.{upWith}
+use Rattle.protocol.specs.Phases.{upWith, sentOf, isUpFT}
 use Rattle.protocol.specs.Received.{isInit}
 use Rattle.protocol.specs.State.{State, withSecured, withTable}
 use Rattle.protocol.specs.Step.{Step, admitted, settle, stepped, unchanged}
@@ -118,14 +118,14 @@ receivedState s g = taken (afterAck s g) g
 abbrev pub receivedPhase : State → ℕ → Message → Phase
 receivedPhase s sent g = upWith (sent - ackCount (ackOn s g))
 
--- what a message leaves that is taken; a malformed one is not
+-- what a message leaves in UpFT that is taken; a malformed one never is
+abbrev pub takenInFt : State → Phase → Reading → Step
+takenInFt s ph Reading.Malformed = unchanged Answer.Done s ph
+takenInFt s ph (Reading.Whole g) = stepped Answer.Done (receivedState s g) (receivedPhase s (sentOf ph) g) []
+
+-- "In UpPlain messages are passed on."
 abbrev pub takenAs : State → Phase → Reading → Step
-takenAs s Phase.Idle r = unchanged Answer.Done s Phase.Idle
-takenAs s (Phase.InitWait v) r = unchanged Answer.Done s (Phase.InitWait v)
-takenAs s (Phase.UpFT u) Reading.Malformed = unchanged Answer.Done s (Phase.UpFT u)
-takenAs s (Phase.UpFT u) (Reading.Whole g) = stepped Answer.Done (receivedState s g) (receivedPhase s (u .sent) g) []
-takenAs s Phase.UpPlain r = unchanged Answer.Done s Phase.UpPlain
-takenAs s Phase.Failed r = unchanged Answer.Done s Phase.Failed
+takenAs s ph r = pick (isUpFT ph) (takenInFt s ph r) (unchanged Answer.Done s ph)
 
 unfoldable pub receive : State → Phase → List ℕ → Step
 receive s ph m = settle (admitted s ph (receiveRule s ph (readingOf m))) s ph (takenAs s ph (readingOf m))

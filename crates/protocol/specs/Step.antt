@@ -1,6 +1,6 @@
 -- What a call makes of the state and the phase, what it answers and what it writes; and what every answer but Done leaves, once for all calls.
 use Prim.Native.Nat.{ℕ}
-use mathlib.Core.Bool.{not}
+use mathlib.Core.Bool.{not, Bool}
 use mathlib.Core.List.{List, []}
 use lib.Dec.{ltb}
 use lib.ListN.{length}
@@ -49,9 +49,13 @@ settledBy Effect.Act a s ph done = done
 unfoldable pub settle : Answer → State → Phase → Step → Step
 settle a s ph done = settledBy (effectOf a) a s ph done
 
--- "1: wrong phase .. or a phase the image rules out", here the state; then the call's own tests, which say `a`
+-- "1: wrong phase": a call that is not open answers 1; only then come its other tests, which say `a`
+abbrev pub whereOpen : Bool → Answer → Answer
+whereOpen may a = pick (not may) Answer.WrongPhase a
+
+-- ".. or a phase the image rules out", here the state
 unfoldable pub admitted : State → Phase → Answer → Answer
-admitted s ph a = pick (not (phaseFits ph s)) Answer.WrongPhase a
+admitted s ph a = whereOpen (phaseFits ph s) a
 
 -- "9: output too short"; exact room is enough
 abbrev pub roomFor : List ℕ → ℕ → Answer

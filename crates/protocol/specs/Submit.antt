@@ -1,6 +1,5 @@
 -- Submit: "Submit is open while kept is 1 and queues the message." Answers: 1, 3, 4, 5, 6, 13, 7.
 use Prim.Native.Nat.{ℕ}
-use mathlib.Core.Bool.{not}
 use mathlib.Core.List.{List, [], _∷_, _++_}
 use lib.Dec.{leb, ltb}
 use lib.ListN.{length}
@@ -14,7 +13,7 @@ use Rattle.protocol.specs.declared.Answer.{Answer}
 use Rattle.protocol.specs.declared.Phase.{Phase}
 use Rattle.protocol.specs.Accepting.{acceptedAs, isBarred}
 use Rattle.protocol.specs.State.{State, Table, capacity, held, withQueue, withTable}
-use Rattle.protocol.specs.Step.{Step, admitted, settle, stepped}
+use Rattle.protocol.specs.Step.{Step, admitted, settle, stepped, whereOpen}
 
 -- "7: 64 held"
 abbrev pub roomRule : State → Answer
@@ -39,7 +38,7 @@ submissionRule s (Submission.Accepted kind label) = kindRule s kind label
 -- "1: .. submit with kept 0"; "3: submitted length outside 8 to 480"
 unfoldable pub submitRule : State → List ℕ → Answer
 submitRule s m =
-    pick (not (s .kept)) Answer.WrongPhase
+    whereOpen (s .kept)
     (pick (ltb (length m) shortest) Answer.LengthOutOfRange
     (pick (ltb longest (length m)) Answer.LengthOutOfRange
     (submissionRule s (submissionOf m))))
@@ -57,5 +56,8 @@ acceptedTable t j = record { words = acceptedLabels (t .words) j }
 unfoldable pub submitted : State → List ℕ → State
 submitted s m = withQueue (withTable s (acceptedTable (s .table) (submissionOf m))) (s .queue ++ (m ∷ []))
 
+abbrev pub submitDeed : State → Phase → List ℕ → Step
+submitDeed s ph m = stepped Answer.Done (submitted s m) ph []
+
 unfoldable pub submit : State → Phase → List ℕ → Step
-submit s ph m = settle (admitted s ph (submitRule s m)) s ph (stepped Answer.Done (submitted s m) ph [])
+submit s ph m = settle (admitted s ph (submitRule s m)) s ph (submitDeed s ph m)

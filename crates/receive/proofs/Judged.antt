@@ -30,7 +30,7 @@ use Rattle.protocol.specs.Received.{isInit}
 use Rattle.protocol.specs.State.{State}
 use Rattle.protocol.proofs.Queues.{count-held}
 use Rattle.calls.specs.Freeing.{freesNone}
-use Rattle.calls.specs.State.{numbersOf, stateOf}
+use Rattle.calls.specs.State.{stateOfNumbers, stateOf}
 use Rattle.call_meaning.proofs.Putting.{image-window}
 use Rattle.receive.specs.Speed.{touchesNone, labelsStay}
 
@@ -85,11 +85,11 @@ labels-unseen ls ls′ s g none = by (labelEffect g) refl
     by (LabelEffect.Change m t) e = absurd (false≢true (rw e at none))
 
 -- the ACK as it was decided, of the numbers that the image says
-pub borne-read : (im : List ℕ) (f : FtField) {h : Header} → h ≡ decode im .header → ackBorne (numbersOf h) f ≡ ackBorne (stateOf im) f
+pub borne-read : (im : List ℕ) (f : FtField) {h : Header} → h ≡ decode im .header → ackBorne (stateOfNumbers h) f ≡ ackBorne (stateOf im) f
 borne-read im FtField.Absent eh = rw eh
 borne-read im (FtField.Number n) eh = refl
 
-pub ack-read : (im : List ℕ) (g : Message) {h : Header} → h ≡ decode im .header → ackOn (numbersOf h) g ≡ ackOn (stateOf im) g
+pub ack-read : (im : List ℕ) (g : Message) {h : Header} → h ≡ decode im .header → ackOn (stateOfNumbers h) g ≡ ackOn (stateOf im) g
 unfolding ackOn
 ack-read im g eh = rw (borne-read im (g .ack) eh, eh)
 
@@ -98,8 +98,8 @@ unfolding ackOn
 ack-on s g e q = rw (← q) e
 
 pub ack-told : (im : List ℕ) (g : Message) {h : Header} {x : Ack} {n : FtNumber} → h ≡ decode im .header → x ≡ ackOf (h .released .0) (h .issued .0) (n .0)
-    → n .0 ≡ ackBorne (numbersOf h) (g .ack) → x ≡ ackOn (stateOf im) g
-ack-told im g {h} eh e q = ack-on (numbersOf h) g e q ∙ ack-read im g eh
+    → n .0 ≡ ackBorne (stateOfNumbers h) (g .ack) → x ≡ ackOn (stateOf im) g
+ack-told im g {h} eh e q = ack-on (stateOfNumbers h) g e q ∙ ack-read im g eh
 
 -- it releases no more than is held, whatever it is
 pub count-within : (im : List ℕ) (g : Message) → IsSound im → ackCount (ackOn (stateOf im) g) ≤ decode im .header .held

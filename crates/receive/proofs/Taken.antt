@@ -33,8 +33,8 @@ use Rattle.protocol.proofs.Effects.{done-is}
 use Rattle.protocol.proofs.Settles.{taken-done}
 use Rattle.calls.specs.declared.Outcome.{Outcome}
 use Rattle.calls.specs.Freeing.{freesNone}
-use Rattle.calls.specs.Outcomes.{After, after, refusal, untouched, admittedOn, settleOf}
-use Rattle.calls.specs.State.{numbersOf, stateOf}
+use Rattle.calls.specs.Outcomes.{After, afterWith, refusal, untouched, admittedOn, settleOf}
+use Rattle.calls.specs.State.{stateOfNumbers, stateOf}
 use Rattle.calls.specs.Storing.{fewer, headerFor, stored}
 use Rattle.calls.proofs.Called.{call-is}
 use Rattle.calls.proofs.Ends.{settle-other}
@@ -57,12 +57,12 @@ stay-labels s g k ek y =
     by (LabelEffect.Change m t) e = absurd (false≢true e)
 
 -- what is said of the header read is said of the image
-pub count-read : (im : List ℕ) (g : Message) {h : Header} {k : ℕ} → h ≡ decode im .header → k ≡ ackCount (ackOn (numbersOf h) g) → k ≡ ackCount (ackOn (stateOf im) g)
+pub count-read : (im : List ℕ) (g : Message) {h : Header} {k : ℕ} → h ≡ decode im .header → k ≡ ackCount (ackOn (stateOfNumbers h) g) → k ≡ ackCount (ackOn (stateOf im) g)
 count-read im g eh ek = ek ∙ ap ackCount (ack-read im g eh)
 
 -- what is stored is the state that the message makes
 module _ (im : List ℕ) (sound : IsSound im) (g : Message) {h h′ : Header} {k : ℕ} (eh : h ≡ decode im .header) (ek : k ≡ ackCount (ackOn (stateOf im) g))
-    (eh′ : h′ ≡ headerSecured (headerReleased h (record { 0 = ackBorne (numbersOf h) (g .ack) }) (slotAt (h .first) k) (h .held - k)) (securedBy (h .secured) (g .protection))) where
+    (eh′ : h′ ≡ headerSecured (headerReleased h (record { 0 = ackBorne (stateOfNumbers h) (g .ack) }) (slotAt (h .first) k) (h .held - k)) (securedBy (h .secured) (g .protection))) where
   -- block 0's numbers are those of that state
   numbers : h′ ≡ headerFor (slotAt (decode im .header .first) (ackCount (ackOn (stateOf im) g))) (receivedState (stateOf im) g)
   unfolding receivedState taken acked
@@ -79,9 +79,9 @@ module _ (im : List ℕ) (sound : IsSound im) (g : Message) {h h′ : Header} {k
   put-stays y e = put (stay-labels (stateOf im) g k ek y) e
 
 pub take-is : (im : List ℕ) (sent : ℕ) (g : Message) {im′ : List ℕ} {h : Header} {k n : ℕ} {b : Bool}
-    → h ≡ decode im .header → k ≡ ackCount (ackOn (numbersOf h) g)
+    → h ≡ decode im .header → k ≡ ackCount (ackOn (stateOfNumbers h) g)
     → (im′ ≡ stored im (fewer (ackCount (ackOn (stateOf im) g))) (receivedState (stateOf im) g)) × (b ≡ differ (block im 0) (block im′ 0)) → n ≡ sent - k
-    → after (record { answer = Answer.Done; phase = upWith n; written = 0; slot = 0; block0 = b }) im′ [] ≡ takenFt im sent g
+    → afterWith (record { answer = Answer.Done; phase = upWith n; written = 0; slot = 0; block0 = b }) im′ [] ≡ takenFt im sent g
 take-is im sent g eh ek e en = rw (e .1, e .0, en, ek, ack-read im g eh)
 
 -- ---- how the answer settles
@@ -124,7 +124,7 @@ module _ (im : List ℕ) (ph : Phase) (m : List ℕ) where
       (taken-done (stateOf im) ph (readingOf m))
 
   module _ {a : Answer} (e : a ≡ admittedOn im ph Answer.Done) where
-    pub receive-refused : {r : Outcome} → isDone a ≡ false → r ≡ refusal a ph → after r im [] ≡ receiveOf im ph m
+    pub receive-refused : {r : Outcome} → isDone a ≡ false → r ≡ refusal a ph → afterWith r im [] ≡ receiveOf im ph m
     receive-refused n p = call-refused im ph e [] (receiveRule (stateOf im) ph (readingOf m)) (takenOn im ph (readingOf m)) n p ∙ sym call
 
     module _ (t : isDone a ≡ true) where
@@ -132,7 +132,7 @@ module _ (im : List ℕ) (ph : Phase) (m : List ℕ) where
       own p = call-own im ph e [] (receiveRule (stateOf im) ph (readingOf m)) (takenOn im ph (readingOf m)) t p ∙ sym call
 
       -- the phases in which nothing is received
-      pub receive-barred : {r : Outcome} → mayReceive ph ≡ false → r ≡ refusal Answer.WrongPhase ph → after r im [] ≡ receiveOf im ph m
+      pub receive-barred : {r : Outcome} → mayReceive ph ≡ false → r ≡ refusal Answer.WrongPhase ph → afterWith r im [] ≡ receiveOf im ph m
       unfolding effectOf
       receive-barred f p = own (rw (wrong-by (stateOf im) ph (readingOf m) f) (own-refused Answer.WrongPhase ph im [] (takenOn im ph (readingOf m)) refl p))
 

@@ -3,7 +3,7 @@ ghost use mathlib.Core.Path.{_≡_};
 ghost use Rattle.protocol.specs.Acked.{ackBorne};
 ghost use Rattle.protocol.specs.Labels.{isProtected};
 ghost use Rattle.protocol.specs.Receive.{isFatal, isZero, inTurn};
-ghost use Rattle.calls.specs.State.{numbersOf};
+ghost use Rattle.calls.specs.State.{stateOfNumbers};
 use block0::Header;
 use ft_number::FtNumber;
 use message::Field;
@@ -51,7 +51,7 @@ pub fn in_turn(secured: FtNumber, n: FtField) -> bool
 
 // The number that it acknowledges.
 pub fn ack_borne(h: Header, ack: FtField) -> FtNumber
-    ensures { λ r. ⌜ r .0 ≡ ackBorne (numbersOf h) ack ⌝ }
+    ensures { λ r. ⌜ r .0 ≡ ackBorne (stateOfNumbers h) ack ⌝ }
 {
     match ack {
         FtField::Absent => h.released,

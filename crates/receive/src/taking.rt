@@ -11,8 +11,8 @@ ghost use Rattle.image.specs.Verdict.{IsSound};
 ghost use Rattle.protocol.specs.Acked.{ackBorne};
 ghost use Rattle.protocol.specs.Phases.{upWith};
 ghost use Rattle.protocol.specs.Receive.{ackOn, ackCount, securedBy, receivedState, readRule, ftRule, plainRule};
-ghost use Rattle.calls.specs.Outcomes.{after, settleOf};
-ghost use Rattle.calls.specs.State.{stateOf, numbersOf};
+ghost use Rattle.calls.specs.Outcomes.{afterWith, settleOf};
+ghost use Rattle.calls.specs.State.{stateOf, stateOfNumbers};
 ghost use Rattle.calls.specs.Storing.{fewer, stored};
 ghost use Rattle.receive.specs.Call.{Taken, takenFt, receiveOf, takenOn};
 use crate::judging::judge_ft;
@@ -32,7 +32,7 @@ use message::Reading;
 
 // How many messages the ACK releases.
 fn ack_count(h: Header, g: Message) -> u32
-    ensures { λ r. ⌜ r ≡ ackCount (ackOn (numbersOf h) g) ⌝ }
+    ensures { λ r. ⌜ r ≡ ackCount (ackOn (stateOfNumbers h) g) ⌝ }
 {
     let ack = g.ack;
     match ft_number::acknowledge(h.released, h.issued, ack_borne(h, ack)) {
@@ -64,7 +64,7 @@ fn lowered(sent: u32, k: u32) -> u32
 // Block 0's numbers after the ACK and the message.
 fn next_header(h: Header, k: u32, g: Message) -> Header
     requires { ⌜ k ≤ h .held ⌝ }
-    ensures { λ r. ⌜ r ≡ headerSecured (headerReleased h (record { 0 = ackBorne (numbersOf h) (g .ack) }) (slotAt (h .first) k) (h .held - k)) (securedBy (h .secured) (g .protection)) ⌝ }
+    ensures { λ r. ⌜ r ≡ headerSecured (headerReleased h (record { 0 = ackBorne (stateOfNumbers h) (g .ack) }) (slotAt (h .first) k) (h .held - k)) (securedBy (h .secured) (g .protection)) ⌝ }
 {
     let ack = g.ack;
     let number = g.protection;
@@ -88,7 +88,7 @@ fn store_taken(image: &mut [u8], h: Header, k: u32, g: Message, words: &[u32]) -
 // A message that was judged Done in UpFT: the words are those that its ACK and the message leave.
 fn take_ft(image: &mut [u8], sent: u32, g: Message, words: &[u32]) -> Outcome
     requires { ⌜ Taken (now image) g (now words) ⌝ }
-    ensures { λ r. ⌜ after r (now (image .exit)) [] ≡ takenFt (now (image .entry)) sent g ⌝ }
+    ensures { λ r. ⌜ afterWith r (now (image .exit)) [] ≡ takenFt (now (image .entry)) sent g ⌝ }
 {
     let h = image::header_of(image);
     let k = ack_count(h, g);
@@ -105,7 +105,7 @@ fn take_ft(image: &mut [u8], sent: u32, g: Message, words: &[u32]) -> Outcome
 // A well-formed message in UpFT.
 fn receive_ft(image: &mut [u8], sent: u32, g: Message) -> Outcome
     requires { ⌜ IsSound (now image) ⌝ }
-    ensures { λ r. ⌜ after r (now (image .exit)) [] ≡ settleOf (ftRule (stateOf (now (image .entry))) g) (upWith sent) (now (image .entry)) [] (takenFt (now (image .entry)) sent g) ⌝ }
+    ensures { λ r. ⌜ afterWith r (now (image .exit)) [] ≡ settleOf (ftRule (stateOf (now (image .entry))) g) (upWith sent) (now (image .entry)) [] (takenFt (now (image .entry)) sent g) ⌝ }
 {
     let mut words = [0u32; label_list::WORD_COUNT];
     let a = judge_ft(image, image::header_of(image), g, &mut words);
@@ -117,7 +117,7 @@ fn receive_ft(image: &mut [u8], sent: u32, g: Message) -> Outcome
 
 fn receive_up(image: &mut [u8], sent: u32, msg: &[u8]) -> Outcome
     requires { ⌜ IsSound (now image) ⌝ }
-    ensures { λ r. ⌜ after r (now (image .exit)) [] ≡ settleOf (readRule (readingOf (now (msg .entry))) (ftRule (stateOf (now (image .entry))))) (upWith sent) (now (image .entry)) [] (takenOn (now (image .entry)) (upWith sent) (readingOf (now (msg .entry)))) ⌝ }
+    ensures { λ r. ⌜ afterWith r (now (image .exit)) [] ≡ settleOf (readRule (readingOf (now (msg .entry))) (ftRule (stateOf (now (image .entry))))) (upWith sent) (now (image .entry)) [] (takenOn (now (image .entry)) (upWith sent) (readingOf (now (msg .entry)))) ⌝ }
 {
     match message::read_message(msg) {
         Reading::Malformed => calls::settle(image, Answer::MalformedReceived, Phase::UpFT(Progress { sent: sent })),
@@ -128,7 +128,7 @@ fn receive_up(image: &mut [u8], sent: u32, msg: &[u8]) -> Outcome
 // In UpPlain a message is passed on: nothing changes where it is taken.
 fn receive_plain(image: &mut [u8], msg: &[u8]) -> Outcome
     requires { ⌜ IsSound (now image) ⌝ }
-    ensures { λ r. ⌜ after r (now (image .exit)) [] ≡ settleOf (readRule (readingOf (now (msg .entry))) plainRule) Phase.UpPlain (now (image .entry)) [] (takenOn (now (image .entry)) Phase.UpPlain (readingOf (now (msg .entry)))) ⌝ }
+    ensures { λ r. ⌜ afterWith r (now (image .exit)) [] ≡ settleOf (readRule (readingOf (now (msg .entry))) plainRule) Phase.UpPlain (now (image .entry)) [] (takenOn (now (image .entry)) Phase.UpPlain (readingOf (now (msg .entry)))) ⌝ }
 {
     match message::read_message(msg) {
         Reading::Malformed => calls::settle(image, Answer::MalformedReceived, Phase::UpPlain),
@@ -138,7 +138,7 @@ fn receive_plain(image: &mut [u8], msg: &[u8]) -> Outcome
 
 // One message of the peer's.
 pub fn receive(image: &mut [u8], phase: Phase, msg: &[u8]) -> Outcome
-    ensures { λ r. ⌜ after r (now (image .exit)) [] ≡ receiveOf (now (image .entry)) phase (now (msg .entry)) ⌝ }
+    ensures { λ r. ⌜ afterWith r (now (image .exit)) [] ≡ receiveOf (now (image .entry)) phase (now (msg .entry)) ⌝ }
 {
     let a = calls::admit(image, phase);
     if !calls::is_done(a) {

@@ -11,7 +11,7 @@ use Rattle.octets.specs.Differ.{differ}
 use Rattle.octets.specs.Part.{overlaid}
 use Rattle.octets.proofs.Differ.{differ-self}
 use Rattle.ft_number.specs.declared.FtNumber.{FtNumber}
-use Rattle.ft_number.specs.Circle.{after as successors}
+use Rattle.ft_number.specs.Circle.{after}
 use Rattle.block0.specs.declared.Header.{Header}
 use Rattle.block0.specs.Updates.{headerIssued}
 use Rattle.tlv.specs.declared.FtField.{FtField}
@@ -28,12 +28,12 @@ use Rattle.protocol.specs.declared.Answer.{Answer}
 use Rattle.protocol.specs.declared.Phase.{Phase}
 use Rattle.protocol.specs.Answers.{effectOf, isDone}
 use Rattle.protocol.specs.Phases.{issuedCount, sentOf, upWith}
-use Rattle.protocol.specs.Send.{numberAt, ackAsked, sendBytes, sendRule, numbered, sentState, sendNext}
+use Rattle.protocol.specs.Send.{queueNumber, ackAsked, sendBytes, sendRule, numbered, sentState, sendNext}
 use Rattle.protocol.specs.State.{State}
 use Rattle.protocol.specs.Step.{Step, roomFor, stepped}
 use Rattle.calls.specs.declared.Outcome.{Outcome}
-use Rattle.calls.specs.Outcomes.{After, after, refusal, admittedOn, settleOf, stepStored}
-use Rattle.calls.specs.State.{stateOf, numbersOf}
+use Rattle.calls.specs.Outcomes.{After, afterWith, refusal, admittedOn, settleOf, stepStored}
+use Rattle.calls.specs.State.{stateOf, stateOfNumbers}
 use Rattle.calls.specs.Storing.{stay, stored}
 use Rattle.calls.proofs.Called.{call-is}
 use Rattle.calls.proofs.Ends.{settle-done}
@@ -43,15 +43,15 @@ use Rattle.send.specs.Send.{sendOf}
 use Rattle.send.proofs.Judged.{Sendable, judged-refused, sendable-rule}
 
 -- ---- the number and the ACK
-pub number-is : (s : State) (sent : ℕ) {n : FtNumber} → n .0 ≡ successors (sent + 1) (s .released .0) → n ≡ numberAt s sent
-unfolding numberAt
+pub number-is : (s : State) (sent : ℕ) {n : FtNumber} → n .0 ≡ after (sent + 1) (s .released .0) → n ≡ queueNumber s sent
+unfolding queueNumber
 number-is s sent e = λ i. record { 0 = e i }
 
 pub ack-is : (s : State) {ask b : Bool} → ask ≡ b → ackAsked b s ≡ ackAsked ask s
 ack-is s e = rw e
 
 -- block 0's numbers say it alone
-ack-alone : (im : List ℕ) (ask : Bool) → ackAsked ask (numbersOf (decode im .header)) ≡ ackAsked ask (stateOf im)
+ack-alone : (im : List ℕ) (ask : Bool) → ackAsked ask (stateOfNumbers (decode im .header)) ≡ ackAsked ask (stateOf im)
 unfolding ackAsked
 ack-alone im true = refl
 ack-alone im false = refl
@@ -63,13 +63,13 @@ pub next-fits : (im : List ℕ) (sent : ℕ) {m : List ℕ} → IsSound im → s
 next-fits im sent s l e = let f : Storable (getD (decode im .queue) sent []) = queue-storable im s sent l in rw e (f .low, f .short)
 
 pub next-written : (im : List ℕ) (sent : ℕ) (ask : Bool) (o : List ℕ) {h : Header} {m o′ : List ℕ} {n : FtNumber} {a : FtField} {w : Written}
-    → h ≡ decode im .header → m ≡ getD (decode im .queue) sent [] → n ≡ numberAt (numbersOf h) sent → a ≡ ackAsked ask (numbersOf h)
+    → h ≡ decode im .header → m ≡ getD (decode im .queue) sent [] → n ≡ queueNumber (stateOfNumbers h) sent → a ≡ ackAsked ask (stateOfNumbers h)
     → (w, o′) ≡ writtenOf o (protectedBytes m n a) → (w, o′) ≡ writtenOf o (sendBytes (stateOf im) sent ask)
-unfolding sendBytes numberAt
+unfolding sendBytes queueNumber
 next-written im sent ask o eh em en ea e = e ∙ (rw (ea, en, em, eh, ack-alone im ask))
 
 -- ---- the number stored
-module _ (im : List ℕ) (sent : ℕ) (s : IsSound im) {h : Header} {k : ℕ} (eh : h ≡ decode im .header) (ek : k ≡ issuedCount (numbersOf h)) where
+module _ (im : List ℕ) (sent : ℕ) (s : IsSound im) {h : Header} {k : ℕ} (eh : h ≡ decode im .header) (ek : k ≡ issuedCount (stateOfNumbers h)) where
   issued : k ≡ issuedCount (stateOf im)
   unfolding issuedCount
   issued = ek ∙ (rw eh)
@@ -78,12 +78,12 @@ module _ (im : List ℕ) (sent : ℕ) (s : IsSound im) {h : Header} {k : ℕ} (e
   unfolding sentState
   has-number byte l = (sym (differ-self (block im 0)), rw (← issued, lt-ltb sent k l) (sym (put-same im s byte)))
 
-  pub has-none : {im′ : List ℕ} {n : FtNumber} {b : Bool} → k ≤ sent → n ≡ numberAt (numbersOf h) sent
+  pub has-none : {im′ : List ℕ} {n : FtNumber} {b : Bool} → k ≤ sent → n ≡ queueNumber (stateOfNumbers h) sent
       → (im′ ≡ store0 im (headerIssued h n) (decode im .labels)) × (b ≡ differ (block im 0) (block im′ 0))
       → (b ≡ differ (block im 0) (block im′ 0)) × (im′ ≡ stored im stay (sentState (stateOf im) sent))
-  unfolding sentState numbered numberAt
+  unfolding sentState numbered queueNumber
   has-none l en e =
-      (e .1, e .0 ∙ (rw (← issued, le-ltb sent k l, en, eh) (ap (λ (x : Header). store0 im (headerIssued x (numberAt (stateOf im) sent)) (decode im .labels)) (sym (header-same im s)))))
+      (e .1, e .0 ∙ (rw (← issued, le-ltb sent k l, en, eh) (ap (λ (x : Header). store0 im (headerIssued x (queueNumber (stateOf im) sent)) (decode im .labels)) (sym (header-same im s)))))
 
 -- ---- the call
 module _ (im : List ℕ) (ph : Phase) (ask : Bool) (o : List ℕ) where
@@ -98,7 +98,7 @@ module _ (im : List ℕ) (ph : Phase) (ask : Bool) (o : List ℕ) where
   send-settles = sym (call-is im ph o stay (sendRule (stateOf im) ph (roomFor bytes (length o))) step refl)
 
   pub send-refused : {r : Answer} {x : Outcome} → r ≡ admittedOn im ph (sendRule (stateOf im) ph Answer.Done) → isDone r ≡ false → x ≡ refusal r ph
-      → after x im o ≡ sendOf im ph ask o
+      → afterWith x im o ≡ sendOf im ph ask o
   send-refused e n ex = judged-refused im ph (roomFor bytes (length o)) o (stepStored im stay step o) e n ex ∙ send-settles
 
   module _ (d : Sendable im ph) {sent : ℕ} {w : Written} {o′ : List ℕ} (es : sent ≡ sentOf ph)
@@ -110,7 +110,7 @@ module _ (im : List ℕ) (ph : Phase) (ask : Bool) (o : List ℕ) where
     answered : (a : Answer) {x : After} → roomFor bytes (length o) ≡ a → x ≡ settleOf a ph im o (stepStored im stay step o) → x ≡ sendOf im ph ask o
     answered a e p = p ∙ (rw (← e, ← sendable-rule d (roomFor bytes (length o))) send-settles)
 
-    pub send-short : {x : Outcome} → w ≡ Written.TooShort → x ≡ refusal Answer.OutputTooShort ph → after x im o′ ≡ sendOf im ph ask o
+    pub send-short : {x : Outcome} → w ≡ Written.TooShort → x ≡ refusal Answer.OutputTooShort ph → afterWith x im o′ ≡ sendOf im ph ask o
     unfolding effectOf
     send-short t ex =
         let p : (ltb (length o) (length bytes) ≡ true) × (o′ ≡ o) = too-short o bytes written t in
@@ -118,7 +118,7 @@ module _ (im : List ℕ) (ph : Phase) (ask : Bool) (o : List ℕ) where
 
     pub send-acts : {n : ℕ} {b : Bool} {im′ : List ℕ} → w ≡ Written.Bytes n
         → (b ≡ differ (block im 0) (block im′ 0)) × (im′ ≡ stored im stay (sentState (stateOf im) sent))
-        → after (record { answer = Answer.Done; phase = upWith (sent + 1); written = n; slot = 0; block0 = b }) im′ o′ ≡ sendOf im ph ask o
+        → afterWith (record { answer = Answer.Done; phase = upWith (sent + 1); written = n; slot = 0; block0 = b }) im′ o′ ≡ sendOf im ph ask o
     send-acts {n} {b} {im′} t q =
         let p : (ltb (length o) (length bytes) ≡ false) × ((n ≡ length bytes) × (o′ ≡ overlaid o bytes)) = long-enough o bytes written t in
         answered Answer.Done (rw (p .0)) (rw (settle-done, q .0, q .1, p .1 .0, p .1 .1, es))

@@ -21,7 +21,7 @@ use Rattle.protocol.specs.Send.{sendRule}
 use Rattle.protocol.specs.State.{held}
 use Rattle.protocol.proofs.Settling.{Harmless, done-harmless}
 use Rattle.calls.specs.declared.Outcome.{Outcome}
-use Rattle.calls.specs.Outcomes.{After, after, refusal, admittedOn, settleOf}
+use Rattle.calls.specs.Outcomes.{After, afterWith, refusal, admittedOn, settleOf}
 use Rattle.calls.specs.State.{stateOf}
 use Rattle.calls.proofs.Settled.{Admitted, admitted-done, admitted-other, admit-refused, admit-passed, admitted-is, admitted-sound}
 use Rattle.call_meaning.proofs.Calling.{own-refused}
@@ -95,7 +95,7 @@ judged-sendable im ph a e t =
 -- a refusal before the room is tested is the same whatever the room
 pub judged-refused : (im : List ℕ) (ph : Phase) (room : Answer) (o : List ℕ) (done : After) {r : Answer} {x : Outcome}
     → r ≡ admittedOn im ph (sendRule (stateOf im) ph Answer.Done) → isDone r ≡ false → x ≡ refusal r ph
-    → after x im o ≡ settleOf (admittedOn im ph (sendRule (stateOf im) ph room)) ph im o done
+    → afterWith x im o ≡ settleOf (admittedOn im ph (sendRule (stateOf im) ph room)) ph im o done
 unfolding sendRule
 judged-refused im ph room o done e n ex =
     let own : Answer = sendRule (stateOf im) ph Answer.Done in

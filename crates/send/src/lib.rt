@@ -7,9 +7,9 @@ ghost use Rattle.image.specs.Sizes.{block};
 ghost use Rattle.image.specs.State.{decode};
 ghost use Rattle.image.specs.Verdict.{IsSound};
 ghost use Rattle.protocol.specs.Phases.{isUpFT, sentOf};
-ghost use Rattle.protocol.specs.Send.{numberAt, ackAsked, sendBytes, sendRule, sentState};
-ghost use Rattle.calls.specs.Outcomes.{after, admittedOn};
-ghost use Rattle.calls.specs.State.{stateOf, numbersOf};
+ghost use Rattle.protocol.specs.Send.{queueNumber, ackAsked, sendBytes, sendRule, sentState};
+ghost use Rattle.calls.specs.Outcomes.{afterWith, admittedOn};
+ghost use Rattle.calls.specs.State.{stateOf, stateOfNumbers};
 ghost use Rattle.calls.specs.Storing.{stay, stored};
 ghost use Rattle.send.specs.Send.{sendOf};
 use block0::Header;
@@ -68,14 +68,14 @@ fn judge_send(image: &[u8], phase: Phase) -> Answer
 // The number of the message at a place of the queue.
 fn number_at(h: Header, sent: u32) -> FtNumber
     requires { ⌜ sent < 65536 ⌝ }
-    ensures { λ r. ⌜ r ≡ numberAt (numbersOf h) sent ⌝ }
+    ensures { λ r. ⌜ r ≡ queueNumber (stateOfNumbers h) sent ⌝ }
 {
     ft_number::advance(h.released, sent + 1)
 }
 
 // The FT ACK to write.
 fn ack_asked(ack: bool, h: Header) -> FtField
-    ensures { λ r. ⌜ r ≡ ackAsked ack (numbersOf h) ⌝ }
+    ensures { λ r. ⌜ r ≡ ackAsked ack (stateOfNumbers h) ⌝ }
 {
     let secured = h.secured;
     if ack {
@@ -110,7 +110,7 @@ fn issue(image: &mut [u8], sent: u32) -> bool
 
 // Sends the oldest message not sent on this connection; `ack` asks for FT ACK. Block 0 is stored before the output leaves.
 pub fn send_next(image: &mut [u8], phase: Phase, ack: bool, out: &mut [u8]) -> Outcome
-    ensures { λ r. ⌜ after r (now (image .exit)) (now (out .exit)) ≡ sendOf (now (image .entry)) phase ack (now (out .entry)) ⌝ }
+    ensures { λ r. ⌜ afterWith r (now (image .exit)) (now (out .exit)) ≡ sendOf (now (image .entry)) phase ack (now (out .entry)) ⌝ }
 {
     let a = judge_send(image, phase);
     if !calls::is_done(a) {

@@ -17,7 +17,7 @@ use Rattle.protocol.specs.Calls.{submits, sends, step}
 use Rattle.protocol.specs.Init.{fresh}
 use Rattle.protocol.specs.Judged.{judged, done}
 use Rattle.protocol.specs.Phases.{issuedCount, phaseFits, upWith}
-use Rattle.protocol.specs.Send.{ackAsked, nextMessage, numberAt, numbered, sendBytes, sendRule, sentState}
+use Rattle.protocol.specs.Send.{ackAsked, nextMessage, queueNumber, numbered, sendBytes, sendRule, sentState}
 use Rattle.protocol.specs.State.{State, capacity, held}
 use Rattle.protocol.specs.Step.{Step}
 use Rattle.protocol.specs.Submit.{submitRule, submitted}
@@ -128,7 +128,7 @@ module _ {sent n : ℕ} (h : Holding sent n) where
         let one : Storable (nextMessage s sent) = law .storable sent (rw (h .count) some) in
         let w : length (take (leaves (sends false) (h .image) (upWith sent) room .outcome .written) (leaves (sends false) (h .image) (upWith sent) room .out)) ≡ length room =
         ap (λ (x : Step). length (x .output)) seen-one in
-        let l : length room ≡ length (nextMessage s sent) + length (ftTlvs (numberAt s sent) (ackAsked false s)) = length-raised (nextMessage s sent) (one .low) (ftTlvs (numberAt s sent) (ackAsked false s)) in
+        let l : length room ≡ length (nextMessage s sent) + length (ftTlvs (queueNumber s sent) (ackAsked false s)) = length-raised (nextMessage s sent) (one .low) (ftTlvs (queueNumber s sent) (ackAsked false s)) in
         omega (arith, w, l, one .low, length-take (leaves (sends false) (h .image) (upWith sent) room .outcome .written) (leaves (sends false) (h .image) (upWith sent) room .out))
 
 -- ---- the second send of a connection

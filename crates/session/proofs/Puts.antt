@@ -43,7 +43,7 @@ use Rattle.call_meaning.proofs.Putting.{QueueAfter, lawful-image, not-kept}
 use Rattle.call_meaning.proofs.Refining.{Kept}
 use Rattle.init.specs.Received.{startSlots}
 use Rattle.receive.specs.Call.{receivedSlots}
-use Rattle.session.specs.Call.{makesImage, slotsOf}
+use Rattle.session.specs.Call.{makesImage, slotsLeft}
 
 -- kept stays as it was, unless the ring is empty
 abbrev KeptAs : State → Slots → State → Type 0
@@ -108,7 +108,7 @@ module _ (im : List ℕ) (ph : Phase) (st : Standing im ph) where
       let a = done-accepted (stateOf im) m (done-is (submitRule (stateOf im) m) (admitted-done (stateOf im) ph (submitRule (stateOf im) m) (rw d))) in
       (a .storable, rw (queue-length im) at (a .room))
 
-  done-fits : (c : Call) (room : ℕ) → makesImage c ≡ false → judged c (stateOf im) ph room ≡ Answer.Done → Fits im (slotsOf c (stateOf im) ph) (done c (stateOf im) ph .state)
+  done-fits : (c : Call) (room : ℕ) → makesImage c ≡ false → judged c (stateOf im) ph room ≡ Answer.Done → Fits im (slotsLeft c (stateOf im) ph) (done c (stateOf im) ph .state)
   unfolding judged done submitted
   done-fits formats room other d = absurd (true≢false other)
   done-fits restores room other d = (refl, refl)
@@ -123,11 +123,11 @@ module _ (im : List ℕ) (ph : Phase) (st : Standing im ph) where
 
   -- ---- so it is kept
   pub done-keeps : (c : Call) (room : ℕ) → makesImage c ≡ false → Proper c ph → judged c (stateOf im) ph room ≡ Answer.Done
-      → Kept im (slotsOf c (stateOf im) ph) (done c (stateOf im) ph)
+      → Kept im (slotsLeft c (stateOf im) ph) (done c (stateOf im) ph)
   done-keeps c room other p d =
       let l = rw (step-does c (stateOf im) ph room d) at (lawful-step c (stateOf im) ph room p law (st .fits)) in
       let f = done-fits c room other d in
       record {
-        puts = record { lawful = l .0; queue = f .0; first = first-zero (slotsOf c (stateOf im) ph) (done c (stateOf im) ph .state) f };
+        puts = record { lawful = l .0; queue = f .0; first = first-zero (slotsLeft c (stateOf im) ph) (done c (stateOf im) ph .state) f };
         fits = l .1;
       }

@@ -29,7 +29,7 @@ use Rattle.call_meaning.specs.Seen.{seen}
 use Rattle.call_meaning.specs.Standing.{Standing, Stands}
 use Rattle.call_meaning.proofs.Putting.{lawful-image}
 use Rattle.call_meaning.proofs.Refining.{Kept, call-seen, call-stands}
-use Rattle.session.specs.Call.{given, leaves, lent, makesImage, slotsOf}
+use Rattle.session.specs.Call.{given, leaves, lent, makesImage, slotsLeft}
 use Rattle.session.proofs.Begin.{format-formats, formatted-stands}
 use Rattle.session.proofs.Puts.{done-keeps}
 use Rattle.session.proofs.Settles.{called}
@@ -40,25 +40,25 @@ module _ (im : List ℕ) (ph : Phase) (st : Standing im ph) (out : List ℕ) whe
     a : Answer
     a = judged c (stateOf im) ph (length out)
 
-    is : leaves c im ph out ≡ callOf im ph (lent c out) (slotsOf c (stateOf im) ph) (settle a (stateOf im) ph (done c (stateOf im) ph))
+    is : leaves c im ph out ≡ callOf im ph (lent c out) (slotsLeft c (stateOf im) ph) (settle a (stateOf im) ph (done c (stateOf im) ph))
     unfolding a
     is =
         called c im ph out other
-        ∙ ap (λ (q : Phase). callOf im q (lent c out) (slotsOf c (stateOf im) ph) (step c (stateOf im) ph (length out))) g
-        ∙ ap (callOf im ph (lent c out) (slotsOf c (stateOf im) ph)) (settles c (stateOf im) ph (length out))
+        ∙ ap (λ (q : Phase). callOf im q (lent c out) (slotsLeft c (stateOf im) ph) (step c (stateOf im) ph (length out))) g
+        ∙ ap (callOf im ph (lent c out) (slotsLeft c (stateOf im) ph)) (settles c (stateOf im) ph (length out))
 
-    keeps : isDone a ≡ true → Kept im (slotsOf c (stateOf im) ph) (done c (stateOf im) ph)
+    keeps : isDone a ≡ true → Kept im (slotsLeft c (stateOf im) ph) (done c (stateOf im) ph)
     unfolding a
     keeps t = done-keeps im ph st c (length out) other p (done-is (judged c (stateOf im) ph (length out)) t)
 
     given-stands : Stands (leaves c im ph out)
-    given-stands = rw is (call-stands im ph st (lent c out) (slotsOf c (stateOf im) ph) a (done c (stateOf im) ph) (done-answer c (stateOf im) ph) keeps)
+    given-stands = rw is (call-stands im ph st (lent c out) (slotsLeft c (stateOf im) ph) a (done c (stateOf im) ph) (done-answer c (stateOf im) ph) keeps)
 
     given-seen : seen (leaves c im ph out) ≡ step c (stateOf im) ph (length out)
     unfolding a
     given-seen =
         ap seen is
-        ∙ call-seen im ph st (lent c out) (slotsOf c (stateOf im) ph) a (done c (stateOf im) ph) (done-answer c (stateOf im) ph) keeps
+        ∙ call-seen im ph st (lent c out) (slotsLeft c (stateOf im) ph) a (done c (stateOf im) ph) (done-answer c (stateOf im) ph) keeps
         ∙ sym (settles c (stateOf im) ph (length out))
 
   -- ---- Restore is given none: of a sound image that makes no difference

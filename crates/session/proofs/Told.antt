@@ -40,7 +40,7 @@ use Rattle.calls.specs.Storing.{Slots, stay, empty}
 use Rattle.calls.proofs.Slots.{SlotFits, slot-idle, other-blocks}
 use Rattle.init.specs.Received.{startSlots}
 use Rattle.receive.specs.Call.{receivedSlots}
-use Rattle.session.specs.Call.{leaves, lent, makesImage, slotsOf}
+use Rattle.session.specs.Call.{leaves, lent, makesImage, slotsLeft}
 use Rattle.session.proofs.Settles.{answerOn, doneOn, ends}
 
 -- ---- a message that is put into a slot may be held, and there is room: by a Submit that is done
@@ -62,7 +62,7 @@ passed-fits : (im : List ℕ) (b : Bool) → SlotFits im (pick b empty stay)
 passed-fits im true = tt
 passed-fits im false = tt
 
-slots-fit : (c : Call) (im : List ℕ) (ph : Phase) (room : ℕ) → judged c (stateOf im) ph room ≡ Answer.Done → SlotFits im (slotsOf c (stateOf im) ph)
+slots-fit : (c : Call) (im : List ℕ) (ph : Phase) (room : ℕ) → judged c (stateOf im) ph room ≡ Answer.Done → SlotFits im (slotsLeft c (stateOf im) ph)
 unfolding judged
 slots-fit formats im ph room d = tt
 slots-fit restores im ph room d = tt
@@ -119,7 +119,7 @@ module _ (c : Call) (im : List ℕ) (ph : Phase) (out : List ℕ) (other : makes
       (λ e. puts empty (releasedWith (answerOn c im ph out)) (lent c out) (sound (λ n. let z : _≡_ {A = ℕ} 0 1 = (let q = sym e ∙ n in cc) in omega arith)) tt)
       (λ d.
       let q = checked-done (verdict im) (judged c (stateOf im) ph (length out)) (sym answers ∙ d) in
-      rw other (puts (slotsOf c (stateOf im) ph) (done c (stateOf im) ph) (lent c out) (sound-parts im (q .0)) (slots-fit c im ph (length out) (q .1))))
+      rw other (puts (slotsLeft c (stateOf im) ph) (done c (stateOf im) ph) (lent c out) (sound-parts im (q .0)) (slots-fit c im ph (length out) (q .1))))
     where
       sound : (effectOf (answerOn c im ph out) ≡ Effect.Nothing → ⊥) → IsSound im
       sound more = sound-parts im (checked-more (verdict im) (judged c (stateOf im) ph (length out)) (λ n. more (ap effectOf answers ∙ n)))

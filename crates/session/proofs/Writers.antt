@@ -29,7 +29,7 @@ use Rattle.calls.specs.State.{stateOf}
 use Rattle.calls.specs.Storing.{stay, stored}
 use Rattle.calls.proofs.Putting.{put-same}
 use Rattle.calls.proofs.Settled.{checked-all}
-use Rattle.session.specs.Call.{leaves, makesImage, slotsOf}
+use Rattle.session.specs.Call.{leaves, makesImage, slotsLeft}
 use Rattle.session.specs.Writers.{LeftAlone}
 use Rattle.session.proofs.Settles.{answerOn, doneOn, ends}
 
@@ -49,7 +49,7 @@ checked-sound (Verdict.BadBlock b) a e = no cc
 checked-sound (Verdict.BadField b) a e = no cc
 
 module _ (c : Call) (im : List ℕ) (ph : Phase) (out : List ℕ) (byte : Bytes im) (quiet : hears c ≡ false) (other : makesImage c ≡ false)
-    (stays : slotsOf c (stateOf im) ph ≡ stay) (same : done c (stateOf im) ph .state ≡ stateOf im) where
+    (stays : slotsLeft c (stateOf im) ph ≡ stay) (same : done c (stateOf im) ph .state ≡ stateOf im) where
   -- restore's checks refuse and do no more, and so does the call
   harmless-on : Harmless (answerOn c im ph out)
   unfolding answerOn

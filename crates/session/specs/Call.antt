@@ -72,14 +72,14 @@ lent (keeps-alive id) out = out
 lent (receives m) out = []
 
 -- what becomes of the ring of slots where it is done
-abbrev pub slotsOf : Call → State → Phase → Slots
-slotsOf formats s ph = empty
-slotsOf restores s ph = stay
-slotsOf fails s ph = stay
-slotsOf (opens id own proposal) s ph = stay
-slotsOf (greets m) s ph = startSlots (initStart s ph m)
-slotsOf (passes elapsed) s ph = pick (expired s elapsed) empty stay
-slotsOf (submits m) s ph = one-more m
-slotsOf (sends ask) s ph = stay
-slotsOf (keeps-alive id) s ph = stay
-slotsOf (receives m) s ph = receivedSlots s ph (readingOf m)
+abbrev pub slotsLeft : Call → State → Phase → Slots
+slotsLeft formats s ph = empty
+slotsLeft restores s ph = stay
+slotsLeft fails s ph = stay
+slotsLeft (opens id own proposal) s ph = stay
+slotsLeft (greets m) s ph = startSlots (initStart s ph m)
+slotsLeft (passes elapsed) s ph = pick (expired s elapsed) empty stay
+slotsLeft (submits m) s ph = one-more m
+slotsLeft (sends ask) s ph = stay
+slotsLeft (keeps-alive id) s ph = stay
+slotsLeft (receives m) s ph = receivedSlots s ph (readingOf m)

@@ -23,64 +23,64 @@ use Rattle.message.specs.Submission.{noLabel, submissionOf}
 use Rattle.message.proofs.Laws.{accepted, whole-label}
 use Rattle.slot.specs.Fields.{slotOk}
 use Rattle.slot.specs.Held.{slotFor}
-use Rattle.slot.specs.Layout.{lengthOf, kindOf, labelOf, messageOf, paddingOf, slotBlock}
+use Rattle.slot.specs.Layout.{slotLength, slotKind, slotLabel, slotMessage, slotPadding, slotBlock}
 use Rattle.slot.proofs.Written.{length-slot, slot-sound, slot-length, slot-kind, slot-spare, slot-label, message-slot, padding-slot}
 
 -- the length lies within its range
-pub low-length : (b : List ℕ) → slotOk b ≡ true → shortest ≤ lengthOf b
+pub low-length : (b : List ℕ) → slotOk b ≡ true → shortest ≤ slotLength b
 unfolding slotOk
-low-length b ok = leb-true _ _ (both-true (leb 8 (lengthOf b)) _ ok .0)
+low-length b ok = leb-true _ _ (both-true (leb 8 (slotLength b)) _ ok .0)
 
-pub high-length : (b : List ℕ) → slotOk b ≡ true → lengthOf b ≤ longest
+pub high-length : (b : List ℕ) → slotOk b ≡ true → slotLength b ≤ longest
 unfolding slotOk
-high-length b ok = leb-true _ _ (both-true (leb (lengthOf b) 480) _ (both-true (leb 8 (lengthOf b)) _ ok .1) .0)
+high-length b ok = leb-true _ _ (both-true (leb (slotLength b) 480) _ (both-true (leb 8 (slotLength b)) _ ok .1) .0)
 
-pub length-message : (b : List ℕ) → length b ≡ blockSize → slotOk b ≡ true → length (messageOf b) ≡ lengthOf b
-unfolding messageOf
+pub length-message : (b : List ℕ) → length b ≡ blockSize → slotOk b ≡ true → length (slotMessage b) ≡ slotLength b
+unfolding slotMessage
 length-message b long ok =
-    let high : lengthOf b ≤ 480 = high-length b ok in
-    length-part b 8 (8 + lengthOf b) (omega arith) ∙ omega arith
+    let high : slotLength b ≤ 480 = high-length b ok in
+    length-part b 8 (8 + slotLength b) (omega arith) ∙ omega arith
 
 -- what a slot with right fields holds: a message that Submit takes, with the slot's kind and label
 pub record Holds (b : List ℕ) : Type 0 where
   pub kind : Kind
   pub label : ℕ
-  pub accepted : submissionOf (messageOf b) ≡ Accepted kind label
-  pub kinded : kindNumber kind ≡ kindOf b
-  pub labelled : label ≡ labelOf b
+  pub accepted : submissionOf (slotMessage b) ≡ Accepted kind label
+  pub kinded : kindNumber kind ≡ slotKind b
+  pub labelled : label ≡ slotLabel b
 
-borne : (b : List ℕ) (j : Submission) → submissionOf (messageOf b) ≡ j → bears j (kindOf b) (labelOf b) ≡ true → Holds b
+borne : (b : List ℕ) (j : Submission) → submissionOf (slotMessage b) ≡ j → bears j (slotKind b) (slotLabel b) ≡ true → Holds b
 borne b Malformed e h = let z : _≡_ {A = ℕ} 0 1 = cc in no z
 borne b Refused e h = let z : _≡_ {A = ℕ} 0 1 = cc in no z
 borne b (Accepted k l) e h =
-    let p = both-true (eqb (kindNumber k) (kindOf b)) (eqb l (labelOf b)) h in
+    let p = both-true (eqb (kindNumber k) (slotKind b)) (eqb l (slotLabel b)) h in
     record { kind = k; label = l; accepted = e; kinded = eqb-true _ _ (p .0); labelled = eqb-true _ _ (p .1) }
 
 -- a slot with right fields holds a message that Submit takes
 pub slot-holds : (b : List ℕ) → slotOk b ≡ true → Holds b
 unfolding slotOk
 slot-holds b ok =
-    let p₁ = both-true (leb 8 (lengthOf b)) _ ok in
-    let p₂ = both-true (leb (lengthOf b) 480) _ (p₁ .1) in
-    let p₃ = both-true (leb 1 (kindOf b)) _ (p₂ .1) in
-    let p₄ = both-true (leb (kindOf b) 6) _ (p₃ .1) in
+    let p₁ = both-true (leb 8 (slotLength b)) _ ok in
+    let p₂ = both-true (leb (slotLength b) 480) _ (p₁ .1) in
+    let p₃ = both-true (leb 1 (slotKind b)) _ (p₂ .1) in
+    let p₄ = both-true (leb (slotKind b) 6) _ (p₃ .1) in
     let p₅ = both-true (eqb (beAt 1 b 3) 0) _ (p₄ .1) in
-    let p₆ = both-true (allZero (paddingOf b)) _ (p₅ .1) in
-    borne b (submissionOf (messageOf b)) refl (p₆ .1)
+    let p₆ = both-true (allZero (slotPadding b)) _ (p₅ .1) in
+    borne b (submissionOf (slotMessage b)) refl (p₆ .1)
 
 -- so the slot's kind and label are those of its message
-pub holds-kind : (b : List ℕ) → slotOk b ≡ true → kindOf b ≡ kindIn (submissionOf (messageOf b))
+pub holds-kind : (b : List ℕ) → slotOk b ≡ true → slotKind b ≡ kindIn (submissionOf (slotMessage b))
 holds-kind b ok = let h = slot-holds b ok in rw (h .accepted) (sym (h .kinded))
 
 -- and so is its label
-pub holds-label : (b : List ℕ) → slotOk b ≡ true → labelOf b ≡ labelIn (submissionOf (messageOf b))
+pub holds-label : (b : List ℕ) → slotOk b ≡ true → slotLabel b ≡ labelIn (submissionOf (slotMessage b))
 holds-label b ok = let h = slot-holds b ok in rw (h .accepted) (sym (h .labelled))
 
 -- the message of a slot with right fields may be held again
-pub holds-storable : (b : List ℕ) → length b ≡ blockSize → slotOk b ≡ true → Storable (messageOf b)
+pub holds-storable : (b : List ℕ) → length b ≡ blockSize → slotOk b ≡ true → Storable (slotMessage b)
 holds-storable b long ok =
     let h = slot-holds b ok in
-    let n : length (messageOf b) ≡ lengthOf b = length-message b long ok in
+    let n : length (slotMessage b) ≡ slotLength b = length-message b long ok in
     record {
       low = rw n (low-length b ok);
       short = rw n (high-length b ok);
@@ -133,7 +133,7 @@ module _ (b m : List ℕ) (long : length b ≡ blockSize) (s : Storable m) where
   slotFor-sound = rw is-slot (slot-sound b m n (s .label) long (s .short) fk fl)
 
   -- what was stored is held
-  pub slotFor-message : messageOf (slotFor b m) ≡ m
+  pub slotFor-message : slotMessage (slotFor b m) ≡ m
   slotFor-message = rw is-slot (message-slot b m n (s .label) long (s .short) fk fl)
 
   -- its fields are right

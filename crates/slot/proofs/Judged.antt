@@ -18,7 +18,7 @@ use Rattle.message.specs.Storable.{shortest, longest, bears}
 use Rattle.message.specs.Submission.{submissionOf}
 use Rattle.slot.specs.declared.SlotVerdict.the-variants.{Good, BadCheck, BadFields}
 use Rattle.slot.specs.Fields.{slotOk, Padded, slotVerdict}
-use Rattle.slot.specs.Layout.{lengthOf, kindOf, labelOf, messageAt, messageOf, paddingOf}
+use Rattle.slot.specs.Layout.{slotLength, slotKind, slotLabel, messageAt, slotMessage, slotPadding}
 
 module _ (j : Submission) (k : Kind) (l : ℕ) (ej : j ≡ Accepted k l) (n kind : ℕ) (en : n ≡ kindNumber k) where
   pub bears-kind : (label : ℕ) → n ≡ kind → eqb l label ≡ bears j kind label
@@ -30,7 +30,7 @@ module _ (j : Submission) (k : Kind) (l : ℕ) (ej : j ≡ Accepted k l) (n kind
 pub ruleset bearing = (bears-kind, bears-other)
 
 -- ---- a slot whose length is out of range, or whose padding is not zero
-module _ (b : List ℕ) {n : ℕ} (en : n ≡ lengthOf b) where
+module _ (b : List ℕ) {n : ℕ} (en : n ≡ slotLength b) where
   pub too-short : n < shortest → false ≡ slotOk b
   unfolding slotOk
   too-short h = simp (← en, lt-leb 8 n h)
@@ -42,7 +42,7 @@ module _ (b : List ℕ) {n : ℕ} (en : n ≡ lengthOf b) where
 
     module _ (high : n ≤ longest) {t : Bool} (et : t ≡ allZero (part b (messageAt + n) checkAt)) where
       pub padding-set : not t ≡ true → false ≡ slotOk b
-      unfolding slotOk paddingOf
+      unfolding slotOk slotPadding
       padding-set h = simp (← en, ← et, not-true t h, nothing)
         where
           nothing : (x : Bool) → both x false ≡ false
@@ -53,7 +53,7 @@ module _ (b : List ℕ) {n : ℕ} (en : n ≡ lengthOf b) where
       padding-zero h = sym et ∙ not-false t h
 
       pub padded : not t ≡ false → Padded b (messageAt + n)
-      unfolding paddingOf
+      unfolding slotPadding
       padded h = record {
         low = rw en at low;
         high = rw en at high;
@@ -62,7 +62,7 @@ module _ (b : List ℕ) {n : ℕ} (en : n ≡ lengthOf b) where
       }
 
 -- ---- the fields of one whose length and padding are right
-module _ (b : List ℕ) (end : ℕ) (p : Padded b end) {k : ℕ} (ek : k ≡ kindOf b) where
+module _ (b : List ℕ) (end : ℕ) (p : Padded b end) {k : ℕ} (ek : k ≡ slotKind b) where
   pub no-kind : k < 1 → false ≡ slotOk b
   unfolding slotOk
   no-kind h = simp (le-leb _ _ (p .low), le-leb _ _ (p .high), ← ek, lt-leb 1 k h)
@@ -77,11 +77,11 @@ module _ (b : List ℕ) (end : ℕ) (p : Padded b end) {k : ℕ} (ek : k ≡ kin
       unfolding slotOk
       spare-set h = simp (le-leb _ _ (p .low), le-leb _ _ (p .high), ← ek, le-leb 1 k some, le-leb k 6 kinds, ← ez, ne-eqb z 0 h)
 
-      pub message-judged : z ≡ 0 → {l : ℕ} → l ≡ labelOf b → {j : Submission} → j ≡ submissionOf (part b messageAt end)
+      pub message-judged : z ≡ 0 → {l : ℕ} → l ≡ slotLabel b → {j : Submission} → j ≡ submissionOf (part b messageAt end)
           → {r : Bool} → r ≡ bears j k l → r ≡ slotOk b
-      unfolding slotOk messageOf
+      unfolding slotOk slotMessage
       message-judged zero {l} el {j} ej er =
-          let e : part b messageAt end ≡ part b messageAt (messageAt + lengthOf b) = ap (part b messageAt) (p .ends) in
+          let e : part b messageAt end ≡ part b messageAt (messageAt + slotLength b) = ap (part b messageAt) (p .ends) in
           er
           ∙ sym
           (simp (le-leb _ _ (p .low), le-leb _ _ (p .high), ← ek, le-leb 1 k some, le-leb k 6 kinds, ← ez, eq-eqb z 0 zero, p .zeros, ← e, ← ej, ← el))

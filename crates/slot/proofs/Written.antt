@@ -16,7 +16,7 @@ use Rattle.block.specs.Zeros.{allZero}
 use Rattle.block.proofs.Run.{none, one, length-putRun, getRun-putRun, getRun-same}
 use Rattle.block.proofs.Sealed.{sealed-else, length-sealed, sealed-sound}
 use Rattle.block.proofs.ZeroBytes.{bytes-zero}
-use Rattle.slot.specs.Layout.{headWidths, lengthOf, kindOf, labelOf, messageOf, paddingOf, slotBlock}
+use Rattle.slot.specs.Layout.{headWidths, slotLength, slotKind, slotLabel, slotMessage, slotPadding, slotBlock}
 
 module _ (b m : List ℕ) (kind label : ℕ) (long : length b ≡ 512) (short : length m ≤ 480) (fk : kind < 256) (fl : label < 4294967296) where
   values : List ℕ
@@ -62,11 +62,11 @@ module _ (b m : List ℕ) (kind label : ℕ) (long : length b ≡ 512) (short : 
       ∙ filled-else (length m) (λ i. getD m i 0) headed 8 (0 + k) (λ i hi. omega arith))
       ∙ getRun-putRun headWidths values b 0 (omega arith) (one n (one fk (one spare (one fl none))))
 
-  pub slot-length : lengthOf (slotBlock b m kind label) ≡ length m
+  pub slot-length : slotLength (slotBlock b m kind label) ≡ length m
   unfolding values
   slot-length = ap (λ (l : List ℕ). getD l 0 0) head-slot
 
-  pub slot-kind : kindOf (slotBlock b m kind label) ≡ kind
+  pub slot-kind : slotKind (slotBlock b m kind label) ≡ kind
   unfolding values
   slot-kind = ap (λ (l : List ℕ). getD l 1 0) head-slot
 
@@ -74,12 +74,12 @@ module _ (b m : List ℕ) (kind label : ℕ) (long : length b ≡ 512) (short : 
   unfolding values
   slot-spare = ap (λ (l : List ℕ). getD l 2 0) head-slot
 
-  pub slot-label : labelOf (slotBlock b m kind label) ≡ label
+  pub slot-label : slotLabel (slotBlock b m kind label) ≡ label
   unfolding values
   slot-label = ap (λ (l : List ℕ). getD l 3 0) head-slot
 
-  pub message-slot : messageOf (slotBlock b m kind label) ≡ m
-  unfolding messageOf full
+  pub message-slot : slotMessage (slotBlock b m kind label) ≡ m
+  unfolding slotMessage full
   message-slot =
       let t : List ℕ = slotBlock b m kind label in
       let room : 8 + length m ≤ length headed = omega (arith, long-headed) in
@@ -91,8 +91,8 @@ module _ (b m : List ℕ) (kind label : ℕ) (long : length b ≡ 512) (short : 
       ∙ filled-else (500 - length m) (λ j. 0) (copied headed 8 m) (8 + length m) (8 + i) (λ j hj. omega arith)
       ∙ filled-at (length m) (λ j. getD m j 0) headed 8 i room (omega arith))
 
-  pub padding-slot : allZero (paddingOf (slotBlock b m kind label)) ≡ true
-  unfolding paddingOf full
+  pub padding-slot : allZero (slotPadding (slotBlock b m kind label)) ≡ true
+  unfolding slotPadding full
   padding-slot =
       let t : List ℕ = slotBlock b m kind label in
       let a : ℕ = 8 + length m in

@@ -1,6 +1,6 @@
 -- A slot's fields: "length 8 to 480 (0-1), kind 1 to 6 (2), zero (3), .. zeros"; "a slot's message passes Submit's 4 and 5 and has the slot's kind and label".
 use Prim.Native.Nat.{ℕ, _+_, _≤_}
-use mathlib.Core.Bool.{Bool, true}
+use mathlib.Core.Bool.{Bool, true, not}
 use mathlib.Core.List.{List}
 use mathlib.Core.Path.{_≡_}
 use lib.Dec.{leb, eqb}
@@ -12,23 +12,29 @@ use Rattle.message.specs.Storable.{bears, longest, shortest}
 use Rattle.message.specs.Submission.{submissionOf}
 use Rattle.slot.specs.declared.SlotVerdict.{SlotVerdict}
 use Rattle.slot.specs.declared.SlotVerdict.the-variants.{Good, BadCheck, BadFields}
-use Rattle.slot.specs.Layout.{lengthOf, kindOf, labelOf, messageAt, messageOf, paddingOf}
+use Rattle.slot.specs.Layout.{slotLength, slotKind, slotLabel, messageAt, slotMessage, slotPadding}
 
 unfoldable pub slotOk : List ℕ → Bool
 slotOk b =
-    both (leb shortest (lengthOf b))
-    (both (leb (lengthOf b) longest)
-    (both (leb 1 (kindOf b))
-    (both (leb (kindOf b) 6)
-    (both (eqb (beAt 1 b 3) 0) (both (allZero (paddingOf b)) (bears (submissionOf (messageOf b)) (kindOf b) (labelOf b)))))))
+    both (leb shortest (slotLength b))
+    (both (leb (slotLength b) longest)
+    (both (leb 1 (slotKind b))
+    (both (leb (slotKind b) 6)
+    (both (eqb (beAt 1 b 3) 0) (both (allZero (slotPadding b)) (bears (submissionOf (slotMessage b)) (slotKind b) (slotLabel b)))))))
 
 -- the message ends at `end`, its length is in range, and zeros follow it
 pub record Padded (b : List ℕ) (end : ℕ) : Type 0 where
-  pub low : shortest ≤ lengthOf b
-  pub high : lengthOf b ≤ longest
-  pub ends : end ≡ messageAt + lengthOf b
-  pub zeros : allZero (paddingOf b) ≡ true
+  pub low : shortest ≤ slotLength b
+  pub high : slotLength b ≤ longest
+  pub ends : end ≡ messageAt + slotLength b
+  pub zeros : allZero (slotPadding b) ≡ true
 
 -- "check, then fields"
 unfoldable pub slotVerdict : List ℕ → SlotVerdict
-slotVerdict b = pick (sound b) (pick (slotOk b) Good BadFields) BadCheck
+slotVerdict b = pick (not (sound b)) BadCheck (pick (not (slotOk b)) BadFields Good)
+
+-- 01's numbers: "10: bad block. 11: bad field"
+abbrev pub slotVerdictNumber : SlotVerdict → ℕ
+slotVerdictNumber Good = 0
+slotVerdictNumber BadCheck = 10
+slotVerdictNumber BadFields = 11

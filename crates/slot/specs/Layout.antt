@@ -12,24 +12,24 @@ use Rattle.block.specs.Run.{putRun}
 abbrev pub headWidths : List ℕ
 headWidths = 2 ∷ 1 ∷ 1 ∷ 4 ∷ []
 
-abbrev pub lengthOf : List ℕ → ℕ
-lengthOf b = beAt 2 b 0
+abbrev pub slotLength : List ℕ → ℕ
+slotLength b = beAt 2 b 0
 
-abbrev pub kindOf : List ℕ → ℕ
-kindOf b = beAt 1 b 2
+abbrev pub slotKind : List ℕ → ℕ
+slotKind b = beAt 1 b 2
 
-abbrev pub labelOf : List ℕ → ℕ
-labelOf b = beAt 4 b 4
+abbrev pub slotLabel : List ℕ → ℕ
+slotLabel b = beAt 4 b 4
 
 abbrev pub messageAt : ℕ
 messageAt = 8
 
 -- the message, and what follows it up to the check
-unfoldable pub messageOf : List ℕ → List ℕ
-messageOf b = part b messageAt (messageAt + lengthOf b)
+unfoldable pub slotMessage : List ℕ → List ℕ
+slotMessage b = part b messageAt (messageAt + slotLength b)
 
-unfoldable pub paddingOf : List ℕ → List ℕ
-paddingOf b = part b (messageAt + lengthOf b) checkAt
+unfoldable pub slotPadding : List ℕ → List ℕ
+slotPadding b = part b (messageAt + slotLength b) checkAt
 
 -- the block with a message of that kind and label written, and sealed
 unfoldable pub slotBlock : List ℕ → List ℕ → ℕ → ℕ → List ℕ

@@ -9,7 +9,7 @@ ghost use Rattle.block.specs.Run.{putRun};
 ghost use Rattle.message.specs.Kinds.{kindNumber};
 ghost use Rattle.message.specs.Storable.{longest, bears};
 ghost use Rattle.slot.specs.Fields.{slotOk, Padded, slotVerdict};
-ghost use Rattle.slot.specs.Layout.{headWidths, lengthOf, kindOf, labelOf, messageAt, messageOf, slotBlock};
+ghost use Rattle.slot.specs.Layout.{headWidths, slotLength, slotKind, slotLabel, messageAt, slotMessage, slotBlock};
 use message::Kind;
 use message::Submission;
 
@@ -56,7 +56,7 @@ pub fn write_slot(block: &mut [u8], m: &[u8], kind: Kind, label: u32)
 // The length that the slot gives its message.
 fn message_length(block: &[u8]) -> usize
     requires { ⌜ length (now block) ≡ blockSize ⌝ }
-    ensures { λ r. ⌜ r ≡ lengthOf (now (block .entry)) ⌝ }
+    ensures { λ r. ⌜ r ≡ slotLength (now (block .entry)) ⌝ }
 {
     octets::get_u16(block, 0) as usize
 }
@@ -64,7 +64,7 @@ fn message_length(block: &[u8]) -> usize
 // The number of its kind.
 pub fn kind_of(block: &[u8]) -> u8
     requires { ⌜ length (now block) ≡ blockSize ⌝ }
-    ensures { λ r. ⌜ r ≡ kindOf (now (block .entry)) ⌝ }
+    ensures { λ r. ⌜ r ≡ slotKind (now (block .entry)) ⌝ }
 {
     octets::get_u8(block, 2)
 }
@@ -72,7 +72,7 @@ pub fn kind_of(block: &[u8]) -> u8
 // Its label; 0xFFFFFFFF for the kinds without one.
 pub fn label_of(block: &[u8]) -> u32
     requires { ⌜ length (now block) ≡ blockSize ⌝ }
-    ensures { λ r. ⌜ r ≡ labelOf (now (block .entry)) ⌝ }
+    ensures { λ r. ⌜ r ≡ slotLabel (now (block .entry)) ⌝ }
 {
     octets::get_u32(block, 4)
 }
@@ -150,7 +150,7 @@ pub fn judge_slot(block: &[u8]) -> SlotVerdict
 // The message that a slot with right fields holds, as that very part of the block.
 pub fn message_of(block: &[u8]) -> &[u8]
     requires { ⌜ (length (now block) ≡ blockSize) × (slotOk (now block) ≡ true) ⌝ }
-    ensures { λ r. ⌜ now r ≡ messageOf (now (block .entry)) ⌝ }
+    ensures { λ r. ⌜ now r ≡ slotMessage (now (block .entry)) ⌝ }
     ensures place { λ r. ⌜ (r .ptr .0 ≡ block .entry .ptr .0) × (r .ptr .1 ≡ messageAt + block .entry .ptr .1) ⌝ }
 {
     let end = MESSAGE_AT + message_length(block);

@@ -2,3 +2,8 @@ pub mod Synced
 pub mod Tracks
 pub mod Follows
 pub mod Theorem
+pub mod Uncut
+pub mod Stored
+pub mod SlotAlone
+pub mod Restarting
+pub mod StoredBytes

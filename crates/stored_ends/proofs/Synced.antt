@@ -25,7 +25,7 @@ use Rattle.protocol.specs.TimePassed.{expired}
 use Rattle.protocol.proofs.Settles.{ends}
 use Rattle.calls.specs.Outcomes.{After}
 use Rattle.calls.specs.State.{stateOf}
-use Rattle.two_ends.specs.Calls.{broken, keeps, off, replaced}
+use Rattle.two_ends.specs.Calls.{disconnected, keeps, off, replaced}
 use Rattle.two_ends.specs.World.{End, World}
 use Rattle.call_meaning.specs.Medium.{allStored}
 use Rattle.call_meaning.specs.Standing.{Standing}
@@ -124,6 +124,6 @@ synced-replaced w e ab ba {c} {d} s r = by (closes e)
     next : World
     next = record { a = e; b = w .b; ab = ab; ba = ba; started = w .started; unreleased = both (w .unreleased) (keeps e) }
 
-    by : (k : Bool) → Synced (pick k (broken next) next .a) c × Synced (pick k (broken next) next .b) d
+    by : (k : Bool) → Synced (pick k (disconnected next) next .a) c × Synced (pick k (disconnected next) next .b) d
     by true = (synced-off s, synced-off r)
     by false = (s, r)

@@ -21,7 +21,7 @@ use Rattle.protocol.specs.declared.Phase.{Phase}
 use Rattle.protocol.specs.Answers.{isDone}
 use Rattle.protocol.specs.Begin.{restore}
 use Rattle.protocol.specs.Calls
-use Rattle.protocol.specs.Calls.{Call, step as ruled}
+use Rattle.protocol.specs.Calls.{Call, step}
 use Rattle.protocol.specs.ConnectionFailed.{connectionFailed}
 use Rattle.protocol.specs.Init.{initReceived, initStart}
 use Rattle.protocol.specs.KeepAlive.{keepalive}
@@ -36,8 +36,8 @@ use Rattle.protocol.specs.Submit.{submit}
 use Rattle.protocol.specs.TimePassed.{timePassed}
 use Rattle.calls.specs.Outcomes.{After, untouched}
 use Rattle.calls.specs.State.{stateOf}
-use Rattle.two_ends.specs.Calls.{accepts, beginning, broken, called, counts, delivery, greeted, greets, on, opened, plainly, put, receives, replaced, submitted, took, wrote}
-use Rattle.two_ends.specs.Runs.{Event, Proper, Seconds, act as happens, breaks, delivers, keepalives, notices, opens, passes, restarts, sends, submits}
+use Rattle.two_ends.specs.Calls.{accepts, beginning, disconnected, called, counts, delivery, greeted, greets, on, opened, plainly, put, receives, replaced, offered, took, wrote}
+use Rattle.two_ends.specs.Runs.{Event, ProperEvent, Seconds, act, breaks, delivers, keepalives, notices, opens, passes, restarts, sends, submits}
 use Rattle.two_ends.specs.World.{End, World}
 use Rattle.call_meaning.specs.Medium.{Same, committed, stores}
 use Rattle.call_meaning.specs.Seen.{seen}
@@ -45,7 +45,7 @@ use Rattle.call_meaning.specs.Standing.{Standing}
 use Rattle.session.specs.Call.{leaves, makesImage}
 use Rattle.session.proofs.Medium.{fewer-same}
 use Rattle.session.proofs.Refines.{refines}
-use Rattle.stored_ends.specs.Pair.{Cabinet, Lent, Pair, cutShort, left, made, received, restarted, shownDelivery}
+use Rattle.stored_ends.specs.Pair.{Cabinet, Lent, Pair, cutShort, left, made, received, restarted, deliveryAfter}
 use Rattle.stored_ends.proofs.Synced.{Proposes, Synced, after, synced-called, synced-off, synced-replaced}
 
 -- the bytes under way to an end
@@ -79,7 +79,7 @@ module _ (w : World) (own peer : Cabinet) (s : Synced (w .a) own) (r : Synced (w
   z = record { world = w; own = own; peer = peer }
 
   -- what the rules say of the state that the end has in the world
-  ruled-a : (c : Call) (out : List ℕ) → rules.Proper c ph → (f : State → Step) → ruled c (stateOf im) ph (length out) ≡ f (stateOf im) → seen (leaves c im ph out) ≡ f (w .a .state)
+  ruled-a : (c : Call) (out : List ℕ) → rules.Proper c ph → (f : State → Step) → step c (stateOf im) ph (length out) ≡ f (stateOf im) → seen (leaves c im ph out) ≡ f (w .a .state)
   ruled-a c out p f e = refines im ph (s .stand) out c p ∙ e ∙ ap f (sym (s .state))
 
   -- the world after a call that leaves such an end
@@ -91,17 +91,17 @@ module _ (w : World) (own peer : Cabinet) (s : Synced (w .a) own) (r : Synced (w
       let b = synced-replaced u e ab ba (synced-called c other im ph out (s .stand) p (s .timed) o (own .medium) (s .medium) e st q) there in
       record { own = b .0; peer = b .1 }
 
-  submits-tracks : (m out : List ℕ) → Tracks (made z (submits m) out) (happens w (submits m))
-  unfolding ruled
+  submits-tracks : (m out : List ℕ) → Tracks (made z (submits m) out) (act w (submits m))
+  unfolding step
   submits-tracks m out = record {
-    world = ap (submitted w m) (ruled-a (Calls.submits m) [] tt (λ (t : State). submit t ph m) refl);
+    world = ap (offered w m) (ruled-a (Calls.submits m) [] tt (λ (t : State). submit t ph m) refl);
     both =
         pair-after (Calls.submits m) [] refl tt tt w
         (called (w .a) (seen (leaves (Calls.submits m) im ph [])) (counts (w .a) (seen (leaves (Calls.submits m) im ph [])) (accepts m (w .a .history)))) (w .ab) (w .ba) refl refl refl;
   }
 
-  sends-tracks : (ask : Bool) (room : ℕ) (out : List ℕ) → room ≡ length out → Tracks (made z (sends ask room) out) (happens w (sends ask room))
-  unfolding ruled
+  sends-tracks : (ask : Bool) (room : ℕ) (out : List ℕ) → room ≡ length out → Tracks (made z (sends ask room) out) (act w (sends ask room))
+  unfolding step
   sends-tracks ask room out l = record {
     world = ap (wrote w) (ruled-a (Calls.sends ask) out tt (λ (t : State). sendNext t ph ask (length out)) refl) ∙ ap (λ (n : ℕ). wrote w (sendNext (w .a .state) ph ask n)) (sym l);
     both =
@@ -109,8 +109,8 @@ module _ (w : World) (own peer : Cabinet) (s : Synced (w .a) own) (r : Synced (w
         (put (w .a .joined) (w .ab) (seen (leaves (Calls.sends ask) im ph out))) (w .ba) refl refl refl;
   }
 
-  keepalives-tracks : (id : MessageId) (room : ℕ) (out : List ℕ) → room ≡ length out → Tracks (made z (keepalives id room) out) (happens w (keepalives id room))
-  unfolding ruled
+  keepalives-tracks : (id : MessageId) (room : ℕ) (out : List ℕ) → room ≡ length out → Tracks (made z (keepalives id room) out) (act w (keepalives id room))
+  unfolding step
   keepalives-tracks id room out l = record {
     world = ap (wrote w) (ruled-a (Calls.keeps-alive id) out tt (λ (t : State). keepalive t ph id (length out)) refl) ∙ ap (λ (n : ℕ). wrote w (keepalive (w .a .state) ph id n)) (sym l);
     both =
@@ -118,15 +118,15 @@ module _ (w : World) (own peer : Cabinet) (s : Synced (w .a) own) (r : Synced (w
         (put (w .a .joined) (w .ab) (seen (leaves (Calls.keeps-alive id) im ph out))) (w .ba) refl refl refl;
   }
 
-  passes-tracks : (elapsed : ℕ) (out : List ℕ) → Tracks (made z (passes elapsed) out) (happens w (passes elapsed))
-  unfolding ruled
+  passes-tracks : (elapsed : ℕ) (out : List ℕ) → Tracks (made z (passes elapsed) out) (act w (passes elapsed))
+  unfolding step
   passes-tracks elapsed out = record {
     world = ap (plainly w) (ruled-a (Calls.passes elapsed) [] tt (λ (t : State). timePassed t ph elapsed) refl);
     both = pair-after (Calls.passes elapsed) [] refl tt tt w (called (w .a) (seen (leaves (Calls.passes elapsed) im ph [])) (w .a .history)) (w .ab) (w .ba) refl refl refl;
   }
 
-  notices-tracks : (out : List ℕ) → Tracks (made z notices out) (happens w notices)
-  unfolding ruled
+  notices-tracks : (out : List ℕ) → Tracks (made z notices out) (act w notices)
+  unfolding step
   notices-tracks out = record {
     world = ap (plainly w) (ruled-a Calls.fails [] tt (λ (t : State). connectionFailed t ph) refl);
     both = pair-after Calls.fails [] refl tt tt w (called (w .a) (seen (leaves Calls.fails im ph [])) (w .a .history)) (w .ab) (w .ba) refl refl refl;
@@ -150,8 +150,8 @@ module _ (w : World) (own peer : Cabinet) (s : Synced (w .a) own) (r : Synced (w
         opened-by (on (called (w .a) (seen (leaves (Calls.opens id p t) im ph out)) (w .a .history))) (put true (w .ab) (seen (leaves (Calls.opens id p t) im ph out))) refl refl
     opened-both false = opened-by (called (w .a) (seen (leaves (Calls.opens id p t) im ph out)) (w .a .history)) (w .ab) refl refl
 
-    opens-tracks : (room : ℕ) → room ≡ length out → Tracks (made z (opens id p t room) out) (happens w (opens id p t room))
-    unfolding ruled
+    opens-tracks : (room : ℕ) → room ≡ length out → Tracks (made z (opens id p t room) out) (act w (opens id p t room))
+    unfolding step
     opens-tracks room l = record {
       world = ap (opened w) (ruled-a (Calls.opens id p t) out tt (λ (q : State). openSession q ph id p t (length out)) refl) ∙ ap (λ (n : ℕ). opened w (openSession (w .a .state) ph id p t n)) (sym l);
       both = opened-both (isDone (leaves (Calls.opens id p t) im ph out .outcome .answer));
@@ -162,13 +162,13 @@ module _ (w : World) (own peer : Cabinet) (s : Synced (w .a) own) (r : Synced (w
       → Tracks (record { world = v; own = after (own .medium) (untouched Answer.Done ph im []); peer = peer }) v
   still-tracks v sa sb = record { world = refl; both = record { own = record { stand = sa .stand; state = sa .state; medium = sa .medium; timed = sa .timed }; peer = sb } }
 
-  breaks-tracks : (out : List ℕ) → Tracks (made z breaks out) (happens w breaks)
-  breaks-tracks out = still-tracks (broken w) (synced-off s) (synced-off r)
+  breaks-tracks : (out : List ℕ) → Tracks (made z breaks out) (act w breaks)
+  breaks-tracks out = still-tracks (disconnected w) (synced-off s) (synced-off r)
 
   -- ---- a message delivered
   delivers-by : (jo : Bool) (line : List (List ℕ)) → Arrives line
-      → Tracks (record { world = shownDelivery jo line w (stateOf im) (seen (received jo line im ph)); own = after (own .medium) (received jo line im ph); peer = peer }) (delivery jo line w)
-  unfolding ruled
+      → Tracks (record { world = deliveryAfter jo line w (stateOf im) (seen (received jo line im ph)); own = after (own .medium) (received jo line im ph); peer = peer }) (delivery jo line w)
+  unfolding step
   delivers-by false line o = still-tracks w s r
   delivers-by true [] o = still-tracks w s r
   delivers-by true (m ∷ rest) o = by (awaits ph)
@@ -201,16 +201,19 @@ module _ (w : World) (own peer : Cabinet) (s : Synced (w .a) own) (r : Synced (w
       }
 
 -- ---- a restart: from any medium that passes the checks and stands for the state of the end
+pub same-stands : {e : End} {c : Cabinet} → Synced e c → (medium : List ℕ) → Same (c .image) medium → Standing medium (e .phase)
+same-stands {e} {c} s medium same = record {
+  sound = sound-parts medium (same .checks ∙ parts-sound (c .image) (s .stand .sound));
+  range = rw (same .state) (s .stand .range);
+  fits = rw (same .state) (s .stand .fits);
+}
+
 module _ (w : World) (own peer : Cabinet) (s : Synced (w .a) own) (r : Synced (w .b) peer) where
-  pub restarts-tracks : (medium : List ℕ) → Same (own .image) medium → Tracks (restarted (record { world = w; own = own; peer = peer }) medium) (happens w restarts)
-  unfolding ruled
+  pub restarts-tracks : (medium : List ℕ) → Same (own .image) medium → Tracks (restarted (record { world = w; own = own; peer = peer }) medium) (act w restarts)
+  unfolding step
   restarts-tracks medium same =
       let ph = w .a .phase in
-      let st : Standing medium ph = record {
-        sound = sound-parts medium (same .checks ∙ parts-sound (own .image) (s .stand .sound));
-        range = rw (same .state) (s .stand .range);
-        fits = rw (same .state) (s .stand .fits);
-      } in
+      let st : Standing medium ph = same-stands s medium same in
       let e : seen (leaves Calls.restores medium ph []) ≡ restore (stateOf medium) = refines medium ph st [] Calls.restores tt in
       let q : stateOf medium ≡ w .a .state = rw (same .state) (sym (s .state)) in
       let b =
@@ -219,7 +222,7 @@ module _ (w : World) (own peer : Cabinet) (s : Synced (w .a) own) (r : Synced (w
       record { world = ap (plainly w) (e ∙ ap restore q); both = record { own = b .0; peer = b .1 } }
 
 module _ (w : World) (own peer : Cabinet) (s : Synced (w .a) own) (r : Synced (w .b) peer) where
-  pub made-tracks : (v : Event) (out : List ℕ) → Proper v → Lent v out → Arrives (w .ba) → Tracks (made (record { world = w; own = own; peer = peer }) v out) (happens w v)
+  pub made-tracks : (v : Event) (out : List ℕ) → ProperEvent v → Lent v out → Arrives (w .ba) → Tracks (made (record { world = w; own = own; peer = peer }) v out) (act w v)
   made-tracks (submits m) out p l o = submits-tracks w own peer s r m out
   made-tracks (sends ask room) out p l o = sends-tracks w own peer s r ask room out l
   made-tracks (keepalives id room) out p l o = keepalives-tracks w own peer s r id room out l
@@ -260,10 +263,10 @@ module _ (w : World) (own peer : Cabinet) (s : Synced (w .a) own) (r : Synced (w
 
   -- ---- power lost in a call: it has not happened, or it has
   pub data Cut (v : Event) (y : Pair) : Type 0 where
-    before : Tracks y (happens w restarts) → Cut v y
-    behind : Tracks y (happens (happens w v) restarts) → Cut v y
+    before : Tracks y (act w restarts) → Cut v y
+    behind : Tracks y (act (act w v) restarts) → Cut v y
 
-  pub cut-tracks : (n : ℕ) (v : Event) (out : List ℕ) → Proper v → Lent v out → Arrives (w .ba) → Cut v (cutShort n (record { world = w; own = own; peer = peer }) v out)
+  pub cut-tracks : (n : ℕ) (v : Event) (out : List ℕ) → ProperEvent v → Lent v out → Arrives (w .ba) → Cut v (cutShort n (record { world = w; own = own; peer = peer }) v out)
   cut-tracks n v out p l o = by (ltb n (length (stores (left v w own out .outcome)))) refl
     where
       z : Pair
@@ -281,4 +284,4 @@ module _ (w : World) (own peer : Cabinet) (s : Synced (w .a) own) (r : Synced (w
           let u =
           restarts-tracks (made z v out .world) (made z v out .own) peer (t .both .own) (t .both .peer) (made z v out .own .medium)
           (record { checks = ap verdict m; state = ap decode m }) in
-          behind (record { world = u .world ∙ ap (λ (y : World). happens y restarts) (t .world); both = u .both })
+          behind (record { world = u .world ∙ ap (λ (y : World). act y restarts) (t .world); both = u .both })

@@ -6,14 +6,14 @@ use Rattle.two_ends.specs.World.{End, World}
 use Rattle.stored_ends.specs.Pair.{Cabinet, Pair}
 
 -- an end whose state is the one that its medium stands for
-abbrev pub stored : End → Cabinet → End
-stored e c = record { state = stateOf (c .medium); phase = e .phase; joined = e .joined; begun = e .begun; history = e .history }
+abbrev pub endStored : End → Cabinet → End
+endStored e c = record { state = stateOf (c .medium); phase = e .phase; joined = e .joined; begun = e .begun; history = e .history }
 
 -- the world as its media have it
 abbrev pub storedWorld : Pair → World
 storedWorld z = record {
-  a = stored (z .world .a) (z .own);
-  b = stored (z .world .b) (z .peer);
+  a = endStored (z .world .a) (z .own);
+  b = endStored (z .world .b) (z .peer);
   ab = z .world .ab;
   ba = z .world .ba;
   started = z .world .started;

@@ -1,3 +1,5 @@
 pub mod Pair
 pub mod Start
 pub mod Demand
+pub mod Uncut
+pub mod SlotAlone

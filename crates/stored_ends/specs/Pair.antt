@@ -16,9 +16,9 @@ use Rattle.protocol.specs.State.{State}
 use Rattle.protocol.specs.Step.{Step}
 use Rattle.calls.specs.Outcomes.{After, untouched}
 use Rattle.calls.specs.State.{stateOf}
-use Rattle.two_ends.specs.Calls.{broken, greets, opened, plainly, receives, submitted, wrote}
-use Rattle.two_ends.specs.Runs.{Event, submits, sends, keepalives, opens, passes, delivers, breaks, notices, restarts, Proper}
-use Rattle.two_ends.specs.World.{World, swap as swapped}
+use Rattle.two_ends.specs.Calls.{disconnected, greets, opened, plainly, receives, offered, wrote}
+use Rattle.two_ends.specs.Runs.{Event, submits, sends, keepalives, opens, passes, delivers, breaks, notices, restarts, ProperEvent}
+use Rattle.two_ends.specs.World.{World, swap}
 use Rattle.call_meaning.specs.Medium.{allStored, committed, stores}
 use Rattle.call_meaning.specs.Seen.{seen}
 use Rattle.session.specs.Call.{leaves}
@@ -34,8 +34,8 @@ pub record Pair : Type 0 where
   pub own : Cabinet
   pub peer : Cabinet
 
-abbrev pub swap : Pair → Pair
-swap z = record { world = swapped (z .world); own = z .peer; peer = z .own }
+abbrev pub swapPair : Pair → Pair
+swapPair z = record { world = swap (z .world); own = z .peer; peer = z .own }
 
 -- an event of the two ends, with the bytes that are lent for its output: made whole, or with power lost in its call after so many of its stores
 pub data Happening : Type 0 where
@@ -61,28 +61,28 @@ left notices w c out = leaves Calls.fails (c .image) (w .a .phase) []
 left restarts w c out = leaves Calls.restores (c .medium) (w .a .phase) []
 
 -- ---- what that makes of the world: by its answer, its phase and its output, and by the state s before it and the one that its image stands for
-abbrev pub shownDelivery : Bool → List (List ℕ) → World → State → Step → World
-shownDelivery false line w s x = w
-shownDelivery true [] w s x = w
-shownDelivery true (m ∷ rest) w s x = pick (awaits (w .a .phase)) (greets w rest (initStart s (w .a .phase) m) x) (receives w m rest x)
+abbrev pub deliveryAfter : Bool → List (List ℕ) → World → State → Step → World
+deliveryAfter false line w s x = w
+deliveryAfter true [] w s x = w
+deliveryAfter true (m ∷ rest) w s x = pick (awaits (w .a .phase)) (greets w rest (initStart s (w .a .phase) m) x) (receives w m rest x)
 
-abbrev pub shown : Event → World → State → Step → World
-shown (submits m) w s x = submitted w m x
-shown (sends ask room) w s x = wrote w x
-shown (keepalives id room) w s x = wrote w x
-shown (opens id p t room) w s x = opened w x
-shown (passes elapsed) w s x = plainly w x
-shown delivers w s x = shownDelivery (w .a .joined) (w .ba) w s x
-shown breaks w s x = broken w
-shown notices w s x = plainly w x
-shown restarts w s x = plainly w x
+abbrev pub worldAfter : Event → World → State → Step → World
+worldAfter (submits m) w s x = offered w m x
+worldAfter (sends ask room) w s x = wrote w x
+worldAfter (keepalives id room) w s x = wrote w x
+worldAfter (opens id p t room) w s x = opened w x
+worldAfter (passes elapsed) w s x = plainly w x
+worldAfter delivers w s x = deliveryAfter (w .a .joined) (w .ba) w s x
+worldAfter breaks w s x = disconnected w
+worldAfter notices w s x = plainly w x
+worldAfter restarts w s x = plainly w x
 
 -- ---- the call made, and stored as it tells
 abbrev pub made : Pair → Event → List ℕ → Pair
 made z v out =
     let x = left v (z .world) (z .own) out in
     record {
-      world = shown v (z .world) (stateOf (z .own .image)) (seen x);
+      world = worldAfter v (z .world) (stateOf (z .own .image)) (seen x);
       own = record { image = x .image; medium = allStored (z .own .medium) x };
       peer = z .peer;
     }
@@ -98,18 +98,18 @@ cutShort n z v out =
     let x = left v (z .world) (z .own) out in
     pick (ltb n (length (stores (x .outcome)))) (restarted z (committed n (z .own .medium) x)) (restarted (made z v out) (made z v out .own .medium))
 
-abbrev pub act : Pair → Happening → Pair
-act z (whole v out) = made z v out
-act z (cut n v out) = cutShort n z v out
+abbrev pub happen : Pair → Happening → Pair
+happen z (whole v out) = made z v out
+happen z (cut n v out) = cutShort n z v out
 
 -- at a, or at b
-abbrev pub step : Pair → Bool → Happening → Pair
-step z true v = act z v
-step z false v = swap (act (swap z) v)
+abbrev pub happeningAt : Pair → Bool → Happening → Pair
+happeningAt z true v = happen z v
+happeningAt z false v = swapPair (happen (swapPair z) v)
 
-abbrev pub run : Pair → List (Bool × Happening) → Pair
-run z [] = z
-run z (v ∷ vs) = run (step z (v .0) (v .1)) vs
+abbrev pub runStored : Pair → List (Bool × Happening) → Pair
+runStored z [] = z
+runStored z (v ∷ vs) = runStored (happeningAt z (v .0) (v .1)) vs
 
 -- ---- what the types of the calls say of their inputs; the room that an event names is that of the bytes lent
 abbrev pub Lent : Event → List ℕ → Type 0
@@ -124,9 +124,9 @@ Lent notices out = Unit {0}
 Lent restarts out = Unit {0}
 
 abbrev pub ProperHappening : Happening → Type 0
-ProperHappening (whole v out) = Proper v × Lent v out
-ProperHappening (cut n v out) = Proper v × Lent v out
+ProperHappening (whole v out) = ProperEvent v × Lent v out
+ProperHappening (cut n v out) = ProperEvent v × Lent v out
 
-abbrev pub AllProper : List (Bool × Happening) → Type 0
-AllProper [] = Unit {0}
-AllProper (v ∷ vs) = ProperHappening (v .1) × AllProper vs
+abbrev pub AllProperHappenings : List (Bool × Happening) → Type 0
+AllProperHappenings [] = Unit {0}
+AllProperHappenings (v ∷ vs) = ProperHappening (v .1) × AllProperHappenings vs

@@ -25,11 +25,11 @@ pub record Sound (o : Holder) : Type 0 where
   pub widths : Widths (o .id) (o .parameters)
   pub seconds : Seconds (o .proposal)
 
-abbrev pub opener : Holder → Opener
-opener o = record { state = stateOf (o .image); id = o .id; parameters = o .parameters; proposal = o .proposal }
+abbrev pub openerOf : Holder → Opener
+openerOf o = record { state = stateOf (o .image); id = o .id; parameters = o .parameters; proposal = o .proposal }
 
-abbrev pub cabinet : Holder → Cabinet
-cabinet o = record { image = o .image; medium = o .image }
+abbrev pub cabinetOf : Holder → Cabinet
+cabinetOf o = record { image = o .image; medium = o .image }
 
 abbrev pub begins : Holder → Holder → Pair
-begins x y = record { world = start (opener x) (opener y); own = cabinet x; peer = cabinet y }
+begins x y = record { world = start (openerOf x) (openerOf y); own = cabinetOf x; peer = cabinetOf y }

@@ -18,7 +18,7 @@ use Rattle.label_events.proofs.Written.{change-place}
 use Rattle.message.specs.Storable.{Storable}
 use Rattle.message.specs.Submission.{submissionOf}
 use Rattle.image.specs.Sizes.{imageSize, block, blockOf}
-use Rattle.image.specs.State.{State, decode, storeSlot, store0, InRange}
+use Rattle.image.specs.State.{Contents, decode, storeSlot, store0, InRange}
 use Rattle.image.specs.Verdict.{IsSound}
 use Rattle.image.proofs.Queue.{queue-length}
 use Rattle.image.proofs.Ranges.{labels-count}
@@ -86,7 +86,7 @@ module _ (im m : List ℕ) (s : IsSound im) (r : InRange (decode im)) (fits : St
       (said-changed im _ (λ p q.
       let more : decode im .header .held ≡ decode im .header .held + 1 =
       ap (λ (x : Header). x .held)
-      (p ∙ ap (λ (t : State). t .header)
+      (p ∙ ap (λ (t : Contents). t .header)
       (decode-accept im (headerHeld (decode im .header) (decode im .header .held + 1)) (acceptedLabels (decode im .labels) (submissionOf m)) m (s .size) header-fits
       (labels-fit (decode im .labels) (sound-valid im s .labels) (submissionOf m) (r .labels .count)) fits refl refl room)) in
       omega arith))

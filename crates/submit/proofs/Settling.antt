@@ -26,7 +26,7 @@ use Rattle.protocol.specs.Answers.{answerNumber, effectBy, isDone}
 use Rattle.protocol.specs.Step.{stepped}
 use Rattle.protocol.specs.Submit.{acceptedLabels, submit, submitRule, submitted}
 use Rattle.calls.specs.declared.Outcome.{Outcome}
-use Rattle.calls.specs.Outcomes.{After, after, refusal, admittedOn, settleOf}
+use Rattle.calls.specs.Outcomes.{After, afterWith, refusal, admittedOn, settleOf}
 use Rattle.calls.specs.State.{stateOf}
 use Rattle.calls.specs.Storing.{nextSlot, one-more}
 use Rattle.calls.proofs.Called.{call-is}
@@ -48,7 +48,7 @@ module _ (im : List ℕ) (ph : Phase) (m : List ℕ) (kind : Kind) (label : ℕ)
       → (change : Change) {words words′ im′ : List ℕ} → words ≡ decode im .labels → words′ ≡ acceptedAs words kind label .1 → words′ ≡ changed words change
       → {k : ℕ} → (k ≡ blockOf (nextSlot (decode im .header)))
       × (im′ ≡ store0 (storeSlot im (nextSlot (decode im .header)) m) (headerHeld (decode im .header) (decode im .header .held + 1)) (changed (decode im .labels) change))
-      → after (record { answer = Answer.Done; phase = ph; written = 0; slot = k; block0 = true }) im′ [] ≡ settleOf x ph im [] (queued im ph m)
+      → afterWith (record { answer = Answer.Done; phase = ph; written = 0; slot = k; block0 = true }) im′ [] ≡ settleOf x ph im [] (queued im ph m)
   unfolding queued
   queued-is done s bytes low high eh room change ew el ec e =
       let few : decode im .header .held < slotCount = rw eh at room in
@@ -64,7 +64,7 @@ module _ (im : List ℕ) (ph : Phase) (m : List ℕ) where
   unfolding submitOf submit queued
   call = call-is im ph [] (one-more m) (submitRule (stateOf im) m) (stepped Answer.Done (submitted (stateOf im) m) ph []) refl
 
-  pub admit-is : {a : Answer} {r : Outcome} → a ≡ admittedOn im ph Answer.Done → isDone a ≡ false → r ≡ refusal a ph → after r im [] ≡ submitOf im ph m
+  pub admit-is : {a : Answer} {r : Outcome} → a ≡ admittedOn im ph Answer.Done → isDone a ≡ false → r ≡ refusal a ph → afterWith r im [] ≡ submitOf im ph m
   admit-is e n p = call-refused im ph e [] (submitRule (stateOf im) m) (queued im ph m) n p ∙ sym call
 
   module _ (w : Admitted im ph) where
@@ -72,5 +72,5 @@ module _ (im : List ℕ) (ph : Phase) (m : List ℕ) where
     submit-judged e p = p ∙ ap (λ (a : Answer). settleOf a ph im [] (queued im ph m)) (e ∙ sym (admitted-is w (submitRule (stateOf im) m))) ∙ sym call
 
     pub submit-refused : {a : Answer} {r : Outcome} → a ≡ submitRule (stateOf im) m → r ≡ refusal a ph → effectBy (answerNumber a) ≡ Effect.Nothing
-        → after r im [] ≡ submitOf im ph m
+        → afterWith r im [] ≡ submitOf im ph m
     submit-refused e p n = submit-judged e (found-refused ph im [] (queued im ph m) refl p n)

@@ -3,13 +3,13 @@ ghost use Prim.Native.Nat.{_<_};
 ghost use mathlib.Core.List.{[]};
 ghost use mathlib.Core.Path.{_≡_};
 ghost use lib.ListN.{getD};
-ghost use Rattle.label_events.specs.Change.{ChangeIn, changed};
 ghost use Rattle.message.specs.Storable.{bears};
 ghost use Rattle.message.specs.Submission.{submissionOf};
 ghost use Rattle.image.specs.State.{decode};
 ghost use Rattle.image.specs.Verdict.{IsSound};
 ghost use Rattle.protocol.specs.Accepting.{isBarred, acceptedAs};
 ghost use Rattle.protocol.specs.Held.{isHeld};
+ghost use Rattle.submit.specs.Change.{acceptedChange};
 use label_events::Acceptance;
 use label_events::Accepted;
 use label_events::Change;
@@ -71,7 +71,7 @@ fn without_label(acceptance: Acceptance) -> Accepted
 
 // Accepts a message of that kind and label for sending; a refusal leaves the words as they were.
 pub fn accept_as(words: &mut [u32], kind: Kind, label: u32) -> Accepted
-    ensures { λ r. ⌜ (r .acceptance ≡ acceptedAs (now (words .entry)) kind label .0) × (now (words .exit) ≡ acceptedAs (now (words .entry)) kind label .1) × (now (words .exit) ≡ changed (now (words .entry)) (r .change)) × ChangeIn (now (words .entry)) (r .change) ⌝ }
+    ensures { λ r. ⌜ (r .acceptance ≡ acceptedAs (now (words .entry)) kind label .0) × (r .change ≡ acceptedChange (now (words .entry)) kind label) × (now (words .exit) ≡ acceptedAs (now (words .entry)) kind label .1) ⌝ }
 {
     match kind {
         Kind::Mapping => label_events::accept(words, LabelMessage::Mapping, label),

@@ -8,7 +8,7 @@ ghost use Rattle.message.specs.Storable.{shortest, longest};
 ghost use Rattle.message.specs.Submission.{submissionOf};
 ghost use Rattle.image.specs.Verdict.{IsSound};
 ghost use Rattle.protocol.specs.Submit.{kindRule};
-ghost use Rattle.calls.specs.Outcomes.{after, settleOf};
+ghost use Rattle.calls.specs.Outcomes.{afterWith, settleOf};
 ghost use Rattle.calls.specs.State.{stateOf};
 ghost use Rattle.submit.specs.Call.{queued, submitOf};
 use calls::Answer;
@@ -24,7 +24,7 @@ mod storing;
 // A message that passes 3, 4 and 5, with its kind and label: 6, 13 and 7 are asked, and it is queued.
 fn submit_accepted(image: &mut [u8], phase: Phase, msg: &[u8], kind: Kind, label: u32) -> Outcome
     requires { ⌜ IsSound (now image) × (shortest ≤ length (now msg)) × (length (now msg) ≤ longest) × (submissionOf (now msg) ≡ Accepted kind label) ⌝ }
-    ensures { λ r. ⌜ after r (now (image .exit)) [] ≡ settleOf (kindRule (stateOf (now (image .entry))) kind label) phase (now (image .entry)) [] (queued (now (image .entry)) phase (now (msg .entry))) ⌝ }
+    ensures { λ r. ⌜ afterWith r (now (image .exit)) [] ≡ settleOf (kindRule (stateOf (now (image .entry))) kind label) phase (now (image .entry)) [] (queued (now (image .entry)) phase (now (msg .entry))) ⌝ }
 {
     if labels::is_barred(image, kind, label) {
         return calls::refuse(Answer::LabelNotAllowed, phase);
@@ -59,7 +59,7 @@ fn submit_accepted(image: &mut [u8], phase: Phase, msg: &[u8], kind: Kind, label
 
 // Submits a message: 12, 1, 3, 4, 5, then what its kind and label say. A refusal changes nothing.
 pub fn submit(image: &mut [u8], phase: Phase, msg: &[u8]) -> Outcome
-    ensures { λ r. ⌜ after r (now (image .exit)) [] ≡ submitOf (now (image .entry)) phase (now (msg .entry)) ⌝ }
+    ensures { λ r. ⌜ afterWith r (now (image .exit)) [] ≡ submitOf (now (image .entry)) phase (now (msg .entry)) ⌝ }
 {
     let a = calls::admit(image, phase);
     if !calls::is_done(a) {

@@ -18,12 +18,12 @@ use Rattle.protocol.specs.Answers.{effectOf, isDone}
 use Rattle.protocol.specs.ConnectionFailed.{connectionFailed}
 use Rattle.protocol.specs.Phases.{connected, waiting}
 use Rattle.protocol.specs.State.{State}
-use Rattle.protocol.specs.Step.{Step, failedWith, releasedWith, unchanged}
+use Rattle.protocol.specs.Step.{whereOpen, Step, failedWith, releasedWith, unchanged}
 use Rattle.protocol.specs.TimePassed.{expired, timePassed}
 use Rattle.protocol.proofs.Settling.{Harmless, done-harmless}
 use Rattle.calls.specs.declared.Outcome.{Outcome}
-use Rattle.calls.specs.Outcomes.{After, after, refusal, releasedOn, failedOn, admittedOn, settleOf, stepStored}
-use Rattle.calls.specs.State.{stateOf, numbersOf}
+use Rattle.calls.specs.Outcomes.{After, afterWith, refusal, releasedOn, failedOn, admittedOn, settleOf, stepStored}
+use Rattle.calls.specs.State.{stateOf, stateOfNumbers}
 use Rattle.calls.specs.Storing.{stay, empty}
 use Rattle.calls.proofs.Called.{call-is}
 use Rattle.calls.proofs.Putting.{put-same}
@@ -37,7 +37,7 @@ module _ (im : List ℕ) (ph : Phase) (may : Bool) {r : Answer} (e : r ≡ admit
   pub event-first : isDone r ≡ false → r ≡ admittedOn im ph (eventRule may)
   event-first n = admit-refused im ph e (eventRule may) n
 
-  pub event-phase : {t : Bool} → isDone r ≡ true → may ≡ t → pick (not t) Answer.WrongPhase Answer.Done ≡ admittedOn im ph (eventRule may)
+  pub event-phase : {t : Bool} → isDone r ≡ true → may ≡ t → whereOpen t Answer.Done ≡ admittedOn im ph (eventRule may)
   unfolding eventRule
   event-phase d m = rw m (sym (admitted-is (admit-passed im ph e d) _))
 
@@ -59,7 +59,7 @@ module _ (im : List ℕ) (ph : Phase) (may : Bool) {m : Bool} {r : Answer} (em :
   is-answer : r ≡ admittedOn im ph (eventRule may)
   is-answer = er ∙ ap (λ (b : Bool). admittedOn im ph (eventRule b)) em
 
-  pub event-refused : (done : After) {x : Outcome} → isDone r ≡ false → x ≡ refusal r ph → after x im [] ≡ settleOf (admittedOn im ph (eventRule may)) ph im [] done
+  pub event-refused : (done : After) {x : Outcome} → isDone r ≡ false → x ≡ refusal r ph → afterWith x im [] ≡ settleOf (admittedOn im ph (eventRule may)) ph im [] done
   event-refused done n e =
       let a : Answer = admittedOn im ph (eventRule may) in
       own-refused a ph im [] done (admitted-harmless im ph _ (event-harmless may) (ap isDone (sym is-answer) ∙ n))
@@ -90,12 +90,12 @@ module _ (im : List ℕ) (ph : Phase) (elapsed : ℕ) where
       sym (call-is im ph [] (pick (expired (stateOf im) elapsed) empty stay) (eventRule (waiting ph)) step
       (pick-all (λ (x : Step). x .answer ≡ Answer.Done) (expired (stateOf im) elapsed) refl refl))
 
-  module _ {h : Header} {t : Bool} (eh : h ≡ decode im .header) (et : t ≡ expired (numbersOf h) elapsed) where
+  module _ {h : Header} {t : Bool} (eh : h ≡ decode im .header) (et : t ≡ expired (stateOfNumbers h) elapsed) where
     read : {b : Bool} → t ≡ b → expired (stateOf im) elapsed ≡ b
     unfolding expired
     read e = rw eh at (sym et ∙ e)
 
-    pub too-early : IsSound im → Bytes im → {x : Outcome} → t ≡ false → x ≡ refusal Answer.Done ph → after x im [] ≡ passedOn
+    pub too-early : IsSound im → Bytes im → {x : Outcome} → t ≡ false → x ≡ refusal Answer.Done ph → afterWith x im [] ≡ passedOn
     too-early s byte e p = rw (read e, put-same im s byte, differ-self, p)
 
     pub late : {x : After} → t ≡ true → x ≡ releasedOn Answer.Done im [] → x ≡ passedOn

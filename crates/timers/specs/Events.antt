@@ -1,11 +1,12 @@
 -- Connection failed and Time passed on an image: restore's checks, then the protocol's step on what the image stands for.
 use Prim.Native.Nat.{ℕ}
-use mathlib.Core.Bool.{Bool, not}
+use mathlib.Core.Bool.{Bool}
 use mathlib.Core.List.{List, []}
 use Rattle.octets.specs.Pick.{pick}
 use Rattle.protocol.specs.declared.Answer.{Answer}
 use Rattle.protocol.specs.declared.Phase.{Phase}
 use Rattle.protocol.specs.ConnectionFailed.{connectionFailed}
+use Rattle.protocol.specs.Step.{whereOpen}
 use Rattle.protocol.specs.TimePassed.{expired, timePassed}
 use Rattle.calls.specs.Outcomes.{After, callOf}
 use Rattle.calls.specs.State.{stateOf}
@@ -21,4 +22,4 @@ timePassedOf im ph elapsed = callOf im ph [] (pick (expired (stateOf im) elapsed
 
 -- the tests of either event past the first two: whether it may come in the phase
 unfoldable pub eventRule : Bool → Answer
-eventRule may = pick (not may) Answer.WrongPhase Answer.Done
+eventRule may = whereOpen may Answer.Done

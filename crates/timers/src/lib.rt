@@ -3,8 +3,8 @@ ghost use mathlib.Core.List.{[]};
 ghost use mathlib.Core.Path.{_≡_};
 ghost use Rattle.protocol.specs.Phases.{connected, waiting};
 ghost use Rattle.protocol.specs.TimePassed.{expired};
-ghost use Rattle.calls.specs.Outcomes.{after, admittedOn};
-ghost use Rattle.calls.specs.State.{numbersOf};
+ghost use Rattle.calls.specs.Outcomes.{afterWith, admittedOn};
+ghost use Rattle.calls.specs.State.{stateOfNumbers};
 ghost use Rattle.timers.specs.Events.{connectionFailedOf, timePassedOf, eventRule};
 use block0::Header;
 use calls::Answer;
@@ -53,7 +53,7 @@ fn judge_event(image: &[u8], phase: Phase, may: bool) -> Answer
 
 // Whether the agreed timeout has passed. A timeout of zero keeps the state for ever.
 fn has_expired(h: Header, elapsed: u32) -> bool
-    ensures { λ r. ⌜ r ≡ expired (numbersOf h) elapsed ⌝ }
+    ensures { λ r. ⌜ r ≡ expired (stateOfNumbers h) elapsed ⌝ }
 {
     if h.timeout == 0 {
         return false;
@@ -63,7 +63,7 @@ fn has_expired(h: Header, elapsed: u32) -> bool
 
 // The connection failed: labels used without protection are freed; the session waits in Failed if its state is kept, and else is Idle.
 pub fn connection_failed(image: &mut [u8], phase: Phase) -> Outcome
-    ensures { λ r. ⌜ after r (now (image .exit)) [] ≡ connectionFailedOf (now (image .entry)) phase ⌝ }
+    ensures { λ r. ⌜ afterWith r (now (image .exit)) [] ≡ connectionFailedOf (now (image .entry)) phase ⌝ }
 {
     let a = judge_event(image, phase, is_connected(phase));
     if !calls::is_done(a) {
@@ -74,7 +74,7 @@ pub fn connection_failed(image: &mut [u8], phase: Phase) -> Outcome
 
 // So many seconds have passed since the connection failed: the state is released once the agreed timeout has passed.
 pub fn time_passed(image: &mut [u8], phase: Phase, elapsed: u32) -> Outcome
-    ensures { λ r. ⌜ after r (now (image .exit)) [] ≡ timePassedOf (now (image .entry)) phase elapsed ⌝ }
+    ensures { λ r. ⌜ afterWith r (now (image .exit)) [] ≡ timePassedOf (now (image .entry)) phase elapsed ⌝ }
 {
     let a = judge_event(image, phase, is_waiting(phase));
     if !calls::is_done(a) {

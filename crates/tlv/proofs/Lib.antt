@@ -2,4 +2,8 @@ pub mod Rows
 pub mod Turns
 pub mod Noted
 pub mod Places
+pub mod Placed
+pub mod Standing
+pub mod Whole
+pub mod Split
 pub mod Values

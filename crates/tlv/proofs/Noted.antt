@@ -12,7 +12,7 @@ use Rattle.octets.proofs.Bytes.{beAt-drop}
 use Rattle.tlv.specs.declared.Found.{Found}
 use Rattle.tlv.specs.declared.walk.Tlv.{Tlv}
 use Rattle.tlv.specs.declared.walk.Walk.{Walk}
-use Rattle.tlv.specs.Tlv.{lengthFits, labelIn, largestLabel}
+use Rattle.tlv.specs.Tlv.{lengthFits, labelValue, largestLabel}
 use Rattle.tlv.specs.Walk.{placeOf, placedOf, notedOf, walkOf, noneFound, headSize, tlvsOf}
 
 module _ (f : Found) (tlv : Tlv) (n at : ℕ) (ts : List ℕ) (fits : Bool) (fitsq : fits ≡ lengthFits tlv n) where
@@ -25,7 +25,7 @@ module _ (f : Found) (tlv : Tlv) (n at : ℕ) (ts : List ℕ) (fits : Bool) (fit
     unfolding notedOf
     noted-twice k = simp (sym fitsq ∙ not-false fits h, sym placeq, ne-eqb place 0 k)
 
-    module _ (k : place ≡ 0) (label : ℕ) (labelq : label ≡ labelIn tlv ts) where
+    module _ (k : place ≡ 0) (label : ℕ) (labelq : label ≡ labelValue tlv ts) where
       pub noted-high : largestLabel < label → Walk.Malformed ≡ notedOf f tlv n at ts
       unfolding notedOf
       noted-high l = simp (sym fitsq ∙ not-false fits h, sym placeq, eq-eqb place 0 k, sym labelq, lt-ltb largestLabel label l)
@@ -44,7 +44,7 @@ module _ (tlv : Tlv) (is : tlv ≡ Tlv.Label) (s : List ℕ) (at : ℕ) where
   pub label-room : (n : ℕ) → lengthFits tlv n ≡ true → 4 + n ≤ length s - at → at + 4 + 4 ≤ length s
   label-room n fits room = omega (arith, eqb-true n 4 (rw is at fits))
 
-  pub label-read : (label : ℕ) → label ≡ beAt 4 s (at + 4) → label ≡ labelIn tlv (drop at s)
+  pub label-read : (label : ℕ) → label ≡ beAt 4 s (at + 4) → label ≡ labelValue tlv (drop at s)
   label-read label e = rw is (e ∙ sym (beAt-drop 4 at s 4))
 
 pub ruleset labels = (label-room, label-read)

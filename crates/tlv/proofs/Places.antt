@@ -17,29 +17,29 @@ use Rattle.tlv.specs.declared.Found.{Found}
 use Rattle.tlv.specs.declared.walk.Tlv.{Tlv}
 use Rattle.tlv.specs.declared.walk.Turn.{Turn}
 use Rattle.tlv.specs.declared.walk.Walk.{Walk}
-use Rattle.tlv.specs.Tlv.{tlvOf, lengthFits, headOf, labelIn, largestLabel}
+use Rattle.tlv.specs.Tlv.{tlvOf, lengthFits, typeRange, headOf, labelValue, largestLabel}
 use Rattle.tlv.specs.Value.{Within, Places}
-use Rattle.tlv.specs.Walk.{noneFound, placeOf, placedOf, notedOf, turnOf, Rest, leftOf, onTurn, walkOf, headSize, tlvsOf}
+use Rattle.tlv.specs.Walk.{noneFound, placeOf, placedOf, malformedUnless, notedOf, turnOf, Rest, leftOf, onTurn, walkOf, headSize, tlvsOf}
 use Rattle.tlv.proofs.Turns.{Goes, goes, walkRest, walk-step}
 
 -- a TLV that was noted: its length was right, it had not stood before, its label was no higher than the largest
 pub record Noted (f g : Found) (tlv : Tlv) (n at : ℕ) (ts : List ℕ) : Type 0 where
   pub fits : lengthFits tlv n ≡ true
   pub once : placeOf f tlv ≡ 0
-  pub low : labelIn tlv ts ≤ largestLabel
+  pub low : labelValue tlv ts ≤ largestLabel
   pub is : placedOf f tlv at ≡ g
 
 pub noted : (f g : Found) (tlv : Tlv) (n at : ℕ) (ts : List ℕ) → notedOf f tlv n at ts ≡ Walk.Whole g → Noted f g tlv n at ts
 unfolding notedOf
-noted f g tlv n at ts e = go (lengthFits tlv n) (eqb (placeOf f tlv) 0) (ltb largestLabel (labelIn tlv ts)) refl refl refl e
+noted f g tlv n at ts e = go (lengthFits tlv n) (eqb (placeOf f tlv) 0) (ltb largestLabel (labelValue tlv ts)) refl refl refl e
   where
-    go : (b₁ b₂ b₃ : Bool) → lengthFits tlv n ≡ b₁ → eqb (placeOf f tlv) 0 ≡ b₂ → ltb largestLabel (labelIn tlv ts) ≡ b₃
-        → pick b₁ (pick b₂ (pick b₃ Walk.Malformed (Walk.Whole (placedOf f tlv at))) Walk.Malformed) Walk.Malformed ≡ Walk.Whole g → Noted f g tlv n at ts
+    go : (b₁ b₂ b₃ : Bool) → lengthFits tlv n ≡ b₁ → eqb (placeOf f tlv) 0 ≡ b₂ → ltb largestLabel (labelValue tlv ts) ≡ b₃
+        → malformedUnless b₁ (malformedUnless b₂ (pick b₃ Walk.Malformed (Walk.Whole (placedOf f tlv at)))) ≡ Walk.Whole g → Noted f g tlv n at ts
     go false b₂ b₃ q₁ q₂ q₃ h = let z : _≡_ {A = ℕ} 0 1 = cc in absurd (omega arith)
     go true false b₃ q₁ q₂ q₃ h = let z : _≡_ {A = ℕ} 0 1 = cc in absurd (omega arith)
     go true true true q₁ q₂ q₃ h = let z : _≡_ {A = ℕ} 0 1 = cc in absurd (omega arith)
     go true true false q₁ q₂ q₃ h =
-        record { fits = q₁; once = eqb-true (placeOf f tlv) 0 q₂; low = ltb-false largestLabel (labelIn tlv ts) q₃; is = cc }
+        record { fits = q₁; once = eqb-true (placeOf f tlv) 0 q₂; low = ltb-false largestLabel (labelValue tlv ts) q₃; is = cc }
 
 -- a fact of each place
 pub record Each (P : Tlv → ℕ → Type 0) (f : Found) : Type 0 where
@@ -100,8 +100,8 @@ pub record Stands (m : List ℕ) (tlv : Tlv) (p : ℕ) : Type 0 where
   pub after : headSize ≤ p
   pub within : p + 4 + beAt 2 m (p + 2) ≤ length m
   pub fits : lengthFits tlv (beAt 2 m (p + 2)) ≡ true
-  pub is : tlvOf (beAt 2 m p % 16384) ≡ tlv
-  pub low : labelIn tlv (drop p m) ≤ largestLabel
+  pub is : tlvOf (beAt 2 m p % typeRange) ≡ tlv
+  pub low : labelValue tlv (drop p m) ≤ largestLabel
 
 -- where p is the place of a TLV that was found
 abbrev pub Lies : List ℕ → Tlv → ℕ → Type 0
@@ -116,7 +116,7 @@ turn-lies m f g at n l h w e =
       after = l;
       within = omega (arith, w .within, w .size, length-drop at m);
       fits = rw len at (k .fits);
-      is = ap (λ (x : ℕ). tlvOf (x % 16384)) (sym num);
+      is = ap (λ (x : ℕ). tlvOf (x % typeRange)) (sym num);
       low = k .low;
     } in
     rw (k .is) at (each-placed (Lies m) f (headOf (drop at m)) at e (λ z. here))
@@ -133,7 +133,7 @@ unfolding tlvsOf
 whole-tlvs m f e = go (ltb (length m) headSize) (eqb (beAt 2 m 2 + 4) (length m)) refl refl e
   where
     go : (b₁ b₂ : Bool) → ltb (length m) headSize ≡ b₁ → eqb (beAt 2 m 2 + 4) (length m) ≡ b₂
-        → pick b₁ Walk.Malformed (pick b₂ (walkOf headSize (drop headSize m) noneFound) Walk.Malformed) ≡ Walk.Whole f → WholeTlvs m f
+        → pick b₁ Walk.Malformed (malformedUnless b₂ (walkOf headSize (drop headSize m) noneFound)) ≡ Walk.Whole f → WholeTlvs m f
     go true b₂ q₁ q₂ h = let z : _≡_ {A = ℕ} 0 1 = cc in absurd (omega arith)
     go false false q₁ q₂ h = let z : _≡_ {A = ℕ} 0 1 = cc in absurd (omega arith)
     go false true q₁ q₂ h = record { head = ltb-false (length m) headSize q₁; adds = eqb-true (beAt 2 m 2 + 4) (length m) q₂; tlvs = h }

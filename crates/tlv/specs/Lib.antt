@@ -1,4 +1,5 @@
 pub mod Table
 pub mod Tlv
 pub mod Walk
+pub mod Split
 pub mod Value

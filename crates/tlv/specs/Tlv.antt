@@ -9,47 +9,79 @@ use Rattle.octets.specs.Be.{beAt}
 use Rattle.tlv.specs.declared.walk.Tlv.{Tlv}
 use Rattle.tlv.specs.Table.{lookup}
 
-abbrev pub parametersNumber : ℕ
-parametersNumber = 0x0500
+abbrev pub fecType : ℕ
+fecType = 0x0100
 
-abbrev pub sessionNumber : ℕ
-sessionNumber = 0x0503
+abbrev pub labelType : ℕ
+labelType = 0x0200
 
-abbrev pub protectionNumber : ℕ
-protectionNumber = 0x0203
+abbrev pub statusType : ℕ
+statusType = 0x0300
 
-abbrev pub ackNumber : ℕ
-ackNumber = 0x0504
+abbrev pub parametersType : ℕ
+parametersType = 0x0500
+
+abbrev pub sessionType : ℕ
+sessionType = 0x0503
+
+abbrev pub protectionType : ℕ
+protectionType = 0x0203
+
+abbrev pub ackType : ℕ
+ackType = 0x0504
 
 abbrev pub listed : List (ℕ × Tlv)
 listed =
-    (0x0100, Tlv.Fec)
-    ∷ (0x0200, Tlv.Label)
-    ∷ (0x0300, Tlv.Status)
-    ∷ (parametersNumber, Tlv.Parameters)
-    ∷ (sessionNumber, Tlv.Session)
-    ∷ (protectionNumber, Tlv.Protection)
-    ∷ (ackNumber, Tlv.Ack)
+    (fecType, Tlv.Fec)
+    ∷ (labelType, Tlv.Label)
+    ∷ (statusType, Tlv.Status)
+    ∷ (parametersType, Tlv.Parameters)
+    ∷ (sessionType, Tlv.Session)
+    ∷ (protectionType, Tlv.Protection)
+    ∷ (ackType, Tlv.Ack)
     ∷ []
 
 -- the TLV of a number, U and F masked off
 unfoldable pub tlvOf : ℕ → Tlv
 tlvOf n = lookup Tlv.Other listed n
 
+-- the lengths of the values that have one
+abbrev pub labelLength : ℕ
+labelLength = 4
+
+abbrev pub statusLength : ℕ
+statusLength = 10
+
+abbrev pub parametersLength : ℕ
+parametersLength = 14
+
+abbrev pub sessionLength : ℕ
+sessionLength = 4
+
+abbrev pub protectionLength : ℕ
+protectionLength = 4
+
+abbrev pub ackLength : ℕ
+ackLength = 4
+
 -- a value of n bytes has the TLV's length; FEC and TLVs that are not listed have any
 abbrev pub lengthFits : Tlv → ℕ → Bool
 lengthFits Tlv.Fec n = true
-lengthFits Tlv.Label n = eqb n 4
-lengthFits Tlv.Status n = eqb n 10
-lengthFits Tlv.Parameters n = eqb n 14
-lengthFits Tlv.Session n = eqb n 4
-lengthFits Tlv.Protection n = eqb n 4
-lengthFits Tlv.Ack n = eqb n 4
+lengthFits Tlv.Label n = eqb n labelLength
+lengthFits Tlv.Status n = eqb n statusLength
+lengthFits Tlv.Parameters n = eqb n parametersLength
+lengthFits Tlv.Session n = eqb n sessionLength
+lengthFits Tlv.Protection n = eqb n protectionLength
+lengthFits Tlv.Ack n = eqb n ackLength
 lengthFits Tlv.Other n = true
+
+-- "14-bit type": the numbers below this one; U and F are the two bits above
+abbrev pub typeRange : ℕ
+typeRange = 16384
 
 -- the TLV that the bytes ts begin with, and its size: 2 bytes of U, F and type, 2 of length, the value
 abbrev pub headOf : List ℕ → Tlv
-headOf ts = tlvOf (beAt 2 ts 0 % 16384)
+headOf ts = tlvOf (beAt 2 ts 0 % typeRange)
 
 abbrev pub sizeOf : List ℕ → ℕ
 sizeOf ts = 4 + beAt 2 ts 2
@@ -58,12 +90,12 @@ sizeOf ts = 4 + beAt 2 ts 2
 abbrev pub largestLabel : ℕ
 largestLabel = 1048575
 
-abbrev pub labelIn : Tlv → List ℕ → ℕ
-labelIn Tlv.Fec ts = 0
-labelIn Tlv.Label ts = beAt 4 ts 4
-labelIn Tlv.Status ts = 0
-labelIn Tlv.Parameters ts = 0
-labelIn Tlv.Session ts = 0
-labelIn Tlv.Protection ts = 0
-labelIn Tlv.Ack ts = 0
-labelIn Tlv.Other ts = 0
+abbrev pub labelValue : Tlv → List ℕ → ℕ
+labelValue Tlv.Fec ts = 0
+labelValue Tlv.Label ts = beAt 4 ts 4
+labelValue Tlv.Status ts = 0
+labelValue Tlv.Parameters ts = 0
+labelValue Tlv.Session ts = 0
+labelValue Tlv.Protection ts = 0
+labelValue Tlv.Ack ts = 0
+labelValue Tlv.Other ts = 0

@@ -14,23 +14,24 @@ use Rattle.tlv.specs.declared.FtField.{FtField}
 use Rattle.tlv.specs.declared.Parameters.{Parameters}
 use Rattle.tlv.specs.declared.Part.{Part}
 use Rattle.tlv.specs.declared.Session.{Session}
+use Rattle.tlv.specs.Tlv.{labelLength, parametersLength, sessionLength, protectionLength, ackLength}
 use Rattle.tlv.specs.Walk.{headSize}
 
 -- n bytes of the value lie within the message
 abbrev pub Within : List ℕ → ℕ → ℕ → Type 0
 Within m place n = (place ≡ 0 → ⊥) → place + 4 + n ≤ length m
 
--- the TLVs that were found lie within the message, each with its length
+-- the TLVs that were found lie within the message, each with its length; of Status the first 4 bytes are read
 pub record Places (m : List ℕ) (f : Found) : Type 0 where
   pub head : headSize ≤ length m
   pub fec : Within m (f .fec) (beAt 2 m (f .fec + 2))
-  pub label : Within m (f .label) 4
+  pub label : Within m (f .label) labelLength
   pub status : Within m (f .status) 4
-  pub parameters : Within m (f .parameters) 14
+  pub parameters : Within m (f .parameters) parametersLength
   pub parametersvalue : Within m (f .parameters) (beAt 2 m (f .parameters + 2))
-  pub session : Within m (f .session) 4
-  pub protection : Within m (f .protection) 4
-  pub ack : Within m (f .ack) 4
+  pub session : Within m (f .session) sessionLength
+  pub protection : Within m (f .protection) protectionLength
+  pub ack : Within m (f .ack) ackLength
 
 -- the value's part of the message
 unfoldable pub partAt : List ℕ → ℕ → Part
@@ -55,9 +56,12 @@ numberAt m place = pick (eqb place 0) FtField.Absent (FtField.Number (record { 0
 unfoldable pub parametersAt : List ℕ → ℕ → Parameters
 parametersAt m place = pick (eqb place 0) Parameters.Absent (Parameters.Given (beAt 2 m (place + 6)) (beAt 2 m (place + 10)))
 
--- the top bit of 32
+-- the top bit of 32, and whether it is set
+abbrev pub topBitWeight : ℕ
+topBitWeight = 2147483648
+
 abbrev pub topBit : ℕ → Bool
-topBit v = leb 2147483648 v
+topBit v = leb topBitWeight v
 
 -- 01: "FT Session 0x0503 (4: top bit R, then seconds in the last 2 bytes)"
 unfoldable pub sessionAt : List ℕ → ℕ → Session

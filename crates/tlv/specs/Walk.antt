@@ -1,6 +1,7 @@
 -- The walk over the TLVs of a message: the place of each listed TLV, or that the message is malformed.
 -- 01: "Malformed: .. lengths that don't add up exactly; a wrong length of a listed TLV; a listed TLV twice; a label above 1,048,575".
 use Prim.Native.Nat.{ℕ, _+_}
+use mathlib.Core.Bool.{Bool}
 use mathlib.Core.List.{List}
 use lib.Dec.{ltb, eqb}
 use lib.ListN.{length, drop}
@@ -11,7 +12,7 @@ use Rattle.tlv.specs.declared.Found.{Found}
 use Rattle.tlv.specs.declared.walk.Tlv.{Tlv}
 use Rattle.tlv.specs.declared.walk.Turn.{Turn}
 use Rattle.tlv.specs.declared.walk.Walk.{Walk}
-use Rattle.tlv.specs.Tlv.{lengthFits, headOf, sizeOf, labelIn, largestLabel}
+use Rattle.tlv.specs.Tlv.{lengthFits, headOf, sizeOf, labelValue, largestLabel}
 
 abbrev pub noneFound : Found
 noneFound = record { fec = 0; label = 0; status = 0; parameters = 0; session = 0; protection = 0; ack = 0 }
@@ -45,15 +46,18 @@ placedOf f Tlv.Ack at =
     record { fec = f .fec; label = f .label; status = f .status; parameters = f .parameters; session = f .session; protection = f .protection; ack = at }
 placedOf f Tlv.Other at = f
 
+-- the fault of a test that does not hold; where it holds, the rest decides
+abbrev pub malformedUnless : Bool → Walk → Walk
+malformedUnless holds rest = pick holds rest Walk.Malformed
+
 -- what the TLV that ts begins with, at the place `at` and with a value of n bytes, makes of the places found before it:
 -- malformed with a wrong length, where it stands a second time, or with a label above the largest
 unfoldable pub notedOf : Found → Tlv → ℕ → ℕ → List ℕ → Walk
 notedOf f tlv n at ts =
-    pick (lengthFits tlv n)
-    (pick (eqb (placeOf f tlv) 0)
-    (pick (ltb largestLabel (labelIn tlv ts)) Walk.Malformed (Walk.Whole (placedOf f tlv at)))
-    Walk.Malformed)
-    Walk.Malformed
+    malformedUnless (lengthFits tlv n)
+    (malformedUnless (eqb (placeOf f tlv) 0)
+    (pick (ltb largestLabel (labelValue tlv ts)) Walk.Malformed
+    (Walk.Whole (placedOf f tlv at))))
 
 abbrev pub takenOf : Walk → ℕ → Turn
 takenOf Walk.Malformed n = Turn.Malformed
@@ -94,4 +98,5 @@ headSize = 8
 unfoldable pub tlvsOf : List ℕ → Walk
 tlvsOf m =
     pick (ltb (length m) headSize) Walk.Malformed
-    (pick (eqb (beAt 2 m 2 + 4) (length m)) (walkOf headSize (drop headSize m) noneFound) Walk.Malformed)
+    (malformedUnless (eqb (beAt 2 m 2 + 4) (length m))
+    (walkOf headSize (drop headSize m) noneFound))

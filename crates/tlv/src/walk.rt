@@ -3,7 +3,7 @@ ghost use Prim.Native.Nat.{_+_, _-_, _≤_};
 ghost use mathlib.Core.Bool.{true};
 ghost use mathlib.Core.Path.{_≡_};
 ghost use lib.ListN.{length, drop};
-ghost use Rattle.tlv.specs.Tlv.{tlvOf, lengthFits, labelIn};
+ghost use Rattle.tlv.specs.Tlv.{tlvOf, lengthFits, labelValue};
 ghost use Rattle.tlv.specs.Walk.{placeOf, placedOf, notedOf, turnOf, walkOf, noneFound, tlvsOf};
 use crate::Found;
 
@@ -82,7 +82,7 @@ fn placed(found: Found, tlv: Tlv, at: usize) -> Found
 // The label in the TLV at a place; 0 in another TLV than Generic Label.
 fn label_in(s: &[u8], tlv: Tlv, n: usize, at: usize) -> u32
     requires { ⌜ (4 + n ≤ length (now s) - at) × (lengthFits tlv n ≡ true) ⌝ }
-    ensures { λ r. ⌜ r ≡ labelIn tlv (drop at (now (s .entry))) ⌝ }
+    ensures { λ r. ⌜ r ≡ labelValue tlv (drop at (now (s .entry))) ⌝ }
 {
     match tlv {
         Tlv::Label => octets::get_u32(s, at + 4),

@@ -15,7 +15,7 @@ use Rattle.label_list.specs.declared.SweepRule.the-variants.{AfterBreak}
 use Rattle.label_list.specs.Sweep.{sweptOf}
 use Rattle.label_list.specs.Valid.{validOf}
 use Rattle.label_events.specs.Change.{codeAt}
-use Rattle.label_meaning.specs.Event.{Acked, Broken, step, Moves, withdraw-acked, release-acked, bare-lost}
+use Rattle.label_meaning.specs.Event.{Acked, Broken, afterEvent, Moves, withdraw-acked, release-acked, bare-lost}
 use Rattle.message.specs.Storable.{kindIn, labelIn}
 use Rattle.message.specs.Submission.{submissionOf}
 use Rattle.protocol.specs.Acked.{releasedKind, releasedLabels}
@@ -37,31 +37,31 @@ none-given z g = ⊎-elim (λ (e : _ ≡ 1). absurd (omega arith)) (λ (e : _ �
 
 module _ (ls : List ℕ) (v : validOf ls ≡ true) (l : ℕ) where
   -- so a label that is given was given before
-  one-given : (m : LabelMessage) (k : ℕ) → IsGiven (codeAt (step ls (Acked m k)) Given l) → IsGiven (codeAt ls Given l)
+  one-given : (m : LabelMessage) (k : ℕ) → IsGiven (codeAt (afterEvent ls (Acked m k)) Given l) → IsGiven (codeAt ls Given l)
   one-given m k g =
       ⊎-elim
-      (λ (same : codeAt (step ls (Acked m k)) Given l ≡ codeAt ls Given l). rw same at g)
-      (λ (move : Moves (Acked m k) Given l (codeAt ls Given l) (codeAt (step ls (Acked m k)) Given l)). none-given (given-acked move) g)
+      (λ (same : codeAt (afterEvent ls (Acked m k)) Given l ≡ codeAt ls Given l). rw same at g)
+      (λ (move : Moves (Acked m k) Given l (codeAt ls Given l) (codeAt (afterEvent ls (Acked m k)) Given l)). none-given (given-acked move) g)
       (moved ls v (Acked m k) Given l)
 
   -- and one that comes into use still does
-  one-used : (m : LabelMessage) (k : ℕ) (out : List (List ℕ)) → IsUsed (codeAfter l (codeAt ls Used l) out) → IsUsed (codeAfter l (codeAt (step ls (Acked m k)) Used l) out)
+  one-used : (m : LabelMessage) (k : ℕ) (out : List (List ℕ)) → IsUsed (codeAfter l (codeAt ls Used l) out) → IsUsed (codeAfter l (codeAt (afterEvent ls (Acked m k)) Used l) out)
   one-used m k out u =
       ⊎-elim
-      (λ (same : codeAt (step ls (Acked m k)) Used l ≡ codeAt ls Used l). rw same u)
-      (λ (move : Moves (Acked m k) Used l (codeAt ls Used l) (codeAt (step ls (Acked m k)) Used l)).
+      (λ (same : codeAt (afterEvent ls (Acked m k)) Used l ≡ codeAt ls Used l). rw same u)
+      (λ (move : Moves (Acked m k) Used l (codeAt ls Used l) (codeAt (afterEvent ls (Acked m k)) Used l)).
       let p = used-acked move in
       rw (p .1) (five-zero l out (rw (p .0) at u)))
       (moved ls v (Acked m k) Used l)
 
   kind-given : (kind label : ℕ) → IsGiven (codeAt (releasedKind kind label ls) Given l) → IsGiven (codeAt ls Given l)
-  unfolding releasedKind step
+  unfolding releasedKind afterEvent
   kind-given kind label =
       pick-all (λ (ws : List ℕ). IsGiven (codeAt ws Given l) → IsGiven (codeAt ls Given l)) (eqb kind 2) (one-given Withdraw label)
       (pick-all (λ (ws : List ℕ). IsGiven (codeAt ws Given l) → IsGiven (codeAt ls Given l)) (eqb kind 3) (one-given Release label) (λ g. g))
 
   kind-used : (kind label : ℕ) (out : List (List ℕ)) → IsUsed (codeAfter l (codeAt ls Used l) out) → IsUsed (codeAfter l (codeAt (releasedKind kind label ls) Used l) out)
-  unfolding releasedKind step
+  unfolding releasedKind afterEvent
   kind-used kind label out =
       pick-all (λ (ws : List ℕ). IsUsed (codeAfter l (codeAt ls Used l) out) → IsUsed (codeAfter l (codeAt ws Used l) out)) (eqb kind 2) (one-used Withdraw label out)
       (pick-all (λ (ws : List ℕ). IsUsed (codeAfter l (codeAt ls Used l) out) → IsUsed (codeAfter l (codeAt ws Used l) out)) (eqb kind 3) (one-used Release label out) (λ u. u))
@@ -95,11 +95,11 @@ broken-move : {side : Side} {l c d : ℕ} → Moves Broken side l c d → (side 
 broken-move bare-lost = (refl, refl)
 
 pub broken-code : (ls : List ℕ) → validOf ls ≡ true → NoSix ls → (side : Side) (l : ℕ) → codeAt (sweptOf ls AfterBreak) side l ≡ codeAt ls side l
-unfolding step
+unfolding afterEvent
 broken-code ls v n side l =
     ⊎-elim
-    (λ (same : codeAt (step ls Broken) side l ≡ codeAt ls side l). same)
-    (λ (move : Moves Broken side l (codeAt ls side l) (codeAt (step ls Broken) side l)).
+    (λ (same : codeAt (afterEvent ls Broken) side l ≡ codeAt ls side l). same)
+    (λ (move : Moves Broken side l (codeAt ls side l) (codeAt (afterEvent ls Broken) side l)).
     let p = broken-move move in
     absurd (n l (rw (p .0) at (p .1))))
     (moved ls v Broken side l)

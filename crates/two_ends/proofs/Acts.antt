@@ -11,7 +11,7 @@ use Rattle.protocol.specs.Init.{initReceived, initStart}
 use Rattle.protocol.specs.Phases.{awaits}
 use Rattle.protocol.specs.Receive.{receive}
 use Rattle.protocol.specs.Step.{Step}
-use Rattle.two_ends.specs.Calls.{accepts, beginning, broken, called, counts, delivery, greeted, greets, on, opened, plainly, put, receives, replaced, submitted, took, wrote, anew, keeps}
+use Rattle.two_ends.specs.Calls.{accepts, beginning, disconnected, called, counts, delivery, greeted, greets, on, opened, plainly, put, receives, replaced, offered, took, wrote, anew, keeps}
 use Rattle.two_ends.specs.World.{End, World, Lasts}
 use Rattle.two_ends.proofs.Worlds.{closes, next}
 
@@ -50,7 +50,7 @@ lasted w m rest k =
     ((k .0, still-was (w .unreleased) (w .a) m (p .0)), p .1)
 
 -- ---- every event
-module _ (P : World → Type 0) (broke : (v : World) → P v → P (broken v)) where
+module _ (P : World → Type 0) (broke : (v : World) → P v → P (disconnected v)) where
   by-replaced : (w : World) (e : End) (ab ba : List (List ℕ)) → P (next w e ab ba) → P (replaced w e ab ba)
   by-replaced w e ab ba p = pick-all P (closes e) (broke (next w e ab ba) p) p
 
@@ -58,7 +58,7 @@ module _ (P : World → Type 0) (broke : (v : World) → P v → P (broken v)) w
     pub by-plain : (x : Step) → P (next w (called (w .a) x (w .a .history)) (w .ab) (w .ba)) → P (plainly w x)
     by-plain x p = by-replaced w (called (w .a) x (w .a .history)) (w .ab) (w .ba) p
 
-    pub by-submit : (m : List ℕ) (x : Step) → P (next w (called (w .a) x (counts (w .a) x (accepts m (w .a .history)))) (w .ab) (w .ba)) → P (submitted w m x)
+    pub by-submit : (m : List ℕ) (x : Step) → P (next w (called (w .a) x (counts (w .a) x (accepts m (w .a .history)))) (w .ab) (w .ba)) → P (offered w m x)
     by-submit m x p = by-replaced w (called (w .a) x (counts (w .a) x (accepts m (w .a .history)))) (w .ab) (w .ba) p
 
     pub by-write : (x : Step) → P (next w (called (w .a) x (w .a .history)) (put (w .a .joined) (w .ab) x) (w .ba)) → P (wrote w x)

@@ -13,7 +13,7 @@ use Rattle.label_list.specs.declared.Side.{Side}
 use Rattle.label_list.specs.declared.Side.the-variants.{Given, Used}
 use Rattle.label_list.specs.Valid.{validOf}
 use Rattle.label_events.specs.Change.{codeAt}
-use Rattle.label_meaning.specs.Event.{Event, Accepted, step, Moves, given, withdrawn, released, returned}
+use Rattle.label_meaning.specs.Event.{LabelEvent, Accepted, afterEvent, Moves, given, withdrawn, released, returned}
 use Rattle.label_meaning.proofs.Meaning.{valid-means}
 use Rattle.label_meaning.proofs.Moved.{every-move}
 use Rattle.message.specs.declared.Kind.{Kind}
@@ -29,8 +29,8 @@ use Rattle.two_ends.proofs.Owed.{held-more, held-last}
 use Rattle.two_ends.proofs.Sixless.{NoSix}
 
 -- what an event makes of a label's code on a side
-pub moved : (ls : List ℕ) → validOf ls ≡ true → (e : Event) (side : Side) (l : ℕ)
-    → (codeAt (step ls e) side l ≡ codeAt ls side l) ⊎ Moves e side l (codeAt ls side l) (codeAt (step ls e) side l)
+pub moved : (ls : List ℕ) → validOf ls ≡ true → (e : LabelEvent) (side : Side) (l : ℕ)
+    → (codeAt (afterEvent ls e) side l ≡ codeAt ls side l) ⊎ Moves e side l (codeAt ls side l) (codeAt (afterEvent ls e) side l)
 moved ls v e side l = every-move ls (valid-means ls v) e side l
 
 -- ---- the giver accepts a message
@@ -45,11 +45,11 @@ module _ (giver user : List ℕ) (out back : List (List ℕ)) (a : Agree giver u
   more-agree m l may g none = rw (after-snoc l (codeAt user Used l) out m) (used-codeBy l (codeAfter l (codeAt user Used l) out) (submissionOf m) (a l may g none))
 
   given-agree : (m : List ℕ) → validOf giver ≡ true → NoSix user → (message : LabelMessage) (k : ℕ) → ((l : ℕ) → message ≡ Mapping → k ≡ l → submissionOf m ≡ Submission.Accepted Kind.Mapping l)
-      → Agree (step giver (Accepted message k)) user (out ++ (m ∷ [])) back
+      → Agree (afterEvent giver (Accepted message k)) user (out ++ (m ∷ [])) back
   given-agree m v six message k is l may g none =
       ⊎-elim
-      (λ (same : codeAt (step giver (Accepted message k)) Given l ≡ codeAt giver Given l). more-agree m l may (rw same at g) none)
-      (λ (move : Moves (Accepted message k) Given l (codeAt giver Given l) (codeAt (step giver (Accepted message k)) Given l)).
+      (λ (same : codeAt (afterEvent giver (Accepted message k)) Given l ≡ codeAt giver Given l). more-agree m l may (rw same at g) none)
+      (λ (move : Moves (Accepted message k) Given l (codeAt giver Given l) (codeAt (afterEvent giver (Accepted message k)) Given l)).
       ⊎-elim
       (λ (p : (message ≡ Mapping) × (k ≡ l)).
       rw (after-snoc l (codeAt user Used l) out m, is l (p .0) (p .1), eq-eqb l l refl) (mapping-used (fit-after l (codeAt user Used l) out (fit user six l))))
@@ -58,7 +58,7 @@ module _ (giver user : List ℕ) (out back : List (List ℕ)) (a : Agree giver u
       (moved giver v (Accepted message k) Given l)
 
   pub accept-giver : (m : List ℕ) → validOf giver ≡ true → NoSix user → (j : Submission) → submissionOf m ≡ j → Agree (acceptedLabels giver j) user (out ++ (m ∷ [])) back
-  unfolding acceptedAs step
+  unfolding acceptedAs afterEvent
   accept-giver m v six Submission.Malformed e = more-agree m
   accept-giver m v six Submission.Refused e = more-agree m
   accept-giver m v six (Submission.Accepted Kind.Mapping k) e = given-agree m v six Mapping k (λ l p q. e ∙ ap (λ (x : ℕ). Submission.Accepted Kind.Mapping x) q)
@@ -83,17 +83,17 @@ module _ (giver user : List ℕ) (out back : List (List ℕ)) (a : Agree giver u
   same-agree m l may g none = a l may g (not-held l back (m ∷ []) none)
 
   used-agree : (m : List ℕ) → validOf user ≡ true → (message : LabelMessage) (k : ℕ) → ((l : ℕ) → message ≡ Release → k ≡ l → bears (submissionOf m) 3 l ≡ true)
-      → Agree giver (step user (Accepted message k)) out (back ++ (m ∷ []))
+      → Agree giver (afterEvent user (Accepted message k)) out (back ++ (m ∷ []))
   used-agree m v message k is l may g none =
       ⊎-elim
-      (λ (same : codeAt (step user (Accepted message k)) Used l ≡ codeAt user Used l). rw same (same-agree m l may g none))
-      (λ (move : Moves (Accepted message k) Used l (codeAt user Used l) (codeAt (step user (Accepted message k)) Used l)).
+      (λ (same : codeAt (afterEvent user (Accepted message k)) Used l ≡ codeAt user Used l). rw same (same-agree m l may g none))
+      (λ (move : Moves (Accepted message k) Used l (codeAt user Used l) (codeAt (afterEvent user (Accepted message k)) Used l)).
       let p = used-move move in
       absurd (true≢false (sym (held-last 3 l back m (is l (p .0) (p .1))) ∙ none)))
       (moved user v (Accepted message k) Used l)
 
   pub accept-user : (m : List ℕ) → validOf user ≡ true → (j : Submission) → submissionOf m ≡ j → Agree giver (acceptedLabels user j) out (back ++ (m ∷ []))
-  unfolding acceptedAs step
+  unfolding acceptedAs afterEvent
   accept-user m v Submission.Malformed e = same-agree m
   accept-user m v Submission.Refused e = same-agree m
   accept-user m v (Submission.Accepted Kind.Mapping k) e = used-agree m v Mapping k (λ l p q. let no : _≡_ {A = ℕ} 0 1 = cc in absurd (omega arith))

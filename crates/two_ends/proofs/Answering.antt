@@ -23,7 +23,7 @@ use Rattle.protocol.specs.State.{State}
 use Rattle.protocol.proofs.Begins.{changed as changed-init}
 use Rattle.two_ends.specs.Answers.{Comes, taken, no-word, changed, fatal, answerTo, AllCome}
 use Rattle.two_ends.specs.Calls.{on}
-use Rattle.two_ends.specs.Runs.{AllProper, Event, run}
+use Rattle.two_ends.specs.Runs.{AllProperEvents, Event, run}
 use Rattle.two_ends.specs.Start.{Afresh, Fit, Opener, start}
 use Rattle.two_ends.specs.World.{End, Lasts, World, swap}
 use Rattle.two_ends.proofs.Arriving.{alive-done, alive-read, carried-fair, carried-read, f, g₁, g₂}
@@ -87,7 +87,7 @@ good-comes w g l k m rest on line =
     by-oldest (Answered (w .b) (w .ab)) (w .b) (w .ab) (each (w .b) (w .ab)) (w .a) m rest on (rw line at (g k)) (l k)
 
 -- ---- over every run, at both ends
-pub only-these-come : (x y : Opener) → Fit x → Fit y → Afresh x y → (vs : List (Bool × Event)) → AllProper vs → Lasts (run (start x y) vs)
+pub only-these-come : (x y : Opener) → Fit x → Fit y → Afresh x y → (vs : List (Bool × Event)) → AllProperEvents vs → Lasts (run (start x y) vs)
     → AllCome (run (start x y) vs) × AllCome (swap (run (start x y) vs))
 only-these-come x y fx fy f vs p k =
     let w = run (start x y) vs in

@@ -1,13 +1,12 @@
 -- The start of a run. Assumes nothing.
 use Prim.Native.Nat.{_<_, _≤_, ℕ}
-use mathlib.Core.Bool.{false, not, true}
+use mathlib.Core.Bool.{false, true}
 use mathlib.Core.List.{[], _∷_}
 use mathlib.Core.Logic.{inl, inr, ⊎-elim}
 use mathlib.Core.Path.{refl, sym, _≡_}
 use native.Mathlib.Omega.{arith}
 use lib.ListN.{length}
 use borrow.Author.Tests.{le-ltb}
-use Rattle.octets.specs.Pick.{pick}
 use Rattle.octets.proofs.Choice.{pick-all}
 use Rattle.ft_number.specs.Timeout.{proposedOf}
 use Rattle.ft_number.proofs.Circle.{after-none}
@@ -17,11 +16,11 @@ use Rattle.protocol.specs.declared.Phase.{Phase}
 use Rattle.protocol.specs.Open.{keptAck, openSession}
 use Rattle.protocol.specs.Phases.{mayOpen, phaseFits}
 use Rattle.protocol.specs.State.{releasedState, State}
-use Rattle.protocol.specs.Step.{roomFor, stepped}
+use Rattle.protocol.specs.Step.{whereOpen, roomFor, stepped}
 use Rattle.protocol.specs.Writer.{writer}
 use Rattle.protocol.proofs.Settling.{admitted-is, settle-does}
-use Rattle.two_ends.specs.Start.{Opener, opener, start, Fit, RZero, Afresh, firstInit}
-use Rattle.two_ends.specs.World.{none}
+use Rattle.two_ends.specs.Start.{Opener, openingEnd, start, Fit, RZero, Afresh, firstInit}
+use Rattle.two_ends.specs.World.{noHistory}
 use Rattle.two_ends.proofs.Half.{Half}
 use Rattle.two_ends.proofs.Invariant.{sideOf, sndOf, rcvOf, Leads, Ready, Dir, Good}
 use Rattle.two_ends.proofs.Opening.{seconds-small}
@@ -44,7 +43,7 @@ fine o s = record {
   ack = kept-fits (o .state) (s .range);
 }
 
-ready : (o : Opener) → Fit o → Ready (opener o)
+ready : (o : Opener) → Fit o → Ready (openingEnd o)
 ready o s = record {
   few = s .few;
   possible = refl;
@@ -55,7 +54,7 @@ ready o s = record {
 }
 
 -- nothing is accepted, let go or secured, and the Init on its way says so
-nothing : Half (sndOf releasedState none) 0 false (rcvOf releasedState none) [] (0 ∷ [])
+nothing : Half (sndOf releasedState noHistory) 0 false (rcvOf releasedState noHistory) [] (0 ∷ [])
 nothing = record {
   r = 0;
   i = 0;
@@ -77,7 +76,7 @@ nothing = record {
   line = (refl, (0, sym (after-none 0), omega arith, omega arith));
 }
 
-direction : (x y : Opener) → Fit x → Leads (y .state .kept) (keptAck (x .state)) → Dir (sideOf (opener x)) (sideOf (opener y)) (packet x ∷ []) (packet y ∷ [])
+direction : (x y : Opener) → Fit x → Leads (y .state .kept) (keptAck (x .state)) → Dir (sideOf (openingEnd x)) (sideOf (openingEnd y)) (packet x ∷ []) (packet y ∷ [])
 direction x y s l = record { half = nothing; shape = (refl, l, tt); fines = (fine x s, tt) }
 
 -- R is zero on one side
@@ -108,8 +107,8 @@ at-start x y sx sy f k = (
 
 -- ---- the start is what Open leaves of a cabinet at rest: the state as it was, the phase, and the Init
 pub opener-opens : (o : Opener) (ph : Phase) (room : ℕ) → phaseFits ph (o .state) ≡ true → mayOpen ph ≡ true → length (firstInit o) ≤ room
-    → openSession (o .state) ph (o .id) (o .parameters) (o .proposal) room ≡ stepped Answer.Done (o .state) (opener o .phase) (firstInit o)
+    → openSession (o .state) ph (o .id) (o .parameters) (o .proposal) room ≡ stepped Answer.Done (o .state) (openingEnd o .phase) (firstInit o)
 unfolding openSession writer
 opener-opens o ph room fits may l =
-    rw (admitted-is (o .state) ph fits (pick (not (mayOpen ph)) Answer.WrongPhase (roomFor (firstInit o) room)), may, le-ltb room (length (firstInit o)) l)
-    (settle-does Answer.Done (o .state) ph (stepped Answer.Done (o .state) (opener o .phase) (firstInit o)) refl)
+    rw (admitted-is (o .state) ph fits (whereOpen (mayOpen ph) (roomFor (firstInit o) room)), may, le-ltb room (length (firstInit o)) l)
+    (settle-does Answer.Done (o .state) ph (stepped Answer.Done (o .state) (openingEnd o .phase) (firstInit o)) refl)

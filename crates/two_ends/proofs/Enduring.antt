@@ -11,7 +11,7 @@ use Rattle.protocol.specs.Open.{keptAck}
 use Rattle.protocol.specs.State.{State}
 use Rattle.protocol.specs.TimePassed.{timePassed}
 use Rattle.protocol.proofs.Moves.{notice-moves, restore-moves, time-moves}
-use Rattle.two_ends.specs.Runs.{AllProper, Event, Proper, act, breaks, delivers, keepalives, notices, opens, passes, restarts, run, sends, step, submits}
+use Rattle.two_ends.specs.Runs.{AllProperEvents, Event, ProperEvent, act, breaks, delivers, keepalives, notices, opens, passes, restarts, run, sends, eventAt, submits}
 use Rattle.two_ends.specs.Start.{Afresh, Fit, Opener, start}
 use Rattle.two_ends.specs.Staying.{Releasing, ReleasingAt, Stays}
 use Rattle.two_ends.specs.Steady.{AllCalm, AllSteady, Steadily, SteadilyAt}
@@ -36,7 +36,7 @@ module _ (oa ob : OwnParameters) (w : World) (g : Good w) (l : Lists w) (k : Las
   abbrev ph : Phase
   ph = w .a .phase
 
-  act-steady : (v : Event) → Proper v → Steadily oa w v → Steadies oa ob (act w v)
+  act-steady : (v : Event) → ProperEvent v → Steadily oa w v → Steadies oa ob (act w v)
   act-steady (submits m) p q = submit-steady oa ob w g k s m q
   act-steady (sends ask room) p q = send-steady oa ob w g k s ask room
   act-steady (keepalives id room) p q = alive-steady oa ob w g k s id room p
@@ -64,7 +64,7 @@ swap-steady : (oa ob : OwnParameters) (w : World) → Steadies oa ob w → Stead
 swap-steady oa ob w s = record { a = s .b; b = s .a; ab = s .ba; ba = s .ab }
 
 module _ (oa ob : OwnParameters) (w : World) (g : Good w) (l : Lists w) (k : Lasts w) (s : Steadies oa ob w) where
-  step-steady : (at : Bool) (v : Event) → Proper v → SteadilyAt oa ob w at v → Steadies oa ob (step w at v)
+  step-steady : (at : Bool) (v : Event) → ProperEvent v → SteadilyAt oa ob w at v → Steadies oa ob (eventAt w at v)
   step-steady true v p q = act-steady oa ob w g l k s v p q
   step-steady false v p q =
       swap-steady ob oa (act (swap w) v) (act-steady ob oa (swap w) (at-swap w g) (swap-lists w l) k (swap-steady oa ob w s) v p q)
@@ -76,17 +76,17 @@ module _ (oa ob : OwnParameters) (w : World) (g : Good w) (l : Lists w) (k : Las
 -- ---- over a run
 module _ (oa ob : OwnParameters) where
   -- as long as the run lasts, the world is as steady owners leave it
-  run-steady : (w : World) (vs : List (Bool × Event)) → Good w → Lists w → (Lasts w → Steadies oa ob w) → AllProper vs → AllSteady oa ob w vs
+  run-steady : (w : World) (vs : List (Bool × Event)) → Good w → Lists w → (Lasts w → Steadies oa ob w) → AllProperEvents vs → AllSteady oa ob w vs
       → Lasts (run w vs) → Steadies oa ob (run w vs)
   run-steady w [] g l s p q k = s k
   run-steady w (v ∷ vs) g l s p q k =
-      run-steady (step w (v .0) (v .1)) vs (at-step w (v .0) (v .1) (p .0) g) (step-lists w (v .0) (v .1) g l)
+      run-steady (eventAt w (v .0) (v .1)) vs (at-step w (v .0) (v .1) (p .0) g) (step-lists w (v .0) (v .1) g l)
       (λ t. let old = step-lasted w (v .0) (v .1) t in step-steady oa ob w g l old (s old) (v .0) (v .1) (p .0) (q .0)) (p .1) (q .1) k
 
-  run-endures : (w : World) (vs : List (Bool × Event)) → Good w → Lists w → Stays w → Steadies oa ob w → AllProper vs → AllSteady oa ob w vs → Stays (run w vs)
+  run-endures : (w : World) (vs : List (Bool × Event)) → Good w → Lists w → Stays w → Steadies oa ob w → AllProperEvents vs → AllSteady oa ob w vs → Stays (run w vs)
   run-endures w [] g l s t p q = s
   run-endures w (v ∷ vs) g l s t p q =
-      run-endures (step w (v .0) (v .1)) vs (at-step w (v .0) (v .1) (p .0) g) (step-lists w (v .0) (v .1) g l)
+      run-endures (eventAt w (v .0) (v .1)) vs (at-step w (v .0) (v .1) (p .0) g) (step-lists w (v .0) (v .1) g l)
       (step-stays w (v .0) (v .1) g s (at-never oa ob w g l (s .lasts) t (v .0) (v .1) (q .0)))
       (step-steady oa ob w g l (s .lasts) t (v .0) (v .1) (p .0) (q .0)) (p .1) (q .1)
 
@@ -102,7 +102,7 @@ start-steady x y fx fy = record {
   ba = (init-says (y .parameters) (y .id) (y .parameters) (proposedOf (y .proposal)) (keptAck (y .state)) (fine y fy) refl refl, tt);
 }
 
-module _ (x y : Opener) (fx : Fit x) (fy : Fit y) (f : Afresh x y) (us : List (Bool × Event)) (pu : AllProper us) (qu : AllSteady (x .parameters) (y .parameters) (start x y) us) where
+module _ (x y : Opener) (fx : Fit x) (fy : Fit y) (f : Afresh x y) (us : List (Bool × Event)) (pu : AllProperEvents us) (qu : AllSteady (x .parameters) (y .parameters) (start x y) us) where
   abbrev here : World
   here = run (start x y) us
 
@@ -123,5 +123,5 @@ module _ (x y : Opener) (fx : Fit x) (fy : Fit y) (f : Afresh x y) (us : List (B
   )
 
   -- and once both ends have begun, neither ever releases its state
-  pub kept-for-good : Stays here → (vs : List (Bool × Event)) → AllProper vs → AllSteady (x .parameters) (y .parameters) here vs → Stays (run here vs)
+  pub kept-for-good : Stays here → (vs : List (Bool × Event)) → AllProperEvents vs → AllSteady (x .parameters) (y .parameters) here vs → Stays (run here vs)
   kept-for-good s vs p q = run-endures (x .parameters) (y .parameters) here vs good listed s (steady (s .lasts)) p q

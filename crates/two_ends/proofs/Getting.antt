@@ -25,7 +25,7 @@ use Rattle.label_events.specs.Receive.{receivedChange, receptionOf, receivedOf}
 use Rattle.tlv.specs.declared.Fec.{Fec}
 use Rattle.tlv.specs.declared.Field.{Field}
 use Rattle.tlv.specs.declared.FtField.{FtField}
-use Rattle.label_meaning.specs.Event.{Received, step, Moves, named, given-back, withdrawn-back}
+use Rattle.label_meaning.specs.Event.{Received, afterEvent, Moves, named, given-back, withdrawn-back}
 use Rattle.label_meaning.specs.View.{Effect}
 use Rattle.label_meaning.proofs.Effect.{change-effect}
 use Rattle.label_meaning.proofs.Life.{move-happens}
@@ -36,7 +36,7 @@ use Rattle.label_meaning.proofs.View.{code-is, is-code}
 use Rattle.message.specs.declared.Kind.{Kind}
 use Rattle.message.specs.declared.MessageType.{MessageType}
 use Rattle.message.specs.declared.Submission.{Submission}
-use Rattle.message.specs.Kinds.{kindOf, kindNumber, fatalOf, codeOf, resourcesAvailable, notificationKind, kindFor}
+use Rattle.message.specs.Kinds.{kindOf, kindNumber, fatalOf, statusCode, resourcesAvailable, notificationKind, kindFor}
 use Rattle.message.specs.Storable.{bears}
 use Rattle.message.specs.Submission.{submissionOf}
 use Rattle.message.proofs.Laws.{accepted}
@@ -71,7 +71,7 @@ unfolding notificationKind
 notified Field.Absent l = none-says
 notified (Field.Value v) l =
     pick-all (λ (k : Kind). Says k l LabelEffect.Nothing) (fatalOf v) none-says
-    (pick-all (λ (k : Kind). Says k l LabelEffect.Nothing) (eqb (codeOf v) resourcesAvailable) (says-nothing (λ n c. refl) (λ n. refl)) none-says)
+    (pick-all (λ (k : Kind). Says k l LabelEffect.Nothing) (eqb (statusCode v) resourcesAvailable) (says-nothing (λ n c. refl) (λ n. refl)) none-says)
 
 says-by : (type : MessageType) (status label : Field) (fec : Fec) (l : ℕ) → (kindNumber (kindFor type status) ≤ 3 → label ≡ Field.Value l)
     → Says (kindFor type status) l (effectOn type (touchedBy label fec))
@@ -143,14 +143,14 @@ module _ (giver user : List ℕ) (out back : List (List ℕ)) (m : List ℕ) whe
   unfolding isHeld
   still a l may g none others = a l may g (rw others none)
 
-  kept-given : (e : LabelMessage) (t : Touched) → validOf giver ≡ true → (l : ℕ) → IsGiven (codeAt (step giver (Received e true t)) Given l) → IsGiven (codeAt giver Given l)
+  kept-given : (e : LabelMessage) (t : Touched) → validOf giver ≡ true → (l : ℕ) → IsGiven (codeAt (afterEvent giver (Received e true t)) Given l) → IsGiven (codeAt giver Given l)
   kept-given e t v l g =
       ⊎-elim
-      (λ (same : codeAt (step giver (Received e true t)) Given l ≡ codeAt giver Given l). rw same at g)
-      (λ (move : Moves (Received e true t) Given l (codeAt giver Given l) (codeAt (step giver (Received e true t)) Given l)). none-given (given-received move) g)
+      (λ (same : codeAt (afterEvent giver (Received e true t)) Given l ≡ codeAt giver Given l). rw same at g)
+      (λ (move : Moves (Received e true t) Given l (codeAt giver Given l) (codeAt (afterEvent giver (Received e true t)) Given l)). none-given (given-received move) g)
       (moved giver v (Received e true t) Given l)
 
-  freed : validOf giver ≡ true → (l : ℕ) → IsGiven (codeAt giver Given l) → codeAt (step giver (Received Release true (Touched.Label l))) Given l ≡ 0
+  freed : validOf giver ≡ true → (l : ℕ) → IsGiven (codeAt giver Given l) → codeAt (afterEvent giver (Received Release true (Touched.Label l))) Given l ≡ 0
   freed v l g =
       ⊎-elim
       (λ (one : codeAt giver Given l ≡ 1). move-happens giver (valid-means giver v) (given-back named) (λ z. omega arith) one)
@@ -160,7 +160,7 @@ module _ (giver user : List ℕ) (out back : List (List ℕ)) (m : List ℕ) whe
   -- the giver takes it
   pub take-giver : Agree giver user out (m ∷ back) → validOf giver ≡ true → (k : Kind) (n : ℕ) (e : LabelEffect) → submissionOf m ≡ Submission.Accepted k n → Says k n e
       → Agree (effectLabels giver true e) user out back
-  unfolding step
+  unfolding afterEvent
   take-giver a v k n e is says-mapping l may g none = still a l may (kept-given Mapping (Touched.Label n) v l g) none (rw is)
   take-giver a v k n e is says-withdraw l may g none = still a l may (kept-given Withdraw (Touched.Label n) v l g) none (rw is)
   take-giver a v k n e is says-release l may g none =
@@ -174,13 +174,13 @@ module _ (giver user : List ℕ) (out back : List (List ℕ)) (m : List ℕ) whe
 -- the user takes it
 code-taken : (user : List ℕ) → validOf user ≡ true → (k : Kind) (n : ℕ) (e : LabelEffect) → Says k n e → effectReception user true e ≡ Reception.Taken → (l : ℕ) → listable l ≡ true
     → codeAt (effectLabels user true e) Used l ≡ codeBy l (codeAt user Used l) (Submission.Accepted k n)
-unfolding step receivedSide
+unfolding afterEvent receivedSide
 code-taken user v k n e says-mapping room l may = code-received user v Mapping l may n room
 code-taken user v k n e says-withdraw room l may = code-received user v Withdraw l may n room
 code-taken user v k n e says-release room l may =
     ⊎-elim
-    (λ (same : codeAt (step user (Received Release true (Touched.Label n))) Used l ≡ codeAt user Used l). same)
-    (λ (move : Moves (Received Release true (Touched.Label n)) Used l (codeAt user Used l) (codeAt (step user (Received Release true (Touched.Label n))) Used l)). sym (release-used move))
+    (λ (same : codeAt (afterEvent user (Received Release true (Touched.Label n))) Used l ≡ codeAt user Used l). same)
+    (λ (move : Moves (Received Release true (Touched.Label n)) Used l (codeAt user Used l) (codeAt (afterEvent user (Received Release true (Touched.Label n))) Used l)). sym (release-used move))
     (moved user v (Received Release true (Touched.Label n)) Used l)
 code-taken user v k n e (says-nothing stays others) room l may = sym (stays l (codeAt user Used l))
 

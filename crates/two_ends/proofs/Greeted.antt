@@ -17,7 +17,7 @@ use Rattle.protocol.specs.State.{State}
 use Rattle.protocol.specs.Step.{stepped}
 use Rattle.protocol.proofs.Begins.{begins}
 use Rattle.two_ends.specs.Calls.{greeted}
-use Rattle.two_ends.specs.World.{History, End, none}
+use Rattle.two_ends.specs.World.{History, End, noHistory}
 use Rattle.two_ends.proofs.Invariant.{Leads, Ready, Inv}
 use Rattle.two_ends.proofs.Packets.{Packet, first, bytesOf, Fine}
 use Rattle.two_ends.proofs.Starting.{terms, starts-fresh}
@@ -50,7 +50,7 @@ module _ (now : State) (t : ℕ) (h : History) (id : MessageId) (p : OwnParamete
     greet-first i l =
         let e = fresh-start (i .back .fines .0) l in
         let d = first-begins (i .back .fines .0) l in
-        let nothing : h ≡ none = i .own .waiting refl .nothing in
+        let nothing : h ≡ noHistory = i .own .waiting refl .nothing in
         let own : Ready (ended (fresh ts) (upWith 0) true true h) = record {
           few = omega arith;
           possible = refl;

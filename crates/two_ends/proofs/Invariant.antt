@@ -10,7 +10,7 @@ use Rattle.protocol.specs.declared.Phase.{Phase}
 use Rattle.protocol.specs.Phases.{isUpFT, sentOf, awaits}
 use Rattle.protocol.specs.State.{State, releasedState, held, capacity}
 use Rattle.two_ends.specs.Calls.{keeps}
-use Rattle.two_ends.specs.World.{History, End, World, none, Lasts}
+use Rattle.two_ends.specs.World.{History, End, World, noHistory, Lasts}
 use Rattle.two_ends.proofs.Half.{Snd, Rcv, Half}
 use Rattle.two_ends.proofs.Packets.{Packet, first, again, alive, carried, bytesOf, Okays, Fines, NoInit, datas, acksOf}
 
@@ -73,7 +73,7 @@ pub record Dir (x y : Side) (to fro : List Packet) : Type 0 where
 pub record Waiting (e : End) : Type 0 where
   pub on : e .joined ≡ true
   pub waits : awaits (e .phase) ≡ true
-  pub nothing : e .history ≡ none
+  pub nothing : e .history ≡ noHistory
 
 -- the phases of an end that is on the connection
 abbrev pub linkable : Phase → Bool

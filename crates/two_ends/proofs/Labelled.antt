@@ -15,10 +15,10 @@ use Rattle.protocol.specs.State.{State, releasedState}
 use Rattle.protocol.specs.Step.{Step}
 use Rattle.protocol.specs.Submit.{submit}
 use Rattle.protocol.specs.TimePassed.{timePassed}
-use Rattle.two_ends.specs.Calls.{accepts, broken, called, counts, keeps}
-use Rattle.two_ends.specs.Runs.{AllProper, Event, act, breaks, delivers, keepalives, notices, opens, passes, restarts, run, sends, step, submits}
+use Rattle.two_ends.specs.Calls.{accepts, disconnected, called, counts, keeps}
+use Rattle.two_ends.specs.Runs.{AllProperEvents, Event, act, breaks, delivers, keepalives, notices, opens, passes, restarts, run, sends, eventAt, submits}
 use Rattle.two_ends.specs.Start.{Afresh, Fit, Opener, start}
-use Rattle.two_ends.specs.World.{History, Lasts, World, none, swap}
+use Rattle.two_ends.specs.World.{History, Lasts, World, noHistory, swap}
 use Rattle.two_ends.proofs.Acts.{by-delivery, by-open, by-plain, by-submit, by-write, lasted}
 use Rattle.two_ends.proofs.Begun.{at-start}
 use Rattle.two_ends.proofs.Hearing.{Heard, Labelled, hears}
@@ -33,7 +33,7 @@ abbrev pub Lists : World → Type 0
 Lists w = Lasts w → Labelled (w .a) (w .b)
 
 -- ---- every event
-broken-lists : (v : World) → Lists v → Lists (broken v)
+broken-lists : (v : World) → Lists v → Lists (disconnected v)
 broken-lists v l k = l (both-true (v .started) (both (v .a .begun) (v .b .begun)) (k .0) .0, k .1)
 
 module _ (w : World) (g : Good w) (l : Lists w) where
@@ -53,14 +53,14 @@ module _ (w : World) (g : Good w) (l : Lists w) where
   -- an end that has begun has what the call leaves; one that has not counts as released
   call-lists : (x : Step) (k : History) → (w .a .begun ≡ false → k ≡ h) → (Lasts w → w .a .begun ≡ true → By now h → x .state .kept ≡ true → By (x .state) k)
       → Lists (next w (called (w .a) x k) (w .ab) (w .ba))
-  call-lists x k none does lasts = by (w .a .begun) refl
+  call-lists x k noHistory does lasts = by (w .a .begun) refl
     where
       kept : Lasts w × (keeps (called (w .a) x k) ≡ true)
       kept = let p = both-true (w .unreleased) (keeps (called (w .a) x k)) (lasts .1) in ((lasts .0, p .0), p .1)
 
       by : (b : Bool) → w .a .begun ≡ b → By (pick b (x .state) releasedState) k
       by true e = does (kept .0) e (rw e at (l (kept .0))) (rw e at (kept .1))
-      by false e = rw (none e) (rw e at (l (kept .0)))
+      by false e = rw (noHistory e) (rw e at (l (kept .0)))
 
   plain-lists : (x : Step) → (By now h → x .state .kept ≡ true → By (x .state) h) → Lists (next w (called (w .a) x h) (w .ab) (w .ba))
   plain-lists x does = call-lists x h (λ e. refl) (λ lasts e m. does m)
@@ -96,13 +96,13 @@ module _ (w : World) (g : Good w) (l : Lists w) where
 pub swap-lists : (w : World) → Lists w → Lists (swap w)
 swap-lists w l k = labels-swap (l k)
 
-pub step-lists : (w : World) (at : Bool) (v : Event) → Good w → Lists w → Lists (step w at v)
+pub step-lists : (w : World) (at : Bool) (v : Event) → Good w → Lists w → Lists (eventAt w at v)
 step-lists w true v g l = act-lists w g l v
 step-lists w false v g l = swap-lists (act (swap w) v) (act-lists (swap w) (at-swap w g) (swap-lists w l) v)
 
-run-lists : (w : World) (vs : List (Bool × Event)) → AllProper vs → Good w → Lists w → Lists (run w vs)
+run-lists : (w : World) (vs : List (Bool × Event)) → AllProperEvents vs → Good w → Lists w → Lists (run w vs)
 run-lists w [] p g l = l
-run-lists w (v ∷ vs) p g l = run-lists (step w (v .0) (v .1)) vs (p .1) (at-step w (v .0) (v .1) (p .0) g) (step-lists w (v .0) (v .1) g l)
+run-lists w (v ∷ vs) p g l = run-lists (eventAt w (v .0) (v .1)) vs (p .1) (at-step w (v .0) (v .1) (p .0) g) (step-lists w (v .0) (v .1) g l)
 
-pub lists : (x y : Opener) → Fit x → Fit y → Afresh x y → (vs : List (Bool × Event)) → AllProper vs → Lists (run (start x y) vs)
+pub lists : (x y : Opener) → Fit x → Fit y → Afresh x y → (vs : List (Bool × Event)) → AllProperEvents vs → Lists (run (start x y) vs)
 lists x y fx fy f vs p = run-lists (start x y) vs p (at-start x y fx fy f) (λ k. labels-none)

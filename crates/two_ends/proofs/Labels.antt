@@ -16,7 +16,7 @@ use Rattle.protocol.specs.State.{State, noTable, releasedState}
 use Rattle.protocol.specs.Step.{broken}
 use Rattle.protocol.specs.Submit.{submitted}
 use Rattle.two_ends.specs.Calls.{accepts, takes}
-use Rattle.two_ends.specs.World.{History, none}
+use Rattle.two_ends.specs.World.{History, noHistory}
 use Rattle.two_ends.proofs.Getting.{Says}
 use Rattle.two_ends.proofs.Sharing.{Shared, shared-accepted, shared-accepted-peer, shared-broken, shared-broken-peer, shared-freed, shared-freed-peer, shared-none, shared-taken, shared-taken-peer}
 use Rattle.two_ends.proofs.Tidy.{Tidy, tidy-acked, tidy-broken, tidy-none, tidy-submitted, tidy-taken}
@@ -28,8 +28,8 @@ pub record Labels (s : State) (h : History) (t : State) (k : History) : Type 0 w
   pub ours : Shared (s .table .words) h (t .table .words) k
   pub theirs : Shared (t .table .words) k (s .table .words) h
 
-pub labels-none : Labels releasedState none releasedState none
-labels-none = record { own = tidy-none; peer = tidy-none; ours = shared-none (noTable .words) none none; theirs = shared-none (noTable .words) none none }
+pub labels-none : Labels releasedState noHistory releasedState noHistory
+labels-none = record { own = tidy-none; peer = tidy-none; ours = shared-none (noTable .words) noHistory noHistory; theirs = shared-none (noTable .words) noHistory noHistory }
 
 module _ {s : State} {h : History} {t : State} {k : History} (l : Labels s h t k) where
   pub labels-swap : Labels t k s h

@@ -24,7 +24,7 @@ use Rattle.protocol.specs.KeepAlive.{aliveBytes, keepalive}
 use Rattle.protocol.specs.Open.{openBytes, openSession}
 use Rattle.protocol.specs.Phases.{isUp, issuedCount, mayOpen, sentOf, waitingFor, upWith}
 use Rattle.protocol.specs.Receive.{taken, ackOn, ftRule, receive, receivedPhase, receivedState}
-use Rattle.protocol.specs.Send.{numbered, numberAt, sendNext, sentState}
+use Rattle.protocol.specs.Send.{numbered, queueNumber, sendNext, sentState}
 use Rattle.protocol.specs.State.{State, withIssued}
 use Rattle.protocol.specs.Step.{Step, settle, stepped, admitted}
 use Rattle.protocol.specs.Submit.{submit}
@@ -62,7 +62,7 @@ module _ (now : State) (ph : Phase) (h : History) {t : State} {k : History} (l :
 
   pub send-leaves : (ask : Bool) (room : ℕ) → Leaves (sendNext now ph ask room .state)
   unfolding sendNext sentState numbered
-  send-leaves ask room = settled _ _ (λ d. pick-all Leaves (ltb (sentOf ph) (issuedCount now)) (λ e. l) (λ e. labels-same l (withIssued now (numberAt now (sentOf ph))) refl refl))
+  send-leaves ask room = settled _ _ (λ d. pick-all Leaves (ltb (sentOf ph) (issuedCount now)) (λ e. l) (λ e. labels-same l (withIssued now (queueNumber now (sentOf ph))) refl refl))
 
   pub notice-leaves : Leaves (connectionFailed now ph .state)
   unfolding connectionFailed

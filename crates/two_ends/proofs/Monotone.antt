@@ -12,8 +12,8 @@ use Rattle.protocol.specs.Send.{sendNext}
 use Rattle.protocol.specs.Step.{Step}
 use Rattle.protocol.specs.Submit.{submit}
 use Rattle.protocol.specs.TimePassed.{timePassed}
-use Rattle.two_ends.specs.Calls.{accepts, broken, called, counts, keeps, plainly, put, wrote}
-use Rattle.two_ends.specs.Runs.{Event, act, breaks, delivers, keepalives, notices, opens, passes, restarts, run, sends, step, submits}
+use Rattle.two_ends.specs.Calls.{accepts, disconnected, called, counts, keeps, plainly, put, wrote}
+use Rattle.two_ends.specs.Runs.{Event, act, breaks, delivers, keepalives, notices, opens, passes, restarts, run, sends, eventAt, submits}
 use Rattle.two_ends.specs.World.{End, Lasts, World, swap}
 use Rattle.two_ends.proofs.Acts.{by-delivery, by-open, by-plain, by-submit, by-write, lasted}
 use Rattle.two_ends.proofs.Worlds.{next}
@@ -22,7 +22,7 @@ module _ (w : World) where
   abbrev Lasted : World → Type 0
   Lasted v = Lasts v → Lasts w
 
-  broken-lasted : (v : World) → Lasted v → Lasted (broken v)
+  broken-lasted : (v : World) → Lasted v → Lasted (disconnected v)
   broken-lasted v f k = f (both-true (v .started) (both (v .a .begun) (v .b .begun)) (k .0) .0, k .1)
 
   called-lasted : (e : End) (ab ba : List (List ℕ)) → Lasted (next w e ab ba)
@@ -50,10 +50,10 @@ module _ (w : World) where
   act-lasted notices = plain (connectionFailed (w .a .state) (w .a .phase))
   act-lasted restarts = plain (restore (w .a .state))
 
-pub step-lasted : (w : World) (at : Bool) (v : Event) → Lasts (step w at v) → Lasts w
+pub step-lasted : (w : World) (at : Bool) (v : Event) → Lasts (eventAt w at v) → Lasts w
 step-lasted w true v k = act-lasted w v k
 step-lasted w false v k = act-lasted (swap w) v k
 
 pub run-lasted : (w : World) (vs : List (Bool × Event)) → Lasts (run w vs) → Lasts w
 run-lasted w [] k = k
-run-lasted w (v ∷ vs) k = step-lasted w (v .0) (v .1) (run-lasted (step w (v .0) (v .1)) vs k)
+run-lasted w (v ∷ vs) k = step-lasted w (v .0) (v .1) (run-lasted (eventAt w (v .0) (v .1)) vs k)

@@ -9,8 +9,8 @@ use Rattle.octets.specs.Bytes.{Bytes}
 use Rattle.ft_number.specs.declared.FtNumber.{FtNumber}
 use Rattle.ft_number.specs.declared.MessageId.{MessageId}
 use Rattle.tlv.specs.declared.FtField.{FtField}
-use Rattle.tlv.specs.Tlv.{parametersNumber, sessionNumber, protectionNumber, ackNumber}
-use Rattle.message.specs.Reading.{initializationNumber, keepaliveNumber}
+use Rattle.tlv.specs.Tlv.{parametersType, sessionType, protectionType, ackType}
+use Rattle.message.specs.Reading.{initializationType, keepaliveType}
 use Rattle.message_writer.specs.declared.OwnParameters.{OwnParameters}
 use Rattle.message_writer.specs.Forms.{tlvBytes, messageBytes, ackTlv, parametersTlv, sessionValue, initBytes, keepaliveBytes, raised, protectedBytes}
 
@@ -57,24 +57,24 @@ tlv-octets number v = joins (spelled 2 number) (joins (spelled 2 4) (spelled 4 v
 
 ack-octets : (ack : FtField) → Octets (ackTlv ack)
 ack-octets FtField.Absent = none
-ack-octets (FtField.Number a) = tlv-octets ackNumber (a .0)
+ack-octets (FtField.Number a) = tlv-octets ackType (a .0)
 
 message-octets : (number : ℕ) (id : MessageId) {tlvs : List ℕ} → Octets tlvs → Octets (messageBytes number id tlvs)
 message-octets number id {tlvs} a = joins (joins (spelled 2 number) (joins (spelled 2 (4 + length tlvs)) (spelled 4 (id .0)))) a
 
 parameters-octets : (p : OwnParameters) → Octets (parametersTlv p)
 parameters-octets p =
-    joins (spelled 2 parametersNumber) (joins (spelled 2 14) (joins (spelled 2 1) (joins (spelled 2 (p .keepalive))
+    joins (spelled 2 parametersType) (joins (spelled 2 14) (joins (spelled 2 1) (joins (spelled 2 (p .keepalive))
     (joins (spelled 1 0) (joins (spelled 1 0) (joins (spelled 2 (p .pdulength)) (joins (spelled 4 (p .lsr)) (spelled 2 (p .space)))))))))
 
 pub init-octets : (id : MessageId) (p : OwnParameters) (seconds : ℕ) (ack : FtField) → Octets (initBytes id p seconds ack)
 init-octets id p seconds ack =
-    message-octets initializationNumber id (joins (parameters-octets p) (joins (tlv-octets (0x8000 + sessionNumber) (sessionValue ack seconds)) (ack-octets ack)))
+    message-octets initializationType id (joins (parameters-octets p) (joins (tlv-octets (0x8000 + sessionType) (sessionValue ack seconds)) (ack-octets ack)))
 
 pub alive-octets : (id : MessageId) (ack : FtField) → Octets (keepaliveBytes id ack)
-alive-octets id ack = message-octets keepaliveNumber id (ack-octets ack)
+alive-octets id ack = message-octets keepaliveType id (ack-octets ack)
 
 pub protected-octets : (m : List ℕ) (n : FtNumber) (ack : FtField) → Octets m → Octets (protectedBytes m n ack)
 unfolding raised
 protected-octets m n ack a =
-    joins (joins (takes 2 a) (joins (spelled 2 _) (drops 2 (drops 2 a)))) (joins (tlv-octets protectionNumber (n .0)) (ack-octets ack))
+    joins (joins (takes 2 a) (joins (spelled 2 _) (drops 2 (drops 2 a)))) (joins (tlv-octets protectionType (n .0)) (ack-octets ack))

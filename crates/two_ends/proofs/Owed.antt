@@ -14,7 +14,7 @@ use Rattle.label_list.specs.declared.SweepRule.the-variants.{AfterBreak}
 use Rattle.label_list.specs.Sweep.{sweptOf}
 use Rattle.label_list.specs.Valid.{validOf}
 use Rattle.label_events.specs.Change.{codeAt}
-use Rattle.label_meaning.specs.Event.{Event, Accepted, Received, Broken, step, Moves, given, withdrawn, released, returned, withdraw-acked, release-acked, taken, taken-again, taken-bare, asked-back, bare-withdrawn, given-back, withdrawn-back, bare-lost}
+use Rattle.label_meaning.specs.Event.{LabelEvent, Accepted, Received, Broken, afterEvent, Moves, given, withdrawn, released, returned, withdraw-acked, release-acked, taken, taken-again, taken-bare, asked-back, bare-withdrawn, given-back, withdrawn-back, bare-lost}
 use Rattle.label_meaning.proofs.Meaning.{valid-means}
 use Rattle.label_meaning.proofs.Moved.{every-move}
 use Rattle.message.specs.declared.Kind.{Kind}
@@ -28,7 +28,7 @@ use Rattle.protocol.specs.Held.{isHeld}
 use Rattle.protocol.specs.Labels.{effectLabels}
 use Rattle.protocol.specs.State.{noTable}
 use Rattle.protocol.specs.Submit.{acceptedLabels}
-use Rattle.two_ends.specs.Labels.{Due, withdrawal, release, sideOf, codeOf, messageOf, kindOf, Owed}
+use Rattle.two_ends.specs.Labels.{Due, withdrawal, release, dueSide, dueCode, dueMessage, dueKind, Owed}
 use Rattle.two_ends.proofs.Sixless.{none-code}
 
 -- ---- what is held
@@ -48,11 +48,11 @@ held-last kind l (x ∷ q) m e = pick-all (λ (b : Bool). b ≡ true) (bears (su
 
 -- ---- no labels
 pub none-owed : Owed (noTable .words) []
-none-owed withdrawal l z = let zero : codeAt (noTable .words) (sideOf withdrawal) l ≡ 0 = none-code (sideOf withdrawal) l in absurd (omega arith)
-none-owed release l z = let zero : codeAt (noTable .words) (sideOf release) l ≡ 0 = none-code (sideOf release) l in absurd (omega arith)
+none-owed withdrawal l z = let zero : codeAt (noTable .words) (dueSide withdrawal) l ≡ 0 = none-code (dueSide withdrawal) l in absurd (omega arith)
+none-owed release l z = let zero : codeAt (noTable .words) (dueSide release) l ≡ 0 = none-code (dueSide release) l in absurd (omega arith)
 
 -- ---- only an accepted Withdraw or Release leads to these codes
-due-move : (due : Due) {e : Event} {l c d : ℕ} → Moves e (sideOf due) l c d → d ≡ codeOf due → e ≡ Accepted (messageOf due) l
+due-move : (due : Due) {e : LabelEvent} {l c d : ℕ} → Moves e (dueSide due) l c d → d ≡ dueCode due → e ≡ Accepted (dueMessage due) l
 due-move withdrawal given z = absurd (omega arith)
 due-move withdrawal withdrawn z = refl
 due-move withdrawal withdraw-acked z = absurd (omega arith)
@@ -68,65 +68,65 @@ due-move release (asked-back t) z = absurd (omega arith)
 due-move release (bare-withdrawn t) z = absurd (omega arith)
 due-move release bare-lost z = absurd (omega arith)
 
-pub due-step : (ls : List ℕ) → validOf ls ≡ true → (e : Event) (due : Due) (l : ℕ) → codeAt (step ls e) (sideOf due) l ≡ codeOf due
-    → (codeAt ls (sideOf due) l ≡ codeOf due) ⊎ (e ≡ Accepted (messageOf due) l)
+pub due-step : (ls : List ℕ) → validOf ls ≡ true → (e : LabelEvent) (due : Due) (l : ℕ) → codeAt (afterEvent ls e) (dueSide due) l ≡ dueCode due
+    → (codeAt ls (dueSide due) l ≡ dueCode due) ⊎ (e ≡ Accepted (dueMessage due) l)
 due-step ls v e due l z =
     ⊎-elim
-    (λ (same : codeAt (step ls e) (sideOf due) l ≡ codeAt ls (sideOf due) l). inl (sym same ∙ z))
-    (λ (move : Moves e (sideOf due) l (codeAt ls (sideOf due) l) (codeAt (step ls e) (sideOf due) l)). inr (due-move due move z))
-    (every-move ls (valid-means ls v) e (sideOf due) l)
+    (λ (same : codeAt (afterEvent ls e) (dueSide due) l ≡ codeAt ls (dueSide due) l). inl (sym same ∙ z))
+    (λ (move : Moves e (dueSide due) l (codeAt ls (dueSide due) l) (codeAt (afterEvent ls e) (dueSide due) l)). inr (due-move due move z))
+    (every-move ls (valid-means ls v) e (dueSide due) l)
 
 -- ---- a connection ends, a message is received
 pub broken-owed : (ls : List ℕ) (q : List (List ℕ)) → validOf ls ≡ true → Owed ls q → Owed (sweptOf ls AfterBreak) q
-unfolding step
+unfolding afterEvent
 broken-owed ls q v o due l z =
     ⊎-elim
-    (λ (same : codeAt ls (sideOf due) l ≡ codeOf due). o due l same)
-    (λ (e : Broken ≡ Accepted (messageOf due) l). let no : _≡_ {A = ℕ} 0 1 = cc in absurd (omega arith))
+    (λ (same : codeAt ls (dueSide due) l ≡ dueCode due). o due l same)
+    (λ (e : Broken ≡ Accepted (dueMessage due) l). let no : _≡_ {A = ℕ} 0 1 = cc in absurd (omega arith))
     (due-step ls v Broken due l z)
 
 pub received-owed : (ls : List ℕ) (q : List (List ℕ)) (p : Bool) (e : LabelEffect) → validOf ls ≡ true → Owed ls q → Owed (effectLabels ls p e) q
-unfolding step
+unfolding afterEvent
 received-owed ls q p LabelEffect.Nothing v o = o
 received-owed ls q p (LabelEffect.Change m t) v o = λ due l z.
     ⊎-elim
-    (λ (same : codeAt ls (sideOf due) l ≡ codeOf due). o due l same)
-    (λ (e : Received m p t ≡ Accepted (messageOf due) l). let no : _≡_ {A = ℕ} 0 1 = cc in absurd (omega arith))
+    (λ (same : codeAt ls (dueSide due) l ≡ dueCode due). o due l same)
+    (λ (e : Received m p t ≡ Accepted (dueMessage due) l). let no : _≡_ {A = ℕ} 0 1 = cc in absurd (omega arith))
     (due-step ls v (Received m p t) due l z)
 
 -- ---- a message is accepted: it is the newest held
 accept-by : (ls : List ℕ) (q : List (List ℕ)) (m : List ℕ) → validOf ls ≡ true → Owed ls q → (message : LabelMessage) (label : ℕ)
-    → ((due : Due) → message ≡ messageOf due → bears (submissionOf m) (kindOf due) label ≡ true) → Owed (step ls (Accepted message label)) (q ++ (m ∷ []))
+    → ((due : Due) → message ≡ dueMessage due → bears (submissionOf m) (dueKind due) label ≡ true) → Owed (afterEvent ls (Accepted message label)) (q ++ (m ∷ []))
 accept-by ls q m v o message label is due l z =
     ⊎-elim
-    (λ (same : codeAt ls (sideOf due) l ≡ codeOf due). held-more (kindOf due) l q (m ∷ []) (o due l same))
-    (λ (e : Accepted message label ≡ Accepted (messageOf due) l).
-    let same : message ≡ messageOf due = cc in
+    (λ (same : codeAt ls (dueSide due) l ≡ dueCode due). held-more (dueKind due) l q (m ∷ []) (o due l same))
+    (λ (e : Accepted message label ≡ Accepted (dueMessage due) l).
+    let same : message ≡ dueMessage due = cc in
     let at : label ≡ l = cc in
-    held-last (kindOf due) l q m (rw at at (is due same)))
+    held-last (dueKind due) l q m (rw at at (is due same)))
     (due-step ls v (Accepted message label) due l z)
 
 more-owed : (ls : List ℕ) (q : List (List ℕ)) (m : List ℕ) → Owed ls q → Owed ls (q ++ (m ∷ []))
-more-owed ls q m o due l z = held-more (kindOf due) l q (m ∷ []) (o due l z)
+more-owed ls q m o due l z = held-more (dueKind due) l q (m ∷ []) (o due l z)
 
 -- a message that bears the kind of what is due
-bears-due : (kind : Kind) (label : ℕ) (due : Due) → kindNumber kind ≡ kindOf due → bears (Submission.Accepted kind label) (kindOf due) label ≡ true
-bears-due kind label due e = rw (eq-eqb (kindNumber kind) (kindOf due) e) (eq-eqb label label refl)
+bears-due : (kind : Kind) (label : ℕ) (due : Due) → kindNumber kind ≡ dueKind due → bears (Submission.Accepted kind label) (dueKind due) label ≡ true
+bears-due kind label due e = rw (eq-eqb (kindNumber kind) (dueKind due) e) (eq-eqb label label refl)
 
-wrong-due : {P : Type 0} (due : Due) → Mapping ≡ messageOf due → P
+wrong-due : {P : Type 0} (due : Due) → Mapping ≡ dueMessage due → P
 wrong-due withdrawal e = let no : _≡_ {A = ℕ} 0 1 = cc in absurd (omega arith)
 wrong-due release e = let no : _≡_ {A = ℕ} 0 1 = cc in absurd (omega arith)
 
-withdraw-due : (due : Due) → Withdraw ≡ messageOf due → 2 ≡ kindOf due
+withdraw-due : (due : Due) → Withdraw ≡ dueMessage due → 2 ≡ dueKind due
 withdraw-due withdrawal e = refl
 withdraw-due release e = let no : _≡_ {A = ℕ} 0 1 = cc in absurd (omega arith)
 
-release-due : (due : Due) → Release ≡ messageOf due → 3 ≡ kindOf due
+release-due : (due : Due) → Release ≡ dueMessage due → 3 ≡ dueKind due
 release-due withdrawal e = let no : _≡_ {A = ℕ} 0 1 = cc in absurd (omega arith)
 release-due release e = refl
 
 pub accepted-owed : (ls : List ℕ) (q : List (List ℕ)) (m : List ℕ) → validOf ls ≡ true → Owed ls q → (j : Submission) → submissionOf m ≡ j → Owed (acceptedLabels ls j) (q ++ (m ∷ []))
-unfolding acceptedAs step
+unfolding acceptedAs afterEvent
 accepted-owed ls q m v o Submission.Malformed e = more-owed ls q m o
 accepted-owed ls q m v o Submission.Refused e = more-owed ls q m o
 accepted-owed ls q m v o (Submission.Accepted Kind.Mapping label) e = accept-by ls q m v o Mapping label (λ due f. wrong-due due f)

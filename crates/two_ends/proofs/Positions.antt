@@ -2,7 +2,7 @@
 use Prim.Native.Nat.{ℕ, zero, suc, _+_, _-_, _≤_}
 use mathlib.Core.Path.{_≡_, sym, ap, _∙_}
 use native.Mathlib.Omega.{arith}
-use borrow.Author.Tests.{le-leb}
+use borrow.Author.Tests.{le-ltb}
 use Rattle.ft_number.specs.declared.Ack.{Ack}
 use Rattle.ft_number.specs.declared.Steps.the-variants.{Count}
 use Rattle.ft_number.specs.Ack.{ackOf}
@@ -40,4 +40,4 @@ unfolding ackOf
 num-ack r i k low few high =
     let near : k ≤ r + 64 = omega arith in
     let far : r ≤ i = omega arith in
-    rw (num-steps r k low near, num-steps r i far high, le-leb (k - r) (i - r) (omega arith))
+    rw (num-steps r k low near, num-steps r i far high, le-ltb (i - r) (k - r) (omega arith))

@@ -1,6 +1,6 @@
 -- The events that end a connection or a session: a connection noticed to have failed, passed time, a restart. Assumes nothing.
 use Prim.Native.Nat.{ℕ}
-use mathlib.Core.Bool.{Bool, true, false, true≢false, not}
+use mathlib.Core.Bool.{Bool, true, false, true≢false}
 use mathlib.Core.List.{List}
 use mathlib.Core.Path.{_≡_, refl, sym}
 use Rattle.octets.specs.Pick.{pick}
@@ -12,7 +12,7 @@ use Rattle.protocol.specs.Begin.{restore}
 use Rattle.protocol.specs.ConnectionFailed.{connectionFailed}
 use Rattle.protocol.specs.Phases.{connected, waiting}
 use Rattle.protocol.specs.State.{releasedState, State}
-use Rattle.protocol.specs.Step.{Step, failedWith, releasedWith, admitted, unchanged}
+use Rattle.protocol.specs.Step.{whereOpen, Step, failedWith, releasedWith, admitted, unchanged}
 use Rattle.protocol.specs.TimePassed.{expired, timePassed}
 use Rattle.protocol.proofs.Quiet.{refused-quiet}
 use Rattle.protocol.proofs.Refusals.{may-harmless}
@@ -42,7 +42,7 @@ module _ (w : World) (g : Good w) where
   at-notices =
       let now = w .a .state in
       let ph = w .a .phase in
-      let a = admitted now ph (pick (not (connected ph)) Answer.WrongPhase Answer.Done) in
+      let a = admitted now ph (whereOpen (connected ph) Answer.Done) in
       at-plain w (connectionFailed now ph) g (λ s k.
       by-test (isDone a)
       (λ t. rw (settle-does a now ph (failedWith Answer.Done now) t) (failing now ph (w .a .joined) (w .a .begun) (w .a .history) s))
@@ -55,7 +55,7 @@ module _ (w : World) (g : Good w) where
 -- ---- time passes
 module _ (now : State) (jo bg : Bool) (h : History) (elapsed : ℕ) (b : End) (ab ba : List (List ℕ)) where
   abbrev rule : Phase → Answer
-  rule ph = pick (not (waiting ph)) Answer.WrongPhase Answer.Done
+  rule ph = whereOpen (waiting ph) Answer.Done
 
   abbrev does : Phase → Step
   does ph = pick (expired now elapsed) (releasedWith Answer.Done) (unchanged Answer.Done now ph)

@@ -8,7 +8,8 @@ use Rattle.octets.proofs.Choice.{pick-all}
 use Rattle.protocol.specs.declared.Answer.{Answer}
 use Rattle.protocol.specs.declared.Phase.{Phase}
 use Rattle.protocol.specs.Begin.{restore}
-use Rattle.protocol.specs.Calls.{Call, fails, restores, keeps-alive, greets as says-init, receives as reads, submits as gives, sends as writes, opens as begins, passes as waits, step as rule}
+use Rattle.protocol.specs.Calls
+use Rattle.protocol.specs.Calls.{Call, step}
 use Rattle.protocol.specs.ConnectionFailed.{connectionFailed}
 use Rattle.protocol.specs.KeepAlive.{keepalive}
 use Rattle.protocol.specs.Open.{openSession}
@@ -19,11 +20,11 @@ use Rattle.protocol.specs.Submit.{submit}
 use Rattle.protocol.specs.TimePassed.{timePassed}
 use Rattle.protocol.proofs.Few.{few-held}
 use Rattle.protocol.proofs.Passing.{full-passes, passes-done, passes-full}
-use Rattle.two_ends.specs.Calls.{accepts, broken, called, counts}
+use Rattle.two_ends.specs.Calls.{accepts, disconnected, called, counts}
 use Rattle.two_ends.specs.Demand.{RefusedAt64}
-use Rattle.two_ends.specs.Runs.{Event, submits, sends, keepalives, opens, passes, delivers, breaks, notices, restarts, act, step, run}
+use Rattle.two_ends.specs.Runs.{Event, submits, sends, keepalives, opens, passes, delivers, breaks, notices, restarts, act, eventAt, run}
 use Rattle.two_ends.specs.Start.{Fit, Opener, start}
-use Rattle.two_ends.specs.World.{End, World, swap, none}
+use Rattle.two_ends.specs.World.{End, World, swap, noHistory}
 use Rattle.two_ends.proofs.Acts.{by-delivery, by-open, by-plain, by-submit, by-write}
 use Rattle.two_ends.proofs.Worlds.{replaced-a, ended}
 
@@ -41,33 +42,33 @@ module _ (w : World) (f : Fews w) where
   abbrev ph : Phase
   ph = w .a .phase
 
-  broken-few : (v : World) → Fews v → Fews (broken v)
+  broken-few : (v : World) → Fews v → Fews (disconnected v)
   broken-few v g = g
 
   -- whatever the call, and its history
-  call-few : (c : Call) (room : ℕ) → Few (ended (rule c now ph room .state) ph true true none) × Few (w .b)
+  call-few : (c : Call) (room : ℕ) → Few (ended (step c now ph room .state) ph true true noHistory) × Few (w .b)
   call-few c room = (few-held now (f .0) ph c room, f .1)
 
   act-few : (v : Event) → Fews (act w v)
-  unfolding rule
-  act-few (submits m) = by-submit Fews broken-few w m (submit now ph m) (call-few (gives m) 0)
-  act-few (sends ask room) = by-write Fews broken-few w (sendNext now ph ask room) (call-few (writes ask) room)
-  act-few (keepalives id room) = by-write Fews broken-few w (keepalive now ph id room) (call-few (keeps-alive id) room)
-  act-few (opens id p t room) = by-open Fews broken-few w (openSession now ph id p t room) (call-few (begins id p t) room) (call-few (begins id p t) room)
-  act-few (passes elapsed) = by-plain Fews broken-few w (timePassed now ph elapsed) (call-few (waits elapsed) 0)
+  unfolding step
+  act-few (submits m) = by-submit Fews broken-few w m (submit now ph m) (call-few (Calls.submits m) 0)
+  act-few (sends ask room) = by-write Fews broken-few w (sendNext now ph ask room) (call-few (Calls.sends ask) room)
+  act-few (keepalives id room) = by-write Fews broken-few w (keepalive now ph id room) (call-few (Calls.keeps-alive id) room)
+  act-few (opens id p t room) = by-open Fews broken-few w (openSession now ph id p t room) (call-few (Calls.opens id p t) room) (call-few (Calls.opens id p t) room)
+  act-few (passes elapsed) = by-plain Fews broken-few w (timePassed now ph elapsed) (call-few (Calls.passes elapsed) 0)
   act-few delivers =
-      by-delivery Fews broken-few w f (λ m rest on line. (pick-all Few (awaits ph) (call-few (says-init m) 0 .0) (call-few (reads m) 0 .0), f .1))
+      by-delivery Fews broken-few w f (λ m rest on line. (pick-all Few (awaits ph) (call-few (Calls.greets m) 0 .0) (call-few (Calls.receives m) 0 .0), f .1))
   act-few breaks = f
-  act-few notices = by-plain Fews broken-few w (connectionFailed now ph) (call-few fails 0)
-  act-few restarts = by-plain Fews broken-few w (restore now) (call-few restores 0)
+  act-few notices = by-plain Fews broken-few w (connectionFailed now ph) (call-few Calls.fails 0)
+  act-few restarts = by-plain Fews broken-few w (restore now) (call-few Calls.restores 0)
 
-step-few : (w : World) (at : Bool) (v : Event) → Fews w → Fews (step w at v)
+step-few : (w : World) (at : Bool) (v : Event) → Fews w → Fews (eventAt w at v)
 step-few w true v f = act-few w f v
 step-few w false v f = let g = act-few (swap w) (f .1, f .0) v in (g .1, g .0)
 
 pub run-few : (w : World) (vs : List (Bool × Event)) → Fews w → Fews (run w vs)
 run-few w [] f = f
-run-few w (v ∷ vs) f = run-few (step w (v .0) (v .1)) vs (step-few w (v .0) (v .1) f)
+run-few w (v ∷ vs) f = run-few (eventAt w (v .0) (v .1)) vs (step-few w (v .0) (v .1) f)
 
 -- ---- so the refusal is at 64
 pub refused : (w : World) → Few (w .a) → (m : List ℕ) → RefusedAt64 w m

@@ -14,14 +14,14 @@ use Rattle.protocol.specs.declared.Answer.{Answer}
 use Rattle.protocol.specs.declared.Phase.{Phase}
 use Rattle.protocol.specs.Answers.{isDone}
 use Rattle.protocol.specs.Phases.{upWith, sentOf}
-use Rattle.protocol.specs.Send.{nextMessage, numberAt, ackAsked, sendBytes, sendRule, sentState, sendNext}
+use Rattle.protocol.specs.Send.{nextMessage, queueNumber, ackAsked, sendBytes, sendRule, sentState, sendNext}
 use Rattle.protocol.specs.State.{State, held}
 use Rattle.protocol.specs.Step.{stepped, Step, roomFor, admitted}
 use Rattle.protocol.proofs.Quiet.{refused-quiet}
 use Rattle.protocol.proofs.Refusals.{send-harmless}
 use Rattle.protocol.proofs.Sends.{Sendable, sendable, sent-kept, sent-queue}
 use Rattle.protocol.proofs.Settling.{settle-does, admitted-done}
-use Rattle.two_ends.specs.Calls.{called, put, wrote as writes}
+use Rattle.two_ends.specs.Calls.{called, put, wrote}
 use Rattle.two_ends.specs.World.{History, End, World}
 use Rattle.two_ends.proofs.Direction.{half-secured, half-place}
 use Rattle.two_ends.proofs.Invariant.{Ready, Some, Good, Inv}
@@ -49,7 +49,7 @@ module _ (now : State) (sent : ℕ) (h : History) (ask : Bool) (some : sent < he
   m = nextMessage now sent
 
   abbrev packet : Packet
-  packet = carried m (numberAt now sent) (ackAsked ask now)
+  packet = carried m (queueNumber now sent) (ackAsked ask now)
 
   at-place : drop sent (now .queue) ≡ m ∷ drop (suc sent) (now .queue)
   at-place = drop-cons (now .queue) sent [] some
@@ -64,8 +64,8 @@ module _ (now : State) (sent : ℕ) (h : History) (ask : Bool) (some : sent < he
     linked = λ q. refl;
   }
 
-  number-small : numberAt now sent .0 < 256 ^ 4
-  unfolding numberAt
+  number-small : queueNumber now sent .0 < 256 ^ 4
+  unfolding queueNumber
   number-small = omega (arith, after-small sent (now .released .0))
 
   -- what is sent has its width, and is a message that was accepted
@@ -96,7 +96,7 @@ module _ (now : State) (sent : ℕ) (h : History) (ask : Bool) (some : sent < he
               own = own;
               peer = i .peer;
               out = dir-send now sent true h m (drop (suc sent) (now .queue)) at-place (ackAsked ask now) fine (i .out);
-              back = dir-send-peer now sent true h ask m (numberAt now sent) (i .back);
+              back = dir-send-peer now sent true h ask m (queueNumber now sent) (i .back);
             },
           ),
         )
@@ -131,7 +131,7 @@ sends-up now (Phase.UpFT u) jo bg h ask d s = sending now (u .sent) h ask (d .so
 sends-up now Phase.UpPlain jo bg h ask d s = absurd (true≢false (sym (d .up)))
 sends-up now Phase.Failed jo bg h ask d s = absurd (true≢false (sym (d .up)))
 
-pub at-sends : (w : World) (ask : Bool) (room : ℕ) → Good w → Good (writes w (sendNext (w .a .state) (w .a .phase) ask room))
+pub at-sends : (w : World) (ask : Bool) (room : ℕ) → Good w → Good (wrote w (sendNext (w .a .state) (w .a .phase) ask room))
 unfolding sendNext
 at-sends w ask room g =
     let now = w .a .state in

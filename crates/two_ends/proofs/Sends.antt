@@ -10,7 +10,7 @@ use Rattle.ft_number.specs.declared.FtNumber.{FtNumber}
 use Rattle.ft_number.specs.Circle.{after}
 use Rattle.tlv.specs.declared.FtField.{FtField}
 use Rattle.protocol.specs.Phases.{issuedCount, upWith}
-use Rattle.protocol.specs.Send.{numberAt, ackAsked, numbered, sentState}
+use Rattle.protocol.specs.Send.{queueNumber, ackAsked, numbered, sentState}
 use Rattle.protocol.specs.State.{State}
 use Rattle.protocol.proofs.Sends.{sent-kept}
 use Rattle.two_ends.specs.World.{History}
@@ -22,7 +22,7 @@ use Rattle.two_ends.proofs.Sides.{side, shape-snoc}
 
 -- ---- what is sent, as the sender and its peer see it
 sent-view : (s : State) (sent : ℕ) (h : History) → sndOf (sentState s sent) h ≡ issues sent (sndOf s h)
-unfolding sentState numbered issuedCount numberAt
+unfolding sentState numbered issuedCount queueNumber
 sent-view s sent h = by (ltb sent (issuedCount s))
   where
     by : (b : Bool) → sndOf (pick b s (numbered s sent)) h
@@ -52,13 +52,13 @@ after-sending s sent jo bg h = side (sentState s sent) (sentState s sent .kept) 
 
 -- ---- the sender
 module _ (s : State) (sent : ℕ) (bg : Bool) (h : History) (m : List ℕ) (ms : List (List ℕ)) (e : drop sent (s .queue) ≡ m ∷ ms) {y : Side} {to fro : List Packet} where
-  pub dir-send : (ack : FtField) → Fine (carried m (numberAt s sent) ack) → Dir (before-sending s sent true bg h) y to fro
-      → Dir (after-sending s sent true bg h) y (to ++ (carried m (numberAt s sent) ack ∷ [])) fro
-  unfolding numberAt
+  pub dir-send : (ack : FtField) → Fine (carried m (queueNumber s sent) ack) → Dir (before-sending s sent true bg h) y to fro
+      → Dir (after-sending s sent true bg h) y (to ++ (carried m (queueNumber s sent) ack ∷ [])) fro
+  unfolding queueNumber
   dir-send ack f d = record {
-    half = rw (sent-view s sent h, datas-append to (carried m (numberAt s sent) ack ∷ [])) (half-send m ms e (d .half));
-    shape = shape-snoc (live y) (y .begun) (y .kept) to (carried m (numberAt s sent) ack) tt (d .shape);
-    fines = fines-snoc to (carried m (numberAt s sent) ack) (d .fines) f;
+    half = rw (sent-view s sent h, datas-append to (carried m (queueNumber s sent) ack ∷ [])) (half-send m ms e (d .half));
+    shape = shape-snoc (live y) (y .begun) (y .kept) to (carried m (queueNumber s sent) ack) tt (d .shape);
+    fines = fines-snoc to (carried m (queueNumber s sent) ack) (d .fines) f;
   }
 
   -- into a connection that is lost

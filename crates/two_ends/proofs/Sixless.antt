@@ -24,7 +24,7 @@ use Rattle.label_list.proofs.Standing.{free-stands}
 use Rattle.label_events.specs.declared.Touched.{Touched}
 use Rattle.label_events.specs.Change.{codeAt}
 use Rattle.label_events.specs.Protect.{protectionOf}
-use Rattle.label_meaning.specs.Event.{Event, Accepted, Acked, Received, Broken, step, Moves, released, returned, release-acked, taken, taken-again, taken-bare, asked-back, bare-withdrawn, bare-lost}
+use Rattle.label_meaning.specs.Event.{LabelEvent, Accepted, Acked, Received, Broken, afterEvent, Moves, released, returned, release-acked, taken, taken-again, taken-bare, asked-back, bare-withdrawn, bare-lost}
 use Rattle.label_meaning.specs.View.{absent}
 use Rattle.label_meaning.proofs.Meaning.{valid-means}
 use Rattle.label_meaning.proofs.Moved.{every-move}
@@ -42,7 +42,7 @@ abbrev pub NoSix : List ℕ → Type 0
 NoSix ls = (l : ℕ) → codeAt ls Used l ≡ 6 → ⊥
 
 -- every event but a message received without protection
-abbrev Guarded : Event → Type 0
+abbrev Guarded : LabelEvent → Type 0
 Guarded (Accepted m l) = Unit {0}
 Guarded (Acked m l) = Unit {0}
 Guarded (Received m true t) = Unit {0}
@@ -50,7 +50,7 @@ Guarded (Received m false t) = ⊥
 Guarded Broken = Unit {0}
 
 -- none of them leads to code 6
-moves-else : {e : Event} {k c d : ℕ} → Guarded e → Moves e Used k c d → d ≡ 6 → ⊥
+moves-else : {e : LabelEvent} {k c d : ℕ} → Guarded e → Moves e Used k c d → d ≡ 6 → ⊥
 moves-else g released z = omega arith
 moves-else g returned z = omega arith
 moves-else g release-acked z = omega arith
@@ -61,11 +61,11 @@ moves-else g (asked-back t) z = omega arith
 moves-else g (bare-withdrawn t) z = omega arith
 moves-else g bare-lost z = omega arith
 
-step-sixless : (ls : List ℕ) → validOf ls ≡ true → NoSix ls → (e : Event) → Guarded e → NoSix (step ls e)
+step-sixless : (ls : List ℕ) → validOf ls ≡ true → NoSix ls → (e : LabelEvent) → Guarded e → NoSix (afterEvent ls e)
 step-sixless ls v n e g l six =
     ⊎-elim
-    (λ (same : codeAt (step ls e) Used l ≡ codeAt ls Used l). n l (sym same ∙ six))
-    (λ (move : Moves e Used l (codeAt ls Used l) (codeAt (step ls e) Used l)). moves-else g move six)
+    (λ (same : codeAt (afterEvent ls e) Used l ≡ codeAt ls Used l). n l (sym same ∙ six))
+    (λ (move : Moves e Used l (codeAt ls Used l) (codeAt (afterEvent ls e) Used l)). moves-else g move six)
     (every-move ls (valid-means ls v) e Used l)
 
 -- ---- no labels
@@ -84,7 +84,7 @@ none-sixless l six = omega (arith, none-code Used l)
 
 -- ---- a connection ends
 pub broken-sixless : (ls : List ℕ) → validOf ls ≡ true → NoSix ls → NoSix (sweptOf ls AfterBreak)
-unfolding step
+unfolding afterEvent
 broken-sixless ls v n = step-sixless ls v n Broken tt
 
 -- ---- a message is accepted
@@ -99,7 +99,7 @@ released-sixless ms ls v n =
 
 -- ---- a protected message is received
 pub received-sixless : (ls : List ℕ) (e : LabelEffect) → validOf ls ≡ true → NoSix ls → NoSix (effectLabels ls true e)
-unfolding step
+unfolding afterEvent
 received-sixless ls LabelEffect.Nothing v n = n
 received-sixless ls (LabelEffect.Change m t) v n = step-sixless ls v n (Received m true t) tt
 

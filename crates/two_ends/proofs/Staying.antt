@@ -30,8 +30,8 @@ use Rattle.protocol.specs.TimePassed.{timePassed}
 use Rattle.protocol.proofs.Begins.{changed as changed-init}
 use Rattle.protocol.proofs.Moves.{Moves, alive-moves, notice-moves, open-moves, receive-frees, restore-moves, send-moves, submit-moves, time-moves}
 use Rattle.two_ends.specs.Answers.{answerTo}
-use Rattle.two_ends.specs.Calls.{accepts, broken, called, counts, keeps, plainly, put, wrote, on}
-use Rattle.two_ends.specs.Runs.{AllProper, Event, act, breaks, delivers, keepalives, notices, opens, passes, restarts, run, sends, step, submits}
+use Rattle.two_ends.specs.Calls.{accepts, disconnected, called, counts, keeps, plainly, put, wrote, on}
+use Rattle.two_ends.specs.Runs.{AllProperEvents, Event, act, breaks, delivers, keepalives, notices, opens, passes, restarts, run, sends, eventAt, submits}
 use Rattle.two_ends.specs.Start.{Afresh, Fit, Opener, start}
 use Rattle.two_ends.specs.Staying.{Stays, Releasing, ReleasingAt, NoneReleases}
 use Rattle.two_ends.specs.World.{End, History, Lasts, World, swap}
@@ -49,7 +49,7 @@ both-are : {a b : Bool} → a ≡ true → b ≡ true → both a b ≡ true
 both-are p q = rw (p, q)
 
 -- ---- an event that leaves both states kept
-broken-stays : (v : World) → Stays v → Stays (broken v)
+broken-stays : (v : World) → Stays v → Stays (disconnected v)
 broken-stays v s = record { lasts = (both-are (s .lasts .0) (both-are (s .ours) (s .theirs)), s .lasts .1); ours = s .ours; theirs = s .theirs }
 
 keeps-one : (e : End) → e .state .kept ≡ true → keeps e ≡ true
@@ -144,15 +144,15 @@ module _ (w : World) (g : Good w) (s : Stays w) where
 swap-stays : (w : World) → Stays w → Stays (swap w)
 swap-stays w s = record { lasts = s .lasts; ours = s .theirs; theirs = s .ours }
 
-pub step-stays : (w : World) (at : Bool) (v : Event) → Good w → Stays w → (ReleasingAt w at v → ⊥) → Stays (step w at v)
+pub step-stays : (w : World) (at : Bool) (v : Event) → Good w → Stays w → (ReleasingAt w at v → ⊥) → Stays (eventAt w at v)
 step-stays w true v g s n = act-stays w g s v n
 step-stays w false v g s n = swap-stays (act (swap w) v) (act-stays (swap w) (at-swap w g) (swap-stays w s) v n)
 
-run-stays : (w : World) (vs : List (Bool × Event)) → AllProper vs → Good w → Stays w → NoneReleases w vs → Stays (run w vs)
+run-stays : (w : World) (vs : List (Bool × Event)) → AllProperEvents vs → Good w → Stays w → NoneReleases w vs → Stays (run w vs)
 run-stays w [] p g s n = s
-run-stays w (v ∷ vs) p g s n = run-stays (step w (v .0) (v .1)) vs (p .1) (at-step w (v .0) (v .1) (p .0) g) (step-stays w (v .0) (v .1) g s (n .0)) (n .1)
+run-stays w (v ∷ vs) p g s n = run-stays (eventAt w (v .0) (v .1)) vs (p .1) (at-step w (v .0) (v .1) (p .0) g) (step-stays w (v .0) (v .1) g s (n .0)) (n .1)
 
 -- once both ends have begun, only a passed timeout, 35 or 36 releases a state
-pub still-kept : (x y : Opener) → Fit x → Fit y → Afresh x y → (us vs : List (Bool × Event)) → AllProper us → AllProper vs
+pub still-kept : (x y : Opener) → Fit x → Fit y → Afresh x y → (us vs : List (Bool × Event)) → AllProperEvents us → AllProperEvents vs
     → Stays (run (start x y) us) → NoneReleases (run (start x y) us) vs → Lasts (run (run (start x y) us) vs)
 still-kept x y fx fy f us vs pu pv s n = run-stays (run (start x y) us) vs pv (at-run (start x y) us pu (at-start x y fx fy f)) s n .lasts

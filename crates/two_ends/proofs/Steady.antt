@@ -17,7 +17,7 @@ use Rattle.protocol.specs.Answers.{isDone}
 use Rattle.protocol.specs.KeepAlive.{aliveAck, aliveBytes, keepalive}
 use Rattle.protocol.specs.Open.{keptAck, openBytes, openSession}
 use Rattle.protocol.specs.Phases.{awaits, isUp, isUpFT, mayOpen, sentOf, waitingFor}
-use Rattle.protocol.specs.Send.{ackAsked, nextMessage, numberAt, sendBytes, sendNext, sendRule}
+use Rattle.protocol.specs.Send.{ackAsked, nextMessage, queueNumber, sendBytes, sendNext, sendRule}
 use Rattle.protocol.specs.State.{State}
 use Rattle.protocol.specs.Step.{Step, admitted, roomFor}
 use Rattle.protocol.specs.Submit.{submit}
@@ -27,7 +27,7 @@ use Rattle.protocol.proofs.Quiet.{Quiet}
 use Rattle.protocol.proofs.Sends.{Sendable, sendable}
 use Rattle.protocol.proofs.Settling.{admitted-done}
 use Rattle.protocol.proofs.Writers.{Wrote, writer-says}
-use Rattle.two_ends.specs.Calls.{accepts, broken, called, counts, on, opened, plainly, put, submitted, wrote}
+use Rattle.two_ends.specs.Calls.{accepts, disconnected, called, counts, on, opened, plainly, put, offered, wrote}
 use Rattle.two_ends.specs.Runs.{Seconds, Widths}
 use Rattle.two_ends.specs.Steady.{Mild}
 use Rattle.two_ends.specs.World.{End, History, Lasts, World}
@@ -53,7 +53,7 @@ pub record Steadies (oa ob : OwnParameters) (w : World) : Type 0 where
   pub ab : All (Says oa) (w .ab)
   pub ba : All (Says ob) (w .ba)
 
-pub broken-steady : (oa ob : OwnParameters) (w : World) → Steadies oa ob w → Steadies oa ob (broken w)
+pub broken-steady : (oa ob : OwnParameters) (w : World) → Steadies oa ob w → Steadies oa ob (disconnected w)
 broken-steady oa ob w s = record {
   a = record { keepalive = s .a .keepalive; maxpdu = s .a .maxpdu; mild = s .a .mild };
   b = record { keepalive = s .b .keepalive; maxpdu = s .b .maxpdu; mild = s .b .mild };
@@ -105,7 +105,7 @@ sent-says o now Phase.Idle jo bg h ask d g s mild = absurd (true≢false (sym (d
 sent-says o now (Phase.InitWait v) jo bg h ask d g s mild = absurd (true≢false (sym (d .up)))
 sent-says o now (Phase.UpFT u) jo true h ask d g s mild =
     let f = sends-fine now (u .sent) h ask (d .some) (s .2) in
-    carried-says o (nextMessage now (u .sent)) (f .0 .storable) (all-at Mild (u .sent) (now .queue) (d .some) mild) (numberAt now (u .sent)) (ackAsked ask now) (f .1) (f .2)
+    carried-says o (nextMessage now (u .sent)) (f .0 .storable) (all-at Mild (u .sent) (now .queue) (d .some) mild) (queueNumber now (u .sent)) (ackAsked ask now) (f .1) (f .2)
 sent-says o now (Phase.UpFT u) jo false h ask d g s mild = absurd (true≢false (sym g))
 sent-says o now Phase.UpPlain jo bg h ask d g s mild = absurd (true≢false (sym (d .up)))
 sent-says o now Phase.Failed jo bg h ask d g s mild = absurd (true≢false (sym (d .up)))
@@ -139,7 +139,7 @@ module _ (oa ob : OwnParameters) (w : World) (g : Good w) (k : Lasts w) (s : Ste
       by-write (Steadies oa ob) (broken-steady oa ob) w x
       (by-next (called (w .a) x (w .a .history)) (put (w .a .joined) (w .ab) x) (knows x (w .a .history) m) (put-says oa (w .a .joined) (w .ab) x (s .ab) f))
 
-  pub submit-steady : (m : List ℕ) → Mild m → Steadies oa ob (submitted w m (submit now ph m))
+  pub submit-steady : (m : List ℕ) → Mild m → Steadies oa ob (offered w m (submit now ph m))
   submit-steady m mild =
       let x = submit now ph m in
       let e = called (w .a) x (counts (w .a) x (accepts m (w .a .history))) in

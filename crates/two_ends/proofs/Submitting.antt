@@ -19,7 +19,7 @@ use Rattle.protocol.proofs.Effects.{done-is}
 use Rattle.protocol.proofs.Quiet.{refused-quiet}
 use Rattle.protocol.proofs.Settling.{settle-does, admitted-done}
 use Rattle.protocol.proofs.Submits.{Accepted, done-accepted, submit-harmless}
-use Rattle.two_ends.specs.Calls.{called, counts, accepts, submitted as submits}
+use Rattle.two_ends.specs.Calls.{called, counts, accepts, offered}
 use Rattle.two_ends.specs.World.{History, End, World}
 use Rattle.two_ends.proofs.Invariant.{Ready, Some, Good}
 use Rattle.two_ends.proofs.Packets.{okays-snoc}
@@ -78,7 +78,7 @@ module _ (now : State) (ph : Phase) (m : List ℕ) (done : Accepted now m) where
       } in
       inl (ready-open own, (s .0, s .1, record { lineA = i .lineA; lineB = i .lineB; own = own; peer = i .peer; out = i .out; back = i .back }))
 
-pub at-submits : (w : World) (m : List ℕ) → Bytes m → Good w → Good (submits w m (submit (w .a .state) (w .a .phase) m))
+pub at-submits : (w : World) (m : List ℕ) → Bytes m → Good w → Good (offered w m (submit (w .a .state) (w .a .phase) m))
 unfolding submit
 at-submits w m bytes g =
     let now = w .a .state in

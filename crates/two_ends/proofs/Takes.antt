@@ -20,7 +20,7 @@ use Rattle.protocol.specs.Phases.{upWith, waitingFor}
 use Rattle.protocol.specs.Receive.{ackOn, taken, receivedState}
 use Rattle.protocol.specs.State.{State, releasedState}
 use Rattle.two_ends.specs.Calls.{takes}
-use Rattle.two_ends.specs.World.{History, none}
+use Rattle.two_ends.specs.World.{History, noHistory}
 use Rattle.two_ends.proofs.Direction.{half-secure}
 use Rattle.two_ends.proofs.Freeing.{Freed, half-none, half-ack, half-init}
 use Rattle.two_ends.proofs.Half.{Half}
@@ -39,18 +39,18 @@ headed false bg k p ps h = nil-cons (h .0)
 
 module _ (k : Bool) (t : ℕ) (terms : Terms) (k′ : Bool) where
   abbrev unbegun : Side
-  unbegun = side releasedState k (waitingFor t) true false none
+  unbegun = side releasedState k (waitingFor t) true false noHistory
 
   abbrev begun : Side
-  begun = side (fresh terms) k′ (upWith 0) true true none
+  begun = side (fresh terms) k′ (upWith 0) true true noHistory
 
   module _ (id : MessageId) (p : OwnParameters) (seconds : ℕ) (ack : FtField) {y : Side} {to rest : List Packet} where
     pub dir-fresh : Dir unbegun y to (first id p seconds ack ∷ rest) → Dir begun y to rest
     unfolding fresh ackOf stepsOf
     dir-fresh d = record { half = by (half-init (d .half)); shape = d .shape; fines = d .fines }
       where
-        by : (j : ℕ) × Freed (sndOf releasedState none) 0 (rcvOf (y .state) (y .history)) (datas to) (acksOf rest) 0 j
-            → Half (sndOf (fresh terms) none) 0 true (rcvOf (y .state) (y .history)) (datas to) (acksOf rest)
+        by : (j : ℕ) × Freed (sndOf releasedState noHistory) 0 (rcvOf (y .state) (y .history)) (datas to) (acksOf rest) 0 j
+            → Half (sndOf (fresh terms) noHistory) 0 true (rcvOf (y .state) (y .history)) (datas to) (acksOf rest)
         by f =
             let same : Ack.Releases 0 ≡ Ack.Releases (f .0) = f .1 .right in
             let z : f .0 ≡ 0 = cc in

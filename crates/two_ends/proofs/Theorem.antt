@@ -7,8 +7,8 @@ use native.Mathlib.Omega.{arith}
 use lib.ListN.{length, take, drop, length-append, take-append-drop}
 use lib.Seq.{take-take, length-take-le}
 use Rattle.protocol.specs.State.{State}
-use Rattle.two_ends.specs.Demand.{Opens, store, Safe, Demand}
-use Rattle.two_ends.specs.Runs.{Event, submits, sends, keepalives, opens, passes, delivers, breaks, notices, restarts, Proper, act, step, run, AllProper}
+use Rattle.two_ends.specs.Demand.{Opens, heldMessages, Safe, Demand}
+use Rattle.two_ends.specs.Runs.{Event, submits, sends, keepalives, opens, passes, delivers, breaks, notices, restarts, ProperEvent, act, eventAt, run, AllProperEvents}
 use Rattle.two_ends.specs.Start.{Opener, start, Fit, Afresh}
 use Rattle.two_ends.specs.World.{End, World, swap, Lasts}
 use Rattle.two_ends.proofs.Arriving.{f}
@@ -26,7 +26,7 @@ use Rattle.two_ends.proofs.Worlds.{at-broken, at-swap}
 use Rattle.two_ends.proofs.Writing.{at-keepalives}
 
 -- ---- every event keeps the invariant
-at-act : (w : World) (v : Event) → Proper v → Good w → Good (act w v)
+at-act : (w : World) (v : Event) → ProperEvent v → Good w → Good (act w v)
 at-act w (submits m) p g = at-submits w m p g
 at-act w (sends ask room) p g = at-sends w ask room g
 at-act w (keepalives id room) p g = at-keepalives w id room p g
@@ -37,13 +37,13 @@ at-act w breaks p g = at-broken w g
 at-act w notices p g = at-notices w g
 at-act w restarts p g = at-restarts w g
 
-pub at-step : (w : World) (s : Bool) (v : Event) → Proper v → Good w → Good (step w s v)
+pub at-step : (w : World) (s : Bool) (v : Event) → ProperEvent v → Good w → Good (eventAt w s v)
 at-step w true v p g = at-act w v p g
 at-step w false v p g = at-swap (act (swap w) v) (at-act (swap w) v p (at-swap w g))
 
-pub at-run : (w : World) (vs : List (Bool × Event)) → AllProper vs → Good w → Good (run w vs)
+pub at-run : (w : World) (vs : List (Bool × Event)) → AllProperEvents vs → Good w → Good (run w vs)
 at-run w [] p g = g
-at-run w (v ∷ vs) p g = at-run (step w (v .0) (v .1)) vs (p .1) (at-step w (v .0) (v .1) (p .0) g)
+at-run w (v ∷ vs) p g = at-run (eventAt w (v .0) (v .1)) vs (p .1) (at-step w (v .0) (v .1) (p .0) g)
 
 -- ---- what it says of one direction
 opening : (n : ℕ) (l : List (List ℕ)) → Opens (take n l) l
@@ -62,20 +62,20 @@ safe {x} {y} r d =
     let p = d .half in
     let b = p .books in
     let acc = x .history .accepted in
-    let rest : x .begun ≡ true → x .history .letgo ++ store x ≡ acc =
+    let rest : x .begun ≡ true → x .history .letgo ++ heldMessages x ≡ acc =
     λ g. rw (b .rel) (ap (λ (q : List (List ℕ)). take (p .r) acc ++ q) (ap (λ (s : State). s .queue) (sym (begun-state x g)) ∙ b .que) ∙ take-append-drop (p .r) acc) in
     record {
       in-order = rw (b .sec) (opening (p .s) acc);
       let-go = rw (b .sec, b .rel, ← (take-take (p .r) (p .s) acc (b .rs))) (opening (p .r) (take (p .s) acc));
       rest-held = rest;
-      counts = λ g. ap length (sym (rest g)) ∙ length-append (x .history .letgo) (store x);
+      counts = λ g. ap length (sym (rest g)) ∙ length-append (x .history .letgo) (heldMessages x);
       at-most = r .few;
       released = λ g. ap (λ (s : State). s .released .0) (sym (begun-state x g)) ∙ by-length acc (p .r) (b .rel) (omega (arith, b .rs, b .si, b .ia)) (b .isR);
       secured = λ g. ap (λ (s : State). s .secured .0) (sym (begun-state y g)) ∙ by-length acc (p .s) (b .sec) (omega (arith, b .si, b .ia)) (b .isS);
     }
 
 -- ---- THE THEOREM: over every run from such a start, as long as neither end has released its state
-pub nothing-lost : (x y : Opener) → Fit x → Fit y → Afresh x y → (vs : List (Bool × Event)) → AllProper vs → Lasts (run (start x y) vs) → Demand (run (start x y) vs)
+pub nothing-lost : (x y : Opener) → Fit x → Fit y → Afresh x y → (vs : List (Bool × Event)) → AllProperEvents vs → Lasts (run (start x y) vs) → Demand (run (start x y) vs)
 nothing-lost x y fx fy f vs p k =
     let i = at-run (start x y) vs p (at-start x y fx fy f) k .2 in
     record {

@@ -10,7 +10,7 @@ use Rattle.protocol.specs.declared.Phase.{Phase}
 use Rattle.protocol.specs.Phases.{connected}
 use Rattle.protocol.specs.State.{State}
 use Rattle.protocol.specs.Step.{Step}
-use Rattle.two_ends.specs.Calls.{off, broken, keeps, called, replaced}
+use Rattle.two_ends.specs.Calls.{off, disconnected, keeps, called, replaced}
 use Rattle.two_ends.specs.World.{History, End, World, swap, Lasts}
 use Rattle.two_ends.proofs.Invariant.{Waiting, linkable, Ready, Some, Good}
 use Rattle.two_ends.proofs.Sides.{dir-lost}
@@ -78,7 +78,7 @@ some-off s ga gb =
       },
     )
 
-pub at-broken : (w : World) → Good w → Good (broken w)
+pub at-broken : (w : World) → Good w → Good (disconnected w)
 at-broken w g k =
     let p = both-true (w .started) (both (w .a .begun) (w .b .begun)) (k .0) in
     let q = both-true (w .a .begun) (w .b .begun) (p .1) in
@@ -101,14 +101,14 @@ next w e ab ba = record { a = e; b = w .b; ab = ab; ba = ba; started = w .starte
 pub replaced-a : (P : End → Type 0) (w : World) (e : End) (ab ba : List (List ℕ)) → P e → P (off e) → P (replaced w e ab ba .a)
 replaced-a P w e ab ba p q = by (closes e)
   where
-    by : (c : Bool) → P (pick c (broken (next w e ab ba)) (next w e ab ba) .a)
+    by : (c : Bool) → P (pick c (disconnected (next w e ab ba)) (next w e ab ba) .a)
     by true = q
     by false = p
 
 pub at-replaced : (w : World) (e : End) (ab ba : List (List ℕ)) → (Lasts w → keeps e ≡ true → Settled e (w .b) ab ba) → Good (replaced w e ab ba)
 at-replaced w e ab ba f = by (closes e) refl
   where
-    by : (c : Bool) → closes e ≡ c → Good (pick c (broken (next w e ab ba)) (next w e ab ba))
+    by : (c : Bool) → closes e ≡ c → Good (pick c (disconnected (next w e ab ba)) (next w e ab ba))
     by true q k =
         let p = both-true (w .started) (both (e .begun) (w .b .begun)) (k .0) in
         let r = both-true (w .unreleased) (keeps e) (k .1) in

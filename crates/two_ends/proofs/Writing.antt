@@ -14,7 +14,7 @@ use Rattle.protocol.specs.State.{State}
 use Rattle.protocol.specs.Step.{stepped}
 use Rattle.protocol.proofs.Quiet.{Quiet}
 use Rattle.protocol.proofs.Writers.{Wrote, writer-says}
-use Rattle.two_ends.specs.Calls.{called, put, wrote as writes}
+use Rattle.two_ends.specs.Calls.{called, put, wrote}
 use Rattle.two_ends.specs.World.{History, End, World}
 use Rattle.two_ends.proofs.Direction.{half-secured}
 use Rattle.two_ends.proofs.Invariant.{Some, Good}
@@ -61,7 +61,7 @@ module _ (now : State) (h : History) (id : MessageId) (small : id .0 < 429496729
   alive-written Phase.UpPlain jo bg u s = absurd (true≢false (sym (s .2 .own .possible)))
   alive-written Phase.Failed jo bg u s = absurd (true≢false (sym u))
 
-pub at-keepalives : (w : World) (id : MessageId) (room : ℕ) → id .0 < 4294967296 → Good w → Good (writes w (keepalive (w .a .state) (w .a .phase) id room))
+pub at-keepalives : (w : World) (id : MessageId) (room : ℕ) → id .0 < 4294967296 → Good w → Good (wrote w (keepalive (w .a .state) (w .a .phase) id room))
 unfolding keepalive
 at-keepalives w id room small g =
     let now = w .a .state in

@@ -23,8 +23,8 @@ off e = record { state = e .state; phase = e .phase; joined = false; begun = e .
 
 -- "A connection delivers whole messages in order until it breaks ..; none passes from an old one to a new one": nothing that is under way arrives,
 -- and neither end is on it any more. A connection that breaks before both ends have begun afresh on it is no start
-abbrev pub broken : World → World
-broken w = record {
+abbrev pub disconnected : World → World
+disconnected w = record {
   a = off (w .a);
   b = off (w .b);
   ab = [];
@@ -35,7 +35,7 @@ broken w = record {
 
 -- an end that is in no connected phase any more has broken the connection that it was on
 abbrev pub closed : World → World
-closed w = pick (both (w .a .joined) (not (connected (w .a .phase)))) (broken w) w
+closed w = pick (both (w .a .joined) (not (connected (w .a .phase)))) (disconnected w) w
 
 -- "As long as neither end has released its state": with kept 0 it has
 abbrev pub keeps : End → Bool
@@ -65,8 +65,8 @@ counts e x h = pick (both (e .begun) (isDone (x .answer))) h (e .history)
 abbrev pub accepts : List ℕ → History → History
 accepts m h = record { accepted = h .accepted ++ (m ∷ []); letgo = h .letgo; secured = h .secured }
 
-abbrev pub submitted : World → List ℕ → Step → World
-submitted w m x = replaced w (called (w .a) x (counts (w .a) x (accepts m (w .a .history)))) (w .ab) (w .ba)
+abbrev pub offered : World → List ℕ → Step → World
+offered w m x = replaced w (called (w .a) x (counts (w .a) x (accepts m (w .a .history)))) (w .ab) (w .ba)
 
 -- ---- Send next, KeepAlive, Open
 abbrev pub wrote : World → Step → World

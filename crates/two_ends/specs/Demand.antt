@@ -18,8 +18,8 @@ pub record Opens (xs ys : List (List ℕ)) : Type 0 where
   pub whole : xs ++ rest ≡ ys
 
 -- the messages held
-abbrev pub store : End → List (List ℕ)
-store e = e .state .queue
+abbrev pub heldMessages : End → List (List ℕ)
+heldMessages e = e .state .queue
 
 -- of the sender x and its peer y, each counted from its own fresh UpFT
 pub record Safe (x y : End) : Type 0 where
@@ -28,7 +28,7 @@ pub record Safe (x y : End) : Type 0 where
   -- "what the sender let go is an opening part of what was secured"
   pub let-go : Opens (x .history .letgo) (y .history .secured)
   -- "its store holds exactly the rest"
-  pub rest-held : x .begun ≡ true → x .history .letgo ++ store x ≡ x .history .accepted
+  pub rest-held : x .begun ≡ true → x .history .letgo ++ heldMessages x ≡ x .history .accepted
   -- "accepted equals let go plus held"
   pub counts : x .begun ≡ true → length (x .history .accepted) ≡ length (x .history .letgo) + held (x .state)
   -- "at most 64 are held"

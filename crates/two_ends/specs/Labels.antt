@@ -9,38 +9,38 @@ use Rattle.label_events.specs.Change.{codeAt}
 use Rattle.message.specs.declared.Kind.{Kind}
 use Rattle.message.specs.Kinds.{kindNumber}
 use Rattle.protocol.specs.Held.{isHeld}
-use Rattle.two_ends.specs.Demand.{store}
+use Rattle.two_ends.specs.Demand.{heldMessages}
 use Rattle.two_ends.specs.World.{End}
 
 -- a label of code 2, withdrawing, waits for its Withdraw to be acknowledged; one of code 5, releasing, for its Release
 pub data Due : Type 0 where
   withdrawal release : Due
 
-abbrev pub sideOf : Due → Side
-sideOf withdrawal = Side.Given
-sideOf release = Side.Used
+abbrev pub dueSide : Due → Side
+dueSide withdrawal = Side.Given
+dueSide release = Side.Used
 
-abbrev pub codeOf : Due → ℕ
-codeOf withdrawal = 2
-codeOf release = 5
+abbrev pub dueCode : Due → ℕ
+dueCode withdrawal = 2
+dueCode release = 5
 
-abbrev pub messageOf : Due → LabelMessage
-messageOf withdrawal = LabelMessage.Withdraw
-messageOf release = LabelMessage.Release
+abbrev pub dueMessage : Due → LabelMessage
+dueMessage withdrawal = LabelMessage.Withdraw
+dueMessage release = LabelMessage.Release
 
-abbrev pub kindOf : Due → ℕ
-kindOf withdrawal = kindNumber Kind.Withdraw
-kindOf release = kindNumber Kind.Release
+abbrev pub dueKind : Due → ℕ
+dueKind withdrawal = kindNumber Kind.Withdraw
+dueKind release = kindNumber Kind.Release
 
 -- such a label has its message in the store
 abbrev pub Owed : List ℕ → List (List ℕ) → Type 0
-Owed labels queue = (due : Due) (l : ℕ) → codeAt labels (sideOf due) l ≡ codeOf due → isHeld (kindOf due) l queue ≡ true
+Owed labels queue = (due : Due) (l : ℕ) → codeAt labels (dueSide due) l ≡ dueCode due → isHeld (dueKind due) l queue ≡ true
 
 -- ---- an end that has begun
 pub record Listed (e : End) : Type 0 where
   -- "withdrawing" and "releasing" last as long as the Withdraw or Release is held
-  pub owed : Owed (e .state .table .words) (store e)
+  pub owed : Owed (e .state .table .words) (heldMessages e)
   -- so with an empty store no label is either
-  pub settled : store e ≡ [] → (due : Due) (l : ℕ) → codeAt (e .state .table .words) (sideOf due) l ≡ codeOf due → ⊥
+  pub settled : heldMessages e ≡ [] → (due : Due) (l : ℕ) → codeAt (e .state .table .words) (dueSide due) l ≡ dueCode due → ⊥
   -- no label is in use without protection
   pub protected : (l : ℕ) → codeAt (e .state .table .words) Side.Used l ≡ 6 → ⊥

@@ -13,7 +13,7 @@ use Rattle.protocol.specs.Open.{openSession}
 use Rattle.protocol.specs.Send.{sendNext}
 use Rattle.protocol.specs.Submit.{submit}
 use Rattle.protocol.specs.TimePassed.{timePassed}
-use Rattle.two_ends.specs.Calls.{broken, plainly, submitted, wrote, opened, delivery}
+use Rattle.two_ends.specs.Calls.{disconnected, plainly, offered, wrote, opened, delivery}
 use Rattle.two_ends.specs.World.{World, swap}
 
 -- at one end: every public call with whatever its owner gives, the oldest message delivered, the connection broken, and power lost
@@ -40,38 +40,38 @@ abbrev pub Seconds : Proposal → Type 0
 Seconds (Proposal.Seconds n) = n < 65536
 Seconds Proposal.NotGiven = Unit {0}
 
-abbrev pub Proper : Event → Type 0
-Proper (submits m) = Bytes m
-Proper (sends ask room) = Unit {0}
-Proper (keepalives id room) = id .0 < 4294967296
-Proper (opens id p t room) = Widths id p × Seconds t
-Proper (passes elapsed) = Unit {0}
-Proper delivers = Unit {0}
-Proper breaks = Unit {0}
-Proper notices = Unit {0}
-Proper restarts = Unit {0}
+abbrev pub ProperEvent : Event → Type 0
+ProperEvent (submits m) = Bytes m
+ProperEvent (sends ask room) = Unit {0}
+ProperEvent (keepalives id room) = id .0 < 4294967296
+ProperEvent (opens id p t room) = Widths id p × Seconds t
+ProperEvent (passes elapsed) = Unit {0}
+ProperEvent delivers = Unit {0}
+ProperEvent breaks = Unit {0}
+ProperEvent notices = Unit {0}
+ProperEvent restarts = Unit {0}
 
 -- an event at the end a
 abbrev pub act : World → Event → World
-act w (submits m) = submitted w m (submit (w .a .state) (w .a .phase) m)
+act w (submits m) = offered w m (submit (w .a .state) (w .a .phase) m)
 act w (sends ask room) = wrote w (sendNext (w .a .state) (w .a .phase) ask room)
 act w (keepalives id room) = wrote w (keepalive (w .a .state) (w .a .phase) id room)
 act w (opens id p t room) = opened w (openSession (w .a .state) (w .a .phase) id p t room)
 act w (passes elapsed) = plainly w (timePassed (w .a .state) (w .a .phase) elapsed)
 act w delivers = delivery (w .a .joined) (w .ba) w
-act w breaks = broken w
+act w breaks = disconnected w
 act w notices = plainly w (connectionFailed (w .a .state) (w .a .phase))
 act w restarts = plainly w (restore (w .a .state))
 
 -- at a, or at b
-abbrev pub step : World → Bool → Event → World
-step w true v = act w v
-step w false v = swap (act (swap w) v)
+abbrev pub eventAt : World → Bool → Event → World
+eventAt w true v = act w v
+eventAt w false v = swap (act (swap w) v)
 
 abbrev pub run : World → List (Bool × Event) → World
 run w [] = w
-run w (v ∷ vs) = run (step w (v .0) (v .1)) vs
+run w (v ∷ vs) = run (eventAt w (v .0) (v .1)) vs
 
-abbrev pub AllProper : List (Bool × Event) → Type 0
-AllProper [] = Unit {0}
-AllProper (v ∷ vs) = Proper (v .1) × AllProper vs
+abbrev pub AllProperEvents : List (Bool × Event) → Type 0
+AllProperEvents [] = Unit {0}
+AllProperEvents (v ∷ vs) = ProperEvent (v .1) × AllProperEvents vs

@@ -14,7 +14,7 @@ use Rattle.protocol.specs.Open.{openBytes}
 use Rattle.protocol.specs.Phases.{waitingFor}
 use Rattle.protocol.specs.State.{State, held, capacity}
 use Rattle.two_ends.specs.Runs.{Widths, Seconds}
-use Rattle.two_ends.specs.World.{End, World, none}
+use Rattle.two_ends.specs.World.{End, World, noHistory}
 
 -- a cabinet that opens: its state, and what its owner gives
 pub record Opener : Type 0 where
@@ -23,14 +23,14 @@ pub record Opener : Type 0 where
   pub parameters : OwnParameters
   pub proposal : Proposal
 
-abbrev pub opener : Opener → End
-opener o = record { state = o .state; phase = waitingFor (proposedOf (o .proposal)); joined = true; begun = false; history = none }
+abbrev pub openingEnd : Opener → End
+openingEnd o = record { state = o .state; phase = waitingFor (proposedOf (o .proposal)); joined = true; begun = false; history = noHistory }
 
 abbrev pub firstInit : Opener → List ℕ
 firstInit o = openBytes (o .state) (o .id) (o .parameters) (o .proposal)
 
 abbrev pub start : Opener → Opener → World
-start x y = record { a = opener x; b = opener y; ab = firstInit x ∷ []; ba = firstInit y ∷ []; started = true; unreleased = true }
+start x y = record { a = openingEnd x; b = openingEnd y; ab = firstInit x ∷ []; ba = firstInit y ∷ []; started = true; unreleased = true }
 
 -- any state within the capacity, whose S has its width
 pub record Fit (o : Opener) : Type 0 where

@@ -7,7 +7,7 @@ use Rattle.protocol.specs.Answers.{answerNumber}
 use Rattle.protocol.specs.Phases.{waiting}
 use Rattle.protocol.specs.TimePassed.{expired}
 use Rattle.two_ends.specs.Answers.{answerTo}
-use Rattle.two_ends.specs.Runs.{Event, submits, sends, keepalives, opens, passes, delivers, breaks, notices, restarts, step}
+use Rattle.two_ends.specs.Runs.{Event, submits, sends, keepalives, opens, passes, delivers, breaks, notices, restarts, eventAt}
 use Rattle.two_ends.specs.World.{World, swap, Lasts}
 
 -- a message on the line is answered 30 or above: by `Comes` that is 35 or 36
@@ -37,7 +37,7 @@ ReleasingAt w false v = Releasing (swap w) v
 -- no event of the run does so
 abbrev pub NoneReleases : World → List (Bool × Event) → Type 0
 NoneReleases w [] = Unit {0}
-NoneReleases w (v ∷ vs) = (ReleasingAt w (v .0) (v .1) → ⊥) × NoneReleases (step w (v .0) (v .1)) vs
+NoneReleases w (v ∷ vs) = (ReleasingAt w (v .0) (v .1) → ⊥) × NoneReleases (eventAt w (v .0) (v .1)) vs
 
 -- both ends have come to their fresh UpFT, and neither has released its state
 pub record Stays (w : World) : Type 0 where

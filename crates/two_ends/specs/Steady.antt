@@ -12,7 +12,7 @@ use Rattle.protocol.specs.Phases.{waiting}
 use Rattle.protocol.specs.Receive.{isFatal}
 use Rattle.protocol.specs.TimePassed.{expired}
 use Rattle.two_ends.specs.Answers.{answerTo}
-use Rattle.two_ends.specs.Runs.{Event, submits, sends, keepalives, opens, passes, delivers, breaks, notices, restarts, step}
+use Rattle.two_ends.specs.Runs.{Event, submits, sends, keepalives, opens, passes, delivers, breaks, notices, restarts, eventAt}
 use Rattle.two_ends.specs.World.{World, swap}
 
 -- "36: Status with E set" does not come of it
@@ -39,7 +39,7 @@ SteadilyAt oa ob w false v = Steadily ob (swap w) v
 
 abbrev pub AllSteady : OwnParameters → OwnParameters → World → List (Bool × Event) → Type 0
 AllSteady oa ob w [] = Unit {0}
-AllSteady oa ob w (v ∷ vs) = SteadilyAt oa ob w (v .0) (v .1) × AllSteady oa ob (step w (v .0) (v .1)) vs
+AllSteady oa ob w (v ∷ vs) = SteadilyAt oa ob w (v .0) (v .1) × AllSteady oa ob (eventAt w (v .0) (v .1)) vs
 
 -- the answers that then come to what is delivered: 0, and 21
 pub data Calm : Answer → Type 0 where

@@ -12,8 +12,8 @@ pub record History : Type 0 where
   pub letgo : List (List ℕ)
   pub secured : List (List ℕ)
 
-abbrev pub none : History
-none = record { accepted = []; letgo = []; secured = [] }
+abbrev pub noHistory : History
+noHistory = record { accepted = []; letgo = []; secured = [] }
 
 -- a cabinet: its state, its phase, whether it is on the present connection, whether it has come to its own fresh UpFT, and its history since then
 pub record End : Type 0 where

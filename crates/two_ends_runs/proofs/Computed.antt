@@ -1,13 +1,16 @@
 -- The runs, computed. Assumes nothing.
-use mathlib.Core.List.{[]}
+use mathlib.Core.List.{[], _++_}
 use mathlib.Core.Path.{_≡_, refl}
 use Rattle.protocol.specs.declared.Answer.{Answer}
 use Rattle.protocol.specs.State.{held}
 use Rattle.protocol.specs.Submit.{submit}
 use Rattle.two_ends.specs.Staying.{Stays}
+use Rattle.two_ends.specs.World.{swap}
+use Rattle.two_ends_runs.specs.Breaks.{situation, halfOpen, halfOpen-ends, joined, joined-ends, over, over-begins, afresh, afresh-begins, exchange, exchanged, waits, waits-4, waits-5, returns, returns-4, returns-5}
 use Rattle.two_ends_runs.specs.Cabinets.{address}
 use Rattle.two_ends_runs.specs.Race.{race, labels, race-ends}
-use Rattle.two_ends_runs.specs.Tales.{ending, begin, again, again-ends, cut, cut-ends, early, early-ends, wrap, wrap-ends, full, full-ends}
+use Rattle.two_ends_runs.specs.Tales.{ending, begin, again, again-ends, restart, restart-ends, early, early-ends, full, full-ends}
+use Rattle.two_ends_runs.specs.Withdrawal.{stages, asked, asked-codes, acked-first, acked-first-codes, released-first, released-first-codes}
 use Rattle.two_ends_runs.proofs.Opened.{everything}
 
 -- both are up, and nothing is held
@@ -19,17 +22,13 @@ pub again-is : ending again ≡ again-ends
 unfolding everything
 again-is = refl
 
-pub cut-is : ending cut ≡ cut-ends
+pub restart-is : ending restart ≡ restart-ends
 unfolding everything
-cut-is = refl
+restart-is = refl
 
 pub early-is : ending early ≡ early-ends
 unfolding everything
 early-is = refl
-
-pub wrap-is : ending wrap ≡ wrap-ends
-unfolding everything
-wrap-is = refl
 
 pub race-is : labels race ≡ race-ends
 unfolding everything
@@ -49,3 +48,42 @@ sixty-fifth = refl
 pub unchanged-by-it : ending (full 65) ≡ full-ends
 unfolding everything
 unchanged-by-it = refl
+
+-- ---- over a break
+pub half-open-is : situation halfOpen ≡ halfOpen-ends
+unfolding everything
+half-open-is = refl
+
+pub joined-is : ending joined ≡ joined-ends
+unfolding everything
+joined-is = refl
+
+pub over-is : ending (over []) ≡ over-begins
+unfolding everything
+over-is = refl
+
+pub afresh-is : ending (afresh []) ≡ afresh-begins
+unfolding everything
+afresh-is = refl
+
+pub exchange-is : (ending (afresh exchange) ≡ exchanged 7) × (ending (swap (afresh exchange)) ≡ exchanged 9)
+unfolding everything
+exchange-is = (refl, refl)
+
+-- "timeout 5, elapsed 4 keeps, 5 releases"
+pub timeout-is : (situation (waits 4 []) ≡ waits-4) × (situation (waits 5 []) ≡ waits-5)
+unfolding everything
+timeout-is = (refl, refl)
+
+pub returns-is : (ending (returns 4) ≡ returns-4) × (situation (returns 5) ≡ returns-5)
+unfolding everything
+returns-is = (refl, refl)
+
+-- ---- a label to its end
+pub acked-first-is : stages (begin []) (asked ++ acked-first) ≡ asked-codes ++ acked-first-codes
+unfolding everything
+acked-first-is = refl
+
+pub released-first-is : stages (begin []) (asked ++ released-first) ≡ asked-codes ++ released-first-codes
+unfolding everything
+released-first-is = refl

@@ -1,2 +1,5 @@
 pub mod Opened
 pub mod Computed
+pub mod Media
+pub mod PowerCut
+pub mod Rounds

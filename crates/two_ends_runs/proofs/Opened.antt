@@ -17,7 +17,7 @@ use Rattle.label_events.specs.Change.{changeAt, changed, codeIn}
 use Rattle.label_events.specs.Protect.{protectionOf}
 use Rattle.label_events.specs.Receive.{receivedChange, receivedOf}
 use Rattle.tlv.specs.Tlv.{tlvOf}
-use Rattle.tlv.specs.Value.{fecAt, fieldAt, numberAt as numberAt-tlv, parametersAt, partAt, sessionAt}
+use Rattle.tlv.specs.Value.{fecAt, fieldAt, numberAt, parametersAt, partAt, sessionAt}
 use Rattle.tlv.specs.Walk.{notedOf, tlvsOf, turnOf, walkOf}
 use Rattle.message.specs.Kinds.{kindOf}
 use Rattle.message.specs.Reading.{messageOf, placesOf, readingOf, typeOf}
@@ -35,12 +35,13 @@ use Rattle.protocol.specs.Labels.{labelEffect, protectionRule}
 use Rattle.protocol.specs.Open.{keptAck, openSession}
 use Rattle.protocol.specs.Phases.{issuedCount, phaseFits}
 use Rattle.protocol.specs.Receive.{ackOn, ftRule, labelsRule, messageRule, taken, receivedState, receive}
-use Rattle.protocol.specs.Send.{numberAt, ackAsked, sendBytes, sendRule, numbered, sentState, sendNext}
+use Rattle.protocol.specs.Send.{queueNumber, ackAsked, sendBytes, sendRule, numbered, sentState, sendNext}
 use Rattle.protocol.specs.Step.{settle, admitted}
 use Rattle.protocol.specs.Submit.{kindRule, submitRule, submitted, submit}
+use Rattle.protocol.specs.TimePassed.{expired, timePassed}
 use Rattle.protocol.specs.Writer.{writer}
 
 -- to unfold this is to unfold all of them
 unfoldable pub everything : ℕ
-unfolding filled fix steps ackOf after stepsOf lesserOf tlvOf fecAt fieldAt numberAt-tlv parametersAt partAt sessionAt notedOf tlvsOf turnOf walkOf kindOf messageOf placesOf readingOf typeOf bearsFt submissionOf raised keptOf payloadOf any findOf barsProtection codeProtection needsProtection codeAccepted codeAcked codeReceived codeSwept receivedSide sentSide wordSwept validOf validWord isFree onSide standsFor wordOf acceptedOf planOf ackedAt changeAt changed codeIn protectionOf receivedChange receivedOf effectOf issuedCount phaseFits isHeld settle admitted acceptedAs isBarred acked releasedKind releasedLabels kindRule submitRule submitted submit numberAt ackAsked sendBytes sendRule numbered sentState sendNext labelEffect protectionRule bothSet startOf fresh resumed initReceived ackOn ftRule labelsRule messageRule taken receivedState receive connectionFailed writer keepalive keptAck openSession
+unfolding filled fix steps ackOf after stepsOf lesserOf tlvOf fecAt fieldAt numberAt parametersAt partAt sessionAt notedOf tlvsOf turnOf walkOf kindOf messageOf placesOf readingOf typeOf bearsFt submissionOf raised keptOf payloadOf any findOf barsProtection codeProtection needsProtection codeAccepted codeAcked codeReceived codeSwept receivedSide sentSide wordSwept validOf validWord isFree onSide standsFor wordOf acceptedOf planOf ackedAt changeAt changed codeIn protectionOf receivedChange receivedOf effectOf issuedCount phaseFits isHeld settle admitted acceptedAs isBarred acked releasedKind releasedLabels kindRule submitRule submitted submit queueNumber ackAsked sendBytes sendRule numbered sentState sendNext labelEffect protectionRule bothSet startOf fresh resumed initReceived ackOn ftRule labelsRule messageRule taken receivedState receive connectionFailed expired timePassed writer keepalive keptAck openSession
 everything = 0

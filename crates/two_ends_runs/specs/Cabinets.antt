@@ -13,12 +13,15 @@ use Rattle.two_ends.specs.Start.{Opener}
 abbrev pub address : ℕ → List ℕ
 address n = 3 ∷ 0 ∷ 0 ∷ 4 ∷ 0 ∷ 0 ∷ 0 ∷ n ∷ []
 
--- a Mapping and a Release of label 16, with an empty FEC
+-- a Mapping, a Withdraw and a Release of label 16, with an empty FEC
 abbrev labelled : ℕ → ℕ → List ℕ
 labelled type n = 4 ∷ type ∷ 0 ∷ 16 ∷ 0 ∷ 0 ∷ 0 ∷ n ∷ 1 ∷ 0 ∷ 0 ∷ 0 ∷ 2 ∷ 0 ∷ 0 ∷ 4 ∷ 0 ∷ 0 ∷ 0 ∷ 16 ∷ []
 
 abbrev pub mapping : ℕ → List ℕ
 mapping n = labelled 0 n
+
+abbrev pub withdraw : ℕ → List ℕ
+withdraw n = labelled 2 n
 
 abbrev pub release : ℕ → List ℕ
 release n = labelled 3 n
@@ -34,8 +37,8 @@ abbrev pub parameters : OwnParameters
 parameters = record { keepalive = 15; pdulength = 4096; lsr = 1; space = 0 }
 
 -- a cabinet that opens with that state
-abbrev pub cabinet : State → Opener
-cabinet s = record { state = s; id = id; parameters = parameters; proposal = Proposal.Seconds 5 }
+abbrev pub openerWith : State → Opener
+openerWith s = record { state = s; id = id; parameters = parameters; proposal = Proposal.Seconds 5 }
 
 -- a state that holds nothing, kept, with these R and I, and S
 abbrev pub keptWith : ℕ → ℕ → State
@@ -50,8 +53,8 @@ keptWith issued secured = record {
 }
 
 -- ---- events
-abbrev pub submit : Bool → ℕ → Bool × Event
-submit at n = (at, submits (address n))
+abbrev pub offer : Bool → ℕ → Bool × Event
+offer at n = (at, submits (address n))
 
 abbrev pub send : Bool → Bool × Event
 send at = (at, sends true room)
@@ -68,4 +71,4 @@ deliver at = (at, delivers)
 -- that many submissions at a
 abbrev pub many : ℕ → List (Bool × Event)
 many zero = []
-many (suc n) = submit true 7 ∷ many n
+many (suc n) = offer true 7 ∷ many n

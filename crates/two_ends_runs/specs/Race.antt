@@ -4,7 +4,7 @@ use mathlib.Core.Bool.{Bool, true, false}
 use mathlib.Core.List.{List, [], _∷_}
 use Rattle.label_list.specs.declared.Side.the-variants.{Given, Used}
 use Rattle.label_events.specs.Change.{codeAt}
-use Rattle.two_ends.specs.Demand.{store}
+use Rattle.two_ends.specs.Demand.{heldMessages}
 use Rattle.two_ends.specs.Runs.{submits}
 use Rattle.two_ends.specs.World.{World}
 use Rattle.two_ends_runs.specs.Cabinets.{mapping, release, send, alive, deliver}
@@ -31,8 +31,8 @@ pub record Labels : Type 0 where
 
 abbrev pub labels : World → Labels
 labels w = record {
-  held = store (w .a);
-  theirs = store (w .b);
+  held = heldMessages (w .a);
+  theirs = heldMessages (w .b);
   out = w .ab;
   back = w .ba;
   given = codeAt (w .a .state .table .words) Given 16;

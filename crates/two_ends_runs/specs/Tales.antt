@@ -3,13 +3,12 @@ use Prim.Native.Nat.{ℕ}
 use mathlib.Core.Bool.{Bool, true, false}
 use mathlib.Core.List.{List, [], _∷_}
 use lib.ListN.{replicate}
-use Rattle.protocol.specs.Phases.{upWith}
 use Rattle.protocol.specs.State.{releasedState}
-use Rattle.two_ends.specs.Demand.{store}
+use Rattle.two_ends.specs.Demand.{heldMessages}
 use Rattle.two_ends.specs.Runs.{Event, breaks, notices, restarts, run}
 use Rattle.two_ends.specs.Start.{start}
-use Rattle.two_ends.specs.World.{End, World, none}
-use Rattle.two_ends_runs.specs.Cabinets.{address, cabinet, keptWith, submit, send, alive, reopen, deliver, many}
+use Rattle.two_ends.specs.World.{World}
+use Rattle.two_ends_runs.specs.Cabinets.{address, openerWith, keptWith, offer, send, alive, reopen, deliver, many}
 
 -- ---- what is looked at: the messages of the sender a, those that b secured, R and I of a, S of b, and the two flags of the world
 pub record Ending : Type 0 where
@@ -27,7 +26,7 @@ abbrev pub ending : World → Ending
 ending w = record {
   accepted = w .a .history .accepted;
   letgo = w .a .history .letgo;
-  held = store (w .a);
+  held = heldMessages (w .a);
   secured = w .b .history .secured;
   released = w .a .state .released .0;
   issued = w .a .state .issued .0;
@@ -38,13 +37,13 @@ ending w = record {
 
 -- ---- two new cabinets, both up
 abbrev pub begin : List (Bool × Event) → World
-begin vs = run (start (cabinet releasedState) (cabinet releasedState)) (deliver true ∷ deliver false ∷ vs)
+begin vs = run (start (openerWith releasedState) (openerWith releasedState)) (deliver true ∷ deliver false ∷ vs)
 
 -- a sends 7 and 8; 7 arrives; b restarts. On the next connection b's Init acknowledges 7, and 8 is sent again, arrives and is acknowledged
 abbrev pub again : World
 again =
     begin
-    (submit true 7 ∷ submit true 8 ∷ send true ∷ send true ∷ deliver false ∷ (false, restarts) ∷ (true, notices) ∷ reopen true ∷ reopen false
+    (offer true 7 ∷ offer true 8 ∷ send true ∷ send true ∷ deliver false ∷ (false, restarts) ∷ (true, notices) ∷ reopen true ∷ reopen false
     ∷ deliver true ∷ deliver false ∷ send true ∷ deliver false ∷ alive false ∷ deliver true ∷ [])
 
 abbrev pub again-ends : Ending
@@ -60,12 +59,12 @@ again-ends = record {
   unreleased = true;
 }
 
--- the power goes in the Submit of 8, before it is stored: what is stored is the state before it, and 8 was not accepted
-abbrev pub cut : World
-cut = begin (submit true 7 ∷ (true, restarts) ∷ [])
+-- a restarts with 7 accepted and not sent: 7 is still held. These worlds have no medium: what a power cut leaves there is in PowerCut.antt
+abbrev pub restart : World
+restart = begin (offer true 7 ∷ (true, restarts) ∷ [])
 
-abbrev pub cut-ends : Ending
-cut-ends = record {
+abbrev pub restart-ends : Ending
+restart-ends = record {
   accepted = address 7 ∷ [];
   letgo = [];
   held = address 7 ∷ [];
@@ -81,8 +80,8 @@ cut-ends = record {
 -- b's Init acknowledges 1, and a lets 7 go, which nobody has secured
 abbrev pub early : World
 early =
-    run (start (cabinet releasedState) (cabinet (keptWith 0 1)))
-    (deliver true ∷ submit true 7 ∷ send true ∷ (true, breaks) ∷ (true, notices) ∷ (false, notices) ∷ reopen true ∷ reopen false ∷ deliver true ∷ [])
+    run (start (openerWith releasedState) (openerWith (keptWith 0 1)))
+    (deliver true ∷ offer true 7 ∷ send true ∷ (true, breaks) ∷ (true, notices) ∷ (false, notices) ∷ reopen true ∷ reopen false ∷ deliver true ∷ [])
 
 abbrev pub early-ends : Ending
 early-ends = record {
@@ -94,28 +93,6 @@ early-ends = record {
   issued = 1;
   last = 1;
   started = false;
-  unreleased = true;
-}
-
--- ---- numbers wrap: both are up, and the last number was 0xFFFFFFFE
-abbrev up : ℕ → ℕ → End
-up issued secured = record { state = keptWith issued secured; phase = upWith 0; joined = true; begun = true; history = none }
-
-abbrev pub wrap : World
-wrap =
-    run (record { a = up 0xFFFFFFFE 0; b = up 0 0xFFFFFFFE; ab = []; ba = []; started = true; unreleased = true })
-    (submit true 7 ∷ submit true 8 ∷ send true ∷ send true ∷ deliver false ∷ deliver false ∷ alive false ∷ deliver true ∷ [])
-
-abbrev pub wrap-ends : Ending
-wrap-ends = record {
-  accepted = address 7 ∷ address 8 ∷ [];
-  letgo = address 7 ∷ address 8 ∷ [];
-  held = [];
-  secured = address 7 ∷ address 8 ∷ [];
-  released = 1;
-  issued = 1;
-  last = 1;
-  started = true;
   unreleased = true;
 }
 

@@ -4,7 +4,7 @@ use mathlib.Core.Path.{ap, refl}
 use native.Mathlib.Omega.{arith}
 use borrow.Author.Needs.{needs}
 use Rattle.octets.specs.Part.{part}
-use Rattle.slot.specs.Layout.{messageAt, messageOf}
+use Rattle.slot.specs.Layout.{messageAt, slotMessage}
 use Rattle.slot.proofs.Holding.{high-length}
 use Rattle.slot.proofs.message_of.Statement.{statement}
 use Rattle.slot.proofs.message_of.Tie as tie
@@ -16,7 +16,7 @@ part-result-end : tie.Need-part-result-end
 part-result-end c = omega (arith, high-length _ (c .before .before .pre .1))
 
 returns : tie.Need-returns
-unfolding messageOf
+unfolding slotMessage
 returns c =
     let b = c .before .before .before .args .block .now in
     (ap (λ (n : ℕ). part b messageAt (messageAt + n)) (c .before .message-length .ensures), (refl, refl))

@@ -4,7 +4,7 @@ use mathlib.Core.Path.{sym, _∙_}
 use native.Mathlib.Omega.{arith}
 use lib.ListN.{length}
 use borrow.Author.Tests.{eq-eqb, ne-eqb}
-use Rattle.block.proofs.ZeroParts.{ZeroTo, part-set, zero-on, zero-all}
+use Rattle.block.proofs.ZeroParts.{ZeroTo, bits-zero, part-set, zero-on, zero-all}
 use Rattle.block.proofs.zeros.all_zero.Statement.{statement}
 use Rattle.block.proofs.zeros.all_zero.Tie as tie
 
@@ -17,13 +17,21 @@ abbrev μ-loop : tie.MeasureT-loop
 loop-again : tie.Need-loop-again Inv-loop μ-loop
 loop-again c =
     let l = c .before .before .before .loop in
-    (omega arith, zero-on _ (l .i) (l .inv .1) (sym (c .before .sixty-four .ensures) ∙ eq-eqb _ _ (c .if2 .left)))
+    let s = c .before .before .before .before .before .before .args .s .now in
+    (omega arith, zero-on s (l .i) (l .inv .1) (sym (bits-zero 3 s (l .i * 64) (c .before .sixty-four .ensures) (omega arith)) ∙ eq-eqb _ _ (c .if2 .left)))
+
+returns-2 : tie.Need-returns-2 Inv-loop μ-loop
+returns-2 c =
+    let at = c .before .before .before .loop .i * 64 in
+    let s = c .before .before .before .before .before .before .args .s .now in
+    part-set s at 64 (sym (bits-zero 3 s at (c .before .sixty-four .ensures) (omega arith)) ∙ ne-eqb _ _ (c .if2 .taken))
 
 returns-3 : tie.Need-returns-3 Inv-loop μ-loop
 returns-3 c =
     let l = c .before .before .loop in
     let long = c .before .before .before .if1 .left in
-    c .sixty-four2 .ensures ∙ zero-all _ (l .i * 64) 64 (omega (arith, long)) (omega (arith, c .before .loop-test .left)) (l .inv .1)
+    let s = c .before .before .before .before .before .args .s .now in
+    bits-zero 3 s (length s - 64) (c .sixty-four2 .ensures) (omega (arith, long)) ∙ zero-all s (l .i * 64) 64 (omega (arith, long)) (omega (arith, c .before .loop-test .left)) (l .inv .1)
 
 pub all-zero-spec : {M : Type 1} → statement M
 all-zero-spec =
@@ -33,7 +41,7 @@ all-zero-spec =
     (λ c. (omega arith, λ j l. absurd (omega arith)))
     (λ c. omega arith)
     (λ c κs. omega arith)
-    (λ c. part-set _ (c .before .before .before .loop .i * 64) 64 (sym (c .before .sixty-four .ensures) ∙ ne-eqb _ _ (c .if2 .taken)))
+    returns-2
     (λ c. omega arith)
     (λ c. omega arith)
     loop-again

@@ -12,9 +12,9 @@ few-are-zero-spec =
     (λ c κs. omega arith)
     (λ c. omega arith)
     (λ c κs. omega arith)
-    (λ c. ends-all _ 16 (c .before .sixteen .result) (c .sixteen2 .result) (omega arith) (omega arith) (c .before .sixteen .ensures) (c .sixteen2 .ensures))
+    (λ c. ends-all 1 _ (omega arith) (omega arith) (c .before .sixteen .ensures) (c .sixteen2 .ensures))
     (λ c κs. omega arith)
     (λ c. omega arith)
     (λ c κs. omega arith)
-    (λ c. ends-all _ 32 (c .before .thirty-two .result) (c .thirty-two2 .result) (omega arith) (omega arith) (c .before .thirty-two .ensures) (c .thirty-two2 .ensures)) in
+    (λ c. ends-all 2 _ (omega arith) (omega arith) (c .before .thirty-two .ensures) (c .thirty-two2 .ensures)) in
     tie.close answers

@@ -1,6 +1,5 @@
--- `block::zeros::sixty_four` meets its contract: two parts, one behind the other. Assumes nothing.
+-- `block::zeros::sixty_four` meets its contract: the halves joined. Assumes nothing.
 use native.Mathlib.Omega.{arith}
-use Rattle.block.proofs.ZeroParts.{or-parts}
 use Rattle.block.proofs.zeros.sixty_four.Statement.{statement}
 use Rattle.block.proofs.zeros.sixty_four.Tie as tie
 
@@ -10,5 +9,5 @@ sixty-four-spec =
     (λ c κs. omega arith)
     (λ c. omega arith)
     (λ c κs. omega arith)
-    (λ c. let a = c .before .before .before .args in or-parts (a .s .now) (a .at) 32 32 (c .before .thirty-two .result) (c .thirty-two2 .result) (c .before .thirty-two .ensures) (c .thirty-two2 .ensures)) in
+    (λ c. rw (c .before .thirty-two .ensures, c .thirty-two2 .ensures)) in
     tie.close answers

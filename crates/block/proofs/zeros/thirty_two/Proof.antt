@@ -1,6 +1,5 @@
--- `block::zeros::thirty_two` meets its contract: two parts, one behind the other. Assumes nothing.
+-- `block::zeros::thirty_two` meets its contract: the halves joined. Assumes nothing.
 use native.Mathlib.Omega.{arith}
-use Rattle.block.proofs.ZeroParts.{or-parts}
 use Rattle.block.proofs.zeros.thirty_two.Statement.{statement}
 use Rattle.block.proofs.zeros.thirty_two.Tie as tie
 
@@ -10,5 +9,5 @@ thirty-two-spec =
     (λ c κs. omega arith)
     (λ c. omega arith)
     (λ c κs. omega arith)
-    (λ c. let a = c .before .before .before .args in or-parts (a .s .now) (a .at) 16 16 (c .before .sixteen .result) (c .sixteen2 .result) (c .before .sixteen .ensures) (c .sixteen2 .ensures)) in
+    (λ c. rw (c .before .sixteen .ensures, c .sixteen2 .ensures)) in
     tie.close answers

@@ -4,7 +4,7 @@ use native.Mathlib.Omega.{arith}
 use lib.ListN.{length}
 use borrow.Author.Needs.{needs}
 use denote.Ref.{now}
-use Rattle.label_list.specs.Find.{bears, findOf, nextOf}
+use Rattle.label_list.specs.Find.{bearsLabel, findOf, nextOf}
 use Rattle.label_list.specs.Word.{standsFor}
 use Rattle.label_list.proofs.Sought.{find-next, next-more, next-found, next-end, Led, led-to, led-nowhere}
 use Rattle.label_list.proofs.Standing.{bears-stands, other-stands}
@@ -18,7 +18,7 @@ abbrev μ-loop : tie.MeasureT-loop
 μ-loop words side label from₀ from = length words - from
 
 -- the word that bears the label
-there : (c : tie.After-known-told Inv-loop μ-loop) → Led (bears (c .before .before .before .before .before .before .before .args .label)) (standsFor (c .before .before .before .before .before .before .before .args .side) (c .before .before .before .before .before .before .before .args .label)) (now (c .before .before .before .before .before .before .before .args .words)) (c .before .before .before .before .before .loop .from) (c .before .place .given .0 .0)
+there : (c : tie.After-known-told Inv-loop μ-loop) → Led (bearsLabel (c .before .before .before .before .before .before .before .args .label)) (standsFor (c .before .before .before .before .before .before .before .args .side) (c .before .before .before .before .before .before .before .args .label)) (now (c .before .before .before .before .before .before .before .args .words)) (c .before .before .before .before .before .loop .from) (c .before .place .given .0 .0)
 there c = led-to _ _ (other-stands _ _) _ _ (omega arith) (c .before .before .before .next-bearing .ensures) _ (c .before .place .given .1)
 
 pub find-label-spec : {M : Type 1} → statement M

@@ -3,19 +3,19 @@ use mathlib.Core.Path.{_≡_, refl, sym, _∙_}
 use native.Mathlib.Omega.{arith}
 use lib.ListN.{length}
 use borrow.Author.Tests.{eq-eqb, ne-eqb}
-use Rattle.label_list.specs.Find.{bears, nextOf}
+use Rattle.label_list.specs.Find.{bearsLabel, nextOf}
 use Rattle.label_list.proofs.Sought.{next-more, next-found, next-end}
 use Rattle.label_list.proofs.search.next_bearing.Statement.{statement}
 use Rattle.label_list.proofs.search.next_bearing.Tie as tie
 
 abbrev Inv-loop : tie.InvT-loop
-Inv-loop words label from at₀ at = nextOf (bears label) words from ≡ nextOf (bears label) words at
+Inv-loop words label from at₀ at = nextOf (bearsLabel label) words from ≡ nextOf (bearsLabel label) words at
 
 abbrev μ-loop : tie.MeasureT-loop
 μ-loop words label from at₀ at = length words - at
 
 pub next-bearing-spec : {M : Type 1} → statement M
-unfolding bears
+unfolding bearsLabel
 next-bearing-spec =
     let answers = tie.spec Inv-loop μ-loop
     (λ c. refl)

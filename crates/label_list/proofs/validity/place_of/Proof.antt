@@ -1,11 +1,11 @@
 use native.Mathlib.Omega.{arith}
 use borrow.Author.Needs.{needs}
-use Rattle.label_list.specs.Marks.{placeOf}
+use Rattle.label_list.specs.Marks.{markAt}
 use Rattle.label_list.proofs.validity.place_of.Statement.{statement}
 use Rattle.label_list.proofs.validity.place_of.Tie as tie
 
 pub place-of-spec : {M : Type 1} → statement M
-unfolding placeOf
+unfolding markAt
 place-of-spec =
     let answers = tie.spec
     (λ c. search needs)

@@ -1,11 +1,11 @@
 -- `ldp_ft::outcome::outcome_numbers` meets its contract. Assumes nothing.
 use borrow.Author.Needs.{needs}
-use Rattle.ldp_ft.specs.Outcome.{numbersOf}
+use Rattle.ldp_ft.specs.Outcome.{outcomeNumbers}
 use Rattle.ldp_ft.proofs.outcome.outcome_numbers.Statement.{statement}
 use Rattle.ldp_ft.proofs.outcome.outcome_numbers.Tie as tie
 
 pub outcome-numbers-spec : {M : Type 1} → statement M
-unfolding numbersOf
+unfolding outcomeNumbers
 outcome-numbers-spec =
     let answers = tie.spec
     (λ c κs. search needs)

@@ -1,11 +1,12 @@
 use borrow.Author.Needs.{needs}
 use Rattle.protocol.specs.Accepting.{acceptedAs}
+use Rattle.submit.specs.Change.{acceptedChange}
 use Rattle.submit.proofs.Accepted.{unlisted}
 use Rattle.submit.proofs.labels.accept_as.Statement.{statement}
 use Rattle.submit.proofs.labels.accept_as.Tie as tie
 
 pub accept-as-spec : {M : Type 1} → statement M
-unfolding acceptedAs
+unfolding acceptedAs acceptedChange
 accept-as-spec =
     let answers = tie.spec
     (λ c. search needs)
