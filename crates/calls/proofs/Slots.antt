@@ -8,9 +8,9 @@ use lib.ListN.{length}
 use Rattle.block0.specs.Layout.{slotCount}
 use Rattle.message.specs.Storable.{Storable}
 use Rattle.image.specs.Sizes.{block, blockOf, imageSize, withBlock}
-use Rattle.image.specs.State.{decode, storeSlot}
+use Rattle.image.specs.State.{NotLive, decode, storeSlot}
 use Rattle.image.proofs.Sound.{idle-last}
-use Rattle.image.proofs.Stored.{Idle, length-storeSlot, slot-other, slot-put, zeroth-other}
+use Rattle.image.proofs.Stored.{length-storeSlot, slot-other, slot-put, zeroth-other}
 use Rattle.protocol.specs.State.{State}
 use Rattle.calls.specs.Storing.{Slots, stay, empty, one-more, fewer, nextSlot, slotNamed, slotStored, stored}
 
@@ -33,7 +33,7 @@ module _ (im : List ℕ) (size : length im ≡ imageSize) (s : State) where
   other-blocks (fewer n) f k zero slot = zeroth-other im size _ _ k zero
 
   -- ".. one that isn't live"
-  pub slot-idle : (slots : Slots) → SlotFits im slots → (j : ℕ) → slotNamed im slots ≡ blockOf j → (j < slotCount) × Idle im j
+  pub slot-idle : (slots : Slots) → SlotFits im slots → (j : ℕ) → slotNamed im slots ≡ blockOf j → (j < slotCount) × NotLive im j
   slot-idle stay f j e = absurd (omega arith)
   slot-idle empty f j e = absurd (omega arith)
   slot-idle (one-more m) f j e = let same : nextSlot (decode im .header) ≡ j = omega arith in rw (← same) (omega arith, idle-last im (f .1))

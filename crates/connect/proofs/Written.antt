@@ -38,7 +38,8 @@ use Rattle.calls.proofs.Ends.{settle-done}
 use Rattle.calls.proofs.Putting.{put-same}
 use Rattle.calls.proofs.Settled.{admit-passed, admitted-sound}
 use Rattle.call_meaning.proofs.Calling.{call-refused, call-own, own-refused}
-use Rattle.connect.specs.Writers.{writtenAs, openOf, keepaliveOf}
+use Rattle.connect.specs.Answered.{writtenAs}
+use Rattle.connect.specs.Writers.{openOf, keepaliveOf}
 
 -- the ACK of our Init
 pub kept-set : (s : State) → s .kept ≡ true → FtField.Number (s .secured) ≡ keptAck s

@@ -1,18 +1,14 @@
 -- Open and KeepAlive on an image: the messages that a session writes of its own, by the protocol's steps. They leave what the image stands for.
 use Prim.Native.Nat.{ℕ}
-use mathlib.Core.Bool.{false}
 use mathlib.Core.List.{List}
 use lib.ListN.{length}
 use Rattle.ft_number.specs.declared.MessageId.{MessageId}
 use Rattle.ft_number.specs.declared.Proposal.{Proposal}
 use Rattle.message_writer.specs.declared.OwnParameters.{OwnParameters}
-use Rattle.message_writer.specs.declared.Written.{Written}
-use Rattle.protocol.specs.declared.Answer.{Answer}
 use Rattle.protocol.specs.declared.Phase.{Phase}
 use Rattle.protocol.specs.KeepAlive.{keepalive}
 use Rattle.protocol.specs.Open.{openSession}
-use Rattle.calls.specs.declared.Outcome.{Outcome}
-use Rattle.calls.specs.Outcomes.{After, callOf, refusal}
+use Rattle.calls.specs.Outcomes.{After, callOf}
 use Rattle.calls.specs.State.{stateOf}
 use Rattle.calls.specs.Storing.{stay}
 
@@ -23,8 +19,3 @@ openOf im ph id p t out = callOf im ph out stay (openSession (stateOf im) ph id 
 -- "KeepAlive (UpFT, UpPlain) carries FT ACK in UpFT, 16 bytes, and none in UpPlain, 8 bytes."
 unfoldable pub keepaliveOf : List ℕ → Phase → MessageId → List ℕ → After
 keepaliveOf im ph id out = callOf im ph out stay (keepalive (stateOf im) ph id (length out))
-
--- what is answered to what was written: the phase is then `next`
-abbrev pub writtenAs : Written → Phase → Phase → Outcome
-writtenAs Written.TooShort ph next = refusal Answer.OutputTooShort ph
-writtenAs (Written.Bytes n) ph next = record { answer = Answer.Done; phase = next; written = n; slot = 0; block0 = false }

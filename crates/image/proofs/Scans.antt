@@ -23,11 +23,10 @@ use Rattle.image.specs.declared.Verdict.{Verdict}
 use Rattle.image.specs.declared.Verdict.the-variants.{Sound, WrongSize, BadBlock, BadField}
 use Rattle.image.specs.Ring.{ring}
 use Rattle.image.specs.Sizes.{blockCount, imageSize, block, blockOf, slotAt}
-use Rattle.image.specs.State.{decode}
+use Rattle.image.specs.State.{decode, NotLive}
 use Rattle.image.specs.Verdict.{looked, fieldsRight, bytesJudged, blockJudged, faultThen, firstFault, verdict, verdictNumber, verdictBlock, judgementNumber}
 use Rattle.image.proofs.Faults.{fault-same, named-below}
 use Rattle.image.proofs.Rings.{ring-length, ring-at}
-use Rattle.image.proofs.Stored.{Idle}
 
 -- ---- the blocks that are looked at
 not-zeroth : (k : ℕ) → eqb (blockOf k) 0 ≡ false
@@ -54,7 +53,7 @@ module _ (image : List ℕ) where
   looked-judged = fault-same (blockJudged image) (bytesJudged image) (looked (headerOf (block image 0))) live-judged
 
   -- a slot that is not live is idle
-  pub idle-judged : (k : ℕ) → Idle image k → blockJudged image (blockOf k) ≡ Judgement.Idle
+  pub idle-judged : (k : ℕ) → NotLive image k → blockJudged image (blockOf k) ≡ Judgement.Idle
   unfolding blockJudged any decode ring
   idle-judged k idle = rw (not-zeroth k, none (headerOf (block image 0) .first) (headerOf (block image 0) .held) idle)
     where

@@ -24,12 +24,12 @@ use Rattle.slot.proofs.Holding.{slotFor-sound, slotFor-ok}
 use Rattle.image.specs.declared.Judgement.the-variants.{Good, BadCheck, BadFields}
 use Rattle.image.specs.declared.Verdict.the-variants.{Sound, WrongSize}
 use Rattle.image.specs.Sizes.{block, blockOf, slotAt, imageSize}
-use Rattle.image.specs.State.{decode, storeSlot, store0}
+use Rattle.image.specs.State.{NotLive, decode, storeSlot, store0}
 use Rattle.image.specs.Verdict.{looked, fieldsRight, bytesJudged, verdict, IsSound, SlotGood}
 use Rattle.image.proofs.Blocks.{length-block}
 use Rattle.image.proofs.Faults.{NoFault, faultless-each, each-faultless}
 use Rattle.image.proofs.Scans.{looked-length, looked-slot, looked-judged, slot-fields}
-use Rattle.image.proofs.Stored.{Idle, length-storeSlot, slot-put, slot-other, length-store0, zeroth-put, zeroth-other}
+use Rattle.image.proofs.Stored.{length-storeSlot, slot-put, slot-other, length-store0, zeroth-put, zeroth-other}
 
 -- ---- a verdict and its clauses
 bytes-good : (image : List ℕ) (b : ℕ) → NoFault (bytesJudged image b) → (sound (block image b) ≡ true) × (fieldsRight image b ≡ true)
@@ -90,7 +90,7 @@ sound-live image s = s .slots
 
 -- ---- stored, it is sound again
 -- a slot that is not live
-pub sound-slot : (image : List ℕ) (k : ℕ) (m : List ℕ) → IsSound image → k < slotCount → Storable m → Idle image k → IsSound (storeSlot image k m)
+pub sound-slot : (image : List ℕ) (k : ℕ) (m : List ℕ) → IsSound image → k < slotCount → Storable m → NotLive image k → IsSound (storeSlot image k m)
 unfolding decode
 sound-slot image k m s room fits idle =
     let e : block (storeSlot image k m) 0 ≡ block image 0 = slot-other image (s .size) k room m fits 0 (omega arith) in
@@ -124,7 +124,7 @@ sound-store0 image h ls size fh fl v live =
 
 -- ---- the three ways in which a call stores leave a sound image
 -- the slot after the last is not live
-pub idle-last : (image : List ℕ) → decode image .header .held < slotCount → Idle image (slotAt (decode image .header .first) (decode image .header .held))
+pub idle-last : (image : List ℕ) → decode image .header .held < slotCount → NotLive image (slotAt (decode image .header .first) (decode image .header .held))
 idle-last image room i l = omega arith
 
 -- one more held, where the new fields keep the rules

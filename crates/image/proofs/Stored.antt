@@ -18,17 +18,13 @@ use Rattle.slot.specs.Layout.{slotMessage}
 use Rattle.slot.proofs.Holding.{length-slotFor, slotFor-message}
 use Rattle.image.specs.Ring.{ring}
 use Rattle.image.specs.Sizes.{block, blockOf, slotAt, imageSize}
-use Rattle.image.specs.State.{Contents, slotsOf, decode, storeSlot, store0}
+use Rattle.image.specs.State.{NotLive, Contents, slotsOf, decode, storeSlot, store0}
 use Rattle.image.proofs.Blocks.{length-block, length-put, block-put, block-other}
 use Rattle.image.proofs.Rings.{ring-same, ring-snoc, ring-drop}
 
 pub state-eq : {h h′ : Header} {l l′ : List ℕ} {q q′ : List (List ℕ)} → h ≡ h′ → l ≡ l′ → q ≡ q′
     → _≡_ {A = Contents} (record { header = h; labels = l; queue = q }) (record { header = h′; labels = l′; queue = q′ })
 state-eq p q r = λ i. record { header = p i; labels = q i; queue = r i }
-
--- slot k is not live
-abbrev pub Idle : List ℕ → ℕ → Type 0
-Idle image k = (i : ℕ) → i < decode image .header .held → slotAt (decode image .header .first) i ≢ k
 
 -- ---- the slot alone
 module _ (image : List ℕ) (size : length image ≡ imageSize) (k : ℕ) (room : k < slotCount) (m : List ℕ) (s : Storable m) where
@@ -60,7 +56,7 @@ module _ (image : List ℕ) (size : length image ≡ imageSize) (k : ℕ) (room 
   slots-other j apart = ap slotMessage (slot-other (blockOf j) (omega arith))
 
   -- "With only the slot stored, restore gives the state before the call": the slot is not live
-  pub decode-slot : Idle image k → decode (storeSlot image k m) ≡ decode image
+  pub decode-slot : NotLive image k → decode (storeSlot image k m) ≡ decode image
   unfolding decode
   decode-slot idle =
       let zeroth : block (storeSlot image k m) 0 ≡ block image 0 = slot-other 0 (omega arith) in

@@ -1,6 +1,7 @@
 -- The state that an image stands for, and the two stages in which it is stored.
-use Prim.Native.Nat.{ℕ, _*_}
+use Prim.Native.Nat.{_<_, ℕ, _*_}
 use mathlib.Core.List.{List}
+use mathlib.Core.Logic.{_≢_}
 use Rattle.block.specs.Check.{blockSize}
 use Rattle.block.specs.Run.{Words}
 use Rattle.label_list.specs.Word.{wordCount}
@@ -35,6 +36,10 @@ heldBlock image i = block image (blockOf (slotAt (decode image .header .first) i
 
 unfoldable pub heldPlace : List ℕ → ℕ → ℕ
 heldPlace image i = blockOf (slotAt (decode image .header .first) i) * blockSize
+
+-- slot k is not live
+abbrev pub NotLive : List ℕ → ℕ → Type 0
+NotLive image k = (i : ℕ) → i < decode image .header .held → slotAt (decode image .header .first) i ≢ k
 
 -- "A call stores at most one slot, one that isn't live, and then block 0." First the slot ..
 unfoldable pub storeSlot : List ℕ → ℕ → List ℕ → List ℕ

@@ -2,11 +2,9 @@
 use Prim.Native.Nat.{ℕ, _<_}
 use mathlib.Core.Bool.{Bool, true, false}
 use mathlib.Core.List.{List}
-use mathlib.Core.Logic.{_≢_}
 use mathlib.Core.Path.{_≡_, refl, sym, ap, _∙_}
 use native.Mathlib.Omega.{arith}
 use lib.ListN.{length}
-use Rattle.octets.specs.Differ.{differ}
 use Rattle.octets.specs.Pick.{pick}
 use Rattle.octets.proofs.Choice.{no}
 use Rattle.octets.proofs.Differ.{differ-self}
@@ -15,10 +13,10 @@ use Rattle.message.specs.declared.Reading.{Reading}
 use Rattle.message.specs.Reading.{readingOf}
 use Rattle.image.specs.declared.Verdict.{Verdict}
 use Rattle.image.specs.Sizes.{block, blockOf}
+use Rattle.image.specs.State.{NotLive}
 use Rattle.image.specs.Verdict.{IsSound, verdict}
 use Rattle.image.proofs.Queue.{queue-length}
 use Rattle.image.proofs.Sound.{sound-parts}
-use Rattle.image.proofs.Stored.{Idle}
 use Rattle.protocol.specs.declared.Answer.{Answer}
 use Rattle.protocol.specs.declared.Effect.{Effect}
 use Rattle.protocol.specs.declared.Phase.{Phase}
@@ -41,6 +39,7 @@ use Rattle.calls.proofs.Slots.{SlotFits, slot-idle, other-blocks}
 use Rattle.init.specs.Received.{startSlots}
 use Rattle.receive.specs.Call.{receivedSlots}
 use Rattle.session.specs.Call.{leaves, lent, makesImage, slotsLeft}
+use Rattle.session.specs.Told.{KeepsOthers, TellsBlock0}
 use Rattle.session.proofs.Settles.{answerOn, doneOn, ends}
 
 -- ---- a message that is put into a slot may be held, and there is room: by a Submit that is done
@@ -91,14 +90,6 @@ checked-more Verdict.WrongSize a more = absurd (more refl)
 checked-more (Verdict.BadBlock b) a more = absurd (more refl)
 checked-more (Verdict.BadField b) a more = absurd (more refl)
 
--- what is stored for a step, and that block 0 is told as it is
-abbrev pub Tells : List ℕ → After → Type 0
-Tells im x = x .outcome .block0 ≡ differ (block im 0) (block (x .image) 0)
-
--- every block but block 0 and the slot that the outcome names keeps its bytes
-abbrev pub Leaves : List ℕ → After → Type 0
-Leaves im x = (k : ℕ) → k ≢ 0 → k ≢ x .outcome .slot → block (x .image) k ≡ block im k
-
 -- what a call leaves that works on an image: as it was, or a state stored with a ring of slots
 module _ (c : Call) (im : List ℕ) (ph : Phase) (out : List ℕ) (other : makesImage c ≡ false) where
   answer : Answer
@@ -125,16 +116,16 @@ module _ (c : Call) (im : List ℕ) (ph : Phase) (out : List ℕ) (other : makes
       sound more = sound-parts im (checked-more (verdict im) (judged c (stateOf im) ph (length out)) (λ n. more (ap effectOf answers ∙ n)))
 
   -- `block0` is set exactly where block 0's bytes are others than before
-  pub block0-told : Tells im (leaves c im ph out)
-  block0-told = every (Tells im) (λ a q o. sym (differ-self (block im 0))) (λ slots x o s f. refl)
+  pub block0-told : TellsBlock0 im (leaves c im ph out)
+  block0-told = every (TellsBlock0 im) (λ a q o. sym (differ-self (block im 0))) (λ slots x o s f. refl)
 
   -- "A call stores at most one slot": every block but that and block 0 keeps its bytes
-  pub others-kept : Leaves im (leaves c im ph out)
-  others-kept = every (Leaves im) (λ a q o k zero slot. refl) (λ slots x o s f. other-blocks im (s .size) (x .state) slots f)
+  pub others-kept : KeepsOthers im (leaves c im ph out)
+  others-kept = every (KeepsOthers im) (λ a q o k zero slot. refl) (λ slots x o s f. other-blocks im (s .size) (x .state) slots f)
 
   -- ".. one that isn't live"
-  pub slot-not-live : (j : ℕ) → leaves c im ph out .outcome .slot ≡ blockOf j → (j < slotCount) × Idle im j
+  pub slot-not-live : (j : ℕ) → leaves c im ph out .outcome .slot ≡ blockOf j → (j < slotCount) × NotLive im j
   slot-not-live =
-      every (λ (x : After). (j : ℕ) → x .outcome .slot ≡ blockOf j → (j < slotCount) × Idle im j)
+      every (λ (x : After). (j : ℕ) → x .outcome .slot ≡ blockOf j → (j < slotCount) × NotLive im j)
       (λ a q o j e. absurd (omega arith))
       (λ slots x o s f. slot-idle im (s .size) (x .state) slots f)
