@@ -131,7 +131,7 @@ ldp_ft_outcome ldp_ft_restore(uint8_t *image, size_t image_len);
  *   message_id                      of our Init
  *   keepalive_time, max_pdu_length  our parameters
  *   receiver_lsr, receiver_space    the peer's LDP identifier: router ID and label space
- *   proposal_given, proposal        the seconds for which we propose that state is kept over a break, 0 for ever; 5 where not given
+ *   proposal_given, proposal        the seconds for which we propose that state is kept over a break, 0 for ever; 30 where not given
  * 42 bytes where state is kept (the Init asks to resume and bears our acknowledgement), else 34; room of 42 is always enough.
  * Then the session is INIT_WAIT. No byte of the image changes.
  */

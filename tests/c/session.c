@@ -55,10 +55,22 @@ static size_t settle(cabinet *c, ldp_ft_outcome o, uint32_t answer, const char *
     return o.length;
 }
 
-/* The proposal is not given, so its 9 is not read. */
+/* Where no proposal is given 30 seconds are proposed, and the 9 is not read. */
+static void open_without_proposal(void) {
+    uint8_t init[34];
+    memcpy(init, fresh_init, sizeof init);
+    init[33] = 30;
+    ldp_ft_outcome o =
+        ldp_ft_open(ours.image, sizeof ours.image, ours.session, 0x11223344, 30, 4096, 0x0a000001, 3, false, 9, out, sizeof out);
+    expect(o.answer, 0, "open without a proposal");
+    expect_written(o.length, init, sizeof init, "Init without a proposal");
+    expect(o.session.value, 30, "timeout where none is given");
+}
+
+/* Both propose 5 seconds. */
 static size_t open_session(cabinet *c, const uint8_t *wanted, size_t wanted_length) {
     ldp_ft_outcome o =
-        ldp_ft_open(c->image, sizeof c->image, c->session, 0x11223344, 30, 4096, 0x0a000001, 3, false, 9, out, sizeof out);
+        ldp_ft_open(c->image, sizeof c->image, c->session, 0x11223344, 30, 4096, 0x0a000001, 3, true, 5, out, sizeof out);
     size_t length = settle(c, o, 0, "open");
     expect_written(length, wanted, wanted_length, "Init");
     expect(c->session.phase, LDP_FT_INIT_WAIT, "phase after open");
@@ -190,6 +202,7 @@ static void numbers(void) {
 int main(void) {
     begin(&ours);
     begin(&peer);
+    open_without_proposal();
     connect_both(fresh_init, fresh_init, sizeof fresh_init);
     submit(mapping, sizeof mapping, 1);
     expect_code(&ours, 1, "given");

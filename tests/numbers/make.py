@@ -38,9 +38,9 @@ def lines():
             yield f"acknowledge {r} {i} {a} {acknowledge(r, i, a)}"
         for u in TIMEOUTS:
             yield f"lesser timeout {t} {u} {lesser(t, u)}"
-    yield "proposed 5"
-    yield "proposed 0"
     yield "proposed 30"
+    yield "proposed 0"
+    yield "proposed 5"
 
 
 def marked():

@@ -80,10 +80,10 @@ def fail(st):
 
 @call
 def open_session(image, st, phase, ident, parameters, proposal, room):
-    """Writes Init, R = kept, ACK = S; our proposal defaults to 5 seconds."""
+    """Writes Init, R = kept, ACK = S; "the proposal used where the owner gives none" is 30 (02)."""
     if phase[0] not in ("Idle", "Failed"):
         return Outcome(1, phase)
-    seconds = 5 if proposal is None else proposal
+    seconds = 30 if proposal is None else proposal
     tlvs = [parameters_tlv(*parameters), session_tlv(st.kept, seconds)]
     if st.kept:
         tlvs.append(ack_tlv(st.secured))

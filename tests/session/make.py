@@ -154,6 +154,24 @@ def timeouts(p):
     p.lose()
     p.wait(65534)
     p.wait(65535)
+    # 02: "The proposal used where the owner gives none becomes 30."
+    p.fresh(None, None)
+    p.lose()
+    p.wait(29)
+    p.answered(0, "Failed")
+    p.wait(30)
+    p.answered(0, "Idle")
+    # A stored timeout changes only with the next Init: 5 of the peer's are agreed at the first, and 30 again once neither gives one.
+    p.fresh(None, 5)
+    p.lose()
+    p.wait(4)
+    p.answered(0, "Failed")
+    p.connect(None, None)
+    p.lose()
+    p.wait(5)
+    p.answered(0, "Failed")
+    p.wait(30)
+    p.answered(0, "Idle")
 
 
 def lengths(p):
@@ -329,7 +347,7 @@ def block_0(p):
         p.time(COPY, f"time passed {elapsed}", elapsed)
         p.answered(0, phase)
     p.open(KEPT, "open")
-    p.wrote("0200 0026 00000001 0500 000e 0001 001e 00 00 1000 0a000002 0000 8503 0004 8000 0005 0504 0004 00000009")
+    p.wrote("0200 0026 00000001 0500 000e 0001 001e 00 00 1000 0a000002 0000 8503 0004 8000 001e 0504 0004 00000009")
     p.init(KEPT, "init", init(own(), session_tlv(1, 5), ack_tlv(5)))
     p.answered(0, "UpFT")
     p.submit(KEPT, "submit", AN_ADDRESS)

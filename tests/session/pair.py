@@ -13,15 +13,16 @@ def label_message(kind, label):
 
 
 class Pair(Player):
-    def fresh(self, ours=None, theirs=None):
+    # Each owner proposes 5 seconds where a case does not name another proposal; None gives none.
+    def fresh(self, ours=5, theirs=5):
         for end in (P1, P2):
             self.format(end, f"P{end} format")
         self.connect(ours, theirs)
 
-    def begin(self, end, proposal=None):
+    def begin(self, end, proposal=5):
         self.open(end, f"P{end} open", proposal)
 
-    def connect(self, ours=None, theirs=None):
+    def connect(self, ours=5, theirs=5):
         self.begin(P1, ours)
         self.begin(P2, theirs)
         for end in (P1, P2):

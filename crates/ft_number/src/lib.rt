@@ -39,7 +39,7 @@ pub enum Proposal {
 const CIRCLE: u32 = 4294967295;
 
 // The seconds proposed where the owner gives none.
-const DEFAULT_TIMEOUT: u16 = 5;
+const DEFAULT_TIMEOUT: u16 = 30;
 
 // The number that follows n: after 0xFFFFFFFF comes 1 again, and 1 follows 0, which is no number.
 pub fn successor(n: FtNumber) -> FtNumber
@@ -133,7 +133,7 @@ pub fn lesser_timeout(a: u32, b: u32) -> u32
     if a <= b { a } else { b }
 }
 
-// The timeout that our Init proposes: the owner's, 0 included, and 5 seconds where none is given.
+// The timeout that our Init proposes: the owner's, 0 included, and 30 seconds where none is given.
 pub fn proposed_timeout(p: Proposal) -> u16
     ensures { λ r. ⌜ r ≡ proposedOf p ⌝ }
 {

@@ -180,5 +180,5 @@ fn main() {
     tables();
     proposal(Proposal::NotGiven);
     proposal(Proposal::Seconds(0));
-    proposal(Proposal::Seconds(30));
+    proposal(Proposal::Seconds(5));
 }

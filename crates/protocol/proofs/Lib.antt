@@ -33,6 +33,7 @@ pub mod MeaningEvents
 pub mod MeaningWriters
 pub mod MeaningInit
 pub mod MeaningTimers
+pub mod MeaningTimeout
 pub mod MeaningSubmit
 pub mod MeaningSend
 pub mod MeaningReceive

@@ -38,6 +38,7 @@ pub mod MeaningLabels
 pub mod MeaningWriters
 pub mod MeaningInit
 pub mod MeaningTimers
+pub mod MeaningTimeout
 pub mod MeaningSubmit
 pub mod MeaningSend
 pub mod MeaningReceive

@@ -5,6 +5,7 @@ pub mod Puts
 pub mod Begin
 pub mod Refines
 pub mod Room
+pub mod Timeout
 -- what the owner stores
 pub mod Told
 pub mod Queued

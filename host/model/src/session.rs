@@ -6,7 +6,7 @@ use crate::message::{self, kinds, types};
 use crate::{number, write};
 use cabinet::{has, phase, Message, Opening, Outcome, Session, IMAGE_SIZE};
 
-const DEFAULT_PROPOSAL: u16 = 5;
+const DEFAULT_PROPOSAL: u16 = 30;
 
 impl Refusal {
     /// The outcome of an answer that changes nothing.

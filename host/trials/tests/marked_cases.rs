@@ -72,7 +72,8 @@ fn p10_init_with_reconnect() {
     for cabinet in both() {
         let mut image = Stored { secured: 9, ..holding(0, 0, 0) }.image(0);
         let mut out = [0; 64];
-        let outcome = cabinet.open(&mut image, FAILED, &Opening::default(), &mut out);
+        let opening = Opening { proposal: Some(5), ..Opening::default() };
+        let outcome = cabinet.open(&mut image, FAILED, &opening, &mut out);
         assert_eq!((outcome.answer, outcome.length), (0, 42));
         assert_eq!(out[26..42], [0x85, 3, 0, 4, 0x80, 0, 0, 5, 5, 4, 0, 4, 0, 0, 0, 9]);
         assert_eq!(outcome.session, Session { phase: phase::INIT_WAIT, value: 5 });
@@ -105,6 +106,25 @@ fn timeout_5_elapsed_4_keeps_and_5_releases() {
         assert_eq!(cabinet.time_passed(&mut image, FAILED, 4).session.phase, phase::FAILED);
         assert_eq!(cabinet.time_passed(&mut image, FAILED, 5).session.phase, phase::IDLE);
         assert_eq!(image[..512], Stored::idle().image(0)[..512]);
+    }
+}
+
+/// 02: "The proposal used where the owner gives none becomes 30"; a peer that proposes 5 still makes it 5.
+#[test]
+fn without_a_proposal_29_keeps_and_30_releases() {
+    for cabinet in both() {
+        for (peers, agreed) in [(0, 30), (65_535, 30), (30, 30), (5, 5)] {
+            let mut image = vec![0; IMAGE_SIZE];
+            let mut out = [0; 64];
+            cabinet.format(&mut image);
+            let opened = cabinet.open(&mut image, Session::default(), &Opening::default(), &mut out);
+            assert_eq!(out[26..34], [0x85, 3, 0, 4, 0, 0, 0, 30]);
+            let init = Message::new(types::INITIALIZATION, 1).parameters(30, 4096).ft_session(false, peers).bytes();
+            assert_eq!(cabinet.init_received(&mut image, opened.session, &init).session, up(0));
+            assert_eq!(cabinet.connection_failed(&mut image, up(0)).session, FAILED);
+            assert_eq!(cabinet.time_passed(&mut image, FAILED, agreed - 1).session.phase, phase::FAILED);
+            assert_eq!(cabinet.time_passed(&mut image, FAILED, agreed).session.phase, phase::IDLE);
+        }
     }
 }
 
@@ -143,14 +163,14 @@ fn a_fresh_session_from_a_new_image() {
         let mut out = [0; 64];
         assert_eq!(cabinet.format(&mut image).block0, 1);
         let opened = cabinet.open(&mut image, Session::default(), &Opening::default(), &mut out);
-        assert_eq!((opened.answer, opened.length), (0, 34));
+        assert_eq!((opened.answer, opened.length, opened.session.value), (0, 34, 30));
         let init = Message::new(types::INITIALIZATION, 1).parameters(30, 4096).ft_session(true, 0).ack(8).bytes();
         let outcome = cabinet.init_received(&mut image, opened.session, &init);
         assert_eq!((outcome.answer, outcome.session, outcome.block0), (0, up(0), 1));
         let submitted = cabinet.submit(&mut image, up(0), &mapping(16));
         assert_eq!((submitted.answer, submitted.slot, submitted.block0), (0, 1, 1));
         let stored = Stored::read(&image);
-        assert_eq!((stored.timeout, stored.keepalive_time, stored.max_pdu_length), (5, 30, 4096));
+        assert_eq!((stored.timeout, stored.keepalive_time, stored.max_pdu_length), (30, 30, 4096));
         assert_eq!((stored.issued, stored.queue.len(), stored.labels[0]), (0, 1, word(16, 1)));
     }
 }

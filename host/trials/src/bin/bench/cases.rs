@@ -115,7 +115,7 @@ fn without_message(fill: Fill) -> Vec<Case> {
     let all = 100 + fill.held as u32;
     let init = |ack| Message::new(types::INITIALIZATION, 1).parameters(30, 4096).ft_session(true, 5).ack(ack).bytes();
     let wait = at(phase::INIT_WAIT, 5);
-    let opening = Opening { message_id: 1, keepalive_time: 30, max_pdu_length: 4096, ..Opening::default() };
+    let opening = Opening { message_id: 1, keepalive_time: 30, max_pdu_length: 4096, proposal: Some(5), ..Opening::default() };
     let keepalive = Message::new(types::KEEPALIVE, 1).ack(all).bytes();
     let mut cases = vec![
         case(fill, "", Call::Restore),
