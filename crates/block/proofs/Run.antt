@@ -1,43 +1,56 @@
--- The laws of a run of numbers: what is written is read back, and nothing else changes. Assumes nothing.
+-- The laws of a run of numbers: what is spelled is read back, and stores one after the other spell it. Assumes nothing.
 use Prim.Native.Nat.{ℕ, _+_, _^_, _-_, _≤_, _<_}
-use mathlib.Core.List.{List, [], _∷_}
-use mathlib.Core.Logic.{_≢_, ⊎-elim}
-use mathlib.Core.Path.{_≡_, refl, _∙_}
+use mathlib.Core.List.{List, [], _∷_, _++_, append-assoc}
+use mathlib.Core.Logic.{⊎-elim}
+use mathlib.Core.Path.{_≡_, refl, sym, ap, ap₂, _∙_}
 use native.Mathlib.Omega.{arith}
-use lib.ListN.{length, getD, replicate}
-use Rattle.octets.specs.Be.{beAt, putBe}
-use Rattle.octets.proofs.Be.{beAt-same, beAt-putBe-fits, getD-putBe, length-putBe, zeros-beAt, beAt-zeros}
+use lib.ListN.{length, getD, drop, replicate, length-append}
+use Rattle.octets.specs.Be.{beAt, bytes}
+use Rattle.octets.specs.Laid.{laid}
+use Rattle.octets.proofs.Be.{beAt-same, zeros-beAt, beAt-zeros}
+use Rattle.octets.proofs.Bytes.{length-bytes, beAt-spelled}
 use Rattle.octets.proofs.Choice.{below-or-not}
-use Rattle.block.specs.Run.{getRun, putRun, runSize}
+use Rattle.octets.proofs.Laid.{laid-none, laid-then}
+use Rattle.block.specs.Run.{getRun, spelled, runSize}
 
 -- each value has its width
 pub data Fit : List ℕ → List ℕ → Type 0 where
   none : Fit [] []
   one : {w v : ℕ} {ws vs : List ℕ} → v < 256 ^ w → Fit ws vs → Fit (w ∷ ws) (v ∷ vs)
 
-pub length-putRun : (ws vs s : List ℕ) (at : ℕ) → length (putRun ws vs s at) ≡ length s
-length-putRun [] vs s at = refl
-length-putRun (w ∷ ws) [] s at = refl
-length-putRun (w ∷ ws) (v ∷ vs) s at = length-putRun ws vs (putBe w s at v) (at + w) ∙ length-putBe w s at v
+pub length-spelled : (ws vs : List ℕ) → length (spelled ws vs) ≡ runSize ws
+unfolding spelled
+length-spelled [] vs = refl
+length-spelled (w ∷ ws) vs = rw (length-append, length-bytes w (getD vs 0 0), length-spelled ws (drop 1 vs))
 
--- a byte outside the run is as it was
-pub getD-putRun : (ws vs s : List ℕ) (at j : ℕ) → ((k : ℕ) → k < runSize ws → j ≢ at + k) → getD (putRun ws vs s at) j 0 ≡ getD s j 0
-getD-putRun [] vs s at j out = refl
-getD-putRun (w ∷ ws) [] s at j out = refl
-getD-putRun (w ∷ ws) (v ∷ vs) s at j out =
-    getD-putRun ws vs (putBe w s at v) (at + w) j (λ k l. omega (arith, out (w + k) (omega arith)))
-    ∙ getD-putBe w s at v j (λ k l. out k (omega arith))
+-- what a run of fields spells it reads back, also where it stands between others
+pub getRun-spelled : (ws vs s t : List ℕ) (at : ℕ) → at ≡ length s → Fit ws vs → getRun ws (s ++ (spelled ws vs ++ t)) at ≡ vs
+unfolding spelled
+getRun-spelled [] [] s t at e none = refl
+getRun-spelled (w ∷ ws) (v ∷ vs) s t at e (one small f) =
+    let b : List ℕ = bytes w v in
+    let rest : List ℕ = spelled ws vs ++ t in
+    let there : at + w ≡ length (s ++ b) = omega (arith, length-append s b, length-bytes w v) in
+    let tail : getRun ws (s ++ (b ++ rest)) (at + w) ≡ vs =
+    ap (λ (x : List ℕ). getRun ws x (at + w)) (sym (append-assoc s b rest)) ∙ getRun-spelled ws vs (s ++ b) t (at + w) there f in
+    ap (λ (x : List ℕ). getRun (w ∷ ws) (s ++ x) at) (append-assoc b (spelled ws vs) t)
+    ∙ ap₂ (λ (x : ℕ) (l : List ℕ). x ∷ l) (beAt-spelled w v s rest at e small) tail
 
--- what a run of fields writes it reads back
-pub getRun-putRun : (ws vs s : List ℕ) (at : ℕ) → at + runSize ws ≤ length s → Fit ws vs → getRun ws (putRun ws vs s at) at ≡ vs
-getRun-putRun [] [] s at h none = refl
-getRun-putRun (w ∷ ws) (v ∷ vs) s at h (one small f) =
-    let t : List ℕ = putBe w s at v in
-    let there : at + w + runSize ws ≤ length t = rw length-putBe (omega arith) in
-    let head : beAt w (putRun ws vs t (at + w)) at ≡ v =
-    beAt-same w (putRun ws vs t (at + w)) t at at (λ k l. getD-putRun ws vs t (at + w) (at + k) (λ i m. omega arith))
-    ∙ beAt-putBe-fits w s at v (omega arith) small in
-    rw (head, getRun-putRun ws vs t (at + w) there f)
+-- numbers stored one after the other are a run
+abbrev pub putRun : List ℕ → List ℕ → List ℕ → ℕ → List ℕ
+putRun [] vs s at = s
+putRun (w ∷ ws) vs s at = putRun ws (drop 1 vs) (laid s at (bytes w (getD vs 0 0))) (at + w)
+
+putRun-laid : (ws vs s : List ℕ) (at : ℕ) → putRun ws vs s at ≡ laid s at (spelled ws vs)
+unfolding spelled
+putRun-laid [] vs s at = sym (laid-none s at)
+putRun-laid (w ∷ ws) vs s at =
+    let b : List ℕ = bytes w (getD vs 0 0) in
+    putRun-laid ws (drop 1 vs) (laid s at b) (at + w)
+    ∙ laid-then s at b (spelled ws (drop 1 vs)) (at + w) (ap (λ (k : ℕ). at + k) (sym (length-bytes w (getD vs 0 0))))
+
+pub run-put : (ws vs s : List ℕ) (at : ℕ) {x : List ℕ} → x ≡ putRun ws vs s at → x ≡ laid s at (spelled ws vs)
+run-put ws vs s at e = e ∙ putRun-laid ws vs s at
 
 -- a run reads only its own bytes
 pub getRun-same : (ws s t : List ℕ) (at : ℕ) → ((k : ℕ) → k < runSize ws → getD s (at + k) 0 ≡ getD t (at + k) 0) → getRun ws s at ≡ getRun ws t at

@@ -1,33 +1,44 @@
--- A sealed block: what it changes, and that it is sound. Assumes nothing.
-use Prim.Native.Nat.{ℕ, _<_}
+-- A sealed block: its size, its check, and the store that seals it. Assumes nothing.
+use Prim.Native.Nat.{ℕ, _+_}
 use mathlib.Core.Bool.{true}
-use mathlib.Core.List.{List}
+use mathlib.Core.List.{List, [], _++_, append-nil}
 use mathlib.Core.Path.{_≡_, sym, ap, _∙_}
+use native.Mathlib.Nat.{mod-eq-of-lt}
 use native.Mathlib.Omega.{arith}
-use lib.ListN.{length, getD, take, length-take}
-use lib.Seq.{getD-take, ext-getD}
+use lib.ListN.{length, take, drop, length-append, drop-of-length-le}
+use lib.Seq.{take-at}
 use borrow.Author.Tests.{eq-eqb}
-use Rattle.octets.proofs.Be.{getD-putBe, beAt-putBe-fits, length-putBe}
+use Rattle.octets.specs.Be.{beAt, bytes}
+use Rattle.octets.specs.Laid.{laid}
+use Rattle.octets.proofs.Bytes.{beAt-behind, beAt-bytes}
+use Rattle.octets.proofs.Laid.{laid-split}
 use Rattle.block.specs.Check.{blockSize, checkAt, checkOf, sound, sealed}
 use Rattle.block.proofs.Sums.{checkOf-lt}
 
--- sealing changes nothing before the check
-pub sealed-else : (b : List ℕ) (j : ℕ) → j < checkAt → getD (sealed b) j 0 ≡ getD b j 0
+module _ (body : List ℕ) (long : length body ≡ checkAt) where
+  pub length-sealed : length (sealed body) ≡ blockSize
+  unfolding sealed
+  length-sealed = length-append body (bytes 4 (checkOf body)) ∙ ap (λ (n : ℕ). n + 4) long
+
+  pub body-sealed : take checkAt (sealed body) ≡ body
+  unfolding sealed
+  body-sealed = take-at body (bytes 4 (checkOf body)) checkAt long
+
+  -- a sealed block is sound
+  pub sealed-sound : sound (sealed body) ≡ true
+  unfolding sound sealed
+  sealed-sound =
+      let check : beAt 4 (sealed body) checkAt ≡ checkOf body =
+      beAt-behind 4 body (bytes 4 (checkOf body)) checkAt 0 (omega arith) ∙ beAt-bytes 4 (checkOf body) ∙ mod-eq-of-lt (checkOf-lt body) in
+      eq-eqb _ _ (check ∙ ap checkOf (sym body-sealed))
+
+-- the check stored behind the bytes that it is of
+pub seal-put : (b : List ℕ) → length b ≡ blockSize → {c : ℕ} {x : List ℕ} → c ≡ checkOf (take checkAt b) → x ≡ laid b checkAt (bytes 4 c) → x ≡ sealed (take checkAt b)
 unfolding sealed
-sealed-else b j h = getD-putBe 4 b checkAt (checkOf (take checkAt b)) j (λ k l. omega arith)
-
-pub length-sealed : (b : List ℕ) → length (sealed b) ≡ length b
-unfolding sealed
-length-sealed b = length-putBe 4 b checkAt (checkOf (take checkAt b))
-
-pub body-sealed : (b : List ℕ) → take checkAt (sealed b) ≡ take checkAt b
-body-sealed b =
-    ext-getD 0 (take checkAt (sealed b)) (take checkAt b) (simp (length-take, length-sealed)) (λ i h.
-    let inside : i < 508 = omega (arith, simp length-take at h) in
-    rw (getD-take 508 (sealed b) i 0, getD-take 508 b i 0) (sealed-else b i inside))
-
--- a sealed block is sound
-pub sealed-sound : (b : List ℕ) → length b ≡ blockSize → sound (sealed b) ≡ true
-unfolding sound sealed
-sealed-sound b l =
-    eq-eqb _ _ (beAt-putBe-fits 4 b checkAt (checkOf (take checkAt b)) (omega arith) (checkOf-lt (take checkAt b)) ∙ ap checkOf (sym (body-sealed b)))
+seal-put b long {c} ec ex =
+    let last : drop blockSize b ≡ [] = drop-of-length-le b {i = blockSize} (omega arith) in
+    ex
+    ∙ laid-split b checkAt (bytes 4 c) (omega arith)
+    ∙ ap (λ (r : List ℕ). take checkAt b ++ (bytes 4 c ++ r)) last
+    ∙ ap (λ (r : List ℕ). take checkAt b ++ r) (append-nil (bytes 4 c))
+    ∙ ap (λ (v : ℕ). take checkAt b ++ bytes 4 v) ec

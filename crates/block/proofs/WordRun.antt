@@ -1,20 +1,19 @@
 -- The laws of a run of 32-bit words, from those of a run. Assumes nothing.
 use Prim.Native.Nat.{ℕ, zero, suc, _+_, _-_, _*_, _≤_, _<_}
-use mathlib.Core.List.{List, [], _∷_}
-use mathlib.Core.Logic.{_≢_, ⊎-elim}
+use mathlib.Core.List.{List, [], _∷_, _++_}
 use mathlib.Core.Path.{_≡_, refl, sym, ap, _∙_}
 use native.Mathlib.Numerals.{add-one}
 use native.Mathlib.Omega.{arith}
-use lib.ListN.{length, getD, drop, replicate}
-use lib.Seq.{drop-cons, ext-getD}
-use Rattle.octets.specs.Be.{beAt, putBe}
-use Rattle.octets.specs.Fill.{zeroed}
-use Rattle.octets.proofs.Choice.{below-or-not}
-use Rattle.octets.proofs.Fill.{length-filled, filled-at, filled-else, length-zeros, zeros-at}
-use Rattle.block.specs.Run.{runSize, wordsAt, withWords, Words}
-use Rattle.block.proofs.Run.{Fit, none, one, length-putRun, getD-putRun, getRun-putRun, getRun-same, zeros-getRun, getRun-zeros}
+use lib.ListN.{length, getD, set, drop, replicate}
+use lib.Seq.{drop-cons}
+use Rattle.octets.specs.Be.{beAt, bytes}
+use Rattle.octets.specs.Laid.{laid}
+use Rattle.octets.proofs.Fill.{length-zeros, zeros-at}
+use Rattle.octets.proofs.Laid.{laid-none, laid-then, laid-behind, laid-over}
+use Rattle.block.specs.Run.{spelled, runSize, wordsAt, wordBytes, Words}
+use Rattle.block.proofs.Run.{Fit, none, one, length-spelled, getRun-spelled, getRun-same, zeros-getRun, getRun-zeros}
 
-size : (n : ℕ) → runSize (replicate n 4) ≡ n * 4
+pub size : (n : ℕ) → runSize (replicate n 4) ≡ n * 4
 size zero = refl
 size (suc n) = omega (arith, size n)
 
@@ -38,41 +37,50 @@ getD-wordsAt zero s at i l = absurd (omega arith)
 getD-wordsAt (suc n) s at zero l = ap (beAt 4 s) (omega arith)
 getD-wordsAt (suc n) s at (suc i) l = getD-wordsAt n s (at + 4) i (omega arith) ∙ ap (beAt 4 s) (omega arith)
 
--- what is left to be written, from word i on
-pub withWords-turn : (n : ℕ) (ws s : List ℕ) (at i : ℕ) → i < n → n ≤ length ws
-    → withWords (n - i) (drop i ws) s (at + i * 4) ≡ withWords (n - (i + 1)) (drop (i + 1) ws) (putBe 4 s (at + i * 4) (getD ws i 0)) (at + (i + 1) * 4)
-unfolding withWords
-withWords-turn n ws s at i l m =
-    let left : n - i ≡ suc (n - (i + 1)) = omega arith in
-    let inside : i < length ws = omega arith in
-    let next : at + i * 4 + 4 ≡ at + (i + 1) * 4 = omega arith in
-    rw (left, drop-cons ws i 0, ← add-one i) (ap (withWords (n - (i + 1)) (drop (i + 1) ws) (putBe 4 s (at + i * 4) (getD ws i 0))) next)
+pub length-wordBytes : (n : ℕ) (ws : List ℕ) → length (wordBytes n ws) ≡ n * 4
+unfolding wordBytes
+length-wordBytes n ws = length-spelled (replicate n 4) ws ∙ size n
 
-pub withWords-start : (n : ℕ) (ws s : List ℕ) (at : ℕ) → withWords n ws s at ≡ withWords (n - 0) (drop 0 ws) s (at + 0 * 4)
-withWords-start n ws s at =
+-- words that were spelled are read back, also where they stand between others
+pub words-spelled : (n : ℕ) (ws s t : List ℕ) (at : ℕ) → at ≡ length s → Words n ws → wordsAt n (s ++ (wordBytes n ws ++ t)) at ≡ ws
+unfolding wordsAt wordBytes
+words-spelled n ws s t at e h =
+    let fits : Fit (replicate n 4) ws = rw (h .count) at (fit ws (h .each)) in
+    getRun-spelled (replicate n 4) ws s t at e fits
+
+-- ---- words stored one after the other: what is left to be written, from word i on
+pub words-start : (n : ℕ) (ws s : List ℕ) (at : ℕ) → laid s at (wordBytes n ws) ≡ laid s (at + 0 * 4) (wordBytes (n - 0) (drop 0 ws))
+words-start n ws s at =
     let all : n - 0 ≡ n = omega arith in
     let start : at + 0 * 4 ≡ at = omega arith in
     rw (all, start)
 
-pub withWords-none : (ws s : List ℕ) (at : ℕ) → withWords 0 ws s at ≡ s
-unfolding withWords
-withWords-none ws s at = refl
+pub words-turn : (n : ℕ) (ws s : List ℕ) (at i : ℕ) → i < n → n ≤ length ws
+    → laid s (at + i * 4) (wordBytes (n - i) (drop i ws))
+      ≡ laid (laid s (at + i * 4) (bytes 4 (getD ws i 0))) (at + (i + 1) * 4) (wordBytes (n - (i + 1)) (drop (i + 1) ws))
+unfolding wordBytes spelled
+words-turn n ws s at i l m =
+    let left : n - i ≡ suc (n - (i + 1)) = omega arith in
+    let inside : i < length ws = omega arith in
+    let b : List ℕ = bytes 4 (getD ws i 0) in
+    let rest : List ℕ = spelled (replicate (n - (i + 1)) 4) (drop (i + 1) ws) in
+    rw (left, drop-cons ws i 0, ← add-one i) (sym (laid-then s (at + i * 4) b rest (at + (i + 1) * 4) (omega arith)))
 
-pub length-withWords : (n : ℕ) (ws s : List ℕ) (at : ℕ) → length (withWords n ws s at) ≡ length s
-unfolding withWords
-length-withWords n ws s at = length-putRun (replicate n 4) ws s at
+pub words-none : (ws s : List ℕ) (at : ℕ) → laid s at (wordBytes 0 ws) ≡ s
+unfolding wordBytes spelled
+words-none ws s at = laid-none s at
 
--- a byte outside the words is as it was
-pub getD-withWords : (n : ℕ) (ws s : List ℕ) (at j : ℕ) → ((k : ℕ) → k < n * 4 → j ≢ at + k) → getD (withWords n ws s at) j 0 ≡ getD s j 0
-unfolding withWords
-getD-withWords n ws s at j out = getD-putRun (replicate n 4) ws s at j (λ k l. out k (rw size at l))
-
--- words that were written are read back
-pub words-put : (n : ℕ) (ws s : List ℕ) (at : ℕ) → Words n ws → at + n * 4 ≤ length s → wordsAt n (withWords n ws s at) at ≡ ws
-unfolding wordsAt withWords
-words-put n ws s at h room =
-    let fits : Fit (replicate n 4) ws = rw (h .count) at (fit ws (h .each)) in
-    getRun-putRun (replicate n 4) ws s at (rw size room) fits
+-- one word that is another
+pub word-put : (n : ℕ) (ws : List ℕ) (i v : ℕ) → i < n → n ≤ length ws → wordBytes n (set ws i v) ≡ laid (wordBytes n ws) (i * 4) (bytes 4 v)
+unfolding wordBytes spelled
+word-put zero ws i v l m = absurd (omega arith)
+word-put (suc n) [] i v l m = absurd (omega arith)
+word-put (suc n) (x ∷ ws) zero v l m = sym (laid-over (bytes 4 x) (spelled (replicate n 4) ws) (bytes 4 v) refl)
+word-put (suc n) (x ∷ ws) (suc i) v l m =
+    let there : 4 + i * 4 ≡ suc i * 4 = omega arith in
+    ap (λ (r : List ℕ). bytes 4 x ++ r) (word-put n ws i v (omega arith) (omega arith))
+    ∙ sym (laid-behind (bytes 4 x) (spelled (replicate n 4) ws) (i * 4) (bytes 4 v))
+    ∙ ap (λ (k : ℕ). laid (bytes 4 x ++ spelled (replicate n 4) ws) k (bytes 4 v)) there
 
 -- only their own bytes count
 pub words-same : (n : ℕ) (s t : List ℕ) (at : ℕ) → ((k : ℕ) → k < n * 4 → getD s (at + k) 0 ≡ getD t (at + k) 0) → wordsAt n s at ≡ wordsAt n t at
@@ -93,26 +101,9 @@ pub none-fit : (n : ℕ) → Words n (replicate n 0)
 none-fit n = record { count = length-zeros n; each = λ i. rw (zeros-at n i) (omega arith) }
 
 -- they are bytes of zero
-pub zeroed-words : (n : ℕ) (s : List ℕ) (at : ℕ) → at + n * 4 ≤ length s → zeroed s at (n * 4) ≡ withWords n (replicate n 0) s at
-zeroed-words n s at room =
-    ext-getD 0 (zeroed s at (n * 4)) (withWords n (replicate n 0) s at)
-    (length-filled (n * 4) (λ i. 0) s at ∙ sym (length-withWords n (replicate n 0) s at))
-    (λ j l.
-    ⊎-elim
-    (λ (before : j < at). outside j (λ k h e. omega arith))
-    (λ (from : at ≤ j).
-    ⊎-elim
-    (λ (within : j < at + n * 4).
-    let place : at + (j - at) ≡ j = omega arith in
-    rw place at (inside (j - at) (omega arith)))
-    (λ (behind : at + n * 4 ≤ j). outside j (λ k h e. omega arith))
-    (below-or-not j (at + n * 4)))
-    (below-or-not j at))
-  where
-    outside : (j : ℕ) → ((k : ℕ) → k < n * 4 → j ≢ at + k) → getD (zeroed s at (n * 4)) j 0 ≡ getD (withWords n (replicate n 0) s at) j 0
-    outside j out = filled-else (n * 4) (λ i. 0) s at j out ∙ sym (getD-withWords n (replicate n 0) s at j out)
-
-    inside : (k : ℕ) → k < n * 4 → getD (zeroed s at (n * 4)) (at + k) 0 ≡ getD (withWords n (replicate n 0) s at) (at + k) 0
-    inside k l =
-        filled-at (n * 4) (λ i. 0) s at k room l
-        ∙ sym (words-zeros n (withWords n (replicate n 0) s at) at (words-put n (replicate n 0) s at (none-fit n) room) k l)
+pub zero-words : (n : ℕ) → wordBytes n (replicate n 0) ≡ replicate (n * 4) 0
+unfolding wordBytes spelled
+zero-words zero = refl
+zero-words (suc n) =
+    let more : suc n * 4 ≡ suc (suc (suc (suc (n * 4)))) = omega arith in
+    rw more (ap (λ (l : List ℕ). 0 ∷ 0 ∷ 0 ∷ 0 ∷ l) (zero-words n))

@@ -6,15 +6,15 @@ use mathlib.Core.Path.{_≡_, refl, sym, _∙_}
 use native.Mathlib.Numerals.{add-one}
 use native.Mathlib.Omega.{arith}
 use lib.Dec.{eqb}
-use lib.ListN.{length, getD, take, drop, length-take, length-drop, drop-of-length-le}
+use lib.ListN.{length, getD, take, drop, replicate, length-take, length-drop, drop-of-length-le}
 use lib.Seq.{drop-cons, getD-drop, getD-take}
 use borrow.Author.Tests.{eqb-true, eq-eqb}
-use Rattle.octets.specs.Fill.{zeroed}
+use Rattle.octets.specs.Laid.{laid}
 use Rattle.octets.specs.Part.{part}
 use Rattle.octets.specs.Pick.{both}
 use Rattle.octets.proofs.Choice.{both-true}
-use Rattle.octets.proofs.Fill.{filled-at}
-use Rattle.octets.proofs.Part.{part-at, part-inside}
+use Rattle.octets.proofs.Fill.{length-zeros, zeros-at}
+use Rattle.octets.proofs.Part.{part-at, part-same}
 use Rattle.block.specs.Check.{checkAt}
 use Rattle.block.specs.Zeros.{allZero}
 
@@ -50,11 +50,11 @@ pub zero-past : (s : List ℕ) (k : ℕ) → length s ≤ k → allZero (drop k 
 zero-past s k l = rw (drop-of-length-le s {i = k} l) allZero-none
 
 -- bytes that were cleared
-pub zeroed-zero : (s : List ℕ) (at n e : ℕ) → at + n ≤ length s → e ≤ at + n → allZero (part (zeroed s at n) at e) ≡ true
-zeroed-zero s at n e room h =
-    bytes-zero (part (zeroed s at n) at e) (λ i l.
-    let inside : i < e - at = part-inside (zeroed s at n) at e i l in
-    part-at (zeroed s at n) at e i inside ∙ filled-at n (λ j. 0) s at i room (omega arith))
+pub zeros-zero : (n : ℕ) → allZero (replicate n 0) ≡ true
+zeros-zero n = bytes-zero (replicate n 0) (λ i l. zeros-at n i)
+
+pub cleared-zero : (s : List ℕ) (at n e : ℕ) → at + n ≤ length s → e ≡ at + n → allZero (part (laid s at (replicate n 0)) at e) ≡ true
+cleared-zero s at n e room h = rw (part-same s at e (replicate n 0) (omega arith) (omega arith) (length-zeros n ∙ omega arith)) (zeros-zero n)
 
 -- of a block's bytes up to its check
 pub body-zero : (b : List ℕ) (end k : ℕ) → end ≤ k → allZero (part b end checkAt) ≡ true → allZero (drop k (take checkAt b)) ≡ true

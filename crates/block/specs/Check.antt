@@ -2,10 +2,10 @@
 -- for each of the 254 big-endian 16-bit words before them, A becomes A+word, B becomes B+A, both modulo 65,535."
 use Prim.Native.Nat.{ℕ, _+_, _*_, _%_}
 use mathlib.Core.Bool.{Bool}
-use mathlib.Core.List.{List, [], _∷_}
+use mathlib.Core.List.{List, [], _∷_, _++_}
 use lib.Dec.{eqb, ltb}
 use lib.ListN.{length, take}
-use Rattle.octets.specs.Be.{beAt, putBe}
+use Rattle.octets.specs.Be.{beAt, bytes}
 use Rattle.octets.specs.Pick.{pick}
 use Rattle.block.specs.declared.BlockCheck.{BlockCheck}
 use Rattle.block.specs.declared.BlockCheck.the-variants.{Check, TooShort}
@@ -31,9 +31,9 @@ checkOf s = sums 1 0 s
 unfoldable pub sound : List ℕ → Bool
 sound b = eqb (beAt 4 b checkAt) (checkOf (take checkAt b))
 
--- the block with its check written
+-- the block of these bytes, the 508 before the check, with their check behind them
 unfoldable pub sealed : List ℕ → List ℕ
-sealed b = putBe 4 b checkAt (checkOf (take checkAt b))
+sealed body = body ++ bytes 4 (checkOf body)
 
 -- the check of the first 508 of any bytes; refused where there are fewer
 unfoldable pub blockCheckOf : List ℕ → BlockCheck

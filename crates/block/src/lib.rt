@@ -57,7 +57,7 @@ pub fn is_sound_before(block: &[u8], end: usize) -> bool
 // Writes the check of the block; every other byte stays.
 pub fn seal(block: &mut [u8])
     requires { ⌜ length (now block) ≡ blockSize ⌝ }
-    ensures { λ _. ⌜ now (block .exit) ≡ sealed (now (block .entry)) ⌝ }
+    ensures { λ _. ⌜ now (block .exit) ≡ sealed (take checkAt (now (block .entry))) ⌝ }
 {
     let check = check(&block[0..CHECK_AT]);
     octets::put_u32(block, CHECK_AT, check);
@@ -66,7 +66,7 @@ pub fn seal(block: &mut [u8])
 // Writes the check of a block whose bytes from `end` up to the check are zero: the same check, in less time.
 pub fn seal_before(block: &mut [u8], end: usize)
     requires { ⌜ (length (now block) ≡ blockSize) × (end ≤ checkAt) × (allZero (part (now block) end checkAt) ≡ true) ⌝ }
-    ensures { λ _. ⌜ now (block .exit) ≡ sealed (now (block .entry)) ⌝ }
+    ensures { λ _. ⌜ now (block .exit) ≡ sealed (take checkAt (now (block .entry))) ⌝ }
 {
     let sum = check_before(block, end);
     octets::put_u32(block, CHECK_AT, sum);

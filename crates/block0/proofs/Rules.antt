@@ -107,20 +107,20 @@ unfolding headerOk
 parts-header h ls v = simp (lt-ltb _ _ (v .first), le-leb _ _ (v .held), le-leb _ _ (v .kept), v .window)
 
 -- block 0 as it was written has right fields
-pub valid-fields : (b : List ℕ) (h : Header) (ls : List ℕ) → length b ≡ 512 → Fits h → Words wordCount ls → Valid h ls → fieldsOk (block0 b h ls) ≡ true
+pub valid-fields : (h : Header) (ls : List ℕ) → Fits h → Words wordCount ls → Valid h ls → fieldsOk (block0 h ls) ≡ true
 unfolding fieldsOk
-valid-fields b h ls long fh fl v =
-    let t : List ℕ = block0 b h ls in
-    let run : getRun widths t 0 ≡ values h = run-block0 b h ls long fh fl in
+valid-fields h ls fh fl v =
+    let t : List ℕ = block0 h ls in
+    let run : getRun widths t 0 ≡ values h = run-block0 h ls fh fl in
     let version : beAt 4 t 0 ≡ 1 = ap (λ (l : List ℕ). getD l 0 0) run in
     let spare : beAt 1 t 23 ≡ 0 = ap (λ (l : List ℕ). getD l 8 0) run in
-    let eh : headerOf t ≡ h = header-block0 b h ls long fh fl in
-    let el : labelsOf t ≡ ls = labels-block0 b h ls long fh fl in
+    let eh : headerOf t ≡ h = header-block0 h ls fh fl in
+    let el : labelsOf t ≡ ls = labels-block0 h ls fh fl in
     let idle : pick (eqb (h .kept) 0) (allZero (bodyOf t)) true ≡ true =
     ⊎-elim
     (λ (z : h .kept ≡ 0).
     let numbers : getRun (drop 1 widths) t 4 ≡ replicate 10 0 = ap (drop 1) run ∙ ap (λ (x : Header). drop 1 (values x)) (v .idle z .0) in
-    simp (eq-eqb _ _ z, zero-body t (length-block0 b h ls long) numbers (el ∙ v .idle z .1)))
+    simp (eq-eqb _ _ z, zero-body t (length-block0 h ls) numbers (el ∙ v .idle z .1)))
     (λ (p : 0 < h .kept). let apart : h .kept ≡ 0 → ⊥ = λ e. omega arith in simp (ne-eqb (h .kept) 0 apart))
     (eq-zero-or-pos (h .kept)) in
     simp (eq-eqb _ _ version, eq-eqb _ _ spare, eh, parts-header h ls v, idle, el, v .labels)

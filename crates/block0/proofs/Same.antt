@@ -2,55 +2,108 @@
 -- too, it is the same. Assumes nothing.
 use Prim.Native.Nat.{ℕ, _+_, _*_, _<_}
 use mathlib.Core.Bool.{true}
-use mathlib.Core.List.{List}
+use mathlib.Core.List.{List, _++_, append-assoc}
 use mathlib.Core.Path.{_≡_, sym, ap, ap₂, _∙_}
 use native.Mathlib.Omega.{arith}
-use lib.ListN.{length, getD, set}
+use lib.ListN.{length, set, take, drop, replicate, length-append, take-append-drop}
+use lib.Seq.{take-add, take-at}
 use borrow.Author.Tests.{eqb-true}
-use Rattle.octets.specs.Be.{beAt, putBe}
+use Rattle.octets.specs.Be.{beAt, bytes}
 use Rattle.octets.specs.Bytes.{Bytes}
-use Rattle.octets.specs.Fill.{zeroed}
+use Rattle.octets.specs.Laid.{laid}
 use Rattle.octets.proofs.Choice.{both-true}
-use Rattle.block.specs.Check.{sound, sealed}
-use Rattle.block.specs.Run.{getRun, putRun, wordsAt, withWords}
-use Rattle.block.proofs.Run.{getD-putRun}
-use Rattle.block.proofs.Same.{putRun-same, words-same, word-put, sealed-same}
-use Rattle.block.proofs.WordRun.{words-same as words-agree, zeroed-words}
+use Rattle.octets.proofs.Fill.{length-zeros}
+use Rattle.octets.proofs.Laid.{length-laid, laid-then, laid-front, take-laid, laid-behind, laid-before}
+use Rattle.block.specs.Check.{blockSize, checkAt, sound, sealed}
+use Rattle.block.specs.Run.{getRun, spelled, wordsAt, wordBytes}
+use Rattle.block.proofs.Same.{spelled-getRun, words-same, sealed-same}
+use Rattle.block.proofs.WordRun.{length-wordBytes, length-wordsAt, word-put, zero-words}
 use Rattle.label_list.specs.Word.{wordCount}
 use Rattle.block0.specs.declared.Header.{Header}
 use Rattle.block0.specs.Fields.{fieldsOk}
 use Rattle.block0.specs.Layout.{widths, labelsAt, values, headerOf, labelsOf, block0, noLabels}
+use Rattle.block0.proofs.Written.{length-fields}
 
--- the fields stand before the label words: `n` is the block with its fields written
-module _ (b : List ℕ) (h : Header) {n : List ℕ} (e : n ≡ putRun widths (values h) b 0) where
-  words-stay : wordsAt wordCount n labelsAt ≡ wordsAt wordCount b labelsAt
-  words-stay =
-      words-agree wordCount n b labelsAt (λ k l.
-      ap (λ (s : List ℕ). getD s (labelsAt + k) 0) e ∙ getD-putRun widths (values h) b 0 (labelsAt + k) (λ i m. omega arith))
+-- `n` is a block with the fields written
+module _ (b : List ℕ) (long : length b ≡ blockSize) (h : Header) {n : List ℕ} (e : n ≡ laid b 0 (spelled widths (values h))) where
+  fields : List ℕ
+  fields = spelled widths (values h)
 
-  pub labels-kept : {x : List ℕ} → Bytes n → x ≡ sealed n → x ≡ block0 b h (labelsOf b)
-  unfolding block0 labelsOf
-  labels-kept byte p =
-      p
-      ∙ ap sealed (sym (words-same wordCount n labelsAt byte) ∙ ap₂ (λ (ls s : List ℕ). withWords wordCount ls s labelsAt) words-stay e)
+  long-fields : length fields ≡ labelsAt
+  unfolding fields
+  long-fields = length-fields h
 
-  -- one label word is another
-  pub label-put : (i w : ℕ) {o x : List ℕ} → i < wordCount → o ≡ putBe 4 n (labelsAt + i * 4) w → Bytes n → Bytes o → x ≡ sealed o
-      → x ≡ block0 b h (set (labelsOf b) i w)
-  unfolding block0 labelsOf
-  label-put i w l eo byte after p =
-      p
-      ∙ ap sealed
-      (eo
-      ∙ sym (word-put wordCount n labelsAt i w byte (rw eo at after) l)
-      ∙ ap₂ (λ (ls s : List ℕ). withWords wordCount (set ls i w) s labelsAt) words-stay e)
+  -- every label word is written
+  words-put : (p : List ℕ) {z : List ℕ} → length p ≡ 480 → z ≡ laid n labelsAt p → take checkAt z ≡ fields ++ p
+  unfolding fields
+  words-put p {z} size ez =
+      let body : List ℕ = spelled widths (values h) ++ p in
+      let whole : length body ≡ checkAt = length-append (spelled widths (values h)) p ∙ omega (arith, length-fields h) in
+      let put : z ≡ laid b 0 body = ez ∙ rw e (laid-then b 0 (spelled widths (values h)) p labelsAt (omega (arith, length-fields h))) in
+      ap (take checkAt) put
+      ∙ ap (λ (k : ℕ). take k (laid b 0 body)) (sym whole)
+      ∙ take-laid b body (omega arith)
+
+  pub labels-put : (ls : List ℕ) {z x : List ℕ} → length ls ≡ wordCount → z ≡ laid n labelsAt (wordBytes (length ls) ls) → x ≡ sealed (take checkAt z) → x ≡ block0 h ls
+  unfolding block0 fields
+  labels-put ls count ez p =
+      p ∙ ap sealed (words-put (wordBytes wordCount ls) (length-wordBytes wordCount ls) (ez ∙ ap (λ (k : ℕ). laid n labelsAt (wordBytes k ls)) count))
 
   -- no label word is left
-  pub labels-zeroed : {z x : List ℕ} → length n ≡ 512 → z ≡ zeroed n labelsAt 480 → x ≡ sealed z → x ≡ block0 b h noLabels
-  unfolding block0
-  labels-zeroed long ez p =
-      p
-      ∙ ap sealed (ez ∙ zeroed-words wordCount n labelsAt (omega arith) ∙ ap (λ (s : List ℕ). withWords wordCount noLabels s labelsAt) e)
+  pub labels-cleared : {z x : List ℕ} → z ≡ laid n labelsAt (replicate 480 0) → x ≡ sealed (take checkAt z) → x ≡ block0 h noLabels
+  unfolding block0 fields
+  labels-cleared ez p =
+      p ∙ ap sealed (words-put (replicate 480 0) (length-zeros 480) ez ∙ ap (λ (l : List ℕ). spelled widths (values h) ++ l) (sym (zero-words wordCount)))
+
+  -- ---- where the other label words stay
+  module _ (byte : Bytes b) where
+    words : List ℕ
+    words = wordBytes wordCount (labelsOf b)
+
+    long-words : length words ≡ 480
+    unfolding words
+    long-words = length-wordBytes wordCount (labelsOf b)
+
+    rest : List ℕ
+    rest = drop 480 (drop labelsAt b)
+
+    words-stay : n ≡ fields ++ (words ++ rest)
+    unfolding fields words rest labelsOf
+    words-stay =
+        e
+        ∙ laid-front b (spelled widths (values h)) (omega (arith, length-fields h))
+        ∙ ap (λ (k : ℕ). spelled widths (values h) ++ drop k b) (length-fields h)
+        ∙ ap (λ (l : List ℕ). spelled widths (values h) ++ l)
+        (sym (take-append-drop 480 (drop labelsAt b)) ∙ ap (λ (l : List ℕ). l ++ drop 480 (drop labelsAt b)) (sym (words-same wordCount b labelsAt byte (omega arith))))
+
+    -- what stands before the check, whatever the 480 bytes are
+    before-check : (p : List ℕ) → length p ≡ 480 → take checkAt (fields ++ (p ++ rest)) ≡ fields ++ p
+    before-check p size =
+        ap (take checkAt) (sym (append-assoc fields p rest)) ∙ take-at (fields ++ p) rest checkAt (length-append fields p ∙ omega (arith, long-fields))
+
+    pub labels-kept : {x : List ℕ} → x ≡ sealed (take checkAt n) → x ≡ block0 h (labelsOf b)
+    unfolding block0 fields words
+    labels-kept p = p ∙ ap sealed (ap (take checkAt) words-stay ∙ before-check words long-words)
+
+    -- one label word is another
+    pub label-put : (i w : ℕ) {o x : List ℕ} → i < wordCount → o ≡ laid n (labelsAt + i * 4) (bytes 4 w) → x ≡ sealed (take checkAt o)
+        → x ≡ block0 h (set (labelsOf b) i w)
+    unfolding block0 fields words labelsOf
+    label-put i w {o} l eo p =
+        let there : labelsAt + i * 4 ≡ length fields + i * 4 = omega (arith, long-fields) in
+        let one : laid (words ++ rest) (i * 4) (bytes 4 w) ≡ laid words (i * 4) (bytes 4 w) ++ rest =
+        laid-before words rest (i * 4) (bytes 4 w) (omega (arith, long-words)) in
+        let put : o ≡ fields ++ (laid words (i * 4) (bytes 4 w) ++ rest) =
+        eo
+        ∙ ap₂ (λ (s : List ℕ) (k : ℕ). laid s k (bytes 4 w)) words-stay there
+        ∙ laid-behind fields (words ++ rest) (i * 4) (bytes 4 w)
+        ∙ ap (λ (s : List ℕ). fields ++ s) one in
+        let count : length (wordsAt wordCount b labelsAt) ≡ wordCount = length-wordsAt wordCount b labelsAt in
+        p
+        ∙ ap sealed
+        (ap (take checkAt) put
+        ∙ before-check (laid words (i * 4) (bytes 4 w)) (length-laid words (i * 4) (bytes 4 w) ∙ long-words)
+        ∙ ap (λ (s : List ℕ). fields ++ s) (sym (word-put wordCount (wordsAt wordCount b labelsAt) i w l (omega arith))))
 
 -- the version and the zero are those that are written
 values-same : (b : List ℕ) → fieldsOk b ≡ true → values (headerOf b) ≡ getRun widths b 0
@@ -60,9 +113,9 @@ values-same b f =
     let q = both-true _ _ (p .1) in
     rw (eqb-true (beAt 4 b 0) 1 (p .0), eqb-true (beAt 1 b 23) 0 (q .0))
 
-pub block0-same : (b : List ℕ) → Bytes b → sound b ≡ true → fieldsOk b ≡ true → block0 b (headerOf b) (labelsOf b) ≡ b
+pub block0-same : (b : List ℕ) → length b ≡ blockSize → Bytes b → sound b ≡ true → fieldsOk b ≡ true → block0 (headerOf b) (labelsOf b) ≡ b
 unfolding block0 labelsOf
-block0-same b byte s f =
-    ap (λ (l : List ℕ). sealed (withWords wordCount (wordsAt wordCount b labelsAt) l labelsAt)) (ap (λ (v : List ℕ). putRun widths v b 0) (values-same b f) ∙ putRun-same widths b 0 byte)
-    ∙ ap sealed (words-same wordCount b labelsAt byte)
-    ∙ sealed-same b byte s
+block0-same b long byte s f =
+    let fields : spelled widths (values (headerOf b)) ≡ take labelsAt b = ap (spelled widths) (values-same b f) ∙ spelled-getRun widths b 0 byte (omega arith) in
+    ap sealed (ap₂ (λ (x y : List ℕ). x ++ y) fields (words-same wordCount b labelsAt byte (omega arith)) ∙ sym (take-add labelsAt 480 b))
+    ∙ sealed-same b long byte s

@@ -1,15 +1,18 @@
 -- Block 0 that was written: it is sound, and is read back. Assumes nothing.
 use Prim.Native.Nat.{ℕ, _+_, _^_, _<_}
 use mathlib.Core.Bool.{true}
-use mathlib.Core.List.{List}
-use mathlib.Core.Path.{_≡_, refl, ap, _∙_}
+use mathlib.Core.List.{List, [], _++_, append-assoc}
+use mathlib.Core.Path.{_≡_, refl, sym, ap, ap₂, _∙_}
 use native.Mathlib.Omega.{arith}
-use lib.ListN.{length, getD}
-use Rattle.block.specs.Check.{sealed, sound}
-use Rattle.block.specs.Run.{getRun, putRun, withWords, Words}
-use Rattle.block.proofs.Run.{Fit, none, one, length-putRun, getRun-putRun, getRun-same}
-use Rattle.block.proofs.Sealed.{sealed-else, length-sealed, sealed-sound}
-use Rattle.block.proofs.WordRun.{length-withWords, getD-withWords, words-put, words-same}
+use lib.ListN.{length, take, drop, length-append}
+use Rattle.octets.specs.Be.{bytes}
+use Rattle.octets.specs.Laid.{laid}
+use Rattle.octets.proofs.Laid.{laid-then}
+use Rattle.block.specs.Check.{blockSize, checkAt, checkOf, sealed, sound}
+use Rattle.block.specs.Run.{getRun, spelled, wordsAt, wordBytes, Words}
+use Rattle.block.proofs.Run.{Fit, none, one, length-spelled, getRun-spelled}
+use Rattle.block.proofs.Sealed.{length-sealed, sealed-sound}
+use Rattle.block.proofs.WordRun.{length-wordBytes, words-spelled}
 use Rattle.label_list.specs.Word.{wordCount}
 use Rattle.block0.specs.declared.Header.{Header}
 use Rattle.block0.specs.Fields.{Fits}
@@ -21,54 +24,62 @@ fits h f =
     let spare : 0 < 256 ^ 1 = omega arith in
     one version (one (f .released) (one (f .issued) (one (f .secured) (one (f .first) (one (f .held) (one (f .timeout) (one (f .kept) (one spare (one (f .keepalive) (one (f .maxpdu) none))))))))))
 
+-- the bytes of the fields
+pub length-fields : (h : Header) → length (spelled widths (values h)) ≡ labelsAt
+length-fields h = length-spelled widths (values h)
+
+-- they are stored in two runs
+pub fields-put : (b : List ℕ) (h : Header) {n x : List ℕ} → n ≡ laid b 0 (spelled (take 4 widths) (take 4 (values h)))
+    → x ≡ laid n 16 (spelled (drop 4 widths) (drop 4 (values h))) → x ≡ laid b 0 (spelled widths (values h))
+unfolding spelled
+fields-put b h e₁ e₂ =
+    e₂ ∙ rw e₁ (laid-then b 0 (spelled (take 4 widths) (take 4 (values h))) (spelled (drop 4 widths) (drop 4 (values h))) 16 refl)
+
+-- the bytes before the check
+pub length-body : (h : Header) (ls : List ℕ) → length (spelled widths (values h) ++ wordBytes wordCount ls) ≡ checkAt
+length-body h ls =
+    length-append (spelled widths (values h)) (wordBytes wordCount ls)
+    ∙ ap₂ (λ (x y : ℕ). x + y) (length-fields h) (length-wordBytes wordCount ls)
+
 -- whatever is written, it is whole and has its check
-module _ (b : List ℕ) (h : Header) (ls : List ℕ) (long : length b ≡ 512) where
-  numbered : List ℕ
-  numbered = putRun widths (values h) b 0
+module _ (h : Header) (ls : List ℕ) where
+  fields : List ℕ
+  fields = spelled widths (values h)
 
-  filled : List ℕ
-  filled = withWords wordCount ls numbered labelsAt
+  words : List ℕ
+  words = wordBytes wordCount ls
 
-  is-sealed : block0 b h ls ≡ sealed filled
-  unfolding block0 filled numbered
-  is-sealed = refl
+  check : List ℕ
+  check = bytes 4 (checkOf (fields ++ words))
 
-  long-numbered : length numbered ≡ 512
-  unfolding numbered
-  long-numbered = length-putRun widths (values h) b 0 ∙ long
+  in-parts : block0 h ls ≡ fields ++ (words ++ check)
+  unfolding block0 sealed fields words check
+  in-parts = append-assoc fields words check
 
-  long-filled : length filled ≡ 512
-  unfolding filled
-  long-filled = length-withWords wordCount ls numbered labelsAt ∙ long-numbered
-
-  pub length-block0 : length (block0 b h ls) ≡ 512
-  length-block0 = rw is-sealed (length-sealed filled ∙ long-filled)
+  pub length-block0 : length (block0 h ls) ≡ blockSize
+  unfolding block0
+  length-block0 = length-sealed (spelled widths (values h) ++ wordBytes wordCount ls) (length-body h ls)
 
   -- a block 0 that was written has its check
-  pub block0-sound : sound (block0 b h ls) ≡ true
-  block0-sound = rw is-sealed (sealed-sound filled long-filled)
+  pub block0-sound : sound (block0 h ls) ≡ true
+  unfolding block0
+  block0-sound = sealed-sound (spelled widths (values h) ++ wordBytes wordCount ls) (length-body h ls)
 
   -- with each number in its width it is read back
   module _ (fh : Fits h) (fl : Words wordCount ls) where
     -- the fields, one after the other
-    pub run-block0 : getRun widths (block0 b h ls) 0 ≡ values h
-    unfolding filled numbered
+    pub run-block0 : getRun widths (block0 h ls) 0 ≡ values h
+    unfolding fields
     run-block0 =
-        getRun-same widths (block0 b h ls) numbered 0 (λ k l.
-        ap (λ (x : List ℕ). getD x (0 + k) 0) is-sealed
-        ∙ sealed-else filled (0 + k) (omega arith)
-        ∙ getD-withWords wordCount ls numbered labelsAt (0 + k) (λ i m. omega arith))
-        ∙ getRun-putRun widths (values h) b 0 (omega arith) (fits h fh)
+        ap (λ (b : List ℕ). getRun widths b 0) in-parts ∙ getRun-spelled widths (values h) [] (words ++ check) 0 refl (fits h fh)
 
     -- the numbers that were written are read back, where each has its width
-    pub header-block0 : headerOf (block0 b h ls) ≡ h
+    pub header-block0 : headerOf (block0 h ls) ≡ h
     unfolding headerOf
     header-block0 = ap fromValues run-block0
 
     -- so are the label words
-    pub labels-block0 : labelsOf (block0 b h ls) ≡ ls
-    unfolding labelsOf filled
+    pub labels-block0 : labelsOf (block0 h ls) ≡ ls
+    unfolding labelsOf fields words
     labels-block0 =
-        words-same wordCount (block0 b h ls) filled labelsAt (λ k l.
-        ap (λ (x : List ℕ). getD x (labelsAt + k) 0) is-sealed ∙ sealed-else filled (labelsAt + k) (omega arith))
-        ∙ words-put wordCount ls numbered labelsAt fl (omega (arith, long-numbered))
+        ap (λ (b : List ℕ). wordsAt wordCount b labelsAt) in-parts ∙ words-spelled wordCount ls fields check labelsAt (sym (length-fields h)) fl

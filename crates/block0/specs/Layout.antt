@@ -1,10 +1,10 @@
 -- Block 0: "version 1 (0-3), R (4-7), I (8-11), S (12-15), first slot 0 to 63 (16-17), held 0 to 64 (18-19), agreed timeout (20-21),
 -- kept 0 or 1 (22), zero (23), peer's KeepAlive time (24-25), peer's maximum PDU length (26-27), 120 label words (28-507)."
 use Prim.Native.Nat.{ℕ}
-use mathlib.Core.List.{List, [], _∷_}
+use mathlib.Core.List.{List, [], _∷_, _++_}
 use lib.ListN.{getD, replicate}
 use Rattle.block.specs.Check.{sealed}
-use Rattle.block.specs.Run.{getRun, putRun, wordsAt, withWords}
+use Rattle.block.specs.Run.{getRun, spelled, wordsAt, wordBytes}
 use Rattle.label_list.specs.Word.{wordCount}
 use Rattle.block0.specs.declared.Header.{Header}
 
@@ -45,9 +45,9 @@ headerOf b = fromValues (getRun widths b 0)
 unfoldable pub labelsOf : List ℕ → List ℕ
 labelsOf b = wordsAt wordCount b labelsAt
 
--- the block with its fields and label words written, and sealed
-unfoldable pub block0 : List ℕ → Header → List ℕ → List ℕ
-block0 b h ls = sealed (withWords wordCount ls (putRun widths (values h) b 0) labelsAt)
+-- the block: its fields one after the other, the label words, and the check of these 508 bytes
+unfoldable pub block0 : Header → List ℕ → List ℕ
+block0 h ls = sealed (spelled widths (values h) ++ wordBytes wordCount ls)
 
 -- "Released means block 0 with kept 0": every number is zero, and every label word
 abbrev pub releasedHeader : Header

@@ -2,8 +2,9 @@
 ghost use Prim.Native.Nat.{_<_};
 ghost use mathlib.Core.Path.{_≡_};
 ghost use lib.ListN.{length, getD, set, take, drop};
+ghost use Rattle.octets.specs.Laid.{laid};
 ghost use Rattle.block.specs.Check.{blockSize};
-ghost use Rattle.block.specs.Run.{putRun};
+ghost use Rattle.block.specs.Run.{spelled};
 ghost use Rattle.ft_number.specs.Circle.{stepsOf};
 ghost use Rattle.label_list.specs.Valid.{validOf};
 ghost use Rattle.label_list.specs.Word.{wordCount};
@@ -71,7 +72,7 @@ pub fn read_label(block: &[u8], place: usize) -> u32
 
 fn put_numbers(block: &mut [u8], h: Header)
     requires { ⌜ length (now block) ≡ blockSize ⌝ }
-    ensures { λ _. ⌜ now (block .exit) ≡ putRun (take 4 widths) (take 4 (values h)) (now (block .entry)) 0 ⌝ }
+    ensures { λ _. ⌜ now (block .exit) ≡ laid (now (block .entry)) 0 (spelled (take 4 widths) (take 4 (values h))) ⌝ }
 {
     octets::put_u32(block, 0, VERSION);
     octets::put_u32(block, 4, h.released.0);
@@ -81,7 +82,7 @@ fn put_numbers(block: &mut [u8], h: Header)
 
 fn put_rest(block: &mut [u8], h: Header)
     requires { ⌜ length (now block) ≡ blockSize ⌝ }
-    ensures { λ _. ⌜ now (block .exit) ≡ putRun (drop 4 widths) (drop 4 (values h)) (now (block .entry)) 16 ⌝ }
+    ensures { λ _. ⌜ now (block .exit) ≡ laid (now (block .entry)) 16 (spelled (drop 4 widths) (drop 4 (values h))) ⌝ }
 {
     octets::put_u16(block, 16, h.first);
     octets::put_u16(block, 18, h.held);
@@ -95,7 +96,7 @@ fn put_rest(block: &mut [u8], h: Header)
 // The fields, from the version to the label words.
 fn put_fields(block: &mut [u8], h: Header)
     requires { ⌜ length (now block) ≡ blockSize ⌝ }
-    ensures { λ _. ⌜ now (block .exit) ≡ putRun widths (values h) (now (block .entry)) 0 ⌝ }
+    ensures { λ _. ⌜ now (block .exit) ≡ laid (now (block .entry)) 0 (spelled widths (values h)) ⌝ }
 {
     put_numbers(block, h);
     put_rest(block, h);
@@ -104,7 +105,7 @@ fn put_fields(block: &mut [u8], h: Header)
 // Writes block 0 whole: version, fields, a zero byte 23, the label words and the check.
 pub fn write_block0(block: &mut [u8], h: Header, labels: &[u32])
     requires { ⌜ (length (now block) ≡ blockSize) × (length (now labels) ≡ wordCount) ⌝ }
-    ensures { λ _. ⌜ now (block .exit) ≡ block0 (now (block .entry)) h (now (labels .entry)) ⌝ }
+    ensures { λ _. ⌜ now (block .exit) ≡ block0 h (now (labels .entry)) ⌝ }
 {
     put_fields(block, h);
     block::words::store_words(block, LABELS_AT, labels);
@@ -114,7 +115,7 @@ pub fn write_block0(block: &mut [u8], h: Header, labels: &[u32])
 // Writes the fields and the check: the label words stay.
 pub fn write_header(block: &mut [u8], h: Header)
     requires { ⌜ length (now block) ≡ blockSize ⌝ }
-    ensures { λ _. ⌜ now (block .exit) ≡ block0 (now (block .entry)) h (labelsOf (now (block .entry))) ⌝ }
+    ensures { λ _. ⌜ now (block .exit) ≡ block0 h (labelsOf (now (block .entry))) ⌝ }
 {
     put_fields(block, h);
     block::seal(block);
@@ -123,7 +124,7 @@ pub fn write_header(block: &mut [u8], h: Header)
 // Writes the fields, one label word and the check: the other label words stay.
 pub fn write_label(block: &mut [u8], h: Header, place: usize, word: u32)
     requires { ⌜ (length (now block) ≡ blockSize) × (place < wordCount) ⌝ }
-    ensures { λ _. ⌜ now (block .exit) ≡ block0 (now (block .entry)) h (set (labelsOf (now (block .entry))) place word) ⌝ }
+    ensures { λ _. ⌜ now (block .exit) ≡ block0 h (set (labelsOf (now (block .entry))) place word) ⌝ }
 {
     put_fields(block, h);
     octets::put_u32(block, LABELS_AT + place * 4, word);
@@ -133,7 +134,7 @@ pub fn write_label(block: &mut [u8], h: Header, place: usize, word: u32)
 // Writes a released block 0: every number 0, kept 0, every label word free. So only the fields are summed for the check.
 pub fn write_released(block: &mut [u8])
     requires { ⌜ length (now block) ≡ blockSize ⌝ }
-    ensures { λ _. ⌜ now (block .exit) ≡ block0 (now (block .entry)) releasedHeader noLabels ⌝ }
+    ensures { λ _. ⌜ now (block .exit) ≡ block0 releasedHeader noLabels ⌝ }
 {
     let h = Header {
         released: FtNumber(0),

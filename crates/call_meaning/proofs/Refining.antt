@@ -1,12 +1,12 @@
 -- A call on an image that stands is the protocol's step on the state that the image stands for, and what it leaves stands: once for all calls. Assumes nothing.
-use Prim.Native.Nat.{ℕ}
+use Prim.Native.Nat.{ℕ, _≤_}
 use mathlib.Core.Bool.{true, false}
 use mathlib.Core.List.{List}
 use mathlib.Core.Path.{_≡_, refl, ap, _∙_}
-use lib.ListN.{length, take, drop}
-use lib.Seq.{take-append-seam}
-use Rattle.octets.specs.Part.{overlaid}
+use lib.ListN.{length, take}
+use Rattle.octets.specs.Laid.{laid}
 use Rattle.octets.proofs.Choice.{by-test}
+use Rattle.octets.proofs.Laid.{take-laid}
 use Rattle.image.specs.declared.Verdict.{Verdict}
 use Rattle.image.proofs.Changes.{break-decodes, release-decodes}
 use Rattle.image.proofs.Sound.{parts-sound}
@@ -58,13 +58,13 @@ module _ (im : List ℕ) (ph : Phase) (st : Standing im ph) (o : List ℕ) (slot
   unfolding settleOf settle
   others n = other-seen (effectOf a) refl n
 
-  -- on an image that stands, what is seen of a call is the protocol's step on its state
-  pub call-seen : seen (callOf im ph o slots (settle a (stateOf im) ph d)) ≡ settle a (stateOf im) ph d
-  call-seen =
+  -- on an image that stands, what is seen of a call is the protocol's step on its state: its output has room in the bytes lent
+  pub call-seen : (isDone a ≡ true → length (d .output) ≤ length o) → seen (callOf im ph o slots (settle a (stateOf im) ph d)) ≡ settle a (stateOf im) ph d
+  call-seen room =
       rw settles
       (by-test (isDone a)
-      (λ t. rw (byte.settle-does a ph im o (stepStored im slots d o) t, settle-does a (stateOf im) ph d t, put-state im (st .sound) slots (d .state) (k t .puts)) written)
+      (λ t. rw (byte.settle-does a ph im o (stepStored im slots d o) t, settle-does a (stateOf im) ph d t, put-state im (st .sound) slots (d .state) (k t .puts)) (written (room t)))
       (λ n. rw (settle-other a ph im o (stepStored im slots d o) (untouched a ph im o) n) (others n)))
     where
-      written : record { answer = d .answer; state = d .state; phase = d .phase; output = take (length (d .output)) (overlaid o (d .output)) } ≡ d
-      written = rw (take-append-seam (d .output) (drop (length (d .output)) o))
+      written : length (d .output) ≤ length o → record { answer = d .answer; state = d .state; phase = d .phase; output = take (length (d .output)) (laid o 0 (d .output)) } ≡ d
+      written fits = rw (take-laid o (d .output) fits)

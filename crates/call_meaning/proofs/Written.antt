@@ -46,7 +46,7 @@ written-all medium next [] lm ln within same = same-blocks medium next lm ln (λ
 written-all medium next (b ∷ bs) lm ln within same =
     let inside : b * 512 + 512 ≤ length medium = omega (arith, within .0) in
     let long : length (block next b) ≡ blockSize = length-block next b (omega (arith, within .0)) in
-    written-all (withBlock medium b (block next b)) next bs (length-put medium b (block next b) inside long ∙ lm) ln (within .1) (λ k w.
+    written-all (withBlock medium b (block next b)) next bs (length-put medium b (block next b) ∙ lm) ln (within .1) (λ k w.
     by-test (eqb k b)
     (λ e. let q : k ≡ b = eqb-true k b e in rw q (sym (block-put medium b (block next b) inside long)))
     (λ n. let a : k ≢ b = eqb-false k b n in same k (a, w) ∙ sym (block-other medium b (block next b) inside long k a)))

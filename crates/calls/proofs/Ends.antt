@@ -6,6 +6,7 @@ use mathlib.Core.Logic.{_≢_}
 use mathlib.Core.Path.{_≡_, refl, sym, _∙_}
 use lib.Dec.{eqb, ltb}
 use Rattle.octets.specs.Bytes.{Bytes}
+use Rattle.octets.specs.Laid.{laid}
 use Rattle.octets.specs.Pick.{pick}
 use Rattle.octets.proofs.Differ.{differ-self}
 use Rattle.block0.specs.declared.Header.{Header}
@@ -29,24 +30,24 @@ module _ (a : Answer) (im o : List ℕ) (s : IsSound im) (byte : Bytes im) {h : 
     (e₁ : h ≡ decode im .header) (e₂ : ph ≡ restingPhase (stateOfNumbers h)) (e₃ : b ≡ unprotected (decode im .labels)) where
   -- no label is used without protection: the image stays as it is
   pub fail-none : {r : Outcome} → b ≡ false → r ≡ refusal a ph → afterWith r im o ≡ failedOn a im o
-  unfolding failedOn
+  unfolding failedOn laid
   fail-none f e = rw (break-puts im s, break-same im s byte (sym e₃ ∙ f), differ-self, e, e₂, e₁)
 
   pub fail-some : {im′ : List ℕ} → b ≡ true → im′ ≡ breakOf im
       → afterWith (record { answer = a; phase = ph; written = 0; slot = 0; block0 = true }) im′ o ≡ failedOn a im o
-  unfolding failedOn
+  unfolding failedOn laid
   fail-some t e = rw (break-puts im s, ← break-changed im s byte (sym e₃ ∙ t), e, e₂, e₁)
 
 -- ---- released
 module _ (a : Answer) (im o : List ℕ) (s : IsSound im) {h : Header} (e : h ≡ decode im .header) where
   -- with kept 0 the image stays as it is
   pub release-none : {r : Outcome} → Bytes im → h .kept ≡ 0 → r ≡ refusal a Phase.Idle → afterWith r im o ≡ releasedOn a im o
-  unfolding releasedOn
+  unfolding releasedOn laid
   release-none byte idle p = rw (release-puts im, release-same im s byte (rw e at idle), differ-self, p)
 
   pub release-some : {im′ : List ℕ} → h .kept ≢ 0 → im′ ≡ releaseOf im
       → afterWith (record { answer = a; phase = Phase.Idle; written = 0; slot = 0; block0 = true }) im′ o ≡ releasedOn a im o
-  unfolding releasedOn
+  unfolding releasedOn laid
   release-some kept p = rw (release-puts im, ← release-changed im (s .size) (rw e at kept), p)
 
 -- ---- by the answer's effect

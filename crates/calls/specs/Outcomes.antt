@@ -5,7 +5,7 @@ use mathlib.Core.Bool.{false}
 use mathlib.Core.List.{List}
 use lib.ListN.{length}
 use Rattle.octets.specs.Differ.{differ}
-use Rattle.octets.specs.Part.{overlaid}
+use Rattle.octets.specs.Laid.{laid}
 use Rattle.image.specs.declared.Verdict.{Verdict}
 use Rattle.image.specs.Sizes.{block}
 use Rattle.image.specs.Verdict.{verdict}
@@ -46,7 +46,7 @@ stepStored im slots x o =
       block0 = differ (block im 0) (block (stored im slots (x .state)) 0);
     })
     (stored im slots (x .state))
-    (overlaid o (x .output))
+    (laid o 0 (x .output))
 
 -- "as connection failed", and "released, Idle"
 unfoldable pub failedOn : Answer → List ℕ → List ℕ → After

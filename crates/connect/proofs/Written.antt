@@ -6,7 +6,7 @@ use mathlib.Core.Path.{_≡_, refl, sym, ap, _∙_}
 use lib.Dec.{ltb}
 use lib.ListN.{length}
 use Rattle.octets.specs.Bytes.{Bytes}
-use Rattle.octets.specs.Part.{overlaid}
+use Rattle.octets.specs.Laid.{laid}
 use Rattle.octets.specs.Pick.{pick}
 use Rattle.octets.proofs.Differ.{differ-self}
 use Rattle.ft_number.specs.declared.MessageId.{MessageId}
@@ -68,7 +68,7 @@ module _ (im : List ℕ) (ph : Phase) (next : Phase) (out bytes : List ℕ) wher
           rw (ap (λ (q : Written × List ℕ). q .1) z)
           (own-refused Answer.OutputTooShort ph im out done refl (p ∙ ap (λ (q : Written × List ℕ). writtenAs (q .0) ph next) z))
       by false t =
-          let z : _≡_ {A = Written × List ℕ} (w, out′) (Written.Bytes (length bytes), overlaid out bytes) = e ∙ rw t in
+          let z : _≡_ {A = Written × List ℕ} (w, out′) (Written.Bytes (length bytes), laid out 0 bytes) = e ∙ rw t in
           rw (settle-done, put-same im s byte, differ-self, ap (λ (q : Written × List ℕ). q .1) z, p, ap (λ (q : Written × List ℕ). q .0) z)
 
   module _ (may : Bool) where

@@ -5,19 +5,20 @@ use mathlib.Core.Logic.{_≢_}
 use mathlib.Core.Path.{_≡_, _∙_}
 use native.Mathlib.Omega.{arith, ne-cases}
 use lib.ListN.{length}
-use Rattle.octets.proofs.Part.{length-part, length-withPart, part-same, part-before, part-after}
+use Rattle.octets.proofs.Laid.{length-laid}
+use Rattle.octets.proofs.Part.{length-part, part-same, part-before, part-after}
 use Rattle.block.specs.Check.{blockSize}
 use Rattle.image.specs.Sizes.{block, withBlock}
 
 pub length-block : (image : List ℕ) (b : ℕ) → b * blockSize + blockSize ≤ length image → length (block image b) ≡ blockSize
 length-block image b h = length-part image (b * 512) (b * 512 + 512) h ∙ omega arith
 
+pub length-put : (image : List ℕ) (b : ℕ) (p : List ℕ) → length (withBlock image b p) ≡ length image
+length-put image b p = length-laid image (b * 512) p
+
 module _ (image : List ℕ) (b : ℕ) (p : List ℕ) (inside : b * blockSize + blockSize ≤ length image) (long : length p ≡ blockSize) where
   fits : length p ≡ b * 512 + 512 - b * 512
   fits = long ∙ omega arith
-
-  pub length-put : length (withBlock image b p) ≡ length image
-  length-put = length-withPart image (b * 512) (b * 512 + 512) p inside fits
 
   -- a block that was written is read back
   pub block-put : block (withBlock image b p) b ≡ p

@@ -6,8 +6,9 @@ use native.Mathlib.Omega.{arith}
 use lib.ListN.{length, replicate}
 use lib.Seq.{ext-getD}
 use borrow.Author.Tests.{eq-eqb, ne-eqb}
-use Rattle.octets.specs.Fill.{zeroed}
-use Rattle.octets.proofs.Fill.{length-zeros, zeros-at, zeroed-all}
+use Rattle.octets.specs.Laid.{laid}
+use Rattle.octets.proofs.Fill.{length-zeros, zeros-at}
+use Rattle.octets.proofs.Laid.{laid-all}
 use Rattle.octets.proofs.Part.{part-at}
 use Rattle.block.specs.Check.{blockSize}
 use Rattle.image.specs.declared.Verdict.the-variants.{Sound, WrongSize}
@@ -27,6 +28,6 @@ module _ (s : List ℕ) where
   unfolding sizeVerdict formattedImage
   format-refused h = simp (ne-eqb (length s) imageSize h) (refl, refl)
 
-  pub format-done : length s ≡ imageSize → {z t : List ℕ} → z ≡ zeroed s 0 imageSize → t ≡ releaseOf z → (Sound ≡ sizeVerdict s) × (t ≡ formattedImage s)
+  pub format-done : length s ≡ imageSize → {z t : List ℕ} → z ≡ laid s 0 (replicate imageSize 0) → t ≡ releaseOf z → (Sound ≡ sizeVerdict s) × (t ≡ formattedImage s)
   unfolding sizeVerdict formattedImage newImage releaseOf
-  format-done size ez et = simp (eq-eqb (length s) imageSize size) (refl, et ∙ rw (ez, zeroed-all s imageSize size))
+  format-done size ez et = simp (eq-eqb (length s) imageSize size) (refl, et ∙ rw (ez, laid-all s (replicate imageSize 0) (length-zeros imageSize ∙ sym size)))

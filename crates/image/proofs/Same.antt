@@ -11,8 +11,11 @@ use lib.Seq.{ext-getD}
 use borrow.Author.Tests.{eqb-true, eqb-false, ne-eqb}
 use Rattle.octets.specs.Bytes.{Bytes}
 use Rattle.octets.specs.Differ.{differ}
+use Rattle.octets.specs.Laid.{laid}
 use Rattle.octets.proofs.Choice.{by-test}
 use Rattle.octets.proofs.Differ.{differ-false}
+use Rattle.octets.proofs.Laid.{laid-between}
+use Rattle.block.specs.Check.{blockSize}
 use Rattle.block.specs.Run.{Words}
 use Rattle.label_list.specs.declared.SweepRule.the-variants.{AfterBreak}
 use Rattle.label_list.specs.Find.{any}
@@ -30,6 +33,7 @@ use Rattle.image.specs.Events.{releaseOf, breakOf}
 use Rattle.image.specs.Sizes.{imageSize, block}
 use Rattle.image.specs.State.{Contents, decode, store0}
 use Rattle.image.specs.Verdict.{IsSound}
+use Rattle.image.proofs.Blocks.{length-block}
 use Rattle.image.proofs.Changes.{release-decodes, break-decodes}
 use Rattle.image.proofs.Ranges.{bytes-block, bytes-in-range}
 use Rattle.image.proofs.Sound.{sound-valid}
@@ -47,7 +51,11 @@ said-changed image next other =
 -- ---- a store
 pub store-same : (image : List ℕ) → IsSound image → Bytes image → store0 image (decode image .header) (decode image .labels) ≡ image
 unfolding store0 decode
-store-same image s byte = rw (block0-same (block image 0) (bytes-block image 0 byte) (s .check) (s .fields)) (take-append-drop 512 image)
+store-same image s byte =
+    let long : length (block image 0) ≡ blockSize = length-block image 0 (omega (arith, s .size)) in
+    ap (laid image 0) (block0-same (block image 0) long (bytes-block image 0 byte) (s .check) (s .fields))
+    ∙ sym (laid-between image 0 512 (block image 0) (omega arith) (omega (arith, s .size)) long)
+    ∙ take-append-drop 512 image
 
 -- anything else changes the bytes
 pub store-changed : (image : List ℕ) (h : Header) (ls : List ℕ) → length image ≡ imageSize → Fits h → Words wordCount ls

@@ -11,7 +11,7 @@ use lib.ListN.{length, getD}
 use borrow.Author.Tests.{eqb-true, eq-eqb, not-false}
 use Rattle.octets.specs.Pick.{pick}
 use Rattle.octets.proofs.Choice.{cleared}
-use Rattle.block.specs.Check.{blockSize, sound}
+use Rattle.block.specs.Check.{sound}
 use Rattle.block.specs.Run.{Words}
 use Rattle.label_list.specs.Word.{wordCount}
 use Rattle.block0.specs.declared.Header.{Header}
@@ -26,7 +26,6 @@ use Rattle.image.specs.declared.Verdict.the-variants.{Sound, WrongSize}
 use Rattle.image.specs.Sizes.{block, blockOf, slotAt, imageSize}
 use Rattle.image.specs.State.{NotLive, decode, storeSlot, store0}
 use Rattle.image.specs.Verdict.{looked, fieldsRight, bytesJudged, verdict, IsSound, SlotGood}
-use Rattle.image.proofs.Blocks.{length-block}
 use Rattle.image.proofs.Faults.{NoFault, faultless-each, each-faultless}
 use Rattle.image.proofs.Scans.{looked-length, looked-slot, looked-judged, slot-fields}
 use Rattle.image.proofs.Stored.{length-storeSlot, slot-put, slot-other, length-store0, zeroth-put, zeroth-other}
@@ -106,19 +105,17 @@ sound-slot image k m s room fits idle =
 -- that slot is then good itself
 pub slot-good : (image : List ℕ) (k : ℕ) (m : List ℕ) → length image ≡ imageSize → k < slotCount → Storable m → SlotGood (block (storeSlot image k m) (blockOf k))
 slot-good image k m size room s =
-    let long : length (block image (blockOf k)) ≡ blockSize = length-block image (blockOf k) (omega arith) in
-    rw (slot-put image size k room m s) (record { check = slotFor-sound (block image (blockOf k)) m long s; fields = slotFor-ok (block image (blockOf k)) m long s })
+    rw (slot-put image size k room m s) (record { check = slotFor-sound m s; fields = slotFor-ok m s })
 
 -- block 0, over an image whose live slots are good
 pub sound-store0 : (image : List ℕ) (h : Header) (ls : List ℕ) → length image ≡ imageSize → Fits h → Words wordCount ls → Valid h ls → Live image h → IsSound (store0 image h ls)
 sound-store0 image h ls size fh fl v live =
-    let long : length (block image 0) ≡ blockSize = length-block image 0 (omega arith) in
-    let e : block (store0 image h ls) 0 ≡ block0 (block image 0) h ls = zeroth-put image size h ls in
-    let d : headerOf (block0 (block image 0) h ls) ≡ h = header-block0 (block image 0) h ls long fh fl in
+    let e : block (store0 image h ls) 0 ≡ block0 h ls = zeroth-put image size h ls in
+    let d : headerOf (block0 h ls) ≡ h = header-block0 h ls fh fl in
     record {
       size = length-store0 image size h ls;
-      check = rw e (block0-sound (block image 0) h ls long);
-      fields = rw e (valid-fields (block image 0) h ls long fh fl v);
+      check = rw e (block0-sound h ls);
+      fields = rw e (valid-fields h ls fh fl v);
       slots = rw (e, d) (λ i l. rw (zeroth-other image size h ls (blockOf (slotAt (h .first) i)) (omega arith)) (live i l));
     }
 

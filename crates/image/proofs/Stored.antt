@@ -19,7 +19,7 @@ use Rattle.slot.proofs.Holding.{length-slotFor, slotFor-message}
 use Rattle.image.specs.Ring.{ring}
 use Rattle.image.specs.Sizes.{block, blockOf, slotAt, imageSize}
 use Rattle.image.specs.State.{NotLive, Contents, slotsOf, decode, storeSlot, store0}
-use Rattle.image.proofs.Blocks.{length-block, length-put, block-put, block-other}
+use Rattle.image.proofs.Blocks.{length-put, block-put, block-other}
 use Rattle.image.proofs.Rings.{ring-same, ring-snoc, ring-drop}
 
 pub state-eq : {h h′ : Header} {l l′ : List ℕ} {q q′ : List (List ℕ)} → h ≡ h′ → l ≡ l′ → q ≡ q′
@@ -31,25 +31,25 @@ module _ (image : List ℕ) (size : length image ≡ imageSize) (k : ℕ) (room 
   inside : blockOf k * blockSize + blockSize ≤ length image
   inside = omega arith
 
-  written : length (slotFor (block image (blockOf k)) m) ≡ blockSize
-  written = length-slotFor (block image (blockOf k)) m (length-block image (blockOf k) inside) s
+  written : length (slotFor m) ≡ blockSize
+  written = length-slotFor m s
 
   pub length-storeSlot : length (storeSlot image k m) ≡ imageSize
   unfolding storeSlot
-  length-storeSlot = length-put image (blockOf k) (slotFor (block image (blockOf k)) m) inside written ∙ size
+  length-storeSlot = length-put image (blockOf k) (slotFor m) ∙ size
 
-  pub slot-put : block (storeSlot image k m) (blockOf k) ≡ slotFor (block image (blockOf k)) m
+  pub slot-put : block (storeSlot image k m) (blockOf k) ≡ slotFor m
   unfolding storeSlot
-  slot-put = block-put image (blockOf k) (slotFor (block image (blockOf k)) m) inside written
+  slot-put = block-put image (blockOf k) (slotFor m) inside written
 
   -- every other block keeps its bytes
   pub slot-other : (c : ℕ) → c ≢ blockOf k → block (storeSlot image k m) c ≡ block image c
   unfolding storeSlot
-  slot-other c apart = block-other image (blockOf k) (slotFor (block image (blockOf k)) m) inside written c apart
+  slot-other c apart = block-other image (blockOf k) (slotFor m) inside written c apart
 
   pub slots-put : slotsOf (storeSlot image k m) k ≡ m
   unfolding slotsOf
-  slots-put = ap slotMessage slot-put ∙ slotFor-message (block image (blockOf k)) m (length-block image (blockOf k) inside) s
+  slots-put = ap slotMessage slot-put ∙ slotFor-message m s
 
   pub slots-other : (j : ℕ) → j ≢ k → slotsOf (storeSlot image k m) j ≡ slotsOf image j
   unfolding slotsOf
@@ -70,24 +70,21 @@ module _ (image : List ℕ) (size : length image ≡ imageSize) (h : Header) (ls
   inside0 : 0 * blockSize + blockSize ≤ length image
   inside0 = omega arith
 
-  long0 : length (block image 0) ≡ blockSize
-  long0 = length-block image 0 inside0
-
-  written0 : length (block0 (block image 0) h ls) ≡ blockSize
-  written0 = length-block0 (block image 0) h ls long0
+  written0 : length (block0 h ls) ≡ blockSize
+  written0 = length-block0 h ls
 
   pub length-store0 : length (store0 image h ls) ≡ imageSize
   unfolding store0
-  length-store0 = length-put image 0 (block0 (block image 0) h ls) inside0 written0 ∙ size
+  length-store0 = length-put image 0 (block0 h ls) ∙ size
 
-  pub zeroth-put : block (store0 image h ls) 0 ≡ block0 (block image 0) h ls
+  pub zeroth-put : block (store0 image h ls) 0 ≡ block0 h ls
   unfolding store0
-  zeroth-put = block-put image 0 (block0 (block image 0) h ls) inside0 written0
+  zeroth-put = block-put image 0 (block0 h ls) inside0 written0
 
   -- every slot keeps its bytes
   pub zeroth-other : (c : ℕ) → c ≢ 0 → block (store0 image h ls) c ≡ block image c
   unfolding store0
-  zeroth-other c apart = block-other image 0 (block0 (block image 0) h ls) inside0 written0 c apart
+  zeroth-other c apart = block-other image 0 (block0 h ls) inside0 written0 c apart
 
   slots-store0 : (j : ℕ) → slotsOf (store0 image h ls) j ≡ slotsOf image j
   unfolding slotsOf
@@ -97,8 +94,8 @@ module _ (image : List ℕ) (size : length image ≡ imageSize) (h : Header) (ls
     pub decode-store0 : decode (store0 image h ls) ≡ record { header = h; labels = ls; queue = ring (slotsOf image) (h .first) (h .held) }
     unfolding decode
     decode-store0 =
-        let e : headerOf (block (store0 image h ls) 0) ≡ h = ap headerOf zeroth-put ∙ header-block0 (block image 0) h ls long0 fh fl in
-        state-eq e (ap labelsOf zeroth-put ∙ labels-block0 (block image 0) h ls long0 fh fl)
+        let e : headerOf (block (store0 image h ls) 0) ≡ h = ap headerOf zeroth-put ∙ header-block0 h ls fh fl in
+        state-eq e (ap labelsOf zeroth-put ∙ labels-block0 h ls fh fl)
         (ap (λ (x : Header). ring (slotsOf (store0 image h ls)) (x .first) (x .held)) e
         ∙ ring-same (slotsOf (store0 image h ls)) (slotsOf image) (h .first) (h .held) (λ i l. slots-store0 (slotAt (h .first) i)))
 

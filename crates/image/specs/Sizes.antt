@@ -2,7 +2,8 @@
 -- "Stored image: 65 blocks of 512 bytes, 33,280 in all." "Blocks 1 to 64, slots 0 to 63, used in a ring."
 use Prim.Native.Nat.{ℕ, _+_, _*_, _%_}
 use mathlib.Core.List.{List}
-use Rattle.octets.specs.Part.{part, withPart}
+use Rattle.octets.specs.Laid.{laid}
+use Rattle.octets.specs.Part.{part}
 use Rattle.block.specs.Check.{blockSize}
 use Rattle.block0.specs.Layout.{slotCount}
 
@@ -13,12 +14,12 @@ blockCount = 1 + slotCount
 abbrev pub imageSize : ℕ
 imageSize = blockCount * blockSize
 
--- block b of an image, and the image with block b replaced
+-- block b of an image, and the image with block b written
 abbrev pub block : List ℕ → ℕ → List ℕ
 block image b = part image (b * blockSize) (b * blockSize + blockSize)
 
 abbrev pub withBlock : List ℕ → ℕ → List ℕ → List ℕ
-withBlock image b p = withPart image (b * blockSize) (b * blockSize + blockSize) p
+withBlock image b p = laid image (b * blockSize) p
 
 -- the block of slot k
 abbrev pub blockOf : ℕ → ℕ

@@ -43,11 +43,11 @@ NotLive image k = (i : ℕ) → i < decode image .header .held → slotAt (decod
 
 -- "A call stores at most one slot, one that isn't live, and then block 0." First the slot ..
 unfoldable pub storeSlot : List ℕ → ℕ → List ℕ → List ℕ
-storeSlot image k m = withBlock image (blockOf k) (slotFor (block image (blockOf k)) m)
+storeSlot image k m = withBlock image (blockOf k) (slotFor m)
 
 -- .. then block 0
 unfoldable pub store0 : List ℕ → Header → List ℕ → List ℕ
-store0 image h ls = withBlock image 0 (block0 (block image 0) h ls)
+store0 image h ls = withBlock image 0 (block0 h ls)
 
 abbrev pub store : List ℕ → Contents → List ℕ
 store image s = store0 image (s .header) (s .labels)

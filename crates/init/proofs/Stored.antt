@@ -5,6 +5,7 @@ use mathlib.Core.List.{List, []}
 use mathlib.Core.Path.{_≡_, refl, _∙_, sym, ap}
 use lib.ListN.{take}
 use Rattle.octets.specs.Differ.{differ}
+use Rattle.octets.specs.Laid.{laid}
 use Rattle.block0.specs.declared.Header.{Header}
 use Rattle.block0.specs.Updates.{headerReleased, headerTimeout}
 use Rattle.image.specs.Sizes.{block, slotAt}
@@ -59,5 +60,5 @@ slotless im (Start.Resumed t k a) = refl
 pub begun-is : (im : List ℕ) (ph : Phase) (st : Start) {im′ : List ℕ} {next : Phase} {b : Bool} → im′ ≡ stored im (startSlots st) (startState (stateOf im) st)
     → next ≡ startPhase ph st → b ≡ differ (block im 0) (block im′ 0)
     → afterWith (record { answer = Answer.Done; phase = next; written = 0; slot = 0; block0 = b }) im′ [] ≡ begunOn im ph st
-unfolding begunOn
+unfolding begunOn laid
 begun-is im ph st ei en eb = rw (eb, ei, en, ← slotless im st)

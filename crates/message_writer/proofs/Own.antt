@@ -15,38 +15,38 @@ use Rattle.message.specs.Reading.{typeOf, messageOf, placesOf, readingOf}
 use Rattle.message_writer.specs.declared.OwnParameters.{OwnParameters}
 use Rattle.message_writer.specs.Forms.{initBytes, keepaliveBytes}
 use Rattle.message_writer.specs.ReadBack.{AckFits, InitFits, initMessage, keepaliveMessage}
-use Rattle.message_writer.proofs.Raised.{spelled}
+use Rattle.message_writer.proofs.Raised.{bytes-read}
 
 -- our KeepAlive is read back as what was written
 pub keepalive-reads : (id : MessageId) (ack : FtField) → id .0 < 256 ^ 4 → AckFits ack → readingOf (keepaliveBytes id ack) ≡ Reading.Whole (keepaliveMessage id ack)
 unfolding readingOf placesOf messageOf tlvsOf walkOf turnOf notedOf tlvOf typeOf fix steps partAt fecAt fieldAt numberAt parametersAt sessionAt
-keepalive-reads id FtField.Absent small fits = simp (spelled 4 (id .0) small)
-keepalive-reads id (FtField.Number a) small fits = simp (spelled 4 (id .0) small, spelled 4 (a .0) fits)
+keepalive-reads id FtField.Absent small fits = simp (bytes-read 4 (id .0) small)
+keepalive-reads id (FtField.Number a) small fits = simp (bytes-read 4 (id .0) small, bytes-read 4 (a .0) fits)
 
 -- so is our Init
 pub init-reads : (id : MessageId) (p : OwnParameters) (seconds : ℕ) (ack : FtField) → InitFits id p seconds ack
     → readingOf (initBytes id p seconds ack) ≡ Reading.Whole (initMessage id p seconds ack)
 unfolding readingOf placesOf messageOf tlvsOf walkOf turnOf notedOf tlvOf typeOf fix steps partAt fecAt fieldAt numberAt parametersAt sessionAt
 init-reads id p seconds FtField.Absent fits =
-    let number : beAt 4 (bytes 4 seconds) 0 ≡ seconds = spelled 4 seconds (omega (arith, fits .seconds)) in
+    let number : beAt 4 (bytes 4 seconds) 0 ≡ seconds = bytes-read 4 seconds (omega (arith, fits .seconds)) in
     let last : beAt 2 (bytes 4 seconds) 2 ≡ seconds = omega (arith, fits .seconds) in
     simp (
-      spelled 4 (id .0) (fits .id),
-      spelled 2 (p .keepalive) (fits .keepalive),
-      spelled 2 (p .pdulength) (fits .pdulength),
+      bytes-read 4 (id .0) (fits .id),
+      bytes-read 2 (p .keepalive) (fits .keepalive),
+      bytes-read 2 (p .pdulength) (fits .pdulength),
       number,
       last,
       lt-leb 2147483648 seconds (omega (arith, fits .seconds)),
     )
 init-reads id p seconds (FtField.Number a) fits =
     let v : ℕ = 0x80000000 + seconds in
-    let number : beAt 4 (bytes 4 v) 0 ≡ v = spelled 4 v (omega (arith, fits .seconds)) in
+    let number : beAt 4 (bytes 4 v) 0 ≡ v = bytes-read 4 v (omega (arith, fits .seconds)) in
     let last : beAt 2 (bytes 4 v) 2 ≡ seconds = omega (arith, fits .seconds) in
     simp (
-      spelled 4 (id .0) (fits .id),
-      spelled 2 (p .keepalive) (fits .keepalive),
-      spelled 2 (p .pdulength) (fits .pdulength),
-      spelled 4 (a .0) (fits .ack),
+      bytes-read 4 (id .0) (fits .id),
+      bytes-read 2 (p .keepalive) (fits .keepalive),
+      bytes-read 2 (p .pdulength) (fits .pdulength),
+      bytes-read 4 (a .0) (fits .ack),
       number,
       last,
       le-leb 2147483648 v (omega arith),

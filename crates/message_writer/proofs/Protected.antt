@@ -32,7 +32,7 @@ use Rattle.message_writer.specs.Forms.{tlvBytes, ackTlv, raisedTo, raise
 use Rattle.message_writer.specs.ReadBack.{AckFits, ftPlaces, protectedPlaces, withFt, protectedMessage}
 use Rattle.message_writer.proofs.Append.{walk-append}
 use Rattle.message_writer.proofs.Puts.{length-raisedTo}
-use Rattle.message_writer.proofs.Raised.{spelled, raised-field, raised-number, raised-walk}
+use Rattle.message_writer.proofs.Raised.{bytes-read, raised-field, raised-number, raised-walk}
 
 walk-nil : (at : ℕ) (f : Found) → walkOf at [] f ≡ Walk.Whole f
 unfolding turnOf
@@ -109,7 +109,7 @@ ft-number m t n at head small is =
     let size : ℕ = length m + length t - 4 in
     let there : length m + at + 4 ≡ length (raisedTo m size) + (at + 4) = omega (arith, length-raisedTo m head size) in
     let value : beAt 4 (raisedTo m size ++ t) (length m + at + 4) ≡ n .0 =
-    beAt-behind 4 (raisedTo m size) t (length m + at + 4) (at + 4) there ∙ is ∙ spelled 4 (n .0) small in
+    beAt-behind 4 (raisedTo m size) t (length m + at + 4) (at + 4) there ∙ is ∙ bytes-read 4 (n .0) small in
     simp (ne-eqb (length m + at) 0 (λ z. omega arith)) (ap (λ (x : ℕ). FtField.Number (record { 0 = x })) value)
 
 ft-none : (t : List ℕ) → numberAt t 0 ≡ FtField.Absent

@@ -4,13 +4,10 @@ use mathlib.Core.List.{List, _++_, append-assoc}
 use mathlib.Core.Path.{_≡_, refl, sym, ap, _∙_}
 use native.Mathlib.Nat.{add-zero, zero-add}
 use native.Mathlib.Omega.{arith}
-use lib.ListN.{length, take, drop, length-append}
-use lib.Seq.{take-append-le, drop-append-le, drop-drop}
-use Rattle.octets.specs.Be.{putBe, bytes}
-use Rattle.octets.specs.Fill.{copied}
-use Rattle.octets.specs.Part.{laid}
-use Rattle.octets.proofs.Laid.{Laid, laid-start, then-part, then-put, laid-putBe, laid-copied, length-laid}
-use Rattle.octets.proofs.Part.{length-withPart}
+use lib.ListN.{length, drop, length-append}
+use Rattle.octets.specs.Be.{bytes}
+use Rattle.octets.specs.Laid.{laid}
+use Rattle.octets.proofs.Laid.{Laid, laid-start, then-part, length-laid, laid-front, laid-before}
 use Rattle.ft_number.specs.declared.FtNumber.{FtNumber}
 use Rattle.ft_number.specs.declared.MessageId.{MessageId}
 use Rattle.tlv.specs.declared.FtField.{FtField}
@@ -24,7 +21,7 @@ use Rattle.message_writer.proofs.Room.{written-whole, written-short}
 
 module _ (m : List ℕ) (head : 8 ≤ length m) where
   pub length-raisedTo : (size : ℕ) → length (raisedTo m size) ≡ length m
-  length-raisedTo size = length-withPart m 2 4 (bytes 2 size) (omega arith) refl
+  length-raisedTo size = length-laid m 2 (bytes 2 size)
 
   pub length-raised : (tlvs : List ℕ) → length (raised m tlvs) ≡ length m + length tlvs
   unfolding raised
@@ -32,69 +29,65 @@ module _ (m : List ℕ) (head : 8 ≤ length m) where
       length-append (raisedTo m (length m + length tlvs - 4)) tlvs ∙ ap (λ (n : ℕ). n + length tlvs) (length-raisedTo (length m + length tlvs - 4))
 
 module _ (s : List ℕ) where
-  pub head-laid : (x₁ x₂ x₃ : List ℕ) (number size id : ℕ) → 8 ≤ length s
-      → x₁ ≡ putBe 2 s 0 number → x₂ ≡ putBe 2 x₁ 2 size → x₃ ≡ putBe 4 x₂ 4 id → x₃ ≡ laid s 0 (headBytes number size id)
-  head-laid x₁ x₂ x₃ number size id h e₁ e₂ e₃ =
-      let l₁ = then-put (laid-start s 0 (omega arith)) 2 number 0 e₁ refl (omega arith) in
-      let l₂ = then-put l₁ 2 size 2 e₂ refl (omega arith) in
-      then-put l₂ 4 id 4 e₃ refl (omega arith) .is
+  pub head-laid : (x₁ x₂ x₃ : List ℕ) (number size id : ℕ)
+      → x₁ ≡ laid s 0 (bytes 2 number) → x₂ ≡ laid x₁ 2 (bytes 2 size) → x₃ ≡ laid x₂ 4 (bytes 4 id) → x₃ ≡ laid s 0 (headBytes number size id)
+  head-laid x₁ x₂ x₃ number size id e₁ e₂ e₃ =
+      let l₁ = then-part (laid-start s 0) (bytes 2 number) 0 e₁ refl in
+      let l₂ = then-part l₁ (bytes 2 size) 2 e₂ refl in
+      then-part l₂ (bytes 4 id) 4 e₃ refl .is
 
-  pub tlv-laid : (at : ℕ) (x₁ x₂ x₃ : List ℕ) (number value : ℕ) → at + 8 ≤ length s
-      → x₁ ≡ putBe 2 s at number → x₂ ≡ putBe 2 x₁ (at + 2) 4 → x₃ ≡ putBe 4 x₂ (at + 4) value → x₃ ≡ laid s at (tlvBytes number (bytes 4 value))
-  tlv-laid at x₁ x₂ x₃ number value h e₁ e₂ e₃ =
-      let l₁ = then-put (laid-start s at (omega arith)) 2 number at e₁ (sym (add-zero at)) (omega arith) in
-      let l₂ = then-put l₁ 2 4 (at + 2) e₂ refl (omega arith) in
-      then-put l₂ 4 value (at + 4) e₃ refl (omega arith) .is
+  pub tlv-laid : (at : ℕ) (x₁ x₂ x₃ : List ℕ) (number value : ℕ)
+      → x₁ ≡ laid s at (bytes 2 number) → x₂ ≡ laid x₁ (at + 2) (bytes 2 4) → x₃ ≡ laid x₂ (at + 4) (bytes 4 value) → x₃ ≡ laid s at (tlvBytes number (bytes 4 value))
+  tlv-laid at x₁ x₂ x₃ number value e₁ e₂ e₃ =
+      let l₁ = then-part (laid-start s at) (bytes 2 number) at e₁ (sym (add-zero at)) in
+      let l₂ = then-part l₁ (bytes 2 4) (at + 2) e₂ refl in
+      then-part l₂ (bytes 4 value) (at + 4) e₃ refl .is
 
-  pub parameters-laid : (x₁ x₂ x₃ x₄ x₅ x₆ x₇ : List ℕ) (p : OwnParameters) → 26 ≤ length s
-      → x₁ ≡ putBe 4 s 8 0x0500000E → x₂ ≡ putBe 2 x₁ 12 1 → x₃ ≡ putBe 2 x₂ 14 (p .keepalive) → x₄ ≡ putBe 2 x₃ 16 0
-      → x₅ ≡ putBe 2 x₄ 18 (p .pdulength) → x₆ ≡ putBe 4 x₅ 20 (p .lsr) → x₇ ≡ putBe 2 x₆ 24 (p .space) → x₇ ≡ laid s 8 (parametersTlv p)
-  parameters-laid x₁ x₂ x₃ x₄ x₅ x₆ x₇ p h e₁ e₂ e₃ e₄ e₅ e₆ e₇ =
-      let l₁ = then-put (laid-start s 8 (omega arith)) 4 0x0500000E 8 e₁ refl (omega arith) in
-      let l₂ = then-put l₁ 2 1 12 e₂ refl (omega arith) in
-      let l₃ = then-put l₂ 2 (p .keepalive) 14 e₃ refl (omega arith) in
-      let l₄ = then-put l₃ 2 0 16 e₄ refl (omega arith) in
-      let l₅ = then-put l₄ 2 (p .pdulength) 18 e₅ refl (omega arith) in
-      let l₆ = then-put l₅ 4 (p .lsr) 20 e₆ refl (omega arith) in
-      then-put l₆ 2 (p .space) 24 e₇ refl (omega arith) .is
+  pub parameters-laid : (x₁ x₂ x₃ x₄ x₅ x₆ x₇ : List ℕ) (p : OwnParameters)
+      → x₁ ≡ laid s 8 (bytes 4 0x0500000E) → x₂ ≡ laid x₁ 12 (bytes 2 1) → x₃ ≡ laid x₂ 14 (bytes 2 (p .keepalive)) → x₄ ≡ laid x₃ 16 (bytes 2 0)
+      → x₅ ≡ laid x₄ 18 (bytes 2 (p .pdulength)) → x₆ ≡ laid x₅ 20 (bytes 4 (p .lsr)) → x₇ ≡ laid x₆ 24 (bytes 2 (p .space)) → x₇ ≡ laid s 8 (parametersTlv p)
+  parameters-laid x₁ x₂ x₃ x₄ x₅ x₆ x₇ p e₁ e₂ e₃ e₄ e₅ e₆ e₇ =
+      let l₁ = then-part (laid-start s 8) (bytes 4 0x0500000E) 8 e₁ refl in
+      let l₂ = then-part l₁ (bytes 2 1) 12 e₂ refl in
+      let l₃ = then-part l₂ (bytes 2 (p .keepalive)) 14 e₃ refl in
+      let l₄ = then-part l₃ (bytes 2 0) 16 e₄ refl in
+      let l₅ = then-part l₄ (bytes 2 (p .pdulength)) 18 e₅ refl in
+      let l₆ = then-part l₅ (bytes 4 (p .lsr)) 20 e₆ refl in
+      then-part l₆ (bytes 2 (p .space)) 24 e₇ refl .is
 
-  pub init-laid : (x₁ x₂ x₃ : List ℕ) (size : ℕ) (id : MessageId) (p : OwnParameters) (session : ℕ) → 34 ≤ length s
+  pub init-laid : (x₁ x₂ x₃ : List ℕ) (size : ℕ) (id : MessageId) (p : OwnParameters) (session : ℕ)
       → x₁ ≡ laid s 0 (headBytes initializationType size (id .0)) → x₂ ≡ laid x₁ 8 (parametersTlv p) → x₃ ≡ laid x₂ 26 (sessionTlv session)
       → x₃ ≡ laid s 0 (initHead size id p session)
-  init-laid x₁ x₂ x₃ size id p session h e₁ e₂ e₃ =
-      let l₁ = then-part (laid-start s 0 (omega arith)) (headBytes initializationType size (id .0)) 0 e₁ refl (omega arith) in
-      let l₂ = then-part l₁ (parametersTlv p) 8 e₂ refl (omega arith) in
-      then-part l₂ (sessionTlv session) 26 e₃ refl (omega arith) .is
+  init-laid x₁ x₂ x₃ size id p session e₁ e₂ e₃ =
+      let l₁ = then-part (laid-start s 0) (headBytes initializationType size (id .0)) 0 e₁ refl in
+      let l₂ = then-part l₁ (parametersTlv p) 8 e₂ refl in
+      then-part l₂ (sessionTlv session) 26 e₃ refl .is
 
   -- FT ACK behind a message that was laid
-  pub ack-laid : (p x y : List ℕ) (to : ℕ) (a : FtNumber) → x ≡ laid s 0 p → y ≡ laid x to (ackTlv (FtField.Number a)) → to ≡ length p → to + 8 ≤ length s
+  pub ack-laid : (p x y : List ℕ) (to : ℕ) (a : FtNumber) → x ≡ laid s 0 p → y ≡ laid x to (ackTlv (FtField.Number a)) → to ≡ length p
       → y ≡ laid s 0 (p ++ ackTlv (FtField.Number a))
-  ack-laid p x y to a e₁ e₂ toq h =
-      let l : Laid s 0 p x = record { is = e₁; room = omega arith } in
-      then-part l (ackTlv (FtField.Number a)) to e₂ (toq ∙ sym (zero-add (length p))) (omega arith) .is
+  ack-laid p x y to a e₁ e₂ toq =
+      let l : Laid s 0 p x = record { is = e₁ } in
+      then-part l (ackTlv (FtField.Number a)) to e₂ (toq ∙ sym (zero-add (length p))) .is
 
   module _ (m : List ℕ) (head : 8 ≤ length m) where
-    raised-laid : (x y : List ℕ) (size : ℕ) → length m ≤ length s → x ≡ laid s 0 m → y ≡ putBe 2 x 2 size → y ≡ laid s 0 (raisedTo m size)
-    unfolding laid
+    raised-laid : (x y : List ℕ) (size : ℕ) → length m ≤ length s → x ≡ laid s 0 m → y ≡ laid x 2 (bytes 2 size) → y ≡ laid s 0 (raisedTo m size)
     raised-laid x y size h e₁ e₂ =
-        let rest : List ℕ = drop (0 + length m) s in
-        let long : length x ≡ length s = ap length e₁ ∙ length-laid s 0 m (omega arith) in
-        let front : take 2 (m ++ rest) ≡ take 2 m = take-append-le 2 m rest (omega arith) in
-        let back : drop 4 (m ++ rest) ≡ drop 2 (drop 2 m) ++ rest = drop-append-le 4 m rest (omega arith) ∙ ap (λ (l : List ℕ). l ++ rest) (sym (drop-drop 2 2 m)) in
+        let rest : List ℕ = drop (length m) s in
         e₂
-        ∙ laid-putBe 2 x 2 size (omega arith)
-        ∙ rw (e₁, front, back) refl
-        ∙ sym (append-assoc (take 2 m) (bytes 2 size ++ drop 2 (drop 2 m)) rest)
-        ∙ ap (λ (n : ℕ). raisedTo m size ++ drop (0 + n) s) (sym (length-raisedTo m head size))
+        ∙ ap (λ (l : List ℕ). laid l 2 (bytes 2 size)) (e₁ ∙ laid-front s m h)
+        ∙ laid-before m rest 2 (bytes 2 size) (omega arith)
+        ∙ ap (λ (n : ℕ). raisedTo m size ++ drop n s) (sym (length-raisedTo m head size))
+        ∙ sym (laid-front s (raisedTo m size) (omega (arith, length-raisedTo m head size)))
 
     pub protected-laid : (x₁ x₂ x₃ : List ℕ) (size number : ℕ) → length m + 8 ≤ length s
-        → x₁ ≡ copied s 0 m → x₂ ≡ putBe 2 x₁ 2 size → x₃ ≡ laid x₂ (length m) (tlvBytes protectionType (bytes 4 number))
+        → x₁ ≡ laid s 0 m → x₂ ≡ laid x₁ 2 (bytes 2 size) → x₃ ≡ laid x₂ (length m) (tlvBytes protectionType (bytes 4 number))
         → x₃ ≡ laid s 0 (raisedTo m size ++ tlvBytes protectionType (bytes 4 number))
     protected-laid x₁ x₂ x₃ size number h e₁ e₂ e₃ =
-        let raisedq : x₂ ≡ laid s 0 (raisedTo m size) = raised-laid x₁ x₂ size (omega arith) (e₁ ∙ laid-copied s 0 m (omega arith)) e₂ in
+        let raisedq : x₂ ≡ laid s 0 (raisedTo m size) = raised-laid x₁ x₂ size (omega arith) e₁ e₂ in
         let long : length (raisedTo m size) ≡ length m = length-raisedTo m head size in
-        let l : Laid s 0 (raisedTo m size) x₂ = record { is = raisedq; room = omega arith } in
-        then-part l (tlvBytes protectionType (bytes 4 number)) (length m) e₃ (omega arith) (omega arith) .is
+        let l : Laid s 0 (raisedTo m size) x₂ = record { is = raisedq } in
+        then-part l (tlvBytes protectionType (bytes 4 number)) (length m) e₃ (omega arith) .is
 
     -- the two forms of a protected message, written
     pub protected-short : (n : FtNumber) (ack : FtField) (end : ℕ) → end ≡ length m + length (ftTlvs n ack) → length s < end
@@ -112,12 +105,12 @@ module _ (s : List ℕ) where
     unfolding raised
     protected-plain n x e = e
 
-    pub protected-acked : (n a : FtNumber) (x y : List ℕ) → length m + 16 ≤ length s
+    pub protected-acked : (n a : FtNumber) (x y : List ℕ)
         → x ≡ laid s 0 (raisedTo m (length m + 16 - 4) ++ tlvBytes protectionType (bytes 4 (n .0)))
         → y ≡ laid x (length m + 8) (ackTlv (FtField.Number a)) → y ≡ laid s 0 (protectedBytes m n (FtField.Number a))
     unfolding raised
-    protected-acked n a x y h e₁ e₂ =
+    protected-acked n a x y e₁ e₂ =
         let t : List ℕ = tlvBytes protectionType (bytes 4 (n .0)) in
         let body : List ℕ = raisedTo m (length m + 16 - 4) in
         let long : length (body ++ t) ≡ length m + 8 = length-append body t ∙ ap (λ (k : ℕ). k + 8) (length-raisedTo m head (length m + 16 - 4)) in
-        ack-laid (body ++ t) x y (length m + 8) a e₁ e₂ (sym long) (omega arith) ∙ ap (laid s 0) (append-assoc body t (ackTlv (FtField.Number a)))
+        ack-laid (body ++ t) x y (length m + 8) a e₁ e₂ (sym long) ∙ ap (laid s 0) (append-assoc body t (ackTlv (FtField.Number a)))

@@ -11,6 +11,7 @@ use borrow.Rule.Slice.PartMut.{take-put, drop-put}
 use Rattle.octets.specs.Be.{beAt, bytes}
 use Rattle.octets.proofs.Be.{beAt-part}
 use Rattle.octets.proofs.Bytes.{beAt-append, beAt-behind, beAt-bytes}
+use Rattle.octets.proofs.Laid.{laid-between}
 use Rattle.octets.proofs.Part.{part-after}
 use Rattle.tlv.specs.declared.Found.{Found}
 use Rattle.tlv.specs.declared.walk.Walk.{Walk}
@@ -21,8 +22,8 @@ use Rattle.message_writer.proofs.Append.{walk-append}
 use Rattle.message_writer.proofs.Puts.{length-raisedTo, length-raised}
 
 -- a number that has the width is read back from its bytes
-pub spelled : (w v : ℕ) → v < 256 ^ w → beAt w (bytes w v) 0 ≡ v
-spelled w v small = beAt-bytes w v ∙ mod-eq-of-lt small
+pub bytes-read : (w v : ℕ) → v < 256 ^ w → beAt w (bytes w v) 0 ≡ v
+bytes-read w v small = beAt-bytes w v ∙ mod-eq-of-lt small
 
 -- a field behind the length is as it was
 field-behind : (m : List ℕ) (size w at : ℕ) → 4 ≤ length m → 4 ≤ at → beAt w (raisedTo m size) at ≡ beAt w m at
@@ -34,6 +35,10 @@ field-behind m size w at head h =
     ∙ ap (λ (l : List ℕ). beAt w l 0) (part-after m 2 4 (bytes 2 size) at (at + w) (omega arith) head refl h)
     ∙ beAt-part w (at + w - at) at 0 m room
     ∙ ap (beAt w m) here
+
+-- what stands before the length, the length, and what stands behind it
+raised-lent : (m : List ℕ) (size : ℕ) → 4 ≤ length m → raisedTo m size ≡ take 2 m ++ (bytes 2 size ++ drop 2 (drop 2 m))
+raised-lent m size h = sym (laid-between m 2 4 (bytes 2 size) (omega arith) h refl)
 
 module _ (m t : List ℕ) (head : 8 ≤ length m) where
   pub raised-field : (w at : ℕ) → 4 ≤ at → at + w ≤ length m → beAt w (raised m t) at ≡ beAt w m at
@@ -48,6 +53,7 @@ module _ (m t : List ℕ) (head : 8 ≤ length m) where
       let size : ℕ = length m + length t - 4 in
       let front : length (take 2 m) ≡ 2 = length-take-le 2 m (omega arith) in
       beAt-append 2 (raisedTo m size) t 0 (omega (arith, length-raisedTo m head size))
+      ∙ ap (λ (l : List ℕ). beAt 2 l 0) (raised-lent m size (omega arith))
       ∙ beAt-append 2 (take 2 m) (bytes 2 size ++ drop 2 (drop 2 m)) 0 (omega arith)
       ∙ beAt-part 2 2 0 0 m (omega arith)
 
@@ -58,9 +64,10 @@ module _ (m t : List ℕ) (head : 8 ≤ length m) where
       let front : length (take 2 m) ≡ 2 = length-take-le 2 m (omega arith) in
       let there : 2 ≡ length (take 2 m) + 0 = omega arith in
       beAt-append 2 (raisedTo m size) t 2 (omega (arith, length-raisedTo m head size))
+      ∙ ap (λ (l : List ℕ). beAt 2 l 2) (raised-lent m size (omega arith))
       ∙ beAt-behind 2 (take 2 m) (bytes 2 size ++ drop 2 (drop 2 m)) 2 0 there
       ∙ beAt-append 2 (bytes 2 size) (drop 2 (drop 2 m)) 0 (omega arith)
-      ∙ spelled 2 size small
+      ∙ bytes-read 2 size small
 
   -- the TLVs are those of the message, and then those behind it
   pub raised-tlvs : drop headSize (raised m t) ≡ drop headSize m ++ t
@@ -69,7 +76,7 @@ module _ (m t : List ℕ) (head : 8 ≤ length m) where
       let size : ℕ = length m + length t - 4 in
       drop-append-le 8 (raisedTo m size) t (omega (arith, length-raisedTo m head size))
       ∙ ap (λ (l : List ℕ). l ++ t)
-      (sym (drop-drop 4 4 (raisedTo m size)) ∙ ap (drop 4) (drop-put 2 4 m (bytes 2 size) (omega arith) (omega arith) refl) ∙ drop-drop 4 4 m)
+      (sym (drop-drop 4 4 (raisedTo m size)) ∙ ap (drop 4) (ap (drop 4) (raised-lent m size (omega arith)) ∙ drop-put 2 4 m (bytes 2 size) (omega arith) (omega arith) refl) ∙ drop-drop 4 4 m)
 
   -- the type and the message ID stand as they stood
   pub raised-front : take 2 (raised m t) ≡ take 2 m
@@ -77,6 +84,7 @@ module _ (m t : List ℕ) (head : 8 ≤ length m) where
   raised-front =
       let size : ℕ = length m + length t - 4 in
       take-append-le 2 (raisedTo m size) t (omega (arith, length-raisedTo m head size))
+      ∙ ap (take 2) (raised-lent m size (omega arith))
       ∙ take-put 2 2 m (bytes 2 size) (omega arith)
 
   pub raised-behind : take 4 (drop 4 (raised m t)) ≡ take 4 (drop 4 m)
@@ -85,7 +93,7 @@ module _ (m t : List ℕ) (head : 8 ≤ length m) where
       let size : ℕ = length m + length t - 4 in
       ap (take 4)
       (drop-append-le 4 (raisedTo m size) t (omega (arith, length-raisedTo m head size))
-      ∙ ap (λ (l : List ℕ). l ++ t) (drop-put 2 4 m (bytes 2 size) (omega arith) (omega arith) refl))
+      ∙ ap (λ (l : List ℕ). l ++ t) (ap (drop 4) (raised-lent m size (omega arith)) ∙ drop-put 2 4 m (bytes 2 size) (omega arith) (omega arith) refl))
       ∙ take-append-le 4 (drop 4 m) t (omega (arith, length-drop 4 m))
 
 -- TLVs behind a message are read at the message's old end, after what it said

@@ -1,23 +1,22 @@
 -- What a writer answered and left, by the room. Assumes nothing.
 use Prim.Native.Nat.{ℕ, _≤_, _<_}
 use mathlib.Core.Bool.{true, false}
-use mathlib.Core.List.{List, _++_}
-use mathlib.Core.Path.{_≡_, sym, ap, _∙_}
-use native.Mathlib.Nat.{zero-add}
+use mathlib.Core.List.{List}
+use mathlib.Core.Path.{_≡_, sym, ap}
 use native.Mathlib.Omega.{arith}
 use lib.Dec.{ltb}
-use lib.ListN.{length, drop}
+use lib.ListN.{length}
 use borrow.Author.Tests.{lt-ltb, le-ltb}
-use Rattle.octets.specs.Part.{laid, overlaid}
+use Rattle.octets.specs.Laid.{laid}
 use Rattle.octets.proofs.Choice.{passed, cleared}
 use Rattle.message_writer.specs.declared.Written.{Written}
 use Rattle.message_writer.specs.Written.{writtenOf}
 
 -- a message laid from the start is written
 pub written-whole : (out p y : List ℕ) → y ≡ laid out 0 p → length p ≤ length out → (n : ℕ) → n ≡ length p → (Written.Bytes n, y) ≡ writtenOf out p
-unfolding writtenOf laid
+unfolding writtenOf
 written-whole out p y e room n nq =
-    simp (le-ltb (length out) (length p) room, nq) (ap (λ (x : List ℕ). (Written.Bytes (length p), x)) (e ∙ ap (λ (k : ℕ). p ++ drop k out) (zero-add (length p))))
+    simp (le-ltb (length out) (length p) room, nq) (ap (λ (x : List ℕ). (Written.Bytes (length p), x)) e)
 
 pub written-short : (out p : List ℕ) (n : ℕ) → n ≡ length p → length out < n → (Written.TooShort, out) ≡ writtenOf out p
 unfolding writtenOf
@@ -29,7 +28,7 @@ module _ (o p : List ℕ) {w : Written} {o′ : List ℕ} (e : (w, o′) ≡ wri
   short = (Written.TooShort, o)
 
   abbrev whole : Written × List ℕ
-  whole = (Written.Bytes (length p), overlaid o p)
+  whole = (Written.Bytes (length p), laid o 0 p)
 
   pub too-short : w ≡ Written.TooShort → (ltb (length o) (length p) ≡ true) × (o′ ≡ o)
   unfolding writtenOf
@@ -37,7 +36,7 @@ module _ (o p : List ℕ) {w : Written} {o′ : List ℕ} (e : (w, o′) ≡ wri
       let q = passed (ltb (length o) (length p)) short whole (w, o′) (λ z. let f : Written.Bytes (length p) ≡ w = ap (λ x. x .0) z in cc) (sym e) in
       (q .0, ap (λ x. x .1) (sym (q .1)))
 
-  pub long-enough : {n : ℕ} → w ≡ Written.Bytes n → (ltb (length o) (length p) ≡ false) × ((n ≡ length p) × (o′ ≡ overlaid o p))
+  pub long-enough : {n : ℕ} → w ≡ Written.Bytes n → (ltb (length o) (length p) ≡ false) × ((n ≡ length p) × (o′ ≡ laid o 0 p))
   unfolding writtenOf
   long-enough t =
       let q = cleared (ltb (length o) (length p)) short whole (w, o′) (λ z. let f : Written.TooShort ≡ w = ap (λ x. x .0) z in cc) (sym e) in

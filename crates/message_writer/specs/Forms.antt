@@ -6,7 +6,7 @@ use Prim.Native.Nat.{ℕ, _+_, _-_}
 use mathlib.Core.List.{List, [], _++_}
 use lib.ListN.{length}
 use Rattle.octets.specs.Be.{bytes}
-use Rattle.octets.specs.Part.{withPart}
+use Rattle.octets.specs.Laid.{laid}
 use Rattle.ft_number.specs.declared.FtNumber.{FtNumber}
 use Rattle.ft_number.specs.declared.MessageId.{MessageId}
 use Rattle.tlv.specs.declared.FtField.{FtField}
@@ -57,7 +57,7 @@ keepaliveBytes id ack = messageBytes keepaliveType id (ackTlv ack)
 
 -- the message m with another number in its length
 abbrev pub raisedTo : List ℕ → ℕ → List ℕ
-raisedTo m size = withPart m 2 4 (bytes 2 size)
+raisedTo m size = laid m 2 (bytes 2 size)
 
 -- the message m with TLVs behind it, its length raised
 unfoldable pub raised : List ℕ → List ℕ → List ℕ

@@ -3,7 +3,7 @@ use Prim.Native.Nat.{ℕ}
 use mathlib.Core.List.{List}
 use lib.Dec.{ltb}
 use lib.ListN.{length}
-use Rattle.octets.specs.Part.{overlaid}
+use Rattle.octets.specs.Laid.{laid}
 use Rattle.octets.specs.Pick.{pick}
 use Rattle.message_writer.specs.declared.Written.{Written}
 
@@ -14,4 +14,4 @@ writtenNumber Written.TooShort = 9
 
 -- the answer and the output after the message p is written to `out`; exact room is enough
 unfoldable pub writtenOf : List ℕ → List ℕ → Written × List ℕ
-writtenOf out p = pick (ltb (length out) (length p)) (Written.TooShort, out) (Written.Bytes (length p), overlaid out p)
+writtenOf out p = pick (ltb (length out) (length p)) (Written.TooShort, out) (Written.Bytes (length p), laid out 0 p)

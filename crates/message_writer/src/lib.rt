@@ -4,7 +4,7 @@ ghost use mathlib.Core.List.{_++_};
 ghost use mathlib.Core.Path.{_≡_};
 ghost use lib.ListN.{length};
 ghost use Rattle.octets.specs.Be.{bytes};
-ghost use Rattle.octets.specs.Part.{laid};
+ghost use Rattle.octets.specs.Laid.{laid};
 ghost use Rattle.tlv.specs.Tlv.{protectionType};
 ghost use Rattle.message_writer.specs.Forms.{tlvBytes, headBytes, parametersTlv, initHead, initBytes, keepaliveBytes, raisedTo, protectedBytes};
 ghost use Rattle.message_writer.specs.Written.{writtenOf};

@@ -1,13 +1,14 @@
 -- Fields of joined lists, and the bytes that spell a number, each once over the width. Assumes nothing.
-use Prim.Native.Nat.{ℕ, zero, suc, _+_, _/_, _%_, _^_, _≤_, _<_}
+use Prim.Native.Nat.{ℕ, zero, suc, _+_, _*_, _/_, _%_, _^_, _≤_, _<_}
 use mathlib.Core.List.{List, [], _∷_, _++_}
-use mathlib.Core.Path.{_≡_, refl, sym, ap, _∙_}
+use mathlib.Core.Path.{_≡_, refl, sym, ap, ap₂, _∙_}
 use native.Mathlib.Nat.{add-assoc, pow-suc, mod-eq-of-lt, mod-one}
 use native.Mathlib.Omega.{arith}
 use lib.Arith.{mod-mul}
-use lib.ListN.{length, getD, drop, length-append, List·getD-append}
-use lib.Seq.{getD-drop, getD-append-add}
+use lib.ListN.{length, getD, take, drop, length-append, length-drop, List·getD-append}
+use lib.Seq.{getD-drop, getD-append-add, take-suc}
 use Rattle.octets.specs.Be.{beAt, bytes}
+use Rattle.octets.specs.Bytes.{Bytes}
 use Rattle.octets.proofs.Be.{beAt-suc, beAt-same, pos}
 
 -- a field of what follows the first n elements
@@ -48,3 +49,17 @@ beAt-spelled w v s t at e small =
     ∙ beAt-append w (bytes w v) t 0 (omega (arith, length-bytes w v))
     ∙ beAt-bytes w v
     ∙ mod-eq-of-lt small
+
+-- and the bytes that spell a number which was read are those that it was read from
+pub bytes-beAt : (w : ℕ) (s : List ℕ) (at : ℕ) → Bytes s → at + w ≤ length s → bytes w (beAt w s at) ≡ take w (drop at s)
+bytes-beAt zero s at byte room = refl
+bytes-beAt (suc w) s at byte room =
+    let v : ℕ = beAt w s at * 256 + getD s (at + w) 0 in
+    let low : getD s (at + w) 0 < 256 = byte (at + w) in
+    let high : v / 256 ≡ beAt w s at = omega arith in
+    let last : v % 256 ≡ getD s (at + w) 0 = omega arith in
+    let inside : w < length (drop at s) = rw length-drop (omega arith) in
+    ap (bytes (suc w)) (beAt-suc w s at)
+    ∙ ap₂ (λ (x y : ℕ). bytes w x ++ (y ∷ [])) high last
+    ∙ ap₂ (λ (l : List ℕ) (y : ℕ). l ++ (y ∷ [])) (bytes-beAt w s at byte (omega arith)) (sym (getD-drop at s w 0))
+    ∙ sym (take-suc (drop at s) w 0 inside)

@@ -1,10 +1,9 @@
 pub mod Choice
 pub mod Be
 pub mod Bytes
-pub mod Fill
-pub mod Copied
 pub mod Map
-pub mod Part
 pub mod Laid
+pub mod Fill
+pub mod Part
 pub mod Fix
 pub mod Differ

@@ -1,23 +1,23 @@
--- Parts of lists: a part that is replaced, and the parts beside it. Assumes nothing.
+-- Parts of lists: a part that is written, and the parts beside it. Assumes nothing.
 use Prim.Native.Nat.{ℕ, _+_, _-_, _≤_, _<_}
 use mathlib.Core.List.{List, _++_}
 use mathlib.Core.Path.{_≡_, sym, ap, _∙_}
 use native.Mathlib.Omega.{arith}
 use lib.ListN.{length, getD, take, drop, length-take, length-drop}
 use lib.Seq.{getD-take, getD-drop, ext-getD, drop-drop, take-at, drop-at, length-take-le}
-use borrow.Rule.Slice.PartMut.{take-put, drop-put, same-len-mid, mid-len}
-use Rattle.octets.specs.Part.{part, withPart}
+use borrow.Rule.Slice.PartMut.{take-put, drop-put, mid-len}
+use Rattle.octets.specs.Laid.{laid}
+use Rattle.octets.specs.Part.{part}
+use Rattle.octets.proofs.Laid.{length-laid, laid-between}
 
 pub length-part : (s : List ℕ) (a e : ℕ) → e ≤ length s → length (part s a e) ≡ e - a
 length-part s a e h = mid-len a e s h
 
-pub length-withPart : (s : List ℕ) (a e : ℕ) (p : List ℕ) → e ≤ length s → length p ≡ e - a → length (withPart s a e p) ≡ length s
-length-withPart s a e p h l = same-len-mid a (e - a) s p (l ∙ sym (mid-len a e s h))
-
--- what was put is found
-pub part-same : (s : List ℕ) (a e : ℕ) (p : List ℕ) → a ≤ e → e ≤ length s → length p ≡ e - a → part (withPart s a e p) a e ≡ p
+-- what was written is read back
+pub part-same : (s : List ℕ) (a e : ℕ) (p : List ℕ) → a ≤ e → e ≤ length s → length p ≡ e - a → part (laid s a p) a e ≡ p
 part-same s a e p h g l =
-    ap (take (e - a)) (drop-at (take a s) (p ++ drop (e - a) (drop a s)) a (length-take-le a s (omega arith)))
+    ap (λ (x : List ℕ). part x a e) (sym (laid-between s a e p h g l))
+    ∙ ap (take (e - a)) (drop-at (take a s) (p ++ drop (e - a) (drop a s)) a (length-take-le a s (omega arith)))
     ∙ take-at p (drop (e - a) (drop a s)) (e - a) l
 
 -- a part that ends before n is one of the first n elements
@@ -36,18 +36,18 @@ part-drop s n a e h =
     rw (size, drop-drop (a - n) n s, start)
 
 -- what stands before it is as it was
-pub part-before : (s : List ℕ) (a e : ℕ) (p : List ℕ) (b f : ℕ) → a ≤ e → e ≤ length s → length p ≡ e - a → b ≤ f → f ≤ a → part (withPart s a e p) b f ≡ part s b f
+pub part-before : (s : List ℕ) (a e : ℕ) (p : List ℕ) (b f : ℕ) → a ≤ e → e ≤ length s → length p ≡ e - a → b ≤ f → f ≤ a → part (laid s a p) b f ≡ part s b f
 part-before s a e p b f h g l k m =
-    let long : length (withPart s a e p) ≡ length s = length-withPart s a e p g l in
-    part-take (withPart s a e p) a b f k m (omega arith)
-    ∙ ap (λ (x : List ℕ). part x b f) (take-put a (e - a) s p (omega arith))
+    let long : length (laid s a p) ≡ length s = length-laid s a p in
+    part-take (laid s a p) a b f k m (omega arith)
+    ∙ ap (λ (x : List ℕ). part x b f) (ap (take a) (sym (laid-between s a e p h g l)) ∙ take-put a (e - a) s p (omega arith))
     ∙ sym (part-take s a b f k m (omega arith))
 
 -- and what stands behind it
-pub part-after : (s : List ℕ) (a e : ℕ) (p : List ℕ) (b f : ℕ) → a ≤ e → e ≤ length s → length p ≡ e - a → e ≤ b → part (withPart s a e p) b f ≡ part s b f
+pub part-after : (s : List ℕ) (a e : ℕ) (p : List ℕ) (b f : ℕ) → a ≤ e → e ≤ length s → length p ≡ e - a → e ≤ b → part (laid s a p) b f ≡ part s b f
 part-after s a e p b f h g l k =
-    part-drop (withPart s a e p) e b f k
-    ∙ ap (λ (x : List ℕ). part x (b - e) (f - e)) (drop-put a e s p h g l)
+    part-drop (laid s a p) e b f k
+    ∙ ap (λ (x : List ℕ). part x (b - e) (f - e)) (ap (drop e) (sym (laid-between s a e p h g l)) ∙ drop-put a e s p h g l)
     ∙ sym (part-drop s e b f k)
 
 -- an element of a part is one of the list

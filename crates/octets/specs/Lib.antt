@@ -1,7 +1,7 @@
 pub mod Pick
 pub mod Be
 pub mod Bytes
-pub mod Fill
+pub mod Laid
 pub mod Part
 pub mod Fix
 pub mod Differ

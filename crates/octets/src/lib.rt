@@ -1,10 +1,10 @@
 // Big-endian fields of 8, 16 and 32 bits at a place of lent bytes, and runs of bytes copied or cleared.
 ghost use Prim.Native.Nat.{_+_, _≤_, _<_};
 ghost use mathlib.Core.Path.{_≡_};
-ghost use lib.ListN.{length};
-ghost use Rattle.octets.specs.Be.{beAt, putBe};
+ghost use lib.ListN.{length, replicate};
+ghost use Rattle.octets.specs.Be.{beAt, bytes};
 ghost use Rattle.octets.specs.Differ.{differ};
-ghost use Rattle.octets.specs.Fill.{copied, zeroed};
+ghost use Rattle.octets.specs.Laid.{laid};
 
 fn wide16(x: u8) -> u16
     ensures { λ r. ⌜ (r ≡ x) × (r < 256) ⌝ }
@@ -45,7 +45,7 @@ pub fn get_u32(s: &[u8], at: usize) -> u32
 // Writes the byte at `at`; every other byte stays.
 pub fn put_u8(s: &mut [u8], at: usize, v: u8)
     requires { ⌜ at + 1 ≤ length (now s) ⌝ }
-    ensures { λ _. ⌜ now (s .exit) ≡ putBe 1 (now (s .entry)) at v ⌝ }
+    ensures { λ _. ⌜ now (s .exit) ≡ laid (now (s .entry)) at (bytes 1 v) ⌝ }
 {
     s[at] = v;
 }
@@ -53,7 +53,7 @@ pub fn put_u8(s: &mut [u8], at: usize, v: u8)
 // Writes the 16-bit number at `at`, big-endian; every other byte stays.
 pub fn put_u16(s: &mut [u8], at: usize, v: u16)
     requires { ⌜ at + 2 ≤ length (now s) ⌝ }
-    ensures { λ _. ⌜ now (s .exit) ≡ putBe 2 (now (s .entry)) at v ⌝ }
+    ensures { λ _. ⌜ now (s .exit) ≡ laid (now (s .entry)) at (bytes 2 v) ⌝ }
 {
     s[at] = (v / 256 % 256) as u8;
     s[at + 1] = (v % 256) as u8;
@@ -62,7 +62,7 @@ pub fn put_u16(s: &mut [u8], at: usize, v: u16)
 // Writes the 32-bit number at `at`, big-endian; every other byte stays.
 pub fn put_u32(s: &mut [u8], at: usize, v: u32)
     requires { ⌜ at + 4 ≤ length (now s) ⌝ }
-    ensures { λ _. ⌜ now (s .exit) ≡ putBe 4 (now (s .entry)) at v ⌝ }
+    ensures { λ _. ⌜ now (s .exit) ≡ laid (now (s .entry)) at (bytes 4 v) ⌝ }
 {
     s[at] = (v / 256 / 256 / 256 % 256) as u8;
     s[at + 1] = (v / 256 / 256 % 256) as u8;
@@ -73,7 +73,7 @@ pub fn put_u32(s: &mut [u8], at: usize, v: u32)
 // Copies `m` into `s` from `at` on; every other byte stays.
 pub fn copy_to(s: &mut [u8], at: usize, m: &[u8])
     requires { ⌜ at + length (now m) ≤ length (now s) ⌝ }
-    ensures { λ _. ⌜ now (s .exit) ≡ copied (now (s .entry)) at (now (m .entry)) ⌝ }
+    ensures { λ _. ⌜ now (s .exit) ≡ laid (now (s .entry)) at (now (m .entry)) ⌝ }
 {
     let mut i: usize = 0;
     while i < m.len() {
@@ -85,7 +85,7 @@ pub fn copy_to(s: &mut [u8], at: usize, m: &[u8])
 // Writes `n` zeros into `s` from `at` on; every other byte stays.
 pub fn zero_to(s: &mut [u8], at: usize, n: usize)
     requires { ⌜ at + n ≤ length (now s) ⌝ }
-    ensures { λ _. ⌜ now (s .exit) ≡ zeroed (now (s .entry)) at n ⌝ }
+    ensures { λ _. ⌜ now (s .exit) ≡ laid (now (s .entry)) at (replicate n 0) ⌝ }
 {
     let mut i: usize = 0;
     while i < n {

@@ -5,7 +5,7 @@ use mathlib.Core.List.{List}
 use mathlib.Core.Path.{_≡_, refl}
 use lib.Dec.{ltb}
 use lib.ListN.{length}
-use Rattle.octets.specs.Part.{overlaid}
+use Rattle.octets.specs.Laid.{laid}
 use Rattle.octets.specs.Pick.{pick}
 use Rattle.ft_number.specs.declared.Ack.{Ack}
 use Rattle.ft_number.specs.Ack.{ackNumber}
@@ -52,7 +52,7 @@ pub room-numbered : (out bytes : List ℕ) → answerNumber (roomFor bytes (leng
 unfolding writtenOf
 room-numbered out bytes = by (ltb (length out) (length bytes))
   where
-    by : (b : Bool) → answerNumber (pick b Answer.OutputTooShort Answer.Done) ≡ writtenNumber (pick {X = Written × List ℕ} b (Written.TooShort, out) (Written.Bytes (length bytes), overlaid out bytes) .0)
+    by : (b : Bool) → answerNumber (pick b Answer.OutputTooShort Answer.Done) ≡ writtenNumber (pick {X = Written × List ℕ} b (Written.TooShort, out) (Written.Bytes (length bytes), laid out 0 bytes) .0)
     by true = refl
     by false = refl
 

@@ -6,6 +6,7 @@ use mathlib.Core.Path.{_≡_, refl, sym, ap, _∙_}
 use lib.ListN.{length, take, drop, length-drop}
 use Rattle.octets.specs.Bytes.{Bytes}
 use Rattle.octets.specs.Differ.{differ}
+use Rattle.octets.specs.Laid.{laid}
 use Rattle.octets.proofs.Choice.{by-test, both-true}
 use Rattle.octets.proofs.Differ.{differ-self}
 use Rattle.block0.specs.declared.Header.{Header}
@@ -82,6 +83,7 @@ pub take-is : (im : List ℕ) (sent : ℕ) (g : Message) {im′ : List ℕ} {h :
     → h ≡ decode im .header → k ≡ ackCount (ackOn (stateOfNumbers h) g)
     → (im′ ≡ stored im (fewer (ackCount (ackOn (stateOf im) g))) (receivedState (stateOf im) g)) × (b ≡ differ (block im 0) (block im′ 0)) → n ≡ sent - k
     → afterWith (record { answer = Answer.Done; phase = upWith n; written = 0; slot = 0; block0 = b }) im′ [] ≡ takenFt im sent g
+unfolding laid
 take-is im sent g eh ek e en = rw (e .1, e .0, en, ek, ack-read im g eh)
 
 -- ---- how the answer settles
@@ -95,6 +97,7 @@ module _ (im : List ℕ) (sent : ℕ) (g : Message) {a : Answer} (e : a ≡ ftRu
 
 -- Done in UpPlain changes nothing
 plain-untouched : (im : List ℕ) → IsSound im → Bytes im → (r : Reading) → takenOn im Phase.UpPlain r ≡ untouched Answer.Done Phase.UpPlain im []
+unfolding laid
 plain-untouched im s byte r = rw (put-same im s byte, differ-self)
 
 pub plain-settled : (im : List ℕ) → IsSound im → Bytes im → (g : Message) {a : Answer} {x : After} → a ≡ plainRule g → x ≡ settleOf a Phase.UpPlain im [] (untouched a Phase.UpPlain im [])

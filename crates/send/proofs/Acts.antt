@@ -8,7 +8,7 @@ use lib.ListN.{length, getD}
 use borrow.Author.Tests.{lt-ltb, le-ltb}
 use Rattle.octets.specs.Bytes.{Bytes}
 use Rattle.octets.specs.Differ.{differ}
-use Rattle.octets.specs.Part.{overlaid}
+use Rattle.octets.specs.Laid.{laid}
 use Rattle.octets.proofs.Differ.{differ-self}
 use Rattle.ft_number.specs.declared.FtNumber.{FtNumber}
 use Rattle.ft_number.specs.Circle.{after}
@@ -120,5 +120,5 @@ module _ (im : List ℕ) (ph : Phase) (ask : Bool) (o : List ℕ) where
         → (b ≡ differ (block im 0) (block im′ 0)) × (im′ ≡ stored im stay (sentState (stateOf im) sent))
         → afterWith (record { answer = Answer.Done; phase = upWith (sent + 1); written = n; slot = 0; block0 = b }) im′ o′ ≡ sendOf im ph ask o
     send-acts {n} {b} {im′} t q =
-        let p : (ltb (length o) (length bytes) ≡ false) × ((n ≡ length bytes) × (o′ ≡ overlaid o bytes)) = long-enough o bytes written t in
+        let p : (ltb (length o) (length bytes) ≡ false) × ((n ≡ length bytes) × (o′ ≡ laid o 0 bytes)) = long-enough o bytes written t in
         answered Answer.Done (rw (p .0)) (rw (settle-done, q .0, q .1, p .1 .0, p .1 .1, es))

@@ -5,6 +5,7 @@ use mathlib.Core.List.{List}
 use mathlib.Core.Logic.{_≢_}
 use mathlib.Core.Path.{_≡_, refl, sym, ap, _∙_}
 use native.Mathlib.Omega.{arith}
+use Rattle.octets.specs.Laid.{laid}
 use Rattle.octets.specs.Pick.{pick}
 use Rattle.protocol.specs.declared.Answer.{Answer}
 use Rattle.protocol.specs.declared.Phase.{Phase}
@@ -76,7 +77,7 @@ module _ (c : Call) (im : List ℕ) (ph : Phase) (out : List ℕ) where
 
   -- "Every answer except 0 writes no output byte"
   pub only-done-writes : answerNumber said ≢ 0 → (leaves c im ph out .out ≡ lent c out) × (leaves c im ph out .outcome .written ≡ 0)
-  unfolding failedOn releasedOn
+  unfolding failedOn releasedOn laid
   only-done-writes other =
       ends c im ph out (λ (x : After). (x .out ≡ lent c out) × (x .outcome .written ≡ 0))
       (λ e. (refl, refl))

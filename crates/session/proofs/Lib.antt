@@ -3,6 +3,7 @@ pub mod Settles
 pub mod Answers
 pub mod Puts
 pub mod Begin
+pub mod Lent
 pub mod Refines
 pub mod Room
 pub mod Timeout

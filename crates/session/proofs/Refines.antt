@@ -3,6 +3,7 @@ use Prim.Native.Nat.{ℕ, _≤_}
 use mathlib.Core.Bool.{true, false}
 use mathlib.Core.List.{List, []}
 use mathlib.Core.Path.{_≡_, refl, sym, ap, _∙_}
+use native.Mathlib.Omega.{arith}
 use lib.ListN.{length}
 use Rattle.image.specs.declared.Verdict.{Verdict}
 use Rattle.image.specs.State.{InRange, decode}
@@ -31,6 +32,7 @@ use Rattle.call_meaning.proofs.Putting.{lawful-image}
 use Rattle.call_meaning.proofs.Refining.{Kept, call-seen, call-stands}
 use Rattle.session.specs.Call.{given, leaves, lent, makesImage, slotsLeft}
 use Rattle.session.proofs.Begin.{format-formats, formatted-stands}
+use Rattle.session.proofs.Lent.{done-room}
 use Rattle.session.proofs.Puts.{done-keeps}
 use Rattle.session.proofs.Settles.{called}
 
@@ -58,7 +60,7 @@ module _ (im : List ℕ) (ph : Phase) (st : Standing im ph) (out : List ℕ) whe
     unfolding a
     given-seen =
         ap seen is
-        ∙ call-seen im ph st (lent c out) (slotsLeft c (stateOf im) ph) a (done c (stateOf im) ph) (done-answer c (stateOf im) ph) keeps
+        ∙ call-seen im ph st (lent c out) (slotsLeft c (stateOf im) ph) a (done c (stateOf im) ph) (done-answer c (stateOf im) ph) keeps (λ t. done-room c (stateOf im) ph out (done-is a t))
         ∙ sym (settles c (stateOf im) ph (length out))
 
   -- ---- Restore is given none: of a sound image that makes no difference
@@ -91,7 +93,7 @@ module _ (im : List ℕ) (ph : Phase) (st : Standing im ph) (out : List ℕ) whe
   pub refines : (c : Call) → Proper c ph → seen (leaves c im ph out) ≡ step c (stateOf im) ph (length out)
   unfolding step settle effectOf
   refines formats p = ap seen (format-formats im ph out (st .sound .size)) ∙ rw new-decodes
-  refines restores p = ap seen restored ∙ call-seen im ph st [] stay Answer.Done (restore (stateOf im)) refl restore-keeps
+  refines restores p = ap seen restored ∙ call-seen im ph st [] stay Answer.Done (restore (stateOf im)) refl restore-keeps (λ t. omega arith)
   refines fails p = given-seen fails refl refl p
   refines (opens id own proposal) p = given-seen (opens id own proposal) refl refl p
   refines (greets m) p = given-seen (greets m) refl refl p

@@ -103,7 +103,7 @@ label-small m k l e =
     omega arith)
     (below-or-not (kindNumber k) 4)
 
-module _ (b m : List ℕ) (long : length b ≡ blockSize) (s : Storable m) where
+module _ (m : List ℕ) (s : Storable m) where
   n : ℕ
   n = kindNumber (s .kind)
 
@@ -121,38 +121,38 @@ module _ (b m : List ℕ) (long : length b ≡ blockSize) (s : Storable m) where
   fl : s .label < 4294967296
   fl = label-small m (s .kind) (s .label) (s .accepted)
 
-  is-slot : slotFor b m ≡ slotBlock b m n (s .label)
+  is-slot : slotFor m ≡ slotBlock m n (s .label)
   unfolding slotFor n
   is-slot = rw (s .accepted)
 
-  pub length-slotFor : length (slotFor b m) ≡ blockSize
-  length-slotFor = rw is-slot (length-slot b m n (s .label) long (s .short) fk fl)
+  pub length-slotFor : length (slotFor m) ≡ blockSize
+  length-slotFor = rw is-slot (length-slot m n (s .label) (s .short))
 
   -- a slot that was written has its check
-  pub slotFor-sound : sound (slotFor b m) ≡ true
-  slotFor-sound = rw is-slot (slot-sound b m n (s .label) long (s .short) fk fl)
+  pub slotFor-sound : sound (slotFor m) ≡ true
+  slotFor-sound = rw is-slot (slot-sound m n (s .label) (s .short))
 
   -- what was stored is held
-  pub slotFor-message : slotMessage (slotFor b m) ≡ m
-  slotFor-message = rw is-slot (message-slot b m n (s .label) long (s .short) fk fl)
+  pub slotFor-message : slotMessage (slotFor m) ≡ m
+  slotFor-message = rw is-slot (message-slot m n (s .label) (s .short) fk fl)
 
   -- its fields are right
-  pub slotFor-ok : slotOk (slotFor b m) ≡ true
+  pub slotFor-ok : slotOk (slotFor m) ≡ true
   unfolding slotOk n
   slotFor-ok =
       rw is-slot
       (simp (
-        slot-length b m n (s .label) long (s .short) fk fl,
+        slot-length m n (s .label) (s .short) fk fl,
         le-leb _ _ (s .low),
         le-leb _ _ (s .short),
-        slot-kind b m n (s .label) long (s .short) fk fl,
+        slot-kind m n (s .label) (s .short) fk fl,
         le-leb _ _ some,
         le-leb _ _ kinds,
-        eq-eqb _ _ (slot-spare b m n (s .label) long (s .short) fk fl),
-        padding-slot b m n (s .label) long (s .short) fk fl,
-        message-slot b m n (s .label) long (s .short) fk fl,
+        eq-eqb _ _ (slot-spare m n (s .label) (s .short) fk fl),
+        padding-slot m n (s .label) (s .short) fk fl,
+        message-slot m n (s .label) (s .short) fk fl,
         s .accepted,
-        slot-label b m n (s .label) long (s .short) fk fl,
+        slot-label m n (s .label) (s .short) fk fl,
         eq-eqb n n refl,
         eq-eqb (s .label) (s .label) refl,
       ))

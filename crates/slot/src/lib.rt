@@ -4,8 +4,9 @@ ghost use mathlib.Core.Bool.{true, false};
 ghost use mathlib.Core.List.{[], _∷_};
 ghost use mathlib.Core.Path.{_≡_};
 ghost use lib.ListN.{length};
+ghost use Rattle.octets.specs.Laid.{laid};
 ghost use Rattle.block.specs.Check.{blockSize};
-ghost use Rattle.block.specs.Run.{putRun};
+ghost use Rattle.block.specs.Run.{spelled};
 ghost use Rattle.message.specs.Kinds.{kindNumber};
 ghost use Rattle.message.specs.Storable.{longest, bears};
 ghost use Rattle.slot.specs.Fields.{slotOk, Padded, slotVerdict};
@@ -32,7 +33,7 @@ const ROOM: usize = block::CHECK_AT - MESSAGE_AT;
 
 fn put_head(block: &mut [u8], n: u16, kind: u8, label: u32)
     requires { ⌜ length (now block) ≡ blockSize ⌝ }
-    ensures { λ _. ⌜ now (block .exit) ≡ putRun headWidths (n ∷ kind ∷ 0 ∷ label ∷ []) (now (block .entry)) 0 ⌝ }
+    ensures { λ _. ⌜ now (block .exit) ≡ laid (now (block .entry)) 0 (spelled headWidths (n ∷ kind ∷ 0 ∷ label ∷ [])) ⌝ }
 {
     octets::put_u16(block, 0, n);
     octets::put_u8(block, 2, kind);
@@ -43,7 +44,7 @@ fn put_head(block: &mut [u8], n: u16, kind: u8, label: u32)
 // Writes the slot whole: length, kind, a zero, label, the message, zeros to byte 507, and the check.
 pub fn write_slot(block: &mut [u8], m: &[u8], kind: Kind, label: u32)
     requires { ⌜ (length (now block) ≡ blockSize) × (length (now m) ≤ longest) ⌝ }
-    ensures { λ _. ⌜ now (block .exit) ≡ slotBlock (now (block .entry)) (now (m .entry)) (kindNumber kind) label ⌝ }
+    ensures { λ _. ⌜ now (block .exit) ≡ slotBlock (now (m .entry)) (kindNumber kind) label ⌝ }
 {
     let n = m.len();
     put_head(block, n as u16, message::kind_number(kind), label);

@@ -5,6 +5,7 @@ use mathlib.Core.List.{List, []}
 use mathlib.Core.Path.{_≡_, refl, sym, ap, _∙_}
 use lib.ListN.{length}
 use Rattle.octets.specs.Bytes.{Bytes}
+use Rattle.octets.specs.Laid.{laid}
 use Rattle.block0.specs.declared.Header.{Header}
 use Rattle.block0.specs.Layout.{slotCount}
 use Rattle.block0.specs.Updates.{headerHeld}
@@ -49,7 +50,7 @@ module _ (im : List ℕ) (ph : Phase) (m : List ℕ) (kind : Kind) (label : ℕ)
       → {k : ℕ} → (k ≡ blockOf (nextSlot (decode im .header)))
       × (im′ ≡ store0 (storeSlot im (nextSlot (decode im .header)) m) (headerHeld (decode im .header) (decode im .header .held + 1)) (changed (decode im .labels) change))
       → afterWith (record { answer = Answer.Done; phase = ph; written = 0; slot = k; block0 = true }) im′ [] ≡ settleOf x ph im [] (queued im ph m)
-  unfolding queued
+  unfolding queued laid
   queued-is done s bytes low high eh room change ew el ec e =
       let few : decode im .header .held < slotCount = rw eh at room in
       let fits : Storable m = record { low = low; short = high; kind = kind; label = label; accepted = j } in

@@ -11,9 +11,9 @@ use lib.ListN.{length, take, getD, set}
 use lib.Seq.{take-suc, take-all, length-take-le}
 use borrow.Author.Tests.{lt-ltb, le-ltb, ltb-false}
 use Rattle.io.specs.Digits.{glyph, digits, Fewest}
-use Rattle.octets.specs.Fill.{copied}
-use Rattle.octets.proofs.Copied.{copied-append, copied-two}
+use Rattle.octets.specs.Laid.{laid}
 use Rattle.octets.proofs.Fix.{Shrinks, fix-step}
+use Rattle.octets.proofs.Laid.{laid-laid, laid-two}
 use Rattle.text.specs.Text.{decimalStep, decimal, hex, Put}
 
 -- a number of at least one digit more has a smaller tenth
@@ -75,15 +75,15 @@ hex-next : (s : List ℕ) (i : ℕ) → i < length s → hex (take (i + 1) s) �
 hex-next s i h = rw (add-one i, take-suc s i 0 h) (hex-append (take i s) (getD s i 0 ∷ []))
 
 pub hex-put : (o : List ℕ) (at : ℕ) (s : List ℕ) (i high low : ℕ) → i < length s → high ≡ glyph (getD s i 0 / 16) → low ≡ glyph (getD s i 0 % 16)
-    → set (set (copied o at (hex (take i s))) (at + 2 * i) high) (at + 2 * i + 1) low ≡ copied o at (hex (take (i + 1) s))
+    → set (set (laid o at (hex (take i s))) (at + 2 * i) high) (at + 2 * i + 1) low ≡ laid o at (hex (take (i + 1) s))
 hex-put o at s i high low h p q =
     let size : length (hex (take i s)) ≡ 2 * i = length-hex (take i s) ∙ ap (λ (n : ℕ). 2 * n) (length-take-le i s (omega arith)) in
-    let moved : copied (copied o at (hex (take i s))) (at + 2 * i) (high ∷ low ∷ []) ≡ copied o at (hex (take i s) ++ (high ∷ low ∷ [])) =
-    ap (λ (n : ℕ). copied (copied o at (hex (take i s))) (at + n) (high ∷ low ∷ [])) (sym size)
-    ∙ copied-append o at (hex (take i s)) (high ∷ low ∷ []) in
-    sym (copied-two (copied o at (hex (take i s))) (at + 2 * i) high low)
+    let moved : laid (laid o at (hex (take i s))) (at + 2 * i) (high ∷ low ∷ []) ≡ laid o at (hex (take i s) ++ (high ∷ low ∷ [])) =
+    ap (λ (n : ℕ). laid (laid o at (hex (take i s))) (at + n) (high ∷ low ∷ [])) (sym size)
+    ∙ laid-laid o at (hex (take i s)) (high ∷ low ∷ []) in
+    sym (laid-two (laid o at (hex (take i s))) (at + 2 * i) high low)
     ∙ moved
     ∙ rw (hex-next s i h, p, q) refl
 
-pub hex-done : (o : List ℕ) (at : ℕ) (s out : List ℕ) (i : ℕ) → length s ≤ i → out ≡ copied o at (hex (take i s)) → Put o at (hex s) out (at + 2 * length s)
+pub hex-done : (o : List ℕ) (at : ℕ) (s out : List ℕ) (i : ℕ) → length s ≤ i → out ≡ laid o at (hex (take i s)) → Put o at (hex s) out (at + 2 * length s)
 hex-done o at s out i h e = record { bytes = e ∙ rw (take-all i s h) refl; ends = rw length-hex refl }

@@ -8,8 +8,8 @@ use mathlib.Core.Path.{_≡_}
 use lib.Dec.{ltb}
 use lib.ListN.{length}
 use Rattle.io.specs.Digits.{glyph}
-use Rattle.octets.specs.Fill.{copied}
 use Rattle.octets.specs.Fix.{fix}
+use Rattle.octets.specs.Laid.{laid}
 use Rattle.octets.specs.Pick.{pick}
 
 -- the codes of a word's characters
@@ -31,5 +31,5 @@ hex (b ∷ bs) = glyph (b / 16) ∷ glyph (b % 16) ∷ hex bs
 
 -- a text that is put from `at` on: the bytes afterwards, every other byte as it was, and where the text ends
 pub record Put (before : List ℕ) (at : ℕ) (text after : List ℕ) (end : ℕ) : Type 0 where
-  pub bytes : after ≡ copied before at text
+  pub bytes : after ≡ laid before at text
   pub ends : end ≡ at + length text

@@ -6,6 +6,7 @@ use mathlib.Core.Path.{_≡_, refl, sym, ap, _∙_}
 use lib.Dec.{leb}
 use borrow.Author.Tests.{eq-eqb, ne-eqb}
 use Rattle.octets.specs.Bytes.{Bytes}
+use Rattle.octets.specs.Laid.{laid}
 use Rattle.octets.specs.Pick.{pick}
 use Rattle.octets.proofs.Choice.{pick-all}
 use Rattle.octets.proofs.Differ.{differ-self}
@@ -96,6 +97,7 @@ module _ (im : List ℕ) (ph : Phase) (elapsed : ℕ) where
     read e = rw eh at (sym et ∙ e)
 
     pub too-early : IsSound im → Bytes im → {x : Outcome} → t ≡ false → x ≡ refusal Answer.Done ph → afterWith x im [] ≡ passedOn
+    unfolding laid
     too-early s byte e p = rw (read e, put-same im s byte, differ-self, p)
 
     pub late : {x : After} → t ≡ true → x ≡ releasedOn Answer.Done im [] → x ≡ passedOn

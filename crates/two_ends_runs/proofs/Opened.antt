@@ -1,7 +1,7 @@
 -- The definitions that the rules are made of, opened for computation. Assumes nothing.
 use Prim.Native.Nat.{ℕ}
-use Rattle.octets.specs.Fill.{filled}
 use Rattle.octets.specs.Fix.{fix, steps}
+use Rattle.octets.specs.Laid.{laid}
 use Rattle.ft_number.specs.Ack.{ackOf}
 use Rattle.ft_number.specs.Circle.{after, stepsOf}
 use Rattle.ft_number.specs.Timeout.{lesserOf}
@@ -43,5 +43,5 @@ use Rattle.protocol.specs.Writer.{writer}
 
 -- to unfold this is to unfold all of them
 unfoldable pub everything : ℕ
-unfolding filled fix steps ackOf after stepsOf lesserOf tlvOf fecAt fieldAt numberAt parametersAt partAt sessionAt notedOf tlvsOf turnOf walkOf kindOf messageOf placesOf readingOf typeOf bearsFt submissionOf raised keptOf payloadOf any findOf barsProtection codeProtection needsProtection codeAccepted codeAcked codeReceived codeSwept receivedSide sentSide wordSwept validOf validWord isFree onSide standsFor wordOf acceptedOf planOf ackedAt changeAt changed codeIn protectionOf receivedChange receivedOf effectOf issuedCount phaseFits isHeld settle admitted acceptedAs isBarred acked releasedKind releasedLabels kindRule submitRule submitted submit queueNumber ackAsked sendBytes sendRule numbered sentState sendNext labelEffect protectionRule bothSet startOf fresh resumed initReceived ackOn ftRule labelsRule messageRule taken receivedState receive connectionFailed expired timePassed writer keepalive keptAck openSession
+unfolding laid fix steps ackOf after stepsOf lesserOf tlvOf fecAt fieldAt numberAt parametersAt partAt sessionAt notedOf tlvsOf turnOf walkOf kindOf messageOf placesOf readingOf typeOf bearsFt submissionOf raised keptOf payloadOf any findOf barsProtection codeProtection needsProtection codeAccepted codeAcked codeReceived codeSwept receivedSide sentSide wordSwept validOf validWord isFree onSide standsFor wordOf acceptedOf planOf ackedAt changeAt changed codeIn protectionOf receivedChange receivedOf effectOf issuedCount phaseFits isHeld settle admitted acceptedAs isBarred acked releasedKind releasedLabels kindRule submitRule submitted submit queueNumber ackAsked sendBytes sendRule numbered sentState sendNext labelEffect protectionRule bothSet startOf fresh resumed initReceived ackOn ftRule labelsRule messageRule taken receivedState receive connectionFailed expired timePassed writer keepalive keptAck openSession
 everything = 0

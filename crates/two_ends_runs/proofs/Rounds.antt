@@ -5,7 +5,7 @@ use mathlib.Core.List.{List, [], _∷_, _++_}
 use mathlib.Core.Path.{_≡_, refl, sym, ap, _∙_}
 use native.Mathlib.Omega.{arith}
 use borrow.Author.Tests.{eq-eqb, ne-eqb}
-use Rattle.octets.specs.Fill.{filled}
+use Rattle.octets.specs.Laid.{laid}
 use Rattle.ft_number.specs.declared.FtNumber.{FtNumber}
 use Rattle.ft_number.specs.declared.Steps.the-variants.{Count}
 use Rattle.ft_number.specs.Ack.{ackOf}
@@ -110,7 +110,7 @@ module _ (x : ℕ) (low : x ≤ circle) where
   carried = protectedBytes (address 7) (number y) (FtField.Number (number 0))
 
   sends-it : sendNext (sender x x (address 7 ∷ [])) (upWith 0) true room ≡ stepped Answer.Done (sender x y (address 7 ∷ [])) (upWith 1) carried
-  unfolding sendNext settle admitted phaseFits sendRule sendBytes queueNumber ackAsked sentState numbered effectOf issuedCount after raised filled
+  unfolding sendNext settle admitted phaseFits sendRule sendBytes queueNumber ackAsked sentState numbered effectOf issuedCount after raised laid
   sends-it = rw steps-none
 
   -- ---- b takes it

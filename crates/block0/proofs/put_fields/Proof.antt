@@ -1,4 +1,6 @@
+-- `block0::put_fields` meets its contract: the two runs are one. Assumes nothing.
 use borrow.Author.Needs.{needs}
+use Rattle.block0.proofs.Written.{fields-put}
 use Rattle.block0.proofs.put_fields.Statement.{statement}
 use Rattle.block0.proofs.put_fields.Tie as tie
 
@@ -8,5 +10,5 @@ put-fields-spec =
     (λ c κs. search needs)
     (λ c κs. search needs)
     (λ c. search needs)
-    (λ c. cc) in
+    (λ c. fields-put _ _ (c .before .before .before .before .before .before .put-numbers .ensures) (c .before .before .put-rest .ensures)) in
     tie.close answers

@@ -1,5 +1,6 @@
--- `block0::put_numbers` meets its contract, by the definition. Assumes nothing.
+-- `block0::put_numbers` meets its contract, which is a run of numbers. Assumes nothing.
 use borrow.Author.Needs.{needs}
+use Rattle.block.proofs.Run.{run-put}
 use Rattle.block0.proofs.put_numbers.Statement.{statement}
 use Rattle.block0.proofs.put_numbers.Tie as tie
 
@@ -11,5 +12,5 @@ put-numbers-spec =
     (λ c κs. search needs)
     (λ c κs. search needs)
     (λ c. search needs)
-    (λ c. cc) in
+    (λ c. run-put _ _ _ _ (cc)) in
     tie.close answers

@@ -1,5 +1,6 @@
--- `block0::put_rest` meets its contract, by the definition. Assumes nothing.
+-- `block0::put_rest` meets its contract, which is a run of numbers. Assumes nothing.
 use borrow.Author.Needs.{needs}
+use Rattle.block.proofs.Run.{run-put}
 use Rattle.block0.proofs.put_rest.Statement.{statement}
 use Rattle.block0.proofs.put_rest.Tie as tie
 
@@ -14,5 +15,5 @@ put-rest-spec =
     (λ c κs. search needs)
     (λ c κs. search needs)
     (λ c. search needs)
-    (λ c. cc) in
+    (λ c. run-put _ _ _ _ (cc)) in
     tie.close answers

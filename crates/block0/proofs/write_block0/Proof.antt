@@ -1,16 +1,15 @@
--- `block0::write_block0` meets its contract, by the definition. Assumes nothing.
+-- `block0::write_block0` meets its contract: every byte is written. Assumes nothing.
 use borrow.Author.Needs.{needs}
-use Rattle.block0.specs.Layout.{block0}
+use Rattle.block0.proofs.Same.{labels-put}
 use Rattle.block0.proofs.write_block0.Statement.{statement}
 use Rattle.block0.proofs.write_block0.Tie as tie
 
 pub write-block0-spec : {M : Type 1} → statement M
-unfolding block0
 write-block0-spec =
     let answers = tie.spec
     (λ c κs. search needs)
     (λ c κs. search needs)
     (λ c κs. search needs)
     (λ c. search needs)
-    (λ c. cc) in
+    (λ c. labels-put _ (search needs) _ (c .before .before .before .before .before .before .before .before .before .before .put-fields .ensures) _ (search needs) (c .before .before .before .before .before .before .store-words .ensures) (c .before .before .seal .ensures)) in
     tie.close answers

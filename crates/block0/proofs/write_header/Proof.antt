@@ -10,5 +10,5 @@ write-header-spec =
     (λ c κs. search needs)
     (λ c κs. search needs)
     (λ c. search needs)
-    (λ c. labels-kept _ _ (c .before .before .before .before .before .before .put-fields .ensures) (λ k. c .before .before .before .before .slice-known2 .given k .fits) (c .before .before .seal .ensures)) in
+    (λ c. labels-kept _ (search needs) _ (c .before .before .before .before .before .before .put-fields .ensures) (λ k. c .before .before .before .before .before .before .before .before .slice-known .given k .fits) (c .before .before .seal .ensures)) in
     tie.close answers

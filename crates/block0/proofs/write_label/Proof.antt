@@ -13,5 +13,5 @@ write-label-spec =
     (λ c κs. search needs)
     (λ c κs. search needs)
     (λ c. search needs)
-    (λ c. label-put _ _ (c .before .before .before .before .before .before .before .before .before .before .put-fields .ensures) _ _ (c .before .before .before .before .before .before .before .before .before .before .before .before .before .pre .1) (c .before .before .before .before .before .before .put-u32 .ensures) (λ k. c .before .before .before .before .before .before .before .before .slice-known2 .given k .fits) (λ k. c .before .before .before .before .slice-known3 .given k .fits) (c .before .before .seal .ensures)) in
+    (λ c. label-put _ (search needs) _ (c .before .before .before .before .before .before .before .before .before .before .put-fields .ensures) (λ k. c .before .before .before .before .before .before .before .before .before .before .before .before .slice-known .given k .fits) _ _ (c .before .before .before .before .before .before .before .before .before .before .before .before .before .pre .1) (c .before .before .before .before .before .before .put-u32 .ensures) (c .before .before .seal .ensures)) in
     tie.close answers

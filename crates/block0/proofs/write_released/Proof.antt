@@ -1,8 +1,8 @@
 -- `block0::write_released` meets its contract: the label words are zeros, which `seal_before` need not sum. Assumes nothing.
 use native.Mathlib.Omega.{arith}
 use borrow.Author.Needs.{needs}
-use Rattle.block.proofs.ZeroBytes.{zeroed-zero}
-use Rattle.block0.proofs.Same.{labels-zeroed}
+use Rattle.block.proofs.ZeroBytes.{cleared-zero}
+use Rattle.block0.proofs.Same.{labels-cleared}
 use Rattle.block0.proofs.write_released.Statement.{statement}
 use Rattle.block0.proofs.write_released.Tie as tie
 
@@ -12,7 +12,7 @@ write-released-spec =
     (λ c κs. search needs)
     (λ c. search needs)
     (λ c κs. search needs)
-    (λ c κs. (search needs, omega arith, rw (c .before .before .before .zero-to .ensures) (zeroed-zero (c .before .before .before .before .before .before .before .put-fields .last .0) 28 480 508 (search needs) (omega arith))))
+    (λ c κs. (search needs, omega arith, rw (c .before .before .before .zero-to .ensures) (cleared-zero (c .before .before .before .before .before .before .before .put-fields .last .0) 28 480 508 (search needs) (omega arith))))
     (λ c. search needs)
-    (λ c. labels-zeroed _ _ (c .before .before .before .before .before .before .before .before .before .before .put-fields .ensures) (search needs) (c .before .before .before .before .before .before .zero-to .ensures) (c .before .before .seal-before .ensures)) in
+    (λ c. labels-cleared _ (search needs) _ (c .before .before .before .before .before .before .before .before .before .before .put-fields .ensures) (c .before .before .before .before .before .before .zero-to .ensures) (c .before .before .seal-before .ensures)) in
     tie.close answers

@@ -1,11 +1,13 @@
 -- `dump_fields::put_status` meets its contract. Assumes nothing.
 use native.Mathlib.Omega.{arith}
 use borrow.Author.Needs.{needs}
+use Rattle.octets.specs.Laid.{laid}
 use Rattle.text.proofs.Pieces.{put-none}
 use Rattle.dump_fields.proofs.put_status.Statement.{statement}
 use Rattle.dump_fields.proofs.put_status.Tie as tie
 
 pub put-status-spec : {M : Type 1} → statement M
+unfolding laid
 put-status-spec =
     let answers = tie.spec
     (λ c. search needs)

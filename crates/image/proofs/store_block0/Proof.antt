@@ -1,6 +1,8 @@
--- `image::store_block0` meets its contract, by the definition. Assumes nothing.
+-- `image::store_block0` meets its contract: the block is lent and written whole. Assumes nothing.
 use native.Mathlib.Omega.{arith}
 use borrow.Author.Needs.{needs}
+use Rattle.octets.proofs.Laid.{laid-between}
+use Rattle.block0.proofs.Written.{length-block0}
 use Rattle.image.specs.State.{store0}
 use Rattle.image.proofs.store_block0.Statement.{statement}
 use Rattle.image.proofs.store_block0.Tie as tie
@@ -14,5 +16,5 @@ store-block0-spec =
     (λ c. omega arith)
     (λ c κs. search needs)
     (λ c. search needs)
-    (λ c. cc) in
+    (λ c. rw (c .before .before .write-block0 .ensures) (laid-between _ 0 512 _ (omega arith) (omega arith) (length-block0 _ _))) in
     tie.close answers

@@ -1,4 +1,3 @@
-use native.Mathlib.Omega.{arith}
 use borrow.Author.Needs.{needs}
 use Rattle.message_writer.proofs.Puts.{head-laid}
 use Rattle.message_writer.proofs.put_head.Statement.{statement}
@@ -8,5 +7,5 @@ pub put-head-spec : {M : Type 1} → statement M
 put-head-spec =
     let answers = tie.spec
     (λ c. search needs) (λ c. search needs) (λ c. search needs) (λ c. search needs)
-    (λ c. head-laid _ _ _ _ _ _ _ (omega arith) (c .before .before .before .before .before .before .before .before .before .before .put-u16 .ensures) (c .before .before .before .before .before .before .put-u162 .ensures) (c .before .before .put-u32 .ensures)) in
+    (λ c. head-laid _ _ _ _ _ _ _ (c .before .before .before .before .before .before .before .before .before .before .put-u16 .ensures) (c .before .before .before .before .before .before .put-u162 .ensures) (c .before .before .put-u32 .ensures)) in
     tie.close answers

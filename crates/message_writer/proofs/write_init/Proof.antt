@@ -16,5 +16,5 @@ write-init-spec =
     (λ c. search needs) (λ c. search needs) (λ c. search needs) (λ c. search needs)
     (λ c. rw (c .before .before .before .before .before .enum-told .given .1) (written-whole _ _ _ (c .before .before .put-init .ensures) (omega arith) 34 refl))
     (λ c. search needs)
-    (λ c. rw (c .before .before .before .before .before .before .before .before .before .before .ack .given .1) (written-whole _ _ _ (ack-laid _ _ _ _ 34 _ (c .before .before .before .before .before .before .put-init2 .ensures) (c .before .before .put-tlv .ensures) refl (omega arith)) (omega arith) 42 refl)) in
+    (λ c. rw (c .before .before .before .before .before .before .before .before .before .before .ack .given .1) (written-whole _ _ _ (ack-laid _ _ _ _ 34 _ (c .before .before .before .before .before .before .put-init2 .ensures) (c .before .before .put-tlv .ensures) refl) (omega arith) 42 refl)) in
     tie.close answers

@@ -16,5 +16,5 @@ write-keepalive-spec =
     (λ c. search needs) (λ c. search needs) (λ c. search needs)
     (λ c. rw (c .before .before .before .before .before .enum-told .given .1) (written-whole _ _ _ (c .before .before .put-head .ensures) (omega arith) 8 refl))
     (λ c. search needs)
-    (λ c. rw (c .before .before .before .before .before .before .before .before .before .before .ack .given .1) (written-whole _ _ _ (ack-laid _ _ _ _ 8 _ (c .before .before .before .before .before .before .put-head2 .ensures) (c .before .before .put-tlv .ensures) refl (omega arith)) (omega arith) 16 refl)) in
+    (λ c. rw (c .before .before .before .before .before .before .before .before .before .before .ack .given .1) (written-whole _ _ _ (ack-laid _ _ _ _ 8 _ (c .before .before .before .before .before .before .put-head2 .ensures) (c .before .before .put-tlv .ensures) refl) (omega arith) 16 refl)) in
     tie.close answers

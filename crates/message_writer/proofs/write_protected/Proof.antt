@@ -17,5 +17,5 @@ write-protected-spec =
     (λ c. search needs) (λ c. search needs) (λ c. search needs) (λ c. search needs)
     (λ c. rw (c .before .before .before .before .before .enum-told .given .1) (protected-whole _ (now (c .before .before .before .before .before .before .before .before .before .args .m)) (omega arith) _ FtField.Absent _ _ refl (c .before .before .before .before .if1 .left) (protected-plain _ (now (c .before .before .before .before .before .before .before .before .before .args .m)) (omega arith) _ _ (c .before .before .put-protected .ensures))))
     (λ c. search needs)
-    (λ c. rw (c .before .before .before .before .before .before .before .before .before .before .ack .given .1) (protected-whole _ (now (c .before .before .before .before .before .before .before .before .before .before .before .before .before .before .args .m)) (omega arith) _ (FtField.Number _) _ _ refl (c .before .before .before .before .before .before .before .before .if2 .left) (protected-acked _ (now (c .before .before .before .before .before .before .before .before .before .before .before .before .before .before .args .m)) (omega arith) _ _ _ _ (c .before .before .before .before .before .before .before .before .if2 .left) (c .before .before .before .before .before .before .put-protected2 .ensures) (c .before .before .put-tlv .ensures)))) in
+    (λ c. rw (c .before .before .before .before .before .before .before .before .before .before .ack .given .1) (protected-whole _ (now (c .before .before .before .before .before .before .before .before .before .before .before .before .before .before .args .m)) (omega arith) _ (FtField.Number _) _ _ refl (c .before .before .before .before .before .before .before .before .if2 .left) (protected-acked _ (now (c .before .before .before .before .before .before .before .before .before .before .before .before .before .before .args .m)) (omega arith) _ _ _ _ (c .before .before .before .before .before .before .put-protected2 .ensures) (c .before .before .put-tlv .ensures)))) in
     tie.close answers

@@ -1,6 +1,8 @@
+use mathlib.Core.Path.{sym}
 use native.Mathlib.Omega.{arith}
 use lib.ListN.{length-set}
 use borrow.Author.Needs.{needs}
+use Rattle.octets.proofs.Laid.{laid-four}
 use Rattle.octets.proofs.put_u32.Statement.{statement}
 use Rattle.octets.proofs.put_u32.Tie as tie
 
@@ -10,5 +12,5 @@ put-u32-spec =
     (λ c. search needs) (λ c. search needs) (λ c. simp length-set (omega arith))
     (λ c. search needs) (λ c. search needs) (λ c. simp length-set (omega arith))
     (λ c. search needs) (λ c. search needs) (λ c. simp length-set (omega arith))
-    (λ c. search needs) (λ c. search needs) in
+    (λ c. search needs) (λ c. sym (laid-four _ _ _ _ _ _)) in
     tie.close answers

@@ -1,5 +1,6 @@
--- `slot::put_head` meets its contract, by the definition. Assumes nothing.
+-- `slot::put_head` meets its contract, which is a run of numbers. Assumes nothing.
 use borrow.Author.Needs.{needs}
+use Rattle.block.proofs.Run.{run-put}
 use Rattle.slot.proofs.put_head.Statement.{statement}
 use Rattle.slot.proofs.put_head.Tie as tie
 
@@ -11,5 +12,5 @@ put-head-spec =
     (λ c κs. search needs)
     (λ c κs. search needs)
     (λ c. search needs)
-    (λ c. cc) in
+    (λ c. run-put _ _ _ _ (cc)) in
     tie.close answers

@@ -4,15 +4,15 @@ use mathlib.Core.Path.{_≡_, refl, sym}
 use native.Mathlib.Omega.{arith}
 use lib.ListN.{length, take, length-set}
 use borrow.Author.Needs.{needs}
-use Rattle.octets.specs.Fill.{copied}
-use Rattle.octets.proofs.Fill.{filled-none}
+use Rattle.octets.specs.Laid.{laid}
+use Rattle.octets.proofs.Laid.{laid-none}
 use Rattle.text.specs.Text.{hex}
 use Rattle.text.proofs.Digits.{hex-put, hex-done}
 use Rattle.text.proofs.put_hex.Statement.{statement}
 use Rattle.text.proofs.put_hex.Tie as tie
 
 abbrev Inv-loop : tie.InvT-loop
-Inv-loop out₀ at bytes i₀ out i = (i ≤ length bytes) × (length out ≡ length out₀) × (out ≡ copied out₀ at (hex (take i bytes)))
+Inv-loop out₀ at bytes i₀ out i = (i ≤ length bytes) × (length out ≡ length out₀) × (out ≡ laid out₀ at (hex (take i bytes)))
 
 abbrev μ-loop : tie.MeasureT-loop
 μ-loop out₀ at bytes i₀ out i = length bytes - i
@@ -28,7 +28,7 @@ loop-again c = (
 pub put-hex-spec : {M : Type 1} → statement M
 put-hex-spec =
     let answers = tie.spec Inv-loop μ-loop
-    (λ c. (omega arith, refl, sym (filled-none _ _ _)))
+    (λ c. (omega arith, refl, sym (laid-none _ _)))
     (λ c. search needs)
     (λ c. λ κs. omega (arith, c .shared-slice-known2 .given (c .before .before .loop .i)))
     (λ c. search needs)

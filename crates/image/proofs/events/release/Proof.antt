@@ -1,6 +1,8 @@
--- `image::release` meets its contract, by the definition. Assumes nothing.
+-- `image::release` meets its contract: the block is lent and written whole. Assumes nothing.
 use native.Mathlib.Omega.{arith}
 use borrow.Author.Needs.{needs}
+use Rattle.octets.proofs.Laid.{laid-between}
+use Rattle.block0.proofs.Written.{length-block0}
 use Rattle.image.specs.Events.{releaseOf}
 use Rattle.image.specs.State.{store0}
 use Rattle.image.proofs.events.release.Statement.{statement}
@@ -15,5 +17,5 @@ release-spec =
     (λ c. omega arith)
     (λ c κs. search needs)
     (λ c. search needs)
-    (λ c. cc) in
+    (λ c. rw (c .before .before .write-released .ensures) (laid-between _ 0 512 _ (omega arith) (omega arith) (length-block0 _ _))) in
     tie.close answers
