@@ -7,7 +7,7 @@ use native.Mathlib.Omega.{arith}
 use lib.ListN.{length, getD, drop, replicate, length-append}
 use Rattle.octets.specs.Be.{beAt, bytes}
 use Rattle.octets.specs.Laid.{laid}
-use Rattle.octets.proofs.Be.{beAt-same, zeros-beAt, beAt-zeros}
+use Rattle.octets.proofs.Be.{zeros-beAt, beAt-zeros}
 use Rattle.octets.proofs.Bytes.{length-bytes, beAt-spelled}
 use Rattle.octets.proofs.Choice.{below-or-not}
 use Rattle.octets.proofs.Laid.{laid-none, laid-then}
@@ -51,15 +51,6 @@ putRun-laid (w ∷ ws) vs s at =
 
 pub run-put : (ws vs s : List ℕ) (at : ℕ) {x : List ℕ} → x ≡ putRun ws vs s at → x ≡ laid s at (spelled ws vs)
 run-put ws vs s at e = e ∙ putRun-laid ws vs s at
-
--- a run reads only its own bytes
-pub getRun-same : (ws s t : List ℕ) (at : ℕ) → ((k : ℕ) → k < runSize ws → getD s (at + k) 0 ≡ getD t (at + k) 0) → getRun ws s at ≡ getRun ws t at
-getRun-same [] s t at same = refl
-getRun-same (w ∷ ws) s t at same =
-    let head : beAt w s at ≡ beAt w t at = beAt-same w s t at at (λ k l. same k (omega arith)) in
-    let rest : getRun ws s (at + w) ≡ getRun ws t (at + w) =
-    getRun-same ws s t (at + w) (λ k l. let e : at + w + k ≡ at + (w + k) = omega arith in rw e (same (w + k) (omega arith))) in
-    rw (head, rest)
 
 -- ---- zeros
 pub zeros-getRun : (ws s : List ℕ) (at : ℕ) → ((k : ℕ) → k < runSize ws → getD s (at + k) 0 ≡ 0) → getRun ws s at ≡ replicate (length ws) 0

@@ -11,7 +11,7 @@ use Rattle.octets.specs.Laid.{laid}
 use Rattle.octets.proofs.Fill.{length-zeros, zeros-at}
 use Rattle.octets.proofs.Laid.{laid-none, laid-then, laid-behind, laid-over}
 use Rattle.block.specs.Run.{spelled, runSize, wordsAt, wordBytes, Words}
-use Rattle.block.proofs.Run.{Fit, none, one, length-spelled, getRun-spelled, getRun-same, zeros-getRun, getRun-zeros}
+use Rattle.block.proofs.Run.{Fit, none, one, length-spelled, getRun-spelled, zeros-getRun, getRun-zeros}
 
 pub size : (n : ℕ) → runSize (replicate n 4) ≡ n * 4
 size zero = refl
@@ -57,7 +57,7 @@ words-start n ws s at =
 
 pub words-turn : (n : ℕ) (ws s : List ℕ) (at i : ℕ) → i < n → n ≤ length ws
     → laid s (at + i * 4) (wordBytes (n - i) (drop i ws))
-      ≡ laid (laid s (at + i * 4) (bytes 4 (getD ws i 0))) (at + (i + 1) * 4) (wordBytes (n - (i + 1)) (drop (i + 1) ws))
+    ≡ laid (laid s (at + i * 4) (bytes 4 (getD ws i 0))) (at + (i + 1) * 4) (wordBytes (n - (i + 1)) (drop (i + 1) ws))
 unfolding wordBytes spelled
 words-turn n ws s at i l m =
     let left : n - i ≡ suc (n - (i + 1)) = omega arith in
@@ -81,11 +81,6 @@ word-put (suc n) (x ∷ ws) (suc i) v l m =
     ap (λ (r : List ℕ). bytes 4 x ++ r) (word-put n ws i v (omega arith) (omega arith))
     ∙ sym (laid-behind (bytes 4 x) (spelled (replicate n 4) ws) (i * 4) (bytes 4 v))
     ∙ ap (λ (k : ℕ). laid (bytes 4 x ++ spelled (replicate n 4) ws) k (bytes 4 v)) there
-
--- only their own bytes count
-pub words-same : (n : ℕ) (s t : List ℕ) (at : ℕ) → ((k : ℕ) → k < n * 4 → getD s (at + k) 0 ≡ getD t (at + k) 0) → wordsAt n s at ≡ wordsAt n t at
-unfolding wordsAt
-words-same n s t at same = getRun-same (replicate n 4) s t at (λ k l. same k (rw size at l))
 
 -- ---- zeros
 pub zeros-words : (n : ℕ) (s : List ℕ) (at : ℕ) → ((k : ℕ) → k < n * 4 → getD s (at + k) 0 ≡ 0) → wordsAt n s at ≡ replicate n 0

@@ -1,6 +1,7 @@
 -- Fields of joined lists, and the bytes that spell a number, each once over the width. Assumes nothing.
 use Prim.Native.Nat.{ℕ, zero, suc, _+_, _*_, _/_, _%_, _^_, _≤_, _<_}
 use mathlib.Core.List.{List, [], _∷_, _++_}
+use mathlib.Core.Logic.{_≢_}
 use mathlib.Core.Path.{_≡_, refl, sym, ap, ap₂, _∙_}
 use native.Mathlib.Nat.{add-assoc, pow-suc, mod-eq-of-lt, mod-one}
 use native.Mathlib.Omega.{arith}
@@ -9,7 +10,9 @@ use lib.ListN.{length, getD, take, drop, length-append, length-drop, List·getD-
 use lib.Seq.{getD-drop, getD-append-add, take-suc}
 use Rattle.octets.specs.Be.{beAt, bytes}
 use Rattle.octets.specs.Bytes.{Bytes}
+use Rattle.octets.specs.Laid.{laid}
 use Rattle.octets.proofs.Be.{beAt-suc, beAt-same, pos}
+use Rattle.octets.proofs.Laid.{laid-inside, laid-elsewhere}
 
 -- a field of what follows the first n elements
 pub beAt-drop : (w n : ℕ) (s : List ℕ) (at : ℕ) → beAt w (drop n s) at ≡ beAt w s (n + at)
@@ -63,3 +66,16 @@ bytes-beAt (suc w) s at byte room =
     ∙ ap₂ (λ (x y : ℕ). bytes w x ++ (y ∷ [])) high last
     ∙ ap₂ (λ (l : List ℕ) (y : ℕ). l ++ (y ∷ [])) (bytes-beAt w s at byte (omega arith)) (sym (getD-drop at s w 0))
     ∙ sym (take-suc (drop at s) w 0 inside)
+
+-- ---- numbers that are written
+-- what is written is read back
+pub beAt-laid : (w : ℕ) (s : List ℕ) (at v : ℕ) → at + w ≤ length s → beAt w (laid s at (bytes w v)) at ≡ v % 256 ^ w
+beAt-laid w s at v fits =
+    let long : length (bytes w v) ≡ w = length-bytes w v in
+    beAt-same w (laid s at (bytes w v)) (bytes w v) at 0 (λ k h.
+    laid-inside s at (bytes w v) k (omega arith) (omega arith) ∙ ap (λ (i : ℕ). getD (bytes w v) i 0) (omega arith))
+    ∙ beAt-bytes w v
+
+-- a field that lies elsewhere is as it was
+pub beAt-laid-other : (w : ℕ) (s : List ℕ) (at : ℕ) (p : List ℕ) (to : ℕ) → ((i k : ℕ) → i < w → k < length p → to + i ≢ at + k) → beAt w (laid s at p) to ≡ beAt w s to
+beAt-laid-other w s at p to apart = beAt-same w (laid s at p) s to to (λ i h. laid-elsewhere s at p (to + i) (λ k l. apart i k h l))
