@@ -1,5 +1,5 @@
 #!/usr/bin/env bash
-# Compiles the header as C99, and plays session.c with the archive and with the shared object (tools/build-library.sh makes both).
+# Compiles the header as C99, plays session.c with the archive and with the shared object (tools/build-library.sh makes both), and looks for divisions (no_divide.sh).
 set -euo pipefail
 cd "$(dirname "$0")/../.."
 library=target/staticlib
@@ -11,3 +11,4 @@ flags=(-Wall -Wextra -Werror -pedantic -Iinclude)
 "${CC:-cc}" "$work/session.o" -L"$library" -lldp_ft -Wl,-rpath,"$PWD/$library" -o "$work/with-shared-object"
 "$work/with-archive"
 "$work/with-shared-object"
+tests/c/no_divide.sh

@@ -5,6 +5,7 @@ pub mod Run
 pub mod WordRun
 pub mod Le
 pub mod Weights
+pub mod Subtraction
 pub mod RowSums
 pub mod ZeroParts
 pub mod Same

@@ -3,7 +3,7 @@ use Prim.Native.Nat.{ℕ, zero, suc, _+_, _-_, _*_, _/_, _%_, _^_, _≤_, _<_}
 use mathlib.Core.Bool.{true}
 use mathlib.Core.List.{List}
 use mathlib.Core.Path.{_≡_, refl, sym, ap, _∙_}
-use native.Mathlib.Nat.{mul-le-mul}
+use native.Mathlib.Nat.{mul-suc, suc-mul, mul-add, mul-le-mul}
 use native.Mathlib.Numerals.{add-one}
 use native.Mathlib.Omega.{arith}
 use lib.ListN.{length, drop}
@@ -57,17 +57,19 @@ module _ (w : ℕ → ℕ) (n : ℕ) {all second odd running e o f p all' second
         running = g .3 ∙ run-more (four w 0) (four w 4) n running all' (h .running) a';
       }
 
--- ---- the sums are small
-module _ (f : ℕ → ℕ) (low : (at : ℕ) → f at ≤ 262140) where
-  sum-low : (n : ℕ) → sumBy 16 f n ≤ 262140 * n
+-- ---- the sums are small, if what is summed is at most `most`
+module _ (k : ℕ) (f : ℕ → ℕ) (most : ℕ) (low : (at : ℕ) → f at ≤ most) where
+  sum-low : (n : ℕ) → sumBy k f n ≤ most * n
   unfolding sumBy
   sum-low zero = omega arith
-  sum-low (suc n) = omega (arith, sum-low n, low (n * 16))
+  sum-low (suc n) = rw mul-suc (omega (arith, sum-low n, low (n * k)))
 
-  run-low : (n : ℕ) → n ≤ 32 → runBy 16 f n ≤ 8388480 * n
+  run-low : (n : ℕ) → 2 * runBy k f n ≤ most * (n * suc n)
   unfolding runBy
-  run-low zero l = omega arith
-  run-low (suc n) l = omega (arith, run-low n (omega arith), sum-low (suc n))
+  run-low zero = omega arith
+  run-low (suc n) =
+      let next : suc n * suc (suc n) ≡ n * suc n + (suc n + suc n) = rw (mul-suc (suc n) (suc n), suc-mul n (suc n)) (omega arith) in
+      rw (next, mul-add most (n * suc n) (suc n + suc n), mul-add most (suc n) (suc n)) (omega (arith, run-low n, sum-low (suc n)))
 
 module _ (w : ℕ → ℕ) (low : (at : ℕ) → w at ≤ 65535) (o : ℕ) where
   four-low : (at : ℕ) → four w o at ≤ 262140
@@ -79,21 +81,52 @@ module _ (w : ℕ → ℕ) (low : (at : ℕ) → w at ≤ 65535) (o : ℕ) where
   odds-low : (at : ℕ) → odds w o at ≤ 262140
   odds-low at = omega (arith, low (at + (2 + o)), low (at + (10 + o)))
 
+-- 32 rows of at most 8 words, each of which counts in each sum after it
+runs-low : (f : ℕ → ℕ) → ((at : ℕ) → f at ≤ 262140) → (n : ℕ) → n ≤ 32 → runBy 16 f n ≤ 138409920
+runs-low f low n few =
+    let turns : n * suc n ≤ 32 * 33 = mul-le-mul {m₂ = 33} few (omega arith) in
+    omega (arith, run-low 16 f 262140 low n)
+
 module _ (f g : ℕ → ℕ) (f-low : (at : ℕ) → f at ≤ 262140) (g-low : (at : ℕ) → g at ≤ 262140) (n : ℕ) (few : n ≤ 32) (x : ℕ) where
-  pair-room : x ≡ paired (sumBy 16 f n) (sumBy 16 g n) → x ≤ 2 ^ 62
-  pair-room e = omega (arith, sum-low f f-low n, sum-low g g-low n)
+  pair-room : x ≡ paired (sumBy 16 f n) (sumBy 16 g n) → x ≤ 2 ^ 60
+  pair-room e = omega (arith, sum-low 16 f 262140 f-low n, sum-low 16 g 262140 g-low n)
 
   pair-halves : x ≡ paired (sumBy 16 f n) (sumBy 16 g n) → (x / 4294967296 ≡ sumBy 16 g n) × (x / 4294967296 + x % 4294967296 ≡ sumBy 16 f n + sumBy 16 g n)
-  pair-halves e = let l = sum-low f f-low n in (omega arith, omega arith)
+  pair-halves e = let l = sum-low 16 f 262140 f-low n in (omega arith, omega arith)
 
-  run-room : x ≡ paired (runBy 16 f n) (runBy 16 g n) → x ≤ 2 ^ 62
-  run-room e = omega (arith, run-low f f-low n few, run-low g g-low n few)
+  run-room : x ≡ paired (runBy 16 f n) (runBy 16 g n) → x ≤ 2 ^ 60
+  run-room e = omega (arith, runs-low f f-low n few, runs-low g g-low n few)
 
-  run-halves : x ≡ paired (runBy 16 f n) (runBy 16 g n) → x / 4294967296 + x % 4294967296 ≡ runBy 16 f n + runBy 16 g n
-  run-halves e = let l = run-low f f-low n few in omega arith
+-- the row's words are in the sum after it, and their places are at most 5
+module _ (w : ℕ → ℕ) (o : ℕ) where
+  sum-places : (n : ℕ) → sumBy 16 (odds w o) n + 4 * sumBy 16 (later w o) n ≤ 8 * sumBy 16 (four w o) n
+  unfolding sumBy
+  sum-places zero = omega arith
+  sum-places (suc n) = omega (arith, sum-places n)
+
+  run-places : (n : ℕ) → sumBy 16 (odds w o) n + 4 * sumBy 16 (later w o) n ≤ 8 * runBy 16 (four w o) n
+  unfolding runBy sumBy
+  run-places zero = omega arith
+  run-places (suc n) = omega (arith, sum-places (suc n))
+
+halves-add : (x c d : ℕ) → x ≡ paired c d → c < 4294967296 → x / 4294967296 + x % 4294967296 ≡ c + d
+halves-add x c d e l = omega arith
+
+-- both halves of a difference that no half of is less than 0
+halves-less : (o₀ o₁ l₀ l₁ r₀ r₁ : ℕ) {o l r x : ℕ} → o ≡ paired o₀ o₁ → l ≡ paired l₀ l₁ → r ≡ paired r₀ r₁
+    → o₀ + 4 * l₀ ≤ 8 * r₀ → o₁ + 4 * l₁ ≤ 8 * r₁ → r₀ ≤ 138409920 → x ≡ (8 * r - (o + 4 * l)) / 4294967296 + (8 * r - (o + 4 * l)) % 4294967296
+    → x + (o₀ + o₁ + 4 * (l₀ + l₁)) ≡ 8 * (r₀ + r₁)
+halves-less o₀ o₁ l₀ l₁ r₀ r₁ {o} {l} {r} e f g p q small x-is =
+    let c = 8 * r₀ - (o₀ + 4 * l₀) in
+    let d = 8 * r₁ - (o₁ + 4 * l₁) in
+    let t = x-is ∙ halves-add (8 * r - (o + 4 * l)) c d (omega arith) (omega arith) in
+    joined _ t p q
+  where
+    joined : (x : ℕ) → x ≡ 8 * r₀ - (o₀ + 4 * l₀) + (8 * r₁ - (o₁ + 4 * l₁)) → o₀ + 4 * l₀ ≤ 8 * r₀ → o₁ + 4 * l₁ ≤ 8 * r₁ → x + (o₀ + o₁ + 4 * (l₀ + l₁)) ≡ 8 * (r₀ + r₁)
+    joined x e p q = omega arith
 
 -- a row more has room
-pub rows-room : (s : List ℕ) → Bytes s → (n a b o r : ℕ) → n ≤ 32 → InRows (leAt 2 s) n a b o r → (a ≤ 2 ^ 62) × (b ≤ 2 ^ 62) × (o ≤ 2 ^ 62) × (r ≤ 2 ^ 62)
+pub rows-room : (s : List ℕ) → Bytes s → (n a b o r : ℕ) → n ≤ 32 → InRows (leAt 2 s) n a b o r → (a ≤ 2 ^ 60) × (b ≤ 2 ^ 60) × (o ≤ 2 ^ 60) × (r ≤ 2 ^ 60)
 rows-room s byte n a b o r few h =
     let w = leAt 2 s in
     let low = word-low s byte in (
@@ -145,50 +178,62 @@ module _ (w : ℕ → ℕ) where
 
 -- ---- what the code reads off the sums of n rows, after which there are zeros
 module _ (s : List ℕ) (byte : Bytes s) (long : length s ≡ checkAt) (n : ℕ) (few : n ≤ 32) (clear : allZero (drop (n * 16) s) ≡ true)
-    {a b o r all second odd high run : ℕ} (h : InRows (leAt 2 s) n a b o r) (all-is : all ≡ a / 4294967296 + a % 4294967296)
-    (odd-is : odd ≡ o / 4294967296 + o % 4294967296) (high-is : high ≡ a / 4294967296) (second-is : second ≡ b / 4294967296 + b % 4294967296)
-    (run-is : run ≡ r / 4294967296 + r % 4294967296) where
+    {a b o r : ℕ} (h : InRows (leAt 2 s) n a b o r) where
   abbrev w : ℕ → ℕ
   w = leAt 2 s
 
-  summed : (all ≡ sumBy 2 w (n * 8)) × (8 * run ≡ runBy 2 w (n * 8) + (odd + 2 * high + 4 * second))
-  summed =
-      let low = word-low s byte in
-      let a' = pair-halves (four w 0) (four w 4) (four-low w low 0) (four-low w low 4) n few a (h .all) in
-      let b' = pair-halves (later w 0) (later w 4) (later-low w low 0) (later-low w low 4) n few b (h .second) in
-      let o' = pair-halves (odds w 0) (odds w 4) (odds-low w low 0) (odds-low w low 4) n few o (h .odd) in
-      let r' = run-halves (four w 0) (four w 4) (four-low w low 0) (four-low w low 4) n few r (h .running) in
-      let t = rows-words w n in
-      (all-is ∙ a' .1 ∙ sym (t .0), omega (arith, a' .0, b' .1, o' .1, r', t .1))
+  -- no half of the running sum is less than the places in it
+  pub places-less : o + 4 * b ≤ 8 * r
+  places-less = omega (arith, h .odd, h .second, h .running, run-places w 0 n, run-places w 4 n)
 
-  whole : (sumBy 2 w 254 ≡ all) × (8 * run + (256 - 8 * n) * all ≡ runBy 2 w 254 + (odd + 2 * high + 4 * second + 2 * all))
-  whole =
-      let end : 256 - 8 * n + n * 8 ≡ 256 = omega arith in
-      let rest = word-zero s (n * 16) clear in
-      let past = word-zero s 508 (zero-past s 508 (omega arith)) in
-      let t = rw end at (sum-zeros w (n * 8) (λ i l. rest (i * 2) (omega arith)) (256 - 8 * n)) in
-      let v = rw end at (run-zeros w (n * 8) (λ i l. rest (i * 2) (omega arith)) (256 - 8 * n)) in
-      let t' = sum-zeros w 254 (λ i l. past (i * 2) (omega arith)) 2 in
-      let v' = run-zeros w 254 (λ i l. past (i * 2) (omega arith)) 2 in
-      let e = sym t' ∙ t ∙ sym (summed .0) in
-      (e, joined _ _ _ _ _ _ (summed .1) (sym v' ∙ v ∙ rw (← summed .0) refl) e)
-    where
-      joined : (x y z p k u : ℕ) → x ≡ y + p → z + 2 * u ≡ y + k → u ≡ all → x + k ≡ z + (p + 2 * all)
-      joined x y z p k u e f g = omega arith
+  module _ {all high weighed : ℕ} (all-is : all ≡ a / 4294967296 + a % 4294967296) (high-is : high ≡ a / 4294967296)
+      (weighed-is : weighed ≡ (8 * r - (o + 4 * b)) / 4294967296 + (8 * r - (o + 4 * b)) % 4294967296) where
+    run-halves : weighed + (sumBy 16 (odds w 0) n + sumBy 16 (odds w 4) n + 4 * (sumBy 16 (later w 0) n + sumBy 16 (later w 4) n)) ≡ 8 * (runBy 16 (four w 0) n + runBy 16 (four w 4) n)
+    run-halves =
+        halves-less _ _ _ _ _ _ (h .odd) (h .second) (h .running) (run-places w 0 n) (run-places w 4 n) (runs-low (four w 0) (four-low w (word-low s byte) 0) n few) weighed-is
 
-  pub rows-less : odd + 2 * high + 4 * second + 2 * all ≤ 8 * run + (256 - 8 * n) * all
-  rows-less = below _ _ _ (whole .1)
-    where
-      below : (x y z : ℕ) → x ≡ y + z → z ≤ x
-      below x y z e = omega arith
+    summed : (all ≡ sumBy 2 w (n * 8)) × (weighed ≡ runBy 2 w (n * 8) + 2 * high)
+    summed =
+        let low = word-low s byte in
+        let a' = pair-halves (four w 0) (four w 4) (four-low w low 0) (four-low w low 4) n few a (h .all) in
+        let t = rows-words w n in
+        (all-is ∙ a' .1 ∙ sym (t .0), omega (arith, a' .0, run-halves, t .1))
 
-  pub rows-check : (1 + 256 * all) % 65535 * 65536 + (254 + 256 * (8 * run + (256 - 8 * n) * all - (odd + 2 * high + 4 * second + 2 * all))) % 65535 ≡ checkOf s
-  rows-check =
-      let b' = less _ _ _ (whole .1) in
-      rw (b', ← whole .0) (sym (check-is s long))
-    where
-      less : (x y z : ℕ) → x ≡ y + z → x - z ≡ y
-      less x y z e = omega arith
+    whole : (sumBy 2 w 254 ≡ all) × (weighed + (256 - 8 * n) * all ≡ runBy 2 w 254 + 2 * (all + high))
+    whole =
+        let end : 256 - 8 * n + n * 8 ≡ 256 = omega arith in
+        let rest = word-zero s (n * 16) clear in
+        let past = word-zero s 508 (zero-past s 508 (omega arith)) in
+        let t = rw end at (sum-zeros w (n * 8) (λ i l. rest (i * 2) (omega arith)) (256 - 8 * n)) in
+        let v = rw end at (run-zeros w (n * 8) (λ i l. rest (i * 2) (omega arith)) (256 - 8 * n)) in
+        let t' = sum-zeros w 254 (λ i l. past (i * 2) (omega arith)) 2 in
+        let v' = run-zeros w 254 (λ i l. past (i * 2) (omega arith)) 2 in
+        let e = sym t' ∙ t ∙ sym (summed .0) in
+        (e, joined _ _ _ _ _ (summed .1) (sym v' ∙ v ∙ rw (← summed .0) refl) e)
+      where
+        joined : (x y z k u : ℕ) → x ≡ y + 2 * high → z + 2 * u ≡ y + k → u ≡ all → x + k ≡ z + 2 * (all + high)
+        joined x y z k u e f g = omega arith
+
+    pub rows-less : 2 * (all + high) ≤ weighed + (256 - 8 * n) * all
+    rows-less = below _ _ _ (whole .1)
+      where
+        below : (x y z : ℕ) → x ≡ y + z → z ≤ x
+        below x y z e = omega arith
+
+    weights : weighed + (256 - 8 * n) * all - 2 * (all + high) ≡ runBy 2 w 254
+    weights = less _ _ _ (whole .1)
+      where
+        less : (x y z : ℕ) → x ≡ y + z → x - z ≡ y
+        less x y z e = omega arith
+
+    -- 254 words of 16 bits, and the sum of the weights 1 to 254 of them
+    pub rows-bounds : (all ≤ 254 * 65535) × (weighed + (256 - 8 * n) * all - 2 * (all + high) ≤ 32385 * 65535)
+    rows-bounds =
+        let low = word-low s byte in
+        (omega (arith, whole .0, sum-low 2 w 65535 low 254), rw weights (omega (arith, run-low 2 w 65535 low 254)))
+
+    pub rows-check : (1 + 256 * all) % 65535 * 65536 + (254 + 256 * (weighed + (256 - 8 * n) * all - 2 * (all + high))) % 65535 ≡ checkOf s
+    rows-check = rw (weights, ← whole .0) (sym (check-is s long))
 
 -- the sums have room
 pub rest-fits : (n x : ℕ) → x < 8589934592 → (256 - 8 * n) * x ≤ 2199023255296

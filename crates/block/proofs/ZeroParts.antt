@@ -98,8 +98,8 @@ ZeroTo s n = (j : ℕ) → j < n → getD s j 0 ≡ 0
 zero-to : (s : List ℕ) (k at n : ℕ) → ZeroTo s k → at ≤ k → allZero (take n (drop at s)) ≡ true → ZeroTo s (at + n)
 zero-to s k at n z h t j l = ⊎-elim (λ (b : j < at). z j (omega arith)) (λ (b : at ≤ j). part-bytes s at n t j b l) (below-or-not j at)
 
-pub zero-on : (s : List ℕ) (i : ℕ) → ZeroTo s (i * 64) → allZero (take 64 (drop (i * 64) s)) ≡ true → ZeroTo s ((i + 1) * 64)
-zero-on s i z t = let next : i * 64 + 64 ≡ (i + 1) * 64 = omega arith in rw next at (zero-to s (i * 64) (i * 64) 64 z (omega arith) t)
+pub zero-on : (s : List ℕ) (i : ℕ) → ZeroTo s (i * 128) → allZero (take 128 (drop (i * 128) s)) ≡ true → ZeroTo s ((i + 1) * 128)
+zero-on s i z t = let next : i * 128 + 128 ≡ (i + 1) * 128 = omega arith in rw next at (zero-to s (i * 128) (i * 128) 128 z (omega arith) t)
 
 -- with the last n they are all
 pub zero-all : (s : List ℕ) (k n : ℕ) → n ≤ length s → length s ≤ k + n → ZeroTo s k → allZero (take n (drop (length s - n) s)) ≡ allZero s

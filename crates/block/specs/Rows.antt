@@ -44,5 +44,5 @@ pub record InRows (w : ℕ → ℕ) (n a b o r : ℕ) : Type 0 where
 
 -- the four sums have room for a row of the four numbers
 pub record Room (a b o r e p f q : ℕ) : Type 0 where
-  pub sums : (a ≤ 2 ^ 62) × (b ≤ 2 ^ 62) × (o ≤ 2 ^ 62) × (r ≤ 2 ^ 62)
+  pub sums : (a ≤ 2 ^ 60) × (b ≤ 2 ^ 60) × (o ≤ 2 ^ 60) × (r ≤ 2 ^ 60)
   pub row : (e ≤ 2 ^ 48) × (p ≤ 2 ^ 48) × (f ≤ 2 ^ 48) × (q ≤ 2 ^ 48)

@@ -7,6 +7,7 @@ ghost use Rattle.octets.specs.Part.{part};
 ghost use Rattle.block.specs.Check.{blockSize, checkAt, checkOf, sound, sealed, blockCheckOf};
 ghost use Rattle.block.specs.Zeros.{allZero};
 
+mod remainder;
 mod rows;
 pub mod words;
 pub mod zeros;
@@ -35,7 +36,7 @@ fn check_before(block: &[u8], end: usize) -> u32
     requires { ⌜ (length (now block) ≡ blockSize) × (end ≤ checkAt) × (allZero (part (now block) end checkAt) ≡ true) ⌝ }
     ensures { λ r. ⌜ r ≡ checkOf (take checkAt (now (block .entry))) ⌝ }
 {
-    rows::check_rows(&block[0..CHECK_AT], (end + 15) / 16)
+    rows::check_rows(&block[0..CHECK_AT], (end + 15) >> 4)
 }
 
 // Whether bytes 508 to 511 are the check of those before, bit for bit: A from 1 and B from 0, over 254 big-endian words, modulo 65,535.

@@ -7,11 +7,16 @@ ghost use lib.ListN.{length, drop};
 ghost use Rattle.block.specs.Check.{checkAt, checkOf};
 ghost use Rattle.block.specs.Rows.{leAt, paired, InRows, Room};
 ghost use Rattle.block.specs.Zeros.{allZero};
+use crate::remainder::remainder;
 
-// One more than a half of a number holds, and the low 16 bits of each half.
+// One more than a half of a number holds, the low 16 bits of each half, the low half, and the low bytes of two words.
 const HALF: u64 = 4294967296;
 
 const LOW_WORDS: u64 = 0x0000FFFF0000FFFF;
+
+const LOW_HALF: u64 = 0x00000000FFFFFFFF;
+
+const LOW_BYTES: u32 = 0x00FF00FF;
 
 // The sums of all words, of those in the later eight bytes of their rows, of those at odd places, and of the first sum after each row.
 struct Rows {
@@ -128,22 +133,35 @@ fn sum_rows(s: &[u8], rows: usize) -> Rows
 fn high_half(x: u64) -> u64
     ensures { λ r. ⌜ (r ≡ x / 4294967296) × (r < 4294967296) ⌝ }
 {
-    x / HALF
+    x >> 32
 }
 
 // Both halves of a number, added.
 fn halves(x: u64) -> u64
     ensures { λ r. ⌜ (r ≡ x / 4294967296 + x % 4294967296) × (r < 8589934592) ⌝ }
 {
-    x / HALF + x % HALF
+    (x >> 32) + (x & LOW_HALF)
 }
 
-// The check by the sum of the words and their sum by weight, both of swapped words; the 1 that A starts from counts 254 times in B.
+// Two words side by side, each with its bytes swapped back: 256 times as much, modulo 65,535.
+fn swapped(high: u32, low: u32) -> u32
+    requires { ⌜ (high < 65536) × (low < 65536) ⌝ }
+    ensures { λ r. ⌜ r ≡ (high % 256 * 256 + high / 256) * 65536 + (low % 256 * 256 + low / 256) ⌝ }
+{
+    let both = high * 65536 + low;
+    ((both & LOW_BYTES) << 8) + ((both >> 8) & LOW_BYTES)
+}
+
+// The check by the sum of the words and their sum by weight, both of swapped words. The 1 that A starts from counts 254 times in B; their bytes too
+// are swapped here, so that the sums are small and few shifts are made: 254 words are below 65,535 * 2 ^ 8, their 32,385 weights below 2 ^ 15.
 fn check_by(a: u64, b: u64) -> u32
-    requires { ⌜ (a < 281474976710656) × (b < 281474976710656) ⌝ }
+    requires { ⌜ (a ≤ 254 * 65535) × (b ≤ 32385 * 65535) ⌝ }
     ensures { λ r. ⌜ r ≡ (1 + 256 * a) % 65535 * 65536 + (254 + 256 * b) % 65535 ⌝ }
 {
-    ((1 + 256 * a) % 65535 * 65536 + (254 + 256 * b) % 65535) as u32
+    swapped(
+        remainder((0x0100 + a) as u32, 8),
+        remainder((0xFE00 + b) as u32, 15),
+    )
 }
 
 // The check of bytes that are zero after so many rows. Word p of row j counts 254 - 8j - p times in B: 8 (rows - j) times by the running sum,
@@ -154,7 +172,7 @@ pub fn check_rows(s: &[u8], rows: usize) -> u32
 {
     let sums = sum_rows(s, rows);
     let a = halves(sums.all);
-    let places = halves(sums.odd) + 2 * high_half(sums.all) + 4 * halves(sums.second);
+    let weighed = halves(8 * sums.running - (sums.odd + 4 * sums.second));
     let rest = (256 - 8 * rows) as u64;
-    check_by(a, 8 * halves(sums.running) + rest * a - (places + 2 * a))
+    check_by(a, weighed + rest * a - 2 * (a + high_half(sums.all)))
 }

@@ -16,5 +16,9 @@ few-are-zero-spec =
     (λ c κs. omega arith)
     (λ c. omega arith)
     (λ c κs. omega arith)
-    (λ c. ends-all 2 _ (omega arith) (omega arith) (c .before .thirty-two .ensures) (c .thirty-two2 .ensures)) in
+    (λ c. ends-all 2 _ (omega arith) (omega arith) (c .before .thirty-two .ensures) (c .thirty-two2 .ensures))
+    (λ c κs. omega arith)
+    (λ c. omega arith)
+    (λ c κs. omega arith)
+    (λ c. ends-all 3 _ (omega arith) (omega arith) (c .before .sixty-four .ensures) (c .sixty-four2 .ensures)) in
     tie.close answers
