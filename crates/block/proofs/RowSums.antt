@@ -112,7 +112,7 @@ module _ (w : ℕ → ℕ) (o : ℕ) where
 halves-add : (x c d : ℕ) → x ≡ paired c d → c < 4294967296 → x / 4294967296 + x % 4294967296 ≡ c + d
 halves-add x c d e l = omega arith
 
--- both halves of a difference that no half of is less than 0
+-- both halves of a difference, neither of which is less than 0
 halves-less : (o₀ o₁ l₀ l₁ r₀ r₁ : ℕ) {o l r x : ℕ} → o ≡ paired o₀ o₁ → l ≡ paired l₀ l₁ → r ≡ paired r₀ r₁
     → o₀ + 4 * l₀ ≤ 8 * r₀ → o₁ + 4 * l₁ ≤ 8 * r₁ → r₀ ≤ 138409920 → x ≡ (8 * r - (o + 4 * l)) / 4294967296 + (8 * r - (o + 4 * l)) % 4294967296
     → x + (o₀ + o₁ + 4 * (l₀ + l₁)) ≡ 8 * (r₀ + r₁)
