@@ -8,7 +8,7 @@ use Rattle.octets.specs.Fix.{fix, steps}
 use Rattle.ft_number.specs.declared.MessageId.{MessageId}
 use Rattle.tlv.specs.declared.FtField.{FtField}
 use Rattle.tlv.specs.Tlv.{tlvOf}
-use Rattle.tlv.specs.Value.{partAt, fecAt, fieldAt, numberAt, parametersAt, sessionAt}
+use Rattle.tlv.specs.Value.{partAt, fecAt, fieldAt, numberAt, parametersAt, sessionAt, topBitWeight}
 use Rattle.tlv.specs.Walk.{notedOf, turnOf, walkOf, tlvsOf}
 use Rattle.message.specs.declared.Reading.{Reading}
 use Rattle.message.specs.Reading.{typeOf, messageOf, placesOf, readingOf}
@@ -36,10 +36,10 @@ init-reads id p seconds FtField.Absent fits =
       bytes-read 2 (p .pdulength) (fits .pdulength),
       number,
       last,
-      lt-leb 2147483648 seconds (omega (arith, fits .seconds)),
+      lt-leb topBitWeight seconds (omega (arith, fits .seconds)),
     )
 init-reads id p seconds (FtField.Number a) fits =
-    let v : ℕ = 0x80000000 + seconds in
+    let v : ℕ = topBitWeight + seconds in
     let number : beAt 4 (bytes 4 v) 0 ≡ v = bytes-read 4 v (omega (arith, fits .seconds)) in
     let last : beAt 2 (bytes 4 v) 2 ≡ seconds = omega (arith, fits .seconds) in
     simp (
@@ -49,5 +49,5 @@ init-reads id p seconds (FtField.Number a) fits =
       bytes-read 4 (a .0) (fits .ack),
       number,
       last,
-      le-leb 2147483648 v (omega arith),
+      le-leb topBitWeight v (omega arith),
     )

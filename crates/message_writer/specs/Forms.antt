@@ -11,6 +11,7 @@ use Rattle.ft_number.specs.declared.FtNumber.{FtNumber}
 use Rattle.ft_number.specs.declared.MessageId.{MessageId}
 use Rattle.tlv.specs.declared.FtField.{FtField}
 use Rattle.tlv.specs.Tlv.{parametersType, sessionType, protectionType, ackType}
+use Rattle.tlv.specs.Value.{topBitWeight}
 use Rattle.message.specs.Reading.{initializationType, keepaliveType}
 use Rattle.message_writer.specs.declared.OwnParameters.{OwnParameters}
 
@@ -39,11 +40,15 @@ parametersTlv p =
 -- the 32 bits of FT Session: the top bit is R, set where there is an ACK; the last 16 are the seconds
 abbrev pub sessionValue : FtField → ℕ → ℕ
 sessionValue FtField.Absent seconds = seconds
-sessionValue (FtField.Number a) seconds = 0x80000000 + seconds
+sessionValue (FtField.Number a) seconds = topBitWeight + seconds
+
+-- the U bit, the top one of a TLV's first 16: who does not know the type passes the TLV over
+abbrev pub unknownBit : ℕ
+unknownBit = 0x8000
 
 -- FT Session, its U bit set
 abbrev pub sessionTlv : ℕ → List ℕ
-sessionTlv session = tlvBytes (0x8000 + sessionType) (bytes 4 session)
+sessionTlv session = tlvBytes (unknownBit + sessionType) (bytes 4 session)
 
 -- an Init up to its FT Session, with the length of the whole
 abbrev pub initHead : ℕ → MessageId → OwnParameters → ℕ → List ℕ

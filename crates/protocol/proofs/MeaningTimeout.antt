@@ -1,34 +1,41 @@
--- The agreed timeout changes only where an Init is taken, or the state is released; Restore and Open leave it. Assumes nothing.
+-- The agreed timeout changes only where an Init is taken, which makes it the lesser of both, or the state is released; Restore and Open leave it. Assumes nothing.
 use Prim.Native.Nat.{ℕ}
+use mathlib.Core.Bool.{Bool, not}
 use mathlib.Core.List.{List}
 use mathlib.Core.Logic.{⊎-elim}
-use mathlib.Core.Path.{_≡_, refl, ap, _∙_}
+use mathlib.Core.Path.{_≡_, refl, sym, ap, _∙_}
 use lib.Dec.{ltb}
-use Rattle.octets.proofs.Choice.{pick-all}
+use Rattle.octets.proofs.Choice.{cleared, no, pick-all}
 use Rattle.ft_number.specs.declared.MessageId.{MessageId}
 use Rattle.ft_number.specs.declared.Proposal.{Proposal}
 use Rattle.ft_number.specs.Timeout.{lesserOf, proposedOf}
+use Rattle.tlv.specs.declared.Session.{Session}
+use Rattle.message.specs.declared.Message.{Message}
 use Rattle.message.specs.declared.Reading.{Reading}
 use Rattle.message.specs.Reading.{readingOf}
 use Rattle.message_writer.specs.declared.OwnParameters.{OwnParameters}
+use Rattle.protocol.specs.declared.Answer.{Answer}
 use Rattle.protocol.specs.declared.Phase.{Phase}
 use Rattle.protocol.specs.declared.Start.{Start}
 use Rattle.protocol.specs.declared.Terms.{Terms}
 use Rattle.protocol.specs.Acked.{acked}
 use Rattle.protocol.specs.Begin.{restore}
 use Rattle.protocol.specs.Calls.{Call, formats, restores, fails, opens, greets, passes, submits, sends, keeps-alive, receives, step}
-use Rattle.protocol.specs.Init.{initStart, fresh, resumed, startState}
+use Rattle.protocol.specs.Init.{initStart, initReceived, fresh, resumed, startAnswer, startState}
+use Rattle.protocol.specs.InitCases.{StartCase, another-type, without-parameters, without-ack, without-session, peer-clear, ours-clear, parameters-changed, sequence-error, resumes}
 use Rattle.protocol.specs.Judged.{done}
 use Rattle.protocol.specs.MeaningInit.{Agreed, BearsTerms}
 use Rattle.protocol.specs.MeaningTimeout.{TakenInit, TimeoutFrom, stays, released, agreed}
 use Rattle.protocol.specs.Open.{openBytes, openSession}
-use Rattle.protocol.specs.Phases.{isUpFT, issuedCount, mayOpen, proposalOf, sentOf, waitingFor}
+use Rattle.protocol.specs.Phases.{awaits, isUpFT, issuedCount, mayOpen, phaseFits, proposalOf, sentOf, waitingFor}
 use Rattle.protocol.specs.Receive.{receivedState, taken, takenAs}
 use Rattle.protocol.specs.Send.{numbered, sentState}
 use Rattle.protocol.specs.State.{State}
-use Rattle.protocol.specs.Step.{Step}
+use Rattle.protocol.specs.Step.{Step, admitted, whereOpen}
 use Rattle.protocol.specs.Submit.{submitted}
 use Rattle.protocol.specs.TimePassed.{expired}
+use Rattle.protocol.proofs.Answered.{init-does, init-says}
+use Rattle.protocol.proofs.InitCases.{start-cases}
 use Rattle.protocol.proofs.MeaningInit.{start-agreed}
 use Rattle.protocol.proofs.Quiet.{Quiet}
 use Rattle.protocol.proofs.Settles.{ends}
@@ -101,7 +108,36 @@ module _ (s : State) (ph : Phase) where
       (λ (q : Quiet s ph (openSession s ph id own proposal room)). ap (λ (x : State). x .terms .timeout) (q .state))
       (writer-says s ph (mayOpen ph) (waitingFor (proposedOf proposal)) (openBytes s id own proposal) room)
 
+-- ---- an Init that is taken, of the call itself
+seconds-same : {x : Session} {r t : Bool} {k n : ℕ} → x ≡ Session.Given r k → x ≡ Session.Given t n → k ≡ n
+seconds-same e q = cc
+
+case-agrees : {s : State} {p : ℕ} {g : Message} {st : Start} {r : Bool} {n : ℕ} → StartCase s p (Reading.Whole g) st → g .session ≡ Session.Given r n → startAnswer st ≡ Answer.Done
+    → startState s st .terms .timeout ≡ lesserOf p n
+unfolding fresh resumed acked
+case-agrees (another-type i) e d = no (cc)
+case-agrees (without-parameters i q) e d = no (cc)
+case-agrees (without-ack i q a) e d = no (cc)
+case-agrees (without-session i q) e d = no (cc)
+case-agrees {p = p} (peer-clear i q) e d = ap (lesserOf p) (seconds-same q e)
+case-agrees {p = p} (ours-clear i q a k) e d = ap (lesserOf p) (seconds-same q e)
+case-agrees (parameters-changed b q) e d = no (cc)
+case-agrees (sequence-error b q a) e d = no (cc)
+case-agrees {p = p} (resumes b q a) e d = ap (lesserOf p) (seconds-same (b .session) e)
+
+-- an Init with FT Session that is answered Done leaves the lesser of our proposal, which the phase bears, and the peer's, whatever was stored before
+pub init-agrees : (s : State) (ph : Phase) (m : List ℕ) {g : Message} {r : Bool} {n : ℕ} → readingOf m ≡ Reading.Whole g → g .session ≡ Session.Given r n
+    → initReceived s ph m .answer ≡ Answer.Done → initReceived s ph m .state .terms .timeout ≡ lesserOf (proposalOf ph) n
+unfolding admitted
+init-agrees s ph m {g} read e d =
+    let own : Answer = startAnswer (initStart s ph m) in
+    let allowed : whereOpen (awaits ph) own ≡ Answer.Done = cleared (not (phaseFits ph s)) Answer.WrongPhase (whereOpen (awaits ph) own) Answer.Done (λ z. cc) (sym (init-says s ph m) ∙ d) .1 in
+    let accepted : own ≡ Answer.Done = cleared (not (awaits ph)) Answer.WrongPhase own Answer.Done (λ z. cc) allowed .1 in
+    let start : StartCase s (proposalOf ph) (Reading.Whole g) (initStart s ph m) = rw (← read) (start-cases s (proposalOf ph) (readingOf m)) in
+    rw (init-does s ph m d) (case-agrees start e accepted)
+
 -- an Init of a peer that proposes 5 seconds still makes it 5, where we gave no proposal of our own
-pub five-agreed : {m : List ℕ} {x : Step} (i : TakenInit (waitingFor (proposedOf Proposal.NotGiven)) m x) → i .seconds ≡ 5 → x .state .terms .timeout ≡ 5
+pub five-agreed : (s : State) (m : List ℕ) {g : Message} {r : Bool} → readingOf m ≡ Reading.Whole g → g .session ≡ Session.Given r 5
+    → initReceived s (waitingFor (proposedOf Proposal.NotGiven)) m .answer ≡ Answer.Done → initReceived s (waitingFor (proposedOf Proposal.NotGiven)) m .state .terms .timeout ≡ 5
 unfolding lesserOf
-five-agreed i e = i .timeout ∙ rw e refl
+five-agreed s m read e d = init-agrees s (waitingFor (proposedOf Proposal.NotGiven)) m read e d

@@ -12,7 +12,7 @@ use Rattle.tlv.specs.declared.FtField.{FtField}
 use Rattle.tlv.specs.Tlv.{parametersType, sessionType, protectionType, ackType}
 use Rattle.message.specs.Reading.{initializationType, keepaliveType}
 use Rattle.message_writer.specs.declared.OwnParameters.{OwnParameters}
-use Rattle.message_writer.specs.Forms.{tlvBytes, messageBytes, ackTlv, parametersTlv, sessionValue, initBytes, keepaliveBytes, raisedTo, raised, ftTlvs, protectedBytes}
+use Rattle.message_writer.specs.Forms.{tlvBytes, messageBytes, ackTlv, parametersTlv, sessionValue, unknownBit, initBytes, keepaliveBytes, raisedTo, raised, ftTlvs, protectedBytes}
 
 pub record Octets (s : List ℕ) : Type 0 where
   pub each : Bytes s
@@ -69,7 +69,7 @@ parameters-octets p =
 
 pub init-octets : (id : MessageId) (p : OwnParameters) (seconds : ℕ) (ack : FtField) → Octets (initBytes id p seconds ack)
 init-octets id p seconds ack =
-    message-octets initializationType id (joins (parameters-octets p) (joins (tlv-octets (0x8000 + sessionType) (sessionValue ack seconds)) (ack-octets ack)))
+    message-octets initializationType id (joins (parameters-octets p) (joins (tlv-octets (unknownBit + sessionType) (sessionValue ack seconds)) (ack-octets ack)))
 
 pub alive-octets : (id : MessageId) (ack : FtField) → Octets (keepaliveBytes id ack)
 alive-octets id ack = message-octets keepaliveType id (ack-octets ack)

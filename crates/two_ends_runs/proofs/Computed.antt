@@ -6,7 +6,7 @@ use Rattle.protocol.specs.State.{held}
 use Rattle.protocol.specs.Submit.{submit}
 use Rattle.two_ends.specs.Staying.{Stays}
 use Rattle.two_ends.specs.World.{swap}
-use Rattle.two_ends_runs.specs.Breaks.{situation, halfOpen, halfOpen-ends, joined, joined-ends, over, over-begins, afresh, afresh-begins, exchange, exchanged, waits, waits-4, waits-5, returns, returns-4, returns-5}
+use Rattle.two_ends_runs.specs.Breaks.{situation, halfOpen, halfOpen-ends, rejoined, rejoined-ends, over, over-begins, afresh, afresh-begins, exchange, exchanged, waits, waits-4, waits-5, returns, returns-4, returns-5}
 use Rattle.two_ends_runs.specs.Cabinets.{address}
 use Rattle.two_ends_runs.specs.Race.{race, labels, race-ends}
 use Rattle.two_ends_runs.specs.Tales.{ending, begin, again, again-ends, restart, restart-ends, early, early-ends, full, full-ends}
@@ -54,9 +54,9 @@ pub half-open-is : situation halfOpen ≡ halfOpen-ends
 unfolding everything
 half-open-is = refl
 
-pub joined-is : ending joined ≡ joined-ends
+pub rejoined-is : ending rejoined ≡ rejoined-ends
 unfolding everything
-joined-is = refl
+rejoined-is = refl
 
 pub over-is : ending (over []) ≡ over-begins
 unfolding everything

@@ -50,13 +50,13 @@ halfOpen-ends = record {
 }
 
 -- then a notices and opens too: b's Init acknowledges 7, and 8 is sent again, before 9. None is lost, and none comes twice
-abbrev pub joined : World
-joined =
+abbrev pub rejoined : World
+rejoined =
     run halfOpen
     ((true, notices) ∷ reopen true ∷ deliver true ∷ deliver false ∷ send true ∷ send true ∷ deliver false ∷ deliver false ∷ alive false ∷ deliver true ∷ [])
 
-abbrev pub joined-ends : Ending
-joined-ends = record {
+abbrev pub rejoined-ends : Ending
+rejoined-ends = record {
   accepted = address 7 ∷ address 8 ∷ address 9 ∷ [];
   letgo = address 7 ∷ address 8 ∷ address 9 ∷ [];
   held = [];
