@@ -138,7 +138,7 @@ def counted(function, here, answers):
     if function.crate.name not in OWN:
         return answers
     others = set().union(*(reached(f.name, here) for f in here.values() if f.public and f is not function))
-    return [answer for answer in answers if answer[1] not in others]
+    return [answer for answer in answers if answer[1] == function.name or answer[1] not in others]
 
 
 def cell(answers, own):

@@ -29,6 +29,7 @@ TLVS = (
     (0x0503, "ft-session", lambda value: f"{number(value[:4]) >> 15} {number(value[4:])}"),
     (0x0203, "ft-protection", lambda value: str(number(value))),
     (0x0504, "ft-ack", lambda value: str(number(value))),
+    (0x0600, "request-id", lambda value: str(number(value))),
 )
 
 

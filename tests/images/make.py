@@ -11,11 +11,12 @@ import sys
 
 sys.dont_write_bytecode = True
 sys.path.append(str(pathlib.Path(__file__).resolve().parents[1]))
-from paper.image import BLOCK, SLOTS, State, counts, report, sealed, slot_block  # noqa: E402
-from paper.labels import COUNT, word  # noqa: E402
+from paper.calls import extend  # noqa: E402
+from paper.image import BLOCK, EARLIER_SIZE, REQUESTS, SIZE, SLOTS, State, counts, report, requests_block, sealed, slot_block  # noqa: E402
+from paper.labels import COUNT, OPEN, word  # noqa: E402
 from paper.numbers import LAST  # noqa: E402
-from paper.wire import ADDRESS, ADDRESS_WITHDRAW, FEC, MAPPING, RESOURCES, TYPE, WITHDRAW, ack_tlv  # noqa: E402
-from paper.wire import field, label_tlv, message, status_tlv, tlv  # noqa: E402
+from paper.wire import ABORT, ADDRESS, ADDRESS_WITHDRAW, FEC, MAPPING, NO_RESOURCES, RELEASE, REQUEST, RESOURCES, STATUS_CODE, TYPE, WITHDRAW, ack_tlv  # noqa: E402
+from paper.wire import field, label_tlv, message, request_id_tlv, status_tlv, tlv  # noqa: E402
 from stored import settle  # noqa: E402
 
 ID = 7
@@ -49,8 +50,13 @@ def block0(words=(), **fields):
     return State(words, **{"timeout": 5, "kept": 1, "keepalive": 30, "maxpdu": 4096, **fields}).block()
 
 
-def image(zeroth, slots=None, dead=bytes(BLOCK)):
-    return zeroth + b"".join((slots or {}).get(k, dead) for k in range(SLOTS))
+def image(zeroth, slots=None, dead=bytes(BLOCK), requests=requests_block()):
+    return zeroth + b"".join((slots or {}).get(k, dead) for k in range(SLOTS)) + requests
+
+
+def asking(words, ids):
+    """An image of these words, and of these IDs beside them."""
+    return image(block0(words), requests=requests_block(ids))
 
 
 def damaged(data, at):
@@ -77,27 +83,42 @@ PAPER = image(block0(GIVEN16, held=1), {0: mapping_slot()})
 THREE = {k: slot_block(mapping(20 + k), MAPPING, 20 + k) for k in range(3)}
 
 
-# The layout by its bytes: R 5, I 6, S 9, first slot 63, 2 held, timeout 5, the peer's parameters 30 and 4096; label 16 given, and 17 used in the last word.
-BYTES = by_bytes("00000001 00000005 00000006 00000009 003f 0002 0005 01 00 001e 1000 00100010", "00300011 11db 966c")
+# The layout by its bytes: R 5, I 6, S 9, first slot 63, 2 held, timeout 5, stopped and stopping, the peer's parameters 30 and 4096; label 16 given, two Requests open,
+# and 17 used in the last word. The IDs of block 65: 7, which does not count, then those of the Requests, 7 and 0xFFFFFFFF; and the last, which does not count.
+BYTES = by_bytes("00000001 00000005 00000006 00000009 003f 0002 0005 01 06 001e 1000 00100010 00700000 00700000", "00300011 12c1 6b7f")
+ID_BYTES = by_bytes("00000007 00000007 ffffffff", "00000007" + "00" * 28 + "0016 0f2f")
 MAPPING_BYTES = by_bytes("001b 01 00 00000010 0400 0017 00000007 0100 0007 02 0001 18 0a0000 0200 0004 00000010", "276b 1e1a")
 ADDRESS_BYTES = by_bytes("0008 04 00 ffffffff 0300 0004 00000007", "0714 f599")
 
 
+def notification(kind):
+    return message(TYPE[kind], ID, status_tlv(STATUS_CODE[kind]))
+
+
+def request(*tlvs):
+    return message(TYPE[REQUEST], ID, tlv(FEC, bytes([2, 0, 1, 24, 10, 0, 0])), *tlvs)
+
+
+def abort(*tlvs):
+    return message(TYPE[ABORT], ID, tlv(FEC, b""), *tlvs)
+
+
 def slot_of(i):
     """A slot by its place in the full ring: every kind, lengths 8 to 480."""
-    kind, label = i % 6 + 1, 1000 + i
-    if kind == RESOURCES:
-        return slot_block(message(TYPE[RESOURCES], ID, status_tlv(0x0000000F)), kind, OF_NO_LABEL)
+    kind, label = i % 9 + 1, 1000 + i
+    if kind <= RELEASE:
+        return slot_block(of_label(kind, i, label), kind, label)
     if kind in (ADDRESS, ADDRESS_WITHDRAW):
         return slot_block(padded(kind, *((), (7,), (468,), (100,))[i % 4]), kind, OF_NO_LABEL)
-    return slot_block(of_label(kind, i, label), kind, label)
+    other = request() if kind == REQUEST else abort(request_id_tlv(i)) if kind == ABORT else notification(kind)
+    return slot_block(other, kind, OF_NO_LABEL)
 
 
 def full_ring():
     """64 held from slot 40 on, round the end of the ring and of the numbers, with every label code."""
-    words = [word(1048575 - i, 1 + i % 6) for i in range(COUNT)]
+    words = [word(1048575 - i, 1 + i % 7) if i % 7 < 6 else OPEN for i in range(COUNT)]
     slots = {(40 + i) % SLOTS: slot_of(i) for i in range(SLOTS)}
-    return image(block0(words, released=LAST - 1, issued=2, secured=77, first=40, held=64), slots)
+    return image(block0(words, released=LAST - 1, issued=2, secured=77, first=40, held=64), slots, requests=requests_block(range(COUNT)))
 
 
 def live(slots, **fields):
@@ -108,12 +129,27 @@ def bad_slot(block):
     return live({0: block})
 
 
+def noted(marks, **fields):
+    return image(block0(marks=marks, **fields))
+
+
+def earlier(extended=False):
+    """The paper's image as a release before ticket 2 stored it; and with the block that is put behind it."""
+    data = bytearray(PAPER[:EARLIER_SIZE])
+    if extended:
+        data += b"\xaa" * (SIZE - EARLIER_SIZE)
+        assert extend(data, EARLIER_SIZE) == 0
+    return bytes(data)
+
+
 RELEASED = State().block()
+ALL_ASKED = [OPEN] * COUNT
+UNSEALED = bytes(BLOCK)
 ZERO_SUMS = next(b for b in (block0(secured=n) for n in range(1, 1 << 20)) if b[508:510] == b"\0\0")
 BARE = 8 + len(mapping(16))
 CASES = [
     ("new", image(RELEASED), counts(0, 0, 0, 0, 0, 0)),
-    ("layout_by_bytes", image(BYTES, {63: MAPPING_BYTES, 0: ADDRESS_BYTES}), counts(5, 6, 9, 2, 1, 2)),
+    ("layout_by_bytes", image(BYTES, {63: MAPPING_BYTES, 0: ADDRESS_BYTES}, requests=ID_BYTES), counts(5, 6, 9, 2, 1, 4)),
     ("nothing_held", image(block0(released=9, issued=9, secured=4)), counts(9, 9, 4, 0, 0, 0)),
     ("full_ring_wraps", full_ring(), counts(LAST - 1, 2, 77, 64, 61, 120)),
     ("dead_slots_damaged", image(block0(GIVEN16, held=1), {0: mapping_slot()}, bytes(range(256)) * 2), counts(0, 0, 0, 1, 1, 1)),
@@ -134,23 +170,36 @@ CASES = [
     ("first_64", image(block0(first=64)), refused(11, 0)),
     ("held_65", image(block0(held=65), {k: mapping_slot() for k in range(SLOTS)}), refused(11, 0)),
     ("kept_2", image(block0(kept=2)), refused(11, 0)),
-    ("byte_23", image(block0(zero=1)), refused(11, 0)),
+    ("byte_23_is_2", noted(2), counts(0, 0, 0, 0, 0, 0)),
+    ("byte_23_is_4", noted(4), counts(0, 0, 0, 0, 0, 0)),
+    ("byte_23_is_1", noted(1), refused(11, 0)),
+    ("byte_23_is_7", noted(7), refused(11, 0)),
+    ("byte_23_is_8", noted(8), refused(11, 0)),
+    ("byte_23_is_130", noted(130), refused(11, 0)),
     ("issued_past_held", live(THREE, released=5, issued=9), refused(11, 0)),
     ("issued_all_held", live(THREE, released=LAST, issued=3), counts(LAST, 3, 0, 3, 0, 0)),
     ("issued_0_released_not", image(block0(released=5, issued=0)), refused(11, 0)),
     ("word_of_code_0", image(block0([17])), refused(11, 0)),
-    ("word_of_code_7", image(block0([word(17, 7)])), refused(11, 0)),
+    ("word_of_code_7_with_a_label", image(block0([word(17, 7)])), refused(11, 0)),
+    ("word_of_code_8", image(block0([word(17, 8)])), refused(11, 0)),
+    ("word_of_code_8_without_label", image(block0([word(0, 8)])), refused(11, 0)),
     ("word_of_label_15", image(block0([word(15, 3)])), refused(11, 0)),
     ("label_twice_on_a_side", image(block0([word(17, 3), 0, word(17, 6)])), refused(11, 0)),
     ("kept_0_last_byte_set", image(altered(RELEASED, 507, b"\1")), refused(11, 0)),
     ("kept_0_secured_set", image(State(secured=1).block()), refused(11, 0)),
+    ("kept_0_stopped", image(State(marks=2).block()), refused(11, 0)),
     ("length_7", bad_slot(altered(mapping_slot(), 0, field(7, 2))), refused(11, 1)),
     ("length_481", bad_slot(slot_block(padded(ADDRESS, 469), ADDRESS, OF_NO_LABEL)), refused(11, 1)),
-    ("kind_7", bad_slot(mapping_slot(kind=7)), refused(11, 1)),
+    ("kind_10", bad_slot(mapping_slot(kind=10)), refused(11, 1)),
     ("byte_3", bad_slot(altered(mapping_slot(), 3, b"\1")), refused(11, 1)),
     ("another_kind", bad_slot(mapping_slot(kind=WITHDRAW)), refused(11, 1)),
     ("another_label", bad_slot(mapping_slot(label=17)), refused(11, 1)),
     ("address_with_label", bad_slot(slot_block(padded(ADDRESS), ADDRESS, 16)), refused(11, 1)),
+    ("request_with_label", bad_slot(slot_block(request(label_tlv(16)), REQUEST, 16)), refused(11, 1)),
+    ("request_held", live({0: slot_block(request(label_tlv(16)), REQUEST, OF_NO_LABEL)}), counts(0, 0, 0, 1, 1, 0)),
+    ("request_as_abort", bad_slot(slot_block(request(), ABORT, OF_NO_LABEL)), refused(11, 1)),
+    ("abort_without_id", bad_slot(slot_block(abort(), ABORT, OF_NO_LABEL)), refused(11, 1)),
+    ("no_resources_as_available", bad_slot(slot_block(notification(NO_RESOURCES), RESOURCES, OF_NO_LABEL)), refused(11, 1)),
     ("message_malformed", bad_slot(slot_block(mapping(1048576), MAPPING, 1048576)), refused(11, 1)),
     ("message_with_ft_tlv", bad_slot(slot_block(message(TYPE[ADDRESS], ID, ack_tlv(0)), ADDRESS, OF_NO_LABEL)), refused(11, 1)),
     ("padding_set", bad_slot(altered(mapping_slot(), BARE + 400, b"\1")), refused(11, 1)),
@@ -158,6 +207,22 @@ CASES = [
     ("block_0_check_before_slots", damaged(damaged(live(THREE), 100), BLOCK + 60), refused(10, 0)),
     ("block_0_fields_before_slots", damaged(live(THREE, version=2), BLOCK + 60), refused(11, 0)),
     ("slot_check_before_fields", live({0: damaged(mapping_slot(label=17), 4)}), refused(10, 1)),
+    ("open_requests", asking([OPEN, word(30, 1), OPEN, word(30, 6), OPEN], [7, 8, 0, LAST, LAST]), counts(0, 0, 0, 0, 0, 5)),
+    ("all_words_open", asking(ALL_ASKED, range(COUNT)), counts(0, 0, 0, 0, 0, COUNT)),
+    ("ids_that_do_not_count", asking([OPEN, 0, word(30, 3)], [7] * COUNT), counts(0, 0, 0, 0, 0, 2)),
+    ("id_twice", asking([OPEN, 0, OPEN], [7, 0, 7]), refused(11, 65)),
+    ("id_0_twice", asking([OPEN, 0, OPEN], []), refused(11, 65)),
+    ("last_id_twice", asking(ALL_ASKED, [*range(COUNT - 1), 0]), refused(11, 65)),
+    ("byte_480_of_block_65", image(block0(), requests=altered(requests_block(), 480, b"\1")), refused(11, 65)),
+    ("byte_507_of_block_65", image(block0(), requests=altered(requests_block(), 507, b"\1")), refused(11, 65)),
+    ("byte_507_of_block_65_kept_0", image(RELEASED, requests=altered(requests_block(), 507, b"\1")), refused(11, 65)),
+    ("ids_kept_0", image(RELEASED, requests=requests_block([7] * COUNT)), counts(0, 0, 0, 0, 0, 0)),
+    ("check_of_block_65", damaged(live(THREE), BLOCK * REQUESTS + 60), refused(10, 65)),
+    ("check_of_block_65_kept_0", image(RELEASED, requests=UNSEALED), refused(10, 65)),
+    ("block_65_check_before_fields", damaged(asking([OPEN, OPEN], []), SIZE - 1), refused(10, 65)),
+    ("slots_before_block_65", live({0: mapping_slot(label=17)})[:-BLOCK] + UNSEALED, refused(11, 1)),
+    ("earlier_size", earlier(), refused(12, 0)),
+    ("earlier_size_extended", earlier(True), counts(0, 0, 0, 1, 1, 1)),
 ]
 
 

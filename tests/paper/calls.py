@@ -1,12 +1,12 @@
-"""The ten calls, from the build paper's words "Events" and "What each answer does".
+"""The ten calls, from the build paper's words "Events" and "What each answer does", and ticket 2 of 02.
 
 Every call decodes the image, does what the paper says, and lays block 0 anew. What the paper says in a sentence is quoted."""
 
-from .image import BLOCK, SIZE, SLOTS, State, block_of, held_message, refusal, slot_block, state_of
+from .image import BLOCK, EARLIER_SIZE, REQUESTS, SIZE, SLOTS, STOPPED, STOPPING, State, block_of, held_message, refusal, requests_block, slot_block, state_of
 from .labels import EVERY
 from .message import Message, submission
 from .numbers import acknowledged, advance, lesser, steps, successor
-from .wire import ACK, ADDRESS, ADDRESS_WITHDRAW, INIT, KEEPALIVE, MAPPING, PARAMETERS, PROTECTION, RELEASE, RESOURCES, SESSION, WITHDRAW
+from .wire import ABORT, ACK, ADDRESS, ADDRESS_WITHDRAW, INIT, KEEPALIVE, MAPPING, NO_RESOURCES, PARAMETERS, PROTECTION, RELEASE, REQUEST, REQUEST_ID, RESOURCES, SESSION, WITHDRAW
 from .wire import ack_tlv, field, message, number, parameters_tlv, protection_tlv, session_tlv
 
 LABEL_KINDS = (MAPPING, WITHDRAW, RELEASE)
@@ -20,8 +20,10 @@ def allowed(st, phase):
 
 
 class Outcome:
+    """`further` is 1 where block 65's bytes have changed."""
+
     def __init__(self, answer, phase, out=b"", slot=0, block=0):
-        self.answer, self.phase, self.out, self.slot, self.block, self.block0 = answer, phase, out, slot, block, False
+        self.answer, self.phase, self.out, self.slot, self.block, self.further, self.block0 = answer, phase, out, slot, block, 0, False
 
 
 RESTING = {0: ("Idle",), 1: ("Failed",)}
@@ -34,7 +36,7 @@ def call(rule):
         bad = refusal(image)
         if bad:
             return Outcome(bad[0], phase, block=bad[1])
-        st, old = state_of(image), block_of(image, 0)
+        st, old, requests = state_of(image), block_of(image, 0), block_of(image, REQUESTS)
         o = Outcome(1, phase) if phase and not allowed(st, phase) else rule(image, st, phase, *rest)
         if 20 <= o.answer <= 23:
             st = state_of(old)
@@ -44,7 +46,7 @@ def call(rule):
             st, o.phase = State(), ("Idle",)
         if o.answer == 0 or o.answer >= 20:
             image[:BLOCK] = getattr(o, "state", st).block()
-        o.block0 = block_of(image, 0) != old
+        o.further, o.block0 = int(block_of(image, REQUESTS) != requests), block_of(image, 0) != old
         return o
 
     return made
@@ -60,10 +62,18 @@ def begun(st, phase, out=b""):
 def format_image(image):
     if len(image) != SIZE:
         return Outcome(12, ("Idle",))
-    image[:] = State().block() + bytes(BLOCK * SLOTS)
+    image[:] = State().block() + bytes(BLOCK * SLOTS) + requests_block()
     o = Outcome(0, ("Idle",))
-    o.block0 = True
+    o.further, o.block0 = 1, True
     return o
+
+
+def extend(image, stored):
+    """An image of an earlier release, its `stored` bytes at the start: the block behind it is made, nothing else is looked at."""
+    if len(image) != SIZE or stored != EARLIER_SIZE:
+        return 12
+    image[stored:] = requests_block()
+    return 0
 
 
 def restore(image):
@@ -80,7 +90,7 @@ def fail(st):
 
 @call
 def open_session(image, st, phase, ident, parameters, proposal, room):
-    """Writes Init, R = kept, ACK = S; "the proposal used where the owner gives none" is 30 (02)."""
+    """Writes Init, R = kept, ACK = S, A as the parameters say; "the proposal used where the owner gives none" is 30 (02)."""
     if phase[0] not in ("Idle", "Failed"):
         return Outcome(1, phase)
     seconds = 30 if proposal is None else proposal
@@ -123,21 +133,42 @@ def submit(image, st, phase, m):
     answer, kind, label = submission(m)
     if answer:
         return Outcome(answer, phase)
-    answer = accept(image, st, kind, label) or (7 if st.held == SLOTS else 0)
+    answer = accept(image, st, phase, Message(m), kind, label) or (7 if st.held == SLOTS else 0)
     if answer:
         return Outcome(answer, phase)
     slot = (st.first + st.held) % SLOTS + 1
     image[BLOCK * slot : BLOCK * (slot + 1)] = slot_block(m, kind, label)
+    if kind == REQUEST:
+        image[BLOCK * REQUESTS :] = requests_block(st.labels.ids)
     st.held += 1
+    st.marks = marked(st.marks, kind, STOPPING)
     return Outcome(0, phase, slot=slot)
 
 
-def accept(image, st, kind, label):
+def marked(marks, kind, mark):
+    """'No label resources' sets a mark of byte 23, 'Label Resources Available' clears it."""
+    return marks | mark if kind == NO_RESOURCES else marks & ~mark if kind == RESOURCES else marks
+
+
+def accept(image, st, phase, read, kind, label):
     """6 for a Withdraw or Release too where one of the same label is held; then by the label's code."""
+    if kind == REQUEST:
+        return accept_request(st, phase, read.ident)
+    if kind == ABORT:
+        return 6 if st.labels.end(read.value(REQUEST_ID)) is None else 0
     if kind not in LABEL_KINDS:
         return 0
     held = [submission(held_message(image, st, i))[1:] for i in range(st.held)]
     return 6 if kind != MAPPING and (kind, label) in held else st.labels.accept(kind, label)
+
+
+def accept_request(st, phase, ident):
+    """ "14, Requests stopped, after 6; 15, a Request outside UpFT, after 14; 13 also for a Request; 6 also for an ID already open" """
+    if st.labels.asked(ident) is not None:
+        return 6
+    if st.marks & STOPPED:
+        return 14
+    return 15 if phase[0] != "UpFT" else st.labels.ask(ident)
 
 
 @call
@@ -223,11 +254,16 @@ def receive(image, st, phase, m):
 
 
 def judge(st, read, protected):
-    """Protection missing (33) or wrong (32), the number not the next (20), no word for the label (21): else the labels have changed."""
+    """Protection missing (33) or wrong (32), the number not the next (20), no word for the label (21): else the labels have changed, and a Request
+    that a Mapping or a Notification names has ended, "the Mapping taking its word if the label has none"."""
     kind, label = read.kind(), EVERY if read.every() else read.label()
     if kind in (ADDRESS, ADDRESS_WITHDRAW, RESOURCES) and not protected:
         return 33
     answer = st.labels.judge(kind, label, protected) if kind in LABEL_KINDS else 0
     if not answer and protected and read.value(PROTECTION) != successor(st.secured):
-        return 20
-    return answer or (st.labels.take(kind, label, protected) if kind in LABEL_KINDS else 0)
+        answer = 20
+    if answer:
+        return answer
+    st.marks = marked(st.marks, kind, STOPPED)
+    free = st.labels.end(read.answered())
+    return st.labels.take(kind, label, protected, free) if kind in LABEL_KINDS else 0

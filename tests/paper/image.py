@@ -1,4 +1,4 @@
-"""The stored image, from the build paper's words "Stored image": a bytearray of 65 blocks."""
+"""The stored image, from the build paper's words "Stored image" and ticket 2 of 02: a bytearray of 66 blocks."""
 
 from .labels import COUNT, Labels
 from .message import submission
@@ -6,9 +6,13 @@ from .numbers import steps
 from .wire import field, number
 
 BLOCK, SLOTS = 512, 64
-SIZE = BLOCK * (1 + SLOTS)
-FIELDS = (("version", 4), ("released", 4), ("issued", 4), ("secured", 4), ("first", 2), ("held", 2), ("timeout", 2), ("kept", 1), ("zero", 1), ("keepalive", 2), ("maxpdu", 2))
+REQUESTS = SLOTS + 1  # block 65: the IDs of the open Requests
+SIZE = BLOCK * (REQUESTS + 1)
+EARLIER_SIZE = BLOCK * REQUESTS
+FIELDS = (("version", 4), ("released", 4), ("issued", 4), ("secured", 4), ("first", 2), ("held", 2), ("timeout", 2), ("kept", 1), ("marks", 1), ("keepalive", 2), ("maxpdu", 2))
 WORDS_AT = sum(width for _, width in FIELDS)
+# "in byte 23 of block 0, 2 if told so, 4 from accepting kind 9 until kind 6"
+STOPPED, STOPPING = 2, 4
 
 
 def check(block):
@@ -28,20 +32,33 @@ def is_sealed(block):
     return check(block) == block[508:]
 
 
-class State:
-    """What block 0 says. A new one is that of "released": kept 0, and nothing else."""
+def words_of(data):
+    return [number(data[4 * i :][:4]) for i in range(COUNT)]
 
-    def __init__(self, words=(), **fields):
+
+def words_bytes(words):
+    return b"".join(field(w, 4) for w in words)
+
+
+def requests_block(ids=()):
+    """ "a further lent list of 120 numbers, stored in block 65 (then zeros)" """
+    return sealed(words_bytes(ids))
+
+
+class State:
+    """What block 0 says, and the IDs of block 65. A new one is that of "released": kept 0, and nothing else."""
+
+    def __init__(self, words=(), ids=(), **fields):
         for name, _ in FIELDS:
             setattr(self, name, fields.get(name, 1 if name == "version" else 0))
-        self.labels = Labels(words)
+        self.labels = Labels(words, ids)
 
     def block(self):
         body = b"".join(field(getattr(self, name), width) for name, width in FIELDS)
-        return sealed(body + b"".join(field(w, 4) for w in self.labels.words))
+        return sealed(body + words_bytes(self.labels.words))
 
     def valid(self):
-        if self.version != 1 or self.zero or self.kept > 1 or self.first >= SLOTS or self.held > SLOTS:
+        if self.version != 1 or self.marks & ~(STOPPED | STOPPING) or self.kept > 1 or self.first >= SLOTS or self.held > SLOTS:
             return False
         if not self.kept:
             return self.block() == State().block()
@@ -65,7 +82,7 @@ def state_of(image):
     for name, width in FIELDS:
         fields[name] = number(block[at : at + width])
         at += width
-    return State([number(block[WORDS_AT + 4 * i :][:4]) for i in range(COUNT)], **fields)
+    return State(words_of(block[WORDS_AT:]), words_of(block_of(image, REQUESTS)), **fields)
 
 
 def slot_block(m, kind, label):
@@ -86,8 +103,14 @@ def held_message(image, st, i):
     return block[8 : 8 + number(block[:2])]
 
 
+def requests_valid(image, st):
+    """An ID "counts only under code 7, where it stands once"; behind the IDs there are zeros."""
+    ids = st.labels.open_ids()
+    return len(set(ids)) == len(ids) and block_of(image, REQUESTS) == requests_block(st.labels.ids)
+
+
 def refusal(image):
-    """Restore's checks: size, block 0, its fields, then live slots in ring order: check, then fields."""
+    """Restore's checks: size, block 0, its fields, then live slots in ring order: check, then fields; then block 65, "checked after the slots"."""
     if len(image) != SIZE:
         return 12, 0
     if not is_sealed(block_of(image, 0)):
@@ -100,7 +123,9 @@ def refusal(image):
             return 10, k
         if not slot_valid(block_of(image, k)):
             return 11, k
-    return None
+    if not is_sealed(block_of(image, REQUESTS)):
+        return 10, REQUESTS
+    return None if requests_valid(image, st) else (11, REQUESTS)
 
 
 def report(image):

@@ -1,4 +1,4 @@
-"""The label list, from the build paper's words "Label list" and "What each answer does"."""
+"""The label list, from the build paper's words "Label list" and "What each answer does", with the open Requests of ticket 2 of 02."""
 
 from .wire import MAPPING, RELEASE, WITHDRAW
 
@@ -23,11 +23,16 @@ def word(label, code):
     return label + 1048576 * code
 
 
-class Labels:
-    """The words: each is label + 1,048,576 x code, and 0 is a free word."""
+# "An open Request takes one of the 120 words under code 7, with label part 0"
+OPEN = word(0, 7)
 
-    def __init__(self, words=()):
+
+class Labels:
+    """The words: each is label + 1,048,576 x code, and 0 is a free word. Beside each an ID, which counts only where the word is OPEN."""
+
+    def __init__(self, words=(), ids=()):
         self.words = [*words, *[0] * (COUNT - len(words))]
+        self.ids = [*ids, *[0] * (COUNT - len(ids))]
 
     def listed(self):
         return [(w & 0xFFFFF, w >> 20) for w in self.words if w]
@@ -35,17 +40,39 @@ class Labels:
     def place(self, side, label):
         return next((i for i, w in enumerate(self.words) if w and w >> 20 in side and w & 0xFFFFF == label), None)
 
+    def open_ids(self):
+        return [ident for w, ident in zip(self.words, self.ids) if w == OPEN]
+
+    def asked(self, ident):
+        """The place of the open Request with that ID; no ID, no place."""
+        return next((i for i, w in enumerate(self.words) if w == OPEN and self.ids[i] == ident), None)
+
+    def ask(self, ident):
+        """A Request takes the first free word, and its ID the same place of the list beside; 13 where no word is free."""
+        if 0 not in self.words:
+            return 13
+        i = self.words.index(0)
+        self.words[i], self.ids[i] = OPEN, ident
+        return 0
+
+    def end(self, ident):
+        """The Request with that ID ends: its word is free, its ID stays where it is. The place, None where no such Request is open."""
+        i = self.asked(ident)
+        if i is not None:
+            self.words[i] = 0
+        return i
+
     def code(self, side, label):
         i = self.place(side, label)
         return 0 if i is None else self.words[i] >> 20
 
-    def put(self, side, label, code):
-        """The label's code becomes `code`; the first free word is taken. False where there is none."""
+    def put(self, side, label, code, free=None):
+        """The label's code becomes `code`; a label without a word takes the word `free`, or else the first free one. False where there is none."""
         i = self.place(side, label)
         if i is None and code:
             if 0 not in self.words:
                 return False
-            i = self.words.index(0)
+            i = self.words.index(0) if free is None else free
         if i is not None:
             self.words[i] = word(label, code) if code else 0
         return True
@@ -77,11 +104,11 @@ class Labels:
             return 33 if any(code in NEEDS_PROTECTION for code in codes) else 0
         return 32 if label is not EVERY and kind in (MAPPING, WITHDRAW) and 6 in codes else 0
 
-    def take(self, kind, label, protected):
-        """A message of the peer's: 21 where no word is free."""
+    def take(self, kind, label, protected, free=None):
+        """A message of the peer's; `free` is the word of the Request that it has ended: 21 where no word is free."""
         side, become = RECEIVED_SIDE[kind], RECEIVED[kind]
         become = become[protected] if kind == MAPPING else become
-        fits = (self.put(side, touched, become.get(self.code(side, touched), self.code(side, touched))) for touched in self.touched(kind, label))
+        fits = (self.put(side, touched, become.get(self.code(side, touched), self.code(side, touched)), free) for touched in self.touched(kind, label))
         return 0 if all(fits) else 21
 
     def lose_connection(self):
@@ -90,5 +117,7 @@ class Labels:
         return 0
 
     def valid(self):
-        sides = [(code in GIVEN, label) for label, code in self.listed()]
-        return len(set(sides)) == len(sides) and all(1 <= code <= 6 and label >= 16 for label, code in self.listed())
+        """Open Requests stand "outside the rule of standing once"."""
+        rest = [(label, code) for label, code in self.listed() if word(label, code) != OPEN]
+        sides = [(code in GIVEN, label) for label, code in rest]
+        return len(set(sides)) == len(sides) and all(1 <= code <= 6 and label >= 16 for label, code in rest)

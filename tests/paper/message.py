@@ -1,10 +1,14 @@
-"""A message read and judged, from the build paper's words "Wire forms" and "Submit"."""
+"""A message read and judged, from the build paper's words "Wire forms" and "Submit", and ticket 2 of 02."""
 
 from .numbers import LAST
-from .wire import ACK, FEC, LABEL, MAPPING, PARAMETERS, PROTECTION, RELEASE, RESOURCES, SESSION, STATUS, TYPE, WITHDRAW, number
+from .wire import ABORT, ACK, FEC, LABEL, MAPPING, NOTIFICATION, PARAMETERS, PROTECTION, RELEASE, REQUEST, REQUEST_ID, SESSION, STATUS
+from .wire import STATUS_CODE, TYPE, WITHDRAW, number
 
-LENGTHS = {FEC: None, LABEL: 4, STATUS: 10, PARAMETERS: 14, SESSION: 4, PROTECTION: 4, ACK: 4}
-KINDS = {number_of_type: kind for kind, number_of_type in TYPE.items() if kind != RESOURCES}
+LENGTHS = {FEC: None, LABEL: 4, STATUS: 10, PARAMETERS: 14, SESSION: 4, PROTECTION: 4, ACK: 4, REQUEST_ID: 4}
+KINDS = {number_of_type: kind for kind, number_of_type in TYPE.items() if kind not in STATUS_CODE}
+KIND_OF_STATUS = {code: kind for kind, code in STATUS_CODE.items()}
+# "Mapping without FEC or label; Withdraw or Release without FEC", 02: "Request and Abort without FEC, Abort without 0x0600"
+BORNE = {MAPPING: (FEC, LABEL), WITHDRAW: (FEC,), RELEASE: (FEC,), REQUEST: (FEC,), ABORT: (FEC, REQUEST_ID)}
 NO_LABEL = LAST
 
 
@@ -15,7 +19,7 @@ class Message:
         self.tlvs, self.bad = {}, True
         if len(m) < 8 or number(m[2:4]) != len(m) - 4:
             return
-        self.type = number(m[:2]) & 0x7FFF
+        self.type, self.ident = number(m[:2]) & 0x7FFF, number(m[4:8])
         at = 8
         while at < len(m):
             if at + 4 > len(m):
@@ -34,9 +38,7 @@ class Message:
     def bears(self):
         if self.has(LABEL) and self.label() > 1048575:
             return False
-        if self.type == TYPE[MAPPING]:
-            return self.has(FEC) and self.has(LABEL)
-        return self.type not in (TYPE[WITHDRAW], TYPE[RELEASE]) or self.has(FEC)
+        return all(self.has(kind) for kind in BORNE.get(KINDS.get(self.type), ()))
 
     def has(self, kind):
         return kind in self.tlvs
@@ -54,10 +56,16 @@ class Message:
         return any(self.has(kind) for kind in (SESSION, PROTECTION, ACK))
 
     def kind(self):
-        """Resources Available: a Notification whose Status has that code in its low 30 bits and E clear."""
-        if self.type == TYPE[RESOURCES] and self.has(STATUS) and not self.fatal():
-            return RESOURCES if number(self.tlvs[STATUS][:4]) & 0x3FFFFFFF == 0xF else None
+        """Resources Available, No Resources: a Notification whose Status has that code in its low 30 bits and E clear."""
+        if self.type == NOTIFICATION and self.has(STATUS) and not self.fatal():
+            return KIND_OF_STATUS.get(number(self.tlvs[STATUS][:4]) & 0x3FFFFFFF)
         return KINDS.get(self.type)
+
+    def answered(self):
+        """The ID of the Request that a message answers: "a Notification (Status) or Mapping (TLV 0x0600, length 4) naming its ID", E clear."""
+        if self.type == NOTIFICATION and self.has(STATUS) and not self.fatal():
+            return number(self.tlvs[STATUS][4:8])
+        return self.value(REQUEST_ID) if self.type == TYPE[MAPPING] and self.has(REQUEST_ID) else None
 
     def every(self):
         """Withdraw or Release of the wildcard FEC without a label acts on every label."""

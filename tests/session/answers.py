@@ -2,8 +2,8 @@
 
 P1 has R 1, I 2 and S 1; it has given label 101 (code 1), and uses 201 (3) and, without protection, 1000 (6)."""
 
-from paper.wire import ADDRESS, FEC, INIT, KEEPALIVE, MAPPING, RELEASE, RESOURCES, TYPE, WITHDRAW, ack_tlv
-from paper.wire import label_tlv, message, parameters_tlv, protection_tlv, session_tlv, status_tlv, tlv
+from paper.wire import ABORT, ADDRESS, FEC, INIT, KEEPALIVE, MAPPING, NOTIFICATION, RELEASE, REQUEST, TYPE, WITHDRAW, ack_tlv
+from paper.wire import label_tlv, message, parameters_tlv, protection_tlv, request_id_tlv, session_tlv, status_tlv, tlv
 
 ID = 9
 FATAL = 0x8000000A
@@ -25,8 +25,8 @@ def with_label(kind, label, *tlvs):
     return without_label(kind, label_tlv(label), *tlvs)
 
 
-def status(code, *tlvs):
-    return message(TYPE[RESOURCES], ID, status_tlv(code), *tlvs)
+def status(code, *tlvs, about=0):
+    return message(NOTIFICATION, ID, status_tlv(code, about), *tlvs)
 
 
 def init(*tlvs, ident=0):
@@ -82,13 +82,28 @@ PLAIN = (
     (36, status(FATAL)),
     (36, status(FATAL, protection_tlv(1))),
     (22, init(own(), session_tlv(0, 5))),
+    # "In UpPlain messages are passed on": nothing is remembered of these.
+    (0, status(0x0E)),
+    (0, status(0x0F)),
+    (0, without_label(REQUEST)),
+    (0, without_label(ABORT, request_id_tlv(ID))),
 )
 SUBMITTED = (
     (4, without_label(MAPPING)),
     (5, with_label(MAPPING, 102, protection_tlv(3))),
     (5, with_label(MAPPING, 15, ack_tlv(3))),
-    (5, message(0x0401, ID, tlv(FEC, b""))),
+    (5, message(0x0100, ID, tlv(FEC, b""))),
     (5, without_label(WITHDRAW)),
+    (0, without_label(REQUEST)),
+    (4, message(TYPE[REQUEST], ID)),
+    (5, without_label(REQUEST, protection_tlv(3))),
+    (6, without_label(ABORT, request_id_tlv(ID))),
+    (4, without_label(ABORT)),
+    (4, message(TYPE[ABORT], ID, request_id_tlv(ID))),
+    # A listed TLV of a wrong length, or twice, is malformed in every message.
+    (4, bare_address(tlv(0x0600, bytes(3)))),
+    (4, bare_address(request_id_tlv(1), request_id_tlv(1))),
+    (0, bare_address(request_id_tlv(1))),
     (0, with_label(MAPPING, 101)),
     (6, with_label(MAPPING, 15)),
     (6, with_label(WITHDRAW, 102)),
@@ -110,11 +125,14 @@ INITS = (
     (22, keepalive()),
 )
 RECEIVED_BY_BYTES = by_bytes(
-    # 'Label Resources Available' is 0x0000000F, with the F bit too; 0x0000000E is another status.
+    # 'Label Resources Available' is 0x0000000F, with the F bit too; 0x0000000E is 'No label resources', 0x0000000D another status.
     (33, "0001 0012 00000009 0300 000a 0000000f 00000000 0000"),
     (33, "0001 0012 00000009 0300 000a 4000000f 00000000 0000"),
     (36, "0001 0012 00000009 0300 000a 8000000f 00000000 0000"),
     (0, "0001 0012 00000009 0300 000a 0000000e 00000000 0000"),
+    (0, "0001 0012 00000009 0300 000a 4000000e 00000000 0000"),
+    (36, "0001 0012 00000009 0300 000a 8000000e 00000000 0000"),
+    (0, "0001 0012 00000009 0300 000a 0000000d 00000000 0000"),
     (0, "0001 001a 00000009 0300 000a 0000000f 00000000 0000 0203 0004 00000002"),
     (33, "0301 0004 00000009"),
     # The wildcard FEC is one element, 01: with more behind it, it is another FEC, which touches no label.
@@ -128,10 +146,23 @@ RECEIVED_BY_BYTES = by_bytes(
     # The greatest label is 1,048,575.
     (0, "0400 0010 00000009 0100 0000 0200 0004 000fffff"),
     (22, "0400 0010 00000009 0100 0000 0200 0004 00100000"),
+    # The peer's Request and Abort need no protection; an Abort is to have its TLV 0x0600, with length 4.
+    (0, "0401 0008 00000009 0100 0000"),
+    (22, "0401 0004 00000009"),
+    (0, "0404 0010 00000009 0100 0000 0600 0004 00000007"),
+    (22, "0404 0008 00000009 0100 0000"),
+    (22, "0404 000c 00000009 0600 0004 00000007"),
+    (22, "0404 000f 00000009 0100 0000 0600 0003 000007"),
+    (22, "0201 000d 00000009 8600 0005 0000000700"),
 )
 SUBMITTED_BY_BYTES = by_bytes(
     (0, "0001 0012 00000009 0300 000a 0000000f 00000000 0000"),
-    (5, "0001 0012 00000009 0300 000a 0000000e 00000000 0000"),
+    (0, "0001 0012 00000009 0300 000a 0000000e 00000000 0000"),
+    (5, "0001 0012 00000009 0300 000a 8000000e 00000000 0000"),
+    (5, "0001 0012 00000009 0300 000a 0000000d 00000000 0000"),
+    (0, "0401 0008 00000009 0100 0000"),
+    (4, "0401 0004 00000009"),
+    (6, "0404 0010 00000009 0100 0000 0600 0004 00000007"),
     (0, "0400 0010 00000009 0100 0000 0200 0004 000fffff"),
     (4, "0400 0010 00000009 0100 0000 0200 0004 00100000"),
 )

@@ -9,19 +9,21 @@ import sys
 
 sys.dont_write_bytecode = True
 sys.path.append(str(pathlib.Path(__file__).resolve().parents[1]))
+import requests  # noqa: E402
 from answers import INITS, PLAIN, RECEIVED, RECEIVED_BY_BYTES, SUBMITTED, SUBMITTED_BY_BYTES, TWO_FAULTS, init, own, with_label  # noqa: E402
-from pair import AN_ADDRESS, P1, P2, Pair, label_message  # noqa: E402
-from paper.wire import ADDRESS, MAPPING, TYPE, ack_tlv, message, protection_tlv, session_tlv, tlv  # noqa: E402
+from pair import AN_ADDRESS, COPY, KEPT, P1, P2, SHORT, Pair, label_message, request_message  # noqa: E402
+from paper.image import BLOCK, REQUESTS, SIZE  # noqa: E402
+from paper.wire import ABORT, ADDRESS, MAPPING, REQUEST, TYPE, WITHDRAW, ack_tlv, message, protection_tlv, session_tlv, tlv  # noqa: E402
 from player import LINES, SCRIPT  # noqa: E402
 from stored import settle  # noqa: E402
 
-# Beside P1 and P2: an image that is kept, and the copy that a call is made on; SHORT is the copy of all bytes but the last.
-SHORT, KEPT, COPY = 0, 3, 4
+# How many bytes of a script session_cases reads.
+ROOM = 131072
 
 
 def before(p):
     p.title("before the example")
-    p.fresh()
+    p.fresh(on_demand=True)
     for _ in range(26):
         p.address(P1)
         p.pass_on(P1)
@@ -34,35 +36,47 @@ def before(p):
     p.both()
 
 
+def send_as(p, end, kind, number, ack=None, lost=False):
+    """Sends what the draft's line says: the type, "senders FT sequence number, FT ACK number"."""
+    p.send(end, f"P{end} send, lost" if lost else f"P{end} send", ack=ack is not None)
+    p.bears(kind, number, ack)
+
+
 def example(p):
+    """The draft's section 7.1. The Requests of L1, L2, L3, L4 have the IDs 1 to 4; L1 and L2 get the labels 201 and 202."""
     p.title("the example")
     p.title("note 1")
-    p.mapping(P1, 101)
-    p.mapping(P1, 102)
-    p.pass_on(P1)
+    p.request(P1, 1)
+    p.request(P1, 2)
+    send_as(p, P1, REQUEST, 27)
+    p.arrive(P2)
     p.title("note 2")
-    p.mapping(P2, 203)
-    p.send(P1, "P1 send")
-    p.pass_on(P2, ack=True)
+    p.request(P2, 3)
+    send_as(p, P1, REQUEST, 28)
+    send_as(p, P2, REQUEST, 93, 27)
+    p.arrive(P1)
     p.arrive(P2)
     p.title("note 4")
-    p.mapping(P2, 201)
-    p.pass_on(P2, ack=True)
+    p.answer(P2, 1, 201)
+    send_as(p, P2, MAPPING, 94, 28)
+    p.arrive(P1)
+    p.holds(P1, (201, 3), (2,))
     p.title("note 5")
-    p.mapping(P2, 202)
-    p.send_lost(P2)
+    p.answer(P2, 2, 202)
+    send_as(p, P2, MAPPING, 95, lost=True)
     p.title("note 6")
     p.address(P1)
-    p.pass_on(P1)
+    send_as(p, P1, ADDRESS, 29)
+    p.arrive(P2)
     p.title("note 7")
-    p.mapping(P1, 104)
-    p.send_lost(P1)
+    p.request(P1, 4)
+    send_as(p, P1, REQUEST, 30, lost=True)
     p.title("note 8")
     p.keepalive(P1, "P1 keepalive, lost")
     p.wrote("0201 000c 00000002 0504 0004 0000005e")
     p.title("note 9")
-    p.withdraw(P2, 203)
-    p.send_lost(P2)
+    p.abort(P2, 3)
+    send_as(p, P2, ABORT, 96, lost=True)
     p.both()
 
 
@@ -74,21 +88,25 @@ def recovery(p):
     p.withdraw(P2, 201)
     p.both()
     p.title("note 12")
-    p.connect()
+    p.connect(on_demand=True)
     p.title("note 13")
-    p.pass_on(P1)
+    send_as(p, P1, REQUEST, 30)
+    p.arrive(P2)
     p.title("note 14")
-    p.pass_on(P2)
-    p.pass_on(P2, ack=True)
+    send_as(p, P2, MAPPING, 95)
+    p.arrive(P1)
+    send_as(p, P2, ABORT, 96, 30)
+    p.arrive(P1)
     p.title("note 15")
-    p.pass_on(P2)
+    send_as(p, P2, WITHDRAW, 97)
+    p.arrive(P1)
+    p.holds(P1, (201, 4), (202, 3), (4,))
+    p.holds(P2, 0, (201, 2), (202, 1))
     p.send_lost(P2)
     p.alive(P1)
     p.alive(P2)
     p.both()
     p.release(P1, 201)
-    p.release(P1, 203)
-    p.pass_on(P1, ack=True)
     p.pass_on(P1, ack=True)
     p.both()
 
@@ -298,7 +316,7 @@ def refused_images(p):
     p.copy(KEPT, P1)
     in_phases(p, "a kept session", ("Idle",), ("InitWait", 5), ("UpFT", 1), ("UpFT", 2), ("UpPlain",), ("Failed",))
     p.copy(KEPT, P1)
-    every_call(p, "an image of 33279 bytes", SHORT)
+    every_call(p, f"an image of {SIZE - 1} bytes", SHORT)
     p.format(SHORT, "format")
     p.restore(SHORT, "restore")
     p.spoil(KEPT, 100, 0xAA)
@@ -309,6 +327,19 @@ def refused_images(p):
     every_call(p, "the live slot spoiled")
     p.block(KEPT, 2, P1, 0)
     every_call(p, "the live slot another block")
+    p.restore(KEPT, "restore")
+    p.copy(KEPT, P1)
+    p.spoil(KEPT, BLOCK * REQUESTS + 100, 0xAA)
+    every_call(p, "block 65 spoiled")
+    p.restore(KEPT, "restore")
+    p.copy(KEPT, P1)
+    # The last byte before the check, and the check that fits it.
+    for at, byte in ((507, 1), (509, 2), (511, 255)):
+        p.spoil(KEPT, BLOCK * REQUESTS + at, byte)
+    every_call(p, "block 65 with a byte behind the IDs")
+    p.format(KEPT, "format")
+    p.spoil(KEPT, BLOCK * REQUESTS + 100, 0xAA)
+    every_call(p, "block 65 of a new image spoiled")
     p.restore(KEPT, "restore")
 
 
@@ -328,20 +359,26 @@ def plain_session(p):
     on_copies(p, "receive", p.receive, PLAIN)
 
 
-# Block 0 of a kept session: R and I 5, S 9, first slot 62, none held, timeout 3, the peer's parameters 15 and 1500; label 16 given, and 17 used in the last word.
-BLOCK_0 = bytes.fromhex("00000001 00000005 00000005 00000009 003e 0000 0003 01 00 000f 05dc 00100010") + bytes(472) + bytes.fromhex("00300011 07a2 f68f")
+# Block 0 of a kept session: R and I 5, S 9, first slot 62, none held, timeout 3, stopped, the peer's parameters 15 and 1500; label 16 given, a Request open,
+# and 17 used in the last word. Block 65: the Request's ID is 0x01020304; those beside it do not count.
+BLOCK_0 = bytes.fromhex("00000001 00000005 00000005 00000009 003e 0000 0003 01 02 000f 05dc 00100010 00700000") + bytes(468) + bytes.fromhex("00300011 0814 6096")
+BLOCK_65 = bytes.fromhex("01020304 01020304 01020304") + bytes(496) + bytes.fromhex("0c13 d9b5")
 
 
 def block_0(p):
     """Each field is read where the paper puts it."""
-    p.title("block 0 by its bytes")
+    p.title("blocks 0 and 65 by their bytes")
     p.format(KEPT, "format")
-    for at, byte in enumerate(BLOCK_0):
-        if p.image[KEPT][at] != byte:
-            p.spoil(KEPT, at, byte)
+    for start, block in ((0, BLOCK_0), (BLOCK * REQUESTS, BLOCK_65)):
+        for at, byte in enumerate(block, start):
+            if p.image[KEPT][at] != byte:
+                p.spoil(KEPT, at, byte)
     p.restore(KEPT, "restore")
     p.answered(0, "Failed")
     p.counts(KEPT, "kept")
+    for i in range(3):
+        p.request_at(KEPT, "kept", i)
+    p.holds(KEPT, (16, 1), (0x01020304,), *[0] * 117, (17, 3))
     for elapsed, phase in ((2, "Failed"), (3, "Idle")):
         p.copy(COPY, KEPT)
         p.time(COPY, f"time passed {elapsed}", elapsed)
@@ -350,6 +387,8 @@ def block_0(p):
     p.wrote("0200 0026 00000001 0500 000e 0001 001e 00 00 1000 0a000002 0000 8503 0004 8000 001e 0504 0004 00000009")
     p.init(KEPT, "init", init(own(), session_tlv(1, 5), ack_tlv(5)))
     p.answered(0, "UpFT")
+    p.submit(KEPT, "submit Request", request_message(1))
+    p.answered(14)
     p.submit(KEPT, "submit", AN_ADDRESS)
     assert p.last.slot == 63
     p.receive(KEPT, "receive Mapping 17", label_message(MAPPING, 17))
@@ -361,8 +400,10 @@ PARTS = (before, example, recovery, restart, net_zero, timeouts, lengths, full_l
 
 def main():
     p = Pair()
-    for part in PARTS:
+    for part in (*PARTS, *requests.PARTS):
         part(p)
+    size = sum(len(line) + 1 for line in SCRIPT)
+    assert size <= ROOM, size
     settle({f"session_cases/{name}": "".join(line + "\n" for line in lines).encode() for name, lines in (("stdin", SCRIPT), ("stdout", LINES))})
 
 

@@ -3,6 +3,9 @@ lines of the script, LINES what is printed. A message is bytes, or the place who
 
 from paper import calls as c
 from paper import image as im
+from paper.labels import OPEN
+from paper.message import Message
+from paper.wire import ACK, PROTECTION, TYPE
 
 SCRIPT, LINES = [], []
 
@@ -13,8 +16,9 @@ P1_OWN, P2_OWN = (30, 4096, 0x0A000002, 0), (15, 1500, 0x0A000001, 0)
 def show(name, o, image):
     block = f" block {o.block}" if o.answer in (10, 11) else ""
     slot = f" {im.block_of(image, o.slot)[508:].hex()}" if o.slot else ""
+    further = f" {im.block_of(image, im.REQUESTS)[508:].hex()}" if o.further else ""
     block0 = f"true {bytes(image[508:512]).hex()}" if o.block0 else "false"
-    LINES.append(f"{name}: {o.answer}{block}, {' '.join(map(str, o.phase))}, written {len(o.out)}, slot {o.slot}{slot}, block0 {block0}")
+    LINES.append(f"{name}: {o.answer}{block}, {' '.join(map(str, o.phase))}, written {len(o.out)}, slot {o.slot}{slot}, further {o.further}{further}, block0 {block0}")
     if o.out:
         LINES.append(f"  {o.out.hex()}")
 
@@ -46,9 +50,12 @@ class Player:
         step(name, "restore", place)
         self.outcome(place, name, c.restore(self.image[place]))
 
-    def open(self, place, name, proposal=None):
-        step(name, "open", place, 64, *([] if proposal is None else [proposal]))
-        self.outcome(place, name, c.open_session(self.image[place], self.phase[place], 1, P2_OWN if place == 2 else P1_OWN, proposal, 64))
+    def open(self, place, name, proposal=None, on_demand=False):
+        """In the script a proposal that is not given stands as -, or as nothing at the line's end."""
+        numbers = ("-" if proposal is None else proposal, 1) if on_demand else () if proposal is None else (proposal,)
+        step(name, "open", place, 64, *numbers)
+        own = (*(P2_OWN if place == 2 else P1_OWN), on_demand)
+        self.outcome(place, name, c.open_session(self.image[place], self.phase[place], 1, own, proposal, 64))
 
     def send(self, place, name, room=512, ack=False):
         step(name, "send", place, room, *([1] if ack else []))
@@ -90,10 +97,36 @@ class Player:
     def wrote(self, text):
         assert self.last.out == bytes.fromhex(text), (SCRIPT[-1], self.last.out.hex())
 
+    def bears(self, kind, number, ack=None):
+        read = Message(self.last.out)
+        assert (read.type, *(read.value(t) if read.has(t) else None for t in (PROTECTION, ACK))) == (TYPE[kind], number, ack), SCRIPT[-1]
+
+    def stored(self, *blocks):
+        """The blocks that the last call has the owner store, in their order."""
+        o = self.last
+        assert blocks == (*[o.slot] * (o.slot > 0), *[im.REQUESTS] * o.further, *[0] * o.block0), SCRIPT[-1]
+
+    def holds(self, place, *words):
+        """The words of an image up to the last in use: 0 for a free word, a label and its code, or the ID of an open Request alone."""
+        labels = im.state_of(self.image[place]).labels
+        shown = [((ident,) if w == OPEN else (w & 0xFFFFF, w >> 20)) if w else 0 for w, ident in zip(labels.words, labels.ids)]
+        assert shown == [*words, *[0] * (len(shown) - len(words))], (SCRIPT[-1], shown)
+
+    def marked(self, place, marks):
+        assert im.state_of(self.image[place]).marks == marks, SCRIPT[-1]
+
     # What is done to the images and phases.
     def counts(self, place, name):
         step(name, "counts", place)
         LINES.append(f"{name} {' '.join(im.report(self.image[place]))}")
+
+    def request_at(self, place, name, i):
+        """Whether the i-th word is an open Request, and its ID."""
+        step(name, "request", place, i)
+        sound = im.refusal(self.image[place]) is None
+        labels = im.state_of(self.image[place]).labels
+        is_open = sound and i < len(labels.words) and labels.words[i] == OPEN
+        LINES.append(f"{name} open {int(is_open)} id {labels.ids[i] if is_open else 0}")
 
     def put(self, place, phase):
         step("", phase[0], place, *phase[1:])

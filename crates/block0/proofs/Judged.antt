@@ -22,25 +22,20 @@ module _ (b : List ℕ) {v : ℕ} (ev : v ≡ beAt 4 b 0) where
   unfolding fieldsOk
   other-version n = simp (← ev, ne-eqb v 1 n)
 
-  module _ (one : v ≡ 1) {z : ℕ} (ez : z ≡ beAt 1 b 23) where
-    pub spare-set : (z ≡ 0 → ⊥) → false ≡ fieldsOk b
+  module _ (one : v ≡ 1) {h : Header} (eh : h ≡ headerOf b) {t : Bool} (et : t ≡ headerOk h) where
+    pub header-wrong : not t ≡ true → false ≡ fieldsOk b
     unfolding fieldsOk
-    spare-set n = simp (← ev, eq-eqb v 1 one, ← ez, ne-eqb z 0 n)
+    header-wrong n = simp (← ev, eq-eqb v 1 one, ← eh, ← et, not-true t n)
 
-    module _ (zero : z ≡ 0) {h : Header} (eh : h ≡ headerOf b) {t : Bool} (et : t ≡ headerOk h) where
-      pub header-wrong : not t ≡ true → false ≡ fieldsOk b
+    module _ (fine : not t ≡ false) where
+      pub released-judged : h .kept ≡ 0 → {r : Bool} → r ≡ allZero (bodyOf b) → r ≡ fieldsOk b
       unfolding fieldsOk
-      header-wrong n = simp (← ev, eq-eqb v 1 one, ← ez, eq-eqb z 0 zero, ← eh, ← et, not-true t n)
+      released-judged k {r} er =
+          zeros-decide r b (sym er)
+          ∙ simp (← ev, eq-eqb v 1 one, ← eh, ← et, not-false t fine, eq-eqb (h .kept) 0 k, ← er)
 
-      module _ (fine : not t ≡ false) where
-        pub released-judged : h .kept ≡ 0 → {r : Bool} → r ≡ allZero (bodyOf b) → r ≡ fieldsOk b
-        unfolding fieldsOk
-        released-judged k {r} er =
-            zeros-decide r b (sym er)
-            ∙ simp (← ev, eq-eqb v 1 one, ← ez, eq-eqb z 0 zero, ← eh, ← et, not-false t fine, eq-eqb (h .kept) 0 k, ← er)
+      pub labels-judged : (h .kept ≡ 0 → ⊥) → {r : Bool} → r ≡ validOf (labelsOf b) → r ≡ fieldsOk b
+      unfolding fieldsOk
+      labels-judged k {r} er = simp (← ev, eq-eqb v 1 one, ← eh, ← et, not-false t fine, ne-eqb (h .kept) 0 k, ← er)
 
-        pub labels-judged : (h .kept ≡ 0 → ⊥) → {r : Bool} → r ≡ validOf (labelsOf b) → r ≡ fieldsOk b
-        unfolding fieldsOk
-        labels-judged k {r} er = simp (← ev, eq-eqb v 1 one, ← ez, eq-eqb z 0 zero, ← eh, ← et, not-false t fine, ne-eqb (h .kept) 0 k, ← er)
-
-pub ruleset judged = (other-version, spare-set, header-wrong, released-judged, labels-judged)
+pub ruleset judged = (other-version, header-wrong, released-judged, labels-judged)

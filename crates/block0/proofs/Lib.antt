@@ -2,4 +2,4 @@ pub mod Written
 pub mod Rules
 pub mod Judged
 pub mod Same
-pub mod Unprotected
+pub mod Coded

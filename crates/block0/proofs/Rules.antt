@@ -24,7 +24,7 @@ use Rattle.ft_number.specs.Circle.{stepsOf}
 use Rattle.label_list.specs.Valid.{validOf, validWord}
 use Rattle.label_list.specs.Word.{wordCount, isFree}
 use Rattle.block0.specs.declared.Header.{Header}
-use Rattle.block0.specs.Fields.{atMost, headerOk, bodyOf, fieldsOk, Fits, Valid}
+use Rattle.block0.specs.Fields.{atMost, marksOk, headerOk, bodyOf, fieldsOk, Fits, Valid}
 use Rattle.block0.specs.Layout.{widths, labelsAt, values, fromValues, headerOf, labelsOf, block0, releasedHeader, noLabels}
 use Rattle.block0.proofs.Written.{length-block0, run-block0, header-block0, labels-block0}
 
@@ -74,37 +74,38 @@ zero-body b long numbers labels =
     (below-or-not i 24))
 
 -- ---- the test and its clauses
-pub header-parts : (h : Header) → headerOk h ≡ true → (h .first < 64) × (h .held ≤ 64) × (h .kept ≤ 1) × (atMost (h .held) (stepsOf (h .released .0) (h .issued .0)) ≡ true)
+pub header-parts : (h : Header) → headerOk h ≡ true → (h .first < 64) × (h .held ≤ 64) × (h .kept ≤ 1) × (marksOk (h .marks) ≡ true) × (atMost (h .held) (stepsOf (h .released .0) (h .issued .0)) ≡ true)
 unfolding headerOk
 header-parts h e =
     let p = both-true _ _ e in
     let q = both-true _ _ (p .1) in
     let r = both-true _ _ (q .1) in
-    (ltb-true _ _ (p .0), leb-true _ _ (q .0), leb-true _ _ (r .0), r .1)
+    let s = both-true _ _ (r .1) in
+    (ltb-true _ _ (p .0), leb-true _ _ (q .0), leb-true _ _ (r .0), s .0, s .1)
 
 -- right fields are the rules, clause by clause
 pub fields-valid : (b : List ℕ) → fieldsOk b ≡ true → Valid (headerOf b) (labelsOf b)
 unfolding fieldsOk
 fields-valid b e =
     let p = both-true (eqb (beAt 4 b 0) 1) _ e in
-    let q = both-true (eqb (beAt 1 b 23) 0) _ (p .1) in
-    let r = both-true (headerOk (headerOf b)) _ (q .1) in
-    let s = both-true (pick (eqb (headerOf b .kept) 0) (allZero (bodyOf b)) true) _ (r .1) in
-    let h = header-parts (headerOf b) (r .0) in
+    let q = both-true (headerOk (headerOf b)) _ (p .1) in
+    let r = both-true (pick (eqb (headerOf b .kept) 0) (allZero (bodyOf b)) true) _ (q .1) in
+    let h = header-parts (headerOf b) (q .0) in
     record {
       first = h .0;
       held = h .1;
       kept = h .2;
-      window = h .3;
-      labels = s .1;
+      marks = h .3;
+      window = h .4;
+      labels = r .1;
       idle = λ k.
-          let z : allZero (bodyOf b) ≡ true = rw (eq-eqb _ _ k) at (s .0) in
+          let z : allZero (bodyOf b) ≡ true = rw (eq-eqb _ _ k) at (r .0) in
           (zero-header b z, zero-labels b z);
     }
 
 pub parts-header : (h : Header) (ls : List ℕ) → Valid h ls → headerOk h ≡ true
 unfolding headerOk
-parts-header h ls v = simp (lt-ltb _ _ (v .first), le-leb _ _ (v .held), le-leb _ _ (v .kept), v .window)
+parts-header h ls v = simp (lt-ltb _ _ (v .first), le-leb _ _ (v .held), le-leb _ _ (v .kept), v .marks, v .window)
 
 -- block 0 as it was written has right fields
 pub valid-fields : (h : Header) (ls : List ℕ) → Fits h → Words wordCount ls → Valid h ls → fieldsOk (block0 h ls) ≡ true
@@ -113,7 +114,6 @@ valid-fields h ls fh fl v =
     let t : List ℕ = block0 h ls in
     let run : getRun widths t 0 ≡ values h = run-block0 h ls fh fl in
     let version : beAt 4 t 0 ≡ 1 = ap (λ (l : List ℕ). getD l 0 0) run in
-    let spare : beAt 1 t 23 ≡ 0 = ap (λ (l : List ℕ). getD l 8 0) run in
     let eh : headerOf t ≡ h = header-block0 h ls fh fl in
     let el : labelsOf t ≡ ls = labels-block0 h ls fh fl in
     let idle : pick (eqb (h .kept) 0) (allZero (bodyOf t)) true ≡ true =
@@ -123,4 +123,4 @@ valid-fields h ls fh fl v =
     simp (eq-eqb _ _ z, zero-body t (length-block0 h ls) numbers (el ∙ v .idle z .1)))
     (λ (p : 0 < h .kept). let apart : h .kept ≡ 0 → ⊥ = λ e. omega arith in simp (ne-eqb (h .kept) 0 apart))
     (eq-zero-or-pos (h .kept)) in
-    simp (eq-eqb _ _ version, eq-eqb _ _ spare, eh, parts-header h ls v, idle, el, v .labels)
+    simp (eq-eqb _ _ version, eh, parts-header h ls v, idle, el, v .labels)

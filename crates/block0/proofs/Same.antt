@@ -105,13 +105,10 @@ module _ (b : List ℕ) (long : length b ≡ blockSize) (h : Header) {n : List �
         ∙ before-check (laid words (i * 4) (bytes 4 w)) (length-laid words (i * 4) (bytes 4 w) ∙ long-words)
         ∙ ap (λ (s : List ℕ). fields ++ s) (sym (word-put wordCount (wordsAt wordCount b labelsAt) i w l (omega arith))))
 
--- the version and the zero are those that are written
+-- the version is the one that is written
 values-same : (b : List ℕ) → fieldsOk b ≡ true → values (headerOf b) ≡ getRun widths b 0
 unfolding fieldsOk headerOf
-values-same b f =
-    let p = both-true _ _ f in
-    let q = both-true _ _ (p .1) in
-    rw (eqb-true (beAt 4 b 0) 1 (p .0), eqb-true (beAt 1 b 23) 0 (q .0))
+values-same b f = rw (eqb-true (beAt 4 b 0) 1 (both-true _ _ f .0))
 
 pub block0-same : (b : List ℕ) → length b ≡ blockSize → Bytes b → sound b ≡ true → fieldsOk b ≡ true → block0 (headerOf b) (labelsOf b) ≡ b
 unfolding block0 labelsOf

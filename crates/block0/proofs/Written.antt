@@ -21,8 +21,7 @@ use Rattle.block0.specs.Layout.{widths, labelsAt, values, fromValues, he
 fits : (h : Header) → Fits h → Fit widths (values h)
 fits h f =
     let version : 1 < 256 ^ 4 = omega arith in
-    let spare : 0 < 256 ^ 1 = omega arith in
-    one version (one (f .released) (one (f .issued) (one (f .secured) (one (f .first) (one (f .held) (one (f .timeout) (one (f .kept) (one spare (one (f .keepalive) (one (f .maxpdu) none))))))))))
+    one version (one (f .released) (one (f .issued) (one (f .secured) (one (f .first) (one (f .held) (one (f .timeout) (one (f .kept) (one (f .marks) (one (f .keepalive) (one (f .maxpdu) none))))))))))
 
 -- the bytes of the fields
 pub length-fields : (h : Header) → length (spelled widths (values h)) ≡ labelsAt

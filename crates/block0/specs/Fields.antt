@@ -1,6 +1,6 @@
 -- "Fields: the ranges above; R to I no longer than held, and I not zero unless R is; label words by the rules below."
 -- "With kept 0, bytes 4 to 507 are zero."
-use Prim.Native.Nat.{ℕ, _≤_, _<_}
+use Prim.Native.Nat.{ℕ, _%_, _≤_, _<_}
 use mathlib.Core.Bool.{Bool, true, false}
 use mathlib.Core.List.{List}
 use mathlib.Core.Path.{_≡_}
@@ -22,10 +22,14 @@ abbrev pub atMost : ℕ → Steps → Bool
 atMost n (Count k) = leb k n
 atMost n Unreachable = false
 
+-- byte 23 bears 2 and 4, each or none, and no other bit
+unfoldable pub marksOk : ℕ → Bool
+marksOk marks = both (ltb marks 8) (eqb (marks % 2) 0)
+
 unfoldable pub headerOk : Header → Bool
 headerOk h =
     both (ltb (h .first) slotCount)
-    (both (leb (h .held) slotCount) (both (leb (h .kept) 1) (atMost (h .held) (stepsOf (h .released .0) (h .issued .0)))))
+    (both (leb (h .held) slotCount) (both (leb (h .kept) 1) (both (marksOk (h .marks)) (atMost (h .held) (stepsOf (h .released .0) (h .issued .0))))))
 
 -- the bytes that are zero with kept 0
 abbrev pub bodyOf : List ℕ → List ℕ
@@ -34,8 +38,7 @@ bodyOf b = part b 4 checkAt
 unfoldable pub fieldsOk : List ℕ → Bool
 fieldsOk b =
     both (eqb (beAt 4 b 0) version)
-    (both (eqb (beAt 1 b 23) 0)
-    (both (headerOk (headerOf b)) (both (pick (eqb (headerOf b .kept) 0) (allZero (bodyOf b)) true) (validOf (labelsOf b)))))
+    (both (headerOk (headerOf b)) (both (pick (eqb (headerOf b .kept) 0) (allZero (bodyOf b)) true) (validOf (labelsOf b))))
 
 -- each number has its width
 pub record Fits (h : Header) : Type 0 where
@@ -46,6 +49,7 @@ pub record Fits (h : Header) : Type 0 where
   pub held : h .held < 65536
   pub timeout : h .timeout < 65536
   pub kept : h .kept < 256
+  pub marks : h .marks < 256
   pub keepalive : h .keepalive < 65536
   pub maxpdu : h .maxpdu < 65536
 
@@ -54,6 +58,7 @@ pub record Valid (h : Header) (ls : List ℕ) : Type 0 where
   pub first : h .first < slotCount
   pub held : h .held ≤ slotCount
   pub kept : h .kept ≤ 1
+  pub marks : marksOk (h .marks) ≡ true
   pub window : atMost (h .held) (stepsOf (h .released .0) (h .issued .0)) ≡ true
   pub labels : validOf ls ≡ true
   pub idle : h .kept ≡ 0 → (h ≡ releasedHeader) × (ls ≡ noLabels)

@@ -1,5 +1,6 @@
 -- Block 0: "version 1 (0-3), R (4-7), I (8-11), S (12-15), first slot 0 to 63 (16-17), held 0 to 64 (18-19), agreed timeout (20-21),
 -- kept 0 or 1 (22), zero (23), peer's KeepAlive time (24-25), peer's maximum PDU length (26-27), 120 label words (28-507)."
+-- 02: "in byte 23 of block 0, 2 if told so, 4 from accepting kind 9 until kind 6": the marks.
 use Prim.Native.Nat.{ℕ}
 use mathlib.Core.List.{List, [], _∷_, _++_}
 use lib.ListN.{getD, replicate}
@@ -24,7 +25,7 @@ labelsAt = 28
 
 abbrev pub values : Header → List ℕ
 values h =
-    version ∷ h .released .0 ∷ h .issued .0 ∷ h .secured .0 ∷ h .first ∷ h .held ∷ h .timeout ∷ h .kept ∷ 0 ∷ h .keepalive ∷ h .maxpdu ∷ []
+    version ∷ h .released .0 ∷ h .issued .0 ∷ h .secured .0 ∷ h .first ∷ h .held ∷ h .timeout ∷ h .kept ∷ h .marks ∷ h .keepalive ∷ h .maxpdu ∷ []
 
 abbrev pub fromValues : List ℕ → Header
 fromValues l = record {
@@ -35,6 +36,7 @@ fromValues l = record {
   held = getD l 5 0;
   timeout = getD l 6 0;
   kept = getD l 7 0;
+  marks = getD l 8 0;
   keepalive = getD l 9 0;
   maxpdu = getD l 10 0;
 }
@@ -59,6 +61,7 @@ releasedHeader = record {
   held = 0;
   timeout = 0;
   kept = 0;
+  marks = 0;
   keepalive = 0;
   maxpdu = 0;
 }

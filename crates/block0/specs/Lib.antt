@@ -1,4 +1,4 @@
 pub mod Layout
 pub mod Fields
-pub mod Unprotected
+pub mod Coded
 pub mod Updates

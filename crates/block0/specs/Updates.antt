@@ -3,7 +3,7 @@ use Prim.Native.Nat.{ℕ}
 use Rattle.ft_number.specs.declared.FtNumber.{FtNumber}
 use Rattle.block0.specs.declared.Header.{Header}
 
--- one number: I, S, the count of messages held, the agreed timeout
+-- one number: I, the agreed timeout
 abbrev pub headerIssued : Header → FtNumber → Header
 headerIssued h n = record {
   released = h .released;
@@ -13,32 +13,7 @@ headerIssued h n = record {
   held = h .held;
   timeout = h .timeout;
   kept = h .kept;
-  keepalive = h .keepalive;
-  maxpdu = h .maxpdu;
-}
-
-abbrev pub headerSecured : Header → FtNumber → Header
-headerSecured h n = record {
-  released = h .released;
-  issued = h .issued;
-  secured = n;
-  first = h .first;
-  held = h .held;
-  timeout = h .timeout;
-  kept = h .kept;
-  keepalive = h .keepalive;
-  maxpdu = h .maxpdu;
-}
-
-abbrev pub headerHeld : Header → ℕ → Header
-headerHeld h n = record {
-  released = h .released;
-  issued = h .issued;
-  secured = h .secured;
-  first = h .first;
-  held = n;
-  timeout = h .timeout;
-  kept = h .kept;
+  marks = h .marks;
   keepalive = h .keepalive;
   maxpdu = h .maxpdu;
 }
@@ -52,6 +27,7 @@ headerTimeout h n = record {
   held = h .held;
   timeout = n;
   kept = h .kept;
+  marks = h .marks;
   keepalive = h .keepalive;
   maxpdu = h .maxpdu;
 }
@@ -66,6 +42,7 @@ headerReleased h n first held = record {
   held = held;
   timeout = h .timeout;
   kept = h .kept;
+  marks = h .marks;
   keepalive = h .keepalive;
   maxpdu = h .maxpdu;
 }

@@ -6,11 +6,12 @@ ghost use Rattle.octets.specs.Laid.{laid};
 ghost use Rattle.block.specs.Check.{blockSize};
 ghost use Rattle.block.specs.Run.{spelled};
 ghost use Rattle.ft_number.specs.Circle.{stepsOf};
+ghost use Rattle.label_list.specs.Find.{any};
 ghost use Rattle.label_list.specs.Valid.{validOf};
-ghost use Rattle.label_list.specs.Word.{wordCount};
+ghost use Rattle.label_list.specs.Word.{wordCount, requestCode};
+ghost use Rattle.block0.specs.Coded.{hasCode, unprotected};
 ghost use Rattle.block0.specs.Fields.{atMost, headerOk, fieldsOk};
 ghost use Rattle.block0.specs.Layout.{widths, values, headerOf, labelsOf, releasedHeader, noLabels, block0};
-ghost use Rattle.block0.specs.Unprotected.{isUnprotected, unprotected};
 use ft_number::FtNumber;
 use ft_number::Steps;
 
@@ -23,6 +24,7 @@ pub struct Header {
     pub held: u16,
     pub timeout: u16,
     pub kept: u8,
+    pub marks: u8,
     pub keepalive: u16,
     pub maxpdu: u16,
 }
@@ -49,6 +51,7 @@ pub fn read_header(block: &[u8]) -> Header
         held: octets::get_u16(block, 18),
         timeout: octets::get_u16(block, 20),
         kept: octets::get_u8(block, 22),
+        marks: octets::get_u8(block, 23),
         keepalive: octets::get_u16(block, 24),
         maxpdu: octets::get_u16(block, 26),
     }
@@ -88,7 +91,7 @@ fn put_rest(block: &mut [u8], h: Header)
     octets::put_u16(block, 18, h.held);
     octets::put_u16(block, 20, h.timeout);
     octets::put_u8(block, 22, h.kept);
-    octets::put_u8(block, 23, 0);
+    octets::put_u8(block, 23, h.marks);
     octets::put_u16(block, 24, h.keepalive);
     octets::put_u16(block, 26, h.maxpdu);
 }
@@ -102,7 +105,7 @@ fn put_fields(block: &mut [u8], h: Header)
     put_rest(block, h);
 }
 
-// Writes block 0 whole: version, fields, a zero byte 23, the label words and the check.
+// Writes block 0 whole: version, fields, the label words and the check.
 pub fn write_block0(block: &mut [u8], h: Header, labels: &[u32])
     requires { ⌜ (length (now block) ≡ blockSize) × (length (now labels) ≡ wordCount) ⌝ }
     ensures { λ _. ⌜ now (block .exit) ≡ block0 h (now (labels .entry)) ⌝ }
@@ -144,6 +147,7 @@ pub fn write_released(block: &mut [u8])
         held: 0,
         timeout: 0,
         kept: 0,
+        marks: 0,
         keepalive: 0,
         maxpdu: 0,
     };
@@ -174,6 +178,12 @@ fn header_is_valid(h: Header) -> bool
     if h.kept > 1 {
         return false;
     }
+    if h.marks >= 8 {
+        return false;
+    }
+    if h.marks % 2 != 0 {
+        return false;
+    }
     issued_are_held(h)
 }
 
@@ -190,28 +200,28 @@ fn labels_are_valid(block: &[u8]) -> bool
     label_list::valid(&words)
 }
 
-// Whether the label at a place is used without protection. Code 6 shows in the second byte, which nearly every other word fails.
-fn is_unprotected(block: &[u8], place: usize) -> bool
-    requires { ⌜ (length (now block) ≡ blockSize) × (place < wordCount) ⌝ }
-    ensures { λ r. ⌜ r ≡ isUnprotected (getD (labelsOf (now (block .entry))) place 0) ⌝ }
+// Whether the label word at a place has a code. It shows in the second byte, which nearly every other word fails.
+fn has_code_at(block: &[u8], place: usize, code: u8) -> bool
+    requires { ⌜ (length (now block) ≡ blockSize) × (place < wordCount) × (code < 16) ⌝ }
+    ensures { λ r. ⌜ r ≡ hasCode code (getD (labelsOf (now (block .entry))) place 0) ⌝ }
 {
-    if octets::get_u8(block, LABELS_AT + place * 4 + 1) / 16 != 6 {
+    if octets::get_u8(block, LABELS_AT + place * 4 + 1) / 16 != code {
         return false;
     }
-    read_label(block, place) / label_list::LABEL_COUNT == 6
+    read_label(block, place) / label_list::LABEL_COUNT == code as u32
 }
 
-// Whether a label word has code 6. Where all words are free they are not read one by one.
-pub fn has_unprotected(block: &[u8]) -> bool
-    requires { ⌜ length (now block) ≡ blockSize ⌝ }
-    ensures { λ r. ⌜ r ≡ unprotected (labelsOf (now (block .entry))) ⌝ }
+// Whether a label word has a code that is not 0. Where all words are free they are not read one by one.
+fn has_code(block: &[u8], code: u8) -> bool
+    requires { ⌜ (length (now block) ≡ blockSize) × (0 < code) × (code < 16) ⌝ }
+    ensures { λ r. ⌜ r ≡ any (hasCode code) (labelsOf (now (block .entry))) ⌝ }
 {
     if block::zeros::all_zero(&block[LABELS_AT..block::CHECK_AT]) {
         return false;
     }
     let mut i: usize = 0;
     while i < label_list::WORD_COUNT {
-        if is_unprotected(block, i) {
+        if has_code_at(block, i, code) {
             return true;
         }
         i += 1;
@@ -219,16 +229,29 @@ pub fn has_unprotected(block: &[u8]) -> bool
     false
 }
 
-// 01's rules for the fields: version 1, first 0 to 63, held 0 to 64, kept 0 or 1, byte 23 zero, R to I no longer than held, I not zero
+// Whether a label is used without protection.
+pub fn has_unprotected(block: &[u8]) -> bool
+    requires { ⌜ length (now block) ≡ blockSize ⌝ }
+    ensures { λ r. ⌜ r ≡ unprotected (labelsOf (now (block .entry))) ⌝ }
+{
+    has_code(block, 6)
+}
+
+// Whether a label word has the code of an open Request.
+pub fn has_requests(block: &[u8]) -> bool
+    requires { ⌜ length (now block) ≡ blockSize ⌝ }
+    ensures { λ r. ⌜ r ≡ any (hasCode requestCode) (labelsOf (now (block .entry))) ⌝ }
+{
+    has_code(block, 7)
+}
+
+// 01's rules for the fields: version 1, first 0 to 63, held 0 to 64, kept 0 or 1, byte 23 no bit but 2 and 4, R to I no longer than held, I not zero
 // unless R is, the label words' rule, and with kept 0 bytes 4 to 507 zero. The check is not looked at.
 pub fn block0_is_valid(block: &[u8]) -> bool
     requires { ⌜ length (now block) ≡ blockSize ⌝ }
     ensures { λ r. ⌜ r ≡ fieldsOk (now (block .entry)) ⌝ }
 {
     if octets::get_u32(block, 0) != VERSION {
-        return false;
-    }
-    if octets::get_u8(block, 23) != 0 {
         return false;
     }
     let h = read_header(block);

@@ -31,7 +31,7 @@ module _ (a : Answer) (ph : Phase) (im o : List ℕ) (done : After) where
       by Effect.Release = refl
       by Effect.Act = refl
 
-  -- 1 to 13: nothing changed
+  -- 1 to 15: nothing changed
   pub answered-nothing : 0 < answerNumber a → answerNumber a < 20 → settleOf a ph im o done ≡ untouched a ph im o
   answered-nothing l h = settle-refusal a ph im o done (sym (effect-nothing a (answerNumber a) refl l h))
 

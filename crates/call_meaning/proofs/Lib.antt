@@ -7,3 +7,4 @@ pub mod Refining
 -- what the owner stores, block by block
 pub mod Slots
 pub mod Written
+pub mod Stored

@@ -7,30 +7,38 @@ use mathlib.Core.Path.{_≡_, refl, sym, ap, _∙_}
 use native.Mathlib.Nat.{eq-or-lt-of-le}
 use native.Mathlib.Omega.{arith}
 use lib.Dec.{eqb}
-use lib.ListN.{length, drop, length-append, length-drop}
+use lib.ListN.{length, drop, set, length-append, length-drop}
 use borrow.Author.Tests.{eq-eqb, le-leb, leb-true}
 use Rattle.octets.specs.Pick.{pick}
 use Rattle.block.specs.Run.{Words}
 use Rattle.ft_number.specs.declared.Steps.{Steps}
 use Rattle.ft_number.specs.declared.Steps.the-variants.{Count, Unreachable}
 use Rattle.ft_number.specs.Circle.{stepsOf}
-use Rattle.label_list.specs.Word.{wordCount}
+use Rattle.label_list.specs.Find.{any}
+use Rattle.label_list.specs.Requests.{onceOf, openIds}
+use Rattle.label_list.specs.Word.{isRequest, wordCount}
+use Rattle.label_list.proofs.Counting.{counting-twice}
+use Rattle.label_list.proofs.OpenIds.{once-counting}
 use Rattle.block0.specs.declared.Header.{Header}
 use Rattle.block0.specs.Fields.{Fits, Valid, atMost}
-use Rattle.block0.specs.Layout.{releasedHeader, slotCount}
+use Rattle.block0.specs.Layout.{noLabels, releasedHeader, slotCount}
 use Rattle.message.specs.Storable.{Storable}
+use Rattle.request_ids.specs.Layout.{noIds}
 use Rattle.image.specs.Ring.{ring}
 use Rattle.image.specs.Sizes.{slotAt}
-use Rattle.image.specs.State.{InRange, decode}
+use Rattle.image.specs.State.{InRange, decode, storedIds}
 use Rattle.image.specs.Verdict.{IsSound}
 use Rattle.image.proofs.Queue.{queue-length, queue-storable}
-use Rattle.image.proofs.Ranges.{labels-count, valid-words}
-use Rattle.image.proofs.Sound.{sound-accept, sound-keep, sound-release, sound-store0, sound-valid}
-use Rattle.image.proofs.Stored.{decode-accept, decode-keep, decode-release, decode-store0, state-eq}
+use Rattle.image.proofs.Ranges.{labels-count, stored-count, valid-words}
+use Rattle.image.proofs.Requests.{no-ids, once-stored}
+use Rattle.image.proofs.Sound.{sound-accept, sound-ask, sound-ids, sound-keep, sound-once, sound-release, sound-store0, sound-valid}
+use Rattle.image.proofs.Stored.{asked-count, decode-accept, decode-ask, decode-keep, decode-release, decode-store0, state-eq}
 use Rattle.protocol.specs.Lawful.{Lawful, Window}
 use Rattle.protocol.specs.State.{State, held, releasedState}
 use Rattle.calls.specs.State.{stateOf}
-use Rattle.calls.specs.Storing.{Slots, stay, empty, one-more, fewer, firstAfter, headerFor, stored}
+use Rattle.calls.specs.Storing.{Ids, same, put, Slots, stay, empty, one-more, fewer, firstAfter, headerFor, stored}
+use Rattle.calls.proofs.Marking.{marks-low, marks-ok, marks-read}
+use Rattle.calls.proofs.Slots.{IdsFit}
 
 -- ---- the state that a sound image stands for
 window-of : (n : ℕ) (x : Steps) → atMost n x ≡ true → record { steps : ℕ; reaches : x ≡ Count steps; within : steps ≤ n }
@@ -42,6 +50,11 @@ image-window im s =
     let w = window-of (decode im .header .held) (stepsOf (decode im .header .released .0) (decode im .header .issued .0)) (sound-valid im s .window) in
     record { steps = w .steps; reaches = w .reaches; within = rw (queue-length im) (w .within) }
 
+-- its IDs are those of block 65 that count under its words
+pub state-ids : (im : List ℕ) → openIds (stateOf im .table .words) (storedIds im) ≡ stateOf im .table .ids
+unfolding decode
+state-ids im = refl
+
 module _ (im : List ℕ) (s : IsSound im) (r : InRange (decode im)) where
   -- kept is 0 or 1
   pub not-kept : eqb (decode im .header .kept) 1 ≡ false → decode im .header .kept ≡ 0
@@ -50,6 +63,19 @@ module _ (im : List ℕ) (s : IsSound im) (r : InRange (decode im)) where
       (λ (e : decode im .header .kept ≡ 1). absurd (false≢true (sym f ∙ eq-eqb (decode im .header .kept) 1 e)))
       (λ (z : decode im .header .kept < 1). omega arith)
       (eq-or-lt-of-le (sound-valid im s .kept))
+
+  -- the IDs that count are those under the words, and none stands twice
+  ids-counted : openIds (decode im .labels) (decode im .ids) ≡ decode im .ids
+  unfolding decode
+  ids-counted = counting-twice 0 isRequest (decode im .labels) (storedIds im)
+
+  ids-once : onceOf (decode im .labels) (decode im .ids) ≡ true
+  unfolding decode
+  ids-once = once-stored im (decode im .labels) (labels-count im) ∙ sound-once im s
+
+  idle-ids : decode im .labels ≡ noLabels → decode im .ids ≡ noIds
+  unfolding decode any
+  idle-ids e = ap (λ (ls : List ℕ). openIds ls (storedIds im)) e ∙ no-ids noLabels refl wordCount refl (storedIds im)
 
   -- the state of a sound image in range is lawful
   pub lawful-image : Lawful (stateOf im)
@@ -64,6 +90,10 @@ module _ (im : List ℕ) (s : IsSound im) (r : InRange (decode im)) where
         window = image-window im s;
         words = labels-count im;
         labels = v .labels;
+        ids = r .ids .count;
+        width = r .ids .each;
+        counted = ids-counted;
+        once = ids-once;
         storable = λ i l. queue-storable im s i (rw (queue-length im) at l);
         idle = λ f. idle-image (v .idle (not-kept f));
       }
@@ -75,19 +105,36 @@ module _ (im : List ℕ) (s : IsSound im) (r : InRange (decode im)) where
           by [] e = refl
           by (m ∷ ms) e = absurd (omega arith)
       idle-image : (decode im .header ≡ releasedHeader) × (decode im .labels ≡ releasedState .table .words) → stateOf im ≡ releasedState
-      idle-image e = rw (e .0, e .1, none-held (ap (λ (h : Header). h .held) (e .0)))
+      idle-image e = rw (e .0, idle-ids (e .1), e .1, none-held (ap (λ (h : Header). h .held) (e .0)))
+
+-- ---- what becomes of the IDs with block 65
+abbrev idsWith : List ℕ → Ids → List ℕ
+idsWith xs same = xs
+idsWith xs (put place id) = set xs place (id .0)
+
+abbrev pub idsAfter : List ℕ → Slots → List ℕ
+idsAfter im stay = storedIds im
+idsAfter im empty = storedIds im
+idsAfter im (one-more m ids) = idsWith (storedIds im) ids
+idsAfter im (fewer k) = storedIds im
+
+-- where one is put none counts yet; those that count have their width
+abbrev pub IdsPut : List ℕ → Ids → Type 0
+IdsPut im same = Unit {0}
+IdsPut im (put place id) = IdsFit im (put place id) × Words wordCount (decode im .ids)
 
 -- ---- what becomes of the queue with the ring of slots
 abbrev pub QueueAfter : List ℕ → Slots → List (List ℕ) → Type 0
 QueueAfter im stay q = q ≡ decode im .queue
 QueueAfter im empty q = q ≡ []
-QueueAfter im (one-more m) q = (q ≡ decode im .queue ++ (m ∷ [])) × Storable m × (decode im .header .held < slotCount)
+QueueAfter im (one-more m ids) q = (q ≡ decode im .queue ++ (m ∷ [])) × Storable m × (decode im .header .held < slotCount) × IdsPut im ids
 QueueAfter im (fewer k) q = (q ≡ drop k (decode im .queue)) × (k ≤ decode im .header .held)
 
--- a state that this ring of slots can hold
+-- a state that this ring of slots and these IDs can hold
 pub record Puts (im : List ℕ) (slots : Slots) (s : State) : Type 0 where
   pub lawful : Lawful s
   pub queue : QueueAfter im slots (s .queue)
+  pub ids : openIds (s .table .words) (idsAfter im slots) ≡ s .table .ids
   -- "With kept 0, bytes 4 to 507 are zero."
   pub first : s .kept ≡ false → firstAfter (decode im .header) slots ≡ 0
 
@@ -118,7 +165,7 @@ module _ (im : List ℕ) (sound : IsSound im) (slots : Slots) (s : State) (p : P
       by : (x : Slots) → firstAfter (decode im .header) x < slotCount
       by stay = sound-valid im sound .first
       by empty = omega arith
-      by (one-more m) = sound-valid im sound .first
+      by (one-more m ids) = sound-valid im sound .first
       by (fewer k) = omega arith
 
   numbers-fit : Fits h
@@ -131,6 +178,7 @@ module _ (im : List ℕ) (sound : IsSound im) (slots : Slots) (s : State) (p : P
     held = omega (arith, p .lawful .few);
     timeout = p .lawful .terms .timeout;
     kept = omega (arith, kept-low (s .kept));
+    marks = marks-low (s .marks);
     keepalive = p .lawful .terms .keepalive;
     maxpdu = p .lawful .terms .maxpdu;
   }
@@ -138,12 +186,20 @@ module _ (im : List ℕ) (sound : IsSound im) (slots : Slots) (s : State) (p : P
   words-fit : Words wordCount (s .table .words)
   words-fit = valid-words (s .table .words) (p .lawful .words) (p .lawful .labels)
 
+  ids-fit : Words wordCount (s .table .ids)
+  ids-fit = record { count = p .lawful .ids; each = p .lawful .width }
+
+  -- no ID that counts under the new words stands twice
+  once-after : (xs : List ℕ) → length xs ≡ wordCount → openIds (s .table .words) xs ≡ s .table .ids → onceOf (s .table .words) xs ≡ true
+  once-after xs n e = sym (once-counting (s .table .words) xs (omega (arith, p .lawful .words))) ∙ ap (onceOf (s .table .words)) e ∙ p .lawful .once
+
   numbers-valid : Valid h (s .table .words)
   unfolding h first
   numbers-valid = record {
     first = first-low;
     held = p .lawful .few;
     kept = kept-low (s .kept);
+    marks = marks-ok (s .marks);
     window = rw (p .lawful .window .reaches) (le-leb (p .lawful .window .steps) (held s) (p .lawful .window .within));
     labels = p .lawful .labels;
     idle = λ z.
@@ -151,51 +207,59 @@ module _ (im : List ℕ) (sound : IsSound im) (slots : Slots) (s : State) (p : P
         (rw (p .first f, p .lawful .idle f), rw (p .lawful .idle f));
   }
 
-  -- the image says this state, and is sound
-  pub put-decodes : decode (stored im slots s) ≡ record { header = headerFor (firstAfter (decode im .header) slots) s; labels = s .table .words; queue = s .queue }
-  unfolding h first ring
-  put-decodes = by slots (p .queue) numbers-fit
-    where
-      by : (x : Slots) → QueueAfter im x (s .queue) → Fits (headerFor (firstAfter (decode im .header) x) s)
-          → decode (stored im x s) ≡ record { header = headerFor (firstAfter (decode im .header) x) s; labels = s .table .words; queue = s .queue }
-      by stay q f =
-          let n : held s ≡ decode im .header .held = ap length q ∙ queue-length im in
-          decode-keep im (headerFor (decode im .header .first) s) (s .table .words) (sound .size) f words-fit refl n ∙ state-eq refl refl (sym q)
-      by empty q f =
-          let n : held s ≡ 0 = ap length q in
-          decode-store0 im (sound .size) (headerFor 0 s) (s .table .words) f words-fit ∙ state-eq refl refl (rw (n, q))
-      by (one-more m) q f =
-          let n : held s ≡ decode im .header .held + 1 = ap length (q .0) ∙ length-append (decode im .queue) (m ∷ []) ∙ ap (λ (k : ℕ). k + 1) (queue-length im) in
-          decode-accept im (headerFor (decode im .header .first) s) (s .table .words) m (sound .size) f words-fit (q .1) refl n (q .2) ∙ state-eq refl refl (sym (q .0))
-      by (fewer k) q f =
-          let n : held s ≡ decode im .header .held - k = ap length (q .0) ∙ length-drop k (decode im .queue) ∙ ap (λ (j : ℕ). j - k) (queue-length im) in
-          decode-release im (headerFor (slotAt (decode im .header .first) k) s) (s .table .words) k (sound .size) f words-fit (q .1) refl n ∙ state-eq refl refl (sym (q .0))
+  one-held : (m : List ℕ) → s .queue ≡ decode im .queue ++ (m ∷ []) → held s ≡ decode im .header .held + 1
+  one-held m q = ap length q ∙ length-append (decode im .queue) (m ∷ []) ∙ ap (λ (k : ℕ). k + 1) (queue-length im)
 
-  -- a lawful state whose queue is what becomes of the ring, stored: the image is sound
+  -- the image says this state, and is sound
+  pub put-decodes : decode (stored im slots s) ≡ record { header = headerFor (firstAfter (decode im .header) slots) s; labels = s .table .words; ids = s .table .ids; queue = s .queue }
+  unfolding h first ring
+  put-decodes = by slots (p .queue) (p .ids) numbers-fit
+    where
+      by : (x : Slots) → QueueAfter im x (s .queue) → openIds (s .table .words) (idsAfter im x) ≡ s .table .ids → Fits (headerFor (firstAfter (decode im .header) x) s)
+          → decode (stored im x s) ≡ record { header = headerFor (firstAfter (decode im .header) x) s; labels = s .table .words; ids = s .table .ids; queue = s .queue }
+      by stay q e f =
+          let n : held s ≡ decode im .header .held = ap length q ∙ queue-length im in
+          decode-keep im (headerFor (decode im .header .first) s) (s .table .words) (sound .size) f words-fit refl n ∙ state-eq refl refl e (sym q)
+      by empty q e f =
+          let n : held s ≡ 0 = ap length q in
+          decode-store0 im (sound .size) (headerFor 0 s) (s .table .words) f words-fit ∙ state-eq refl refl e (rw (n, q))
+      by (one-more m same) q e f =
+          decode-accept im (headerFor (decode im .header .first) s) (s .table .words) m (sound .size) f words-fit (q .1) refl (one-held m (q .0)) (q .2) ∙ state-eq refl refl e (sym (q .0))
+      by (one-more m (put place id)) q e f =
+          decode-ask im (headerFor (decode im .header .first) s) (s .table .words) m place id (sound .size) f words-fit (q .1) (rw e ids-fit) refl (one-held m (q .0)) (q .2)
+          ∙ state-eq refl refl e (sym (q .0))
+      by (fewer k) q e f =
+          let n : held s ≡ decode im .header .held - k = ap length (q .0) ∙ length-drop k (decode im .queue) ∙ ap (λ (j : ℕ). j - k) (queue-length im) in
+          decode-release im (headerFor (slotAt (decode im .header .first) k) s) (s .table .words) k (sound .size) f words-fit (q .1) refl n ∙ state-eq refl refl e (sym (q .0))
+
+  -- a lawful state whose queue and whose IDs are what becomes of the ring and of block 65, stored: the image is sound
   pub put-sound : IsSound (stored im slots s)
   unfolding h first
-  put-sound = by slots (p .queue) numbers-fit numbers-valid
+  put-sound = by slots (p .queue) (p .ids) numbers-fit numbers-valid
     where
-      by : (x : Slots) → QueueAfter im x (s .queue) → Fits (headerFor (firstAfter (decode im .header) x) s)
+      by : (x : Slots) → QueueAfter im x (s .queue) → openIds (s .table .words) (idsAfter im x) ≡ s .table .ids → Fits (headerFor (firstAfter (decode im .header) x) s)
           → Valid (headerFor (firstAfter (decode im .header) x) s) (s .table .words) → IsSound (stored im x s)
-      by stay q f v =
+      by stay q e f v =
           let n : held s ≡ decode im .header .held = ap length q ∙ queue-length im in
-          sound-keep im (headerFor (decode im .header .first) s) (s .table .words) sound f words-fit v refl n
-      by empty q f v =
+          sound-keep im (headerFor (decode im .header .first) s) (s .table .words) sound f words-fit v refl n (once-after (storedIds im) (stored-count im) e)
+      by empty q e f v =
           let n : held s ≡ 0 = ap length q in
           sound-store0 im (headerFor 0 s) (s .table .words) (sound .size) f words-fit v (λ i l. absurd (omega (arith, n)))
-      by (one-more m) q f v =
-          let n : held s ≡ decode im .header .held + 1 = ap length (q .0) ∙ length-append (decode im .queue) (m ∷ []) ∙ ap (λ (k : ℕ). k + 1) (queue-length im) in
-          sound-accept im (headerFor (decode im .header .first) s) (s .table .words) m sound f words-fit v (q .1) refl n (q .2)
-      by (fewer k) q f v =
+          (sound-ids im (s .table .words) sound (once-after (storedIds im) (stored-count im) e))
+      by (one-more m same) q e f v =
+          sound-accept im (headerFor (decode im .header .first) s) (s .table .words) m sound f words-fit v (q .1) refl (one-held m (q .0)) (q .2) (once-after (storedIds im) (stored-count im) e)
+      by (one-more m (put place id)) q e f v =
+          sound-ask im (headerFor (decode im .header .first) s) (s .table .words) m place id sound f words-fit v (q .1) (q .3 .1) (q .3 .0) (rw e ids-fit) refl (one-held m (q .0)) (q .2)
+          (once-after (set (storedIds im) place (id .0)) (asked-count im (sound .size) place id) e)
+      by (fewer k) q e f v =
           let n : held s ≡ decode im .header .held - k = ap length (q .0) ∙ length-drop k (decode im .queue) ∙ ap (λ (j : ℕ). j - k) (queue-length im) in
-          sound-release im (headerFor (slotAt (decode im .header .first) k) s) (s .table .words) k sound f words-fit v (q .1) refl n
+          sound-release im (headerFor (slotAt (decode im .header .first) k) s) (s .table .words) k sound f words-fit v (q .1) refl n (once-after (storedIds im) (stored-count im) e)
 
   -- the image stands for exactly that state
   pub put-state : stateOf (stored im slots s) ≡ s
-  put-state = rw put-decodes (ap (λ (b : Bool). record { released = s .released; issued = s .issued; secured = s .secured; kept = b; terms = s .terms; table = s .table; queue = s .queue }) (kept-read (s .kept)))
+  put-state = rw (put-decodes, kept-read (s .kept), marks-read (s .marks))
 
   -- and is in range
   pub put-range : InRange (decode (stored im slots s))
   unfolding h first
-  put-range = rw put-decodes (record { header = numbers-fit; labels = words-fit })
+  put-range = rw put-decodes (record { header = numbers-fit; labels = words-fit; ids = ids-fit })

@@ -56,7 +56,7 @@ module _ (im : List ℕ) (ph : Phase) (st : Standing im ph) (a : Answer) (o : Li
   pub released-stands : Stands (releasedOn a im o)
   unfolding releasedOn phaseFits
   released-stands = record {
-    sound = rw (release-puts im) (release-sound im (st .sound .size));
+    sound = rw (release-puts im) (release-sound im (st .sound));
     range = rw (release-puts im, release-decodes im (st .sound .size)) in-range-released;
     fits = rw (release-puts im, release-decodes im (st .sound .size));
   }

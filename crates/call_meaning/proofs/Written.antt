@@ -9,11 +9,12 @@ use lib.Dec.{eqb}
 use lib.ListN.{length, take, getD}
 use lib.Seq.{ext-getD}
 use borrow.Author.Tests.{eqb-true, eqb-false}
+use Rattle.octets.specs.Pick.{pick}
 use Rattle.octets.proofs.Choice.{by-test}
 use Rattle.octets.proofs.Part.{part-at}
 use Rattle.block.specs.Check.{blockSize}
 use Rattle.block0.specs.Layout.{slotCount}
-use Rattle.image.specs.Sizes.{imageSize, block, withBlock}
+use Rattle.image.specs.Sizes.{block, blockCount, imageSize, requestBlock, withBlock}
 use Rattle.image.proofs.Blocks.{length-block, length-put, block-put, block-other}
 use Rattle.call_meaning.specs.Medium.{told, written}
 
@@ -37,7 +38,7 @@ Without k (b ∷ bs) = (k ≢ b) × Without k bs
 
 abbrev pub Within : List ℕ → Type 0
 Within [] = Unit {0}
-Within (b ∷ bs) = (b ≤ slotCount) × Within bs
+Within (b ∷ bs) = (b < blockCount) × Within bs
 
 -- blocks written one after the other: where they are all that differs, the medium becomes the image
 pub written-all : (medium next bs : List ℕ) → length medium ≡ imageSize → length next ≡ imageSize → Within bs
@@ -51,32 +52,61 @@ written-all medium next (b ∷ bs) lm ln within same =
     (λ e. let q : k ≡ b = eqb-true k b e in rw q (sym (block-put medium b (block next b) inside long)))
     (λ n. let a : k ≢ b = eqb-false k b n in same k (a, w) ∙ sym (block-other medium b (block next b) inside long k a)))
 
+-- what holds of the medium wherever the power may go before all of them are written
+abbrev Stops : (List ℕ → Type 0) → List ℕ → List ℕ → List ℕ → Type 0
+Stops P medium next [] = Unit {0}
+Stops P medium next (b ∷ bs) = P medium × Stops P (withBlock medium b (block next b)) next bs
+
+fewer-written : (P : List ℕ → Type 0) (medium next bs : List ℕ) (n : ℕ) → n < length bs → Stops P medium next bs → P (written medium next (take n bs))
+fewer-written P medium next [] n less stops = absurd (omega arith)
+fewer-written P medium next (b ∷ bs) zero less stops = stops .0
+fewer-written P medium next (b ∷ bs) (suc n) less stops = fewer-written P (withBlock medium b (block next b)) next bs n (omega arith) (stops .1)
+
 -- ---- the blocks that an outcome tells
-pub told-within : (none : Bool) (slot : ℕ) (b : Bool) → slot ≤ slotCount → Within (told none slot b)
-told-within true slot true low = (omega arith, tt)
-told-within true slot false low = tt
-told-within false slot true low = (low, (omega arith, tt))
-told-within false slot false low = (low, tt)
+pub told-within : (none : Bool) (slot : ℕ) (r z : Bool) → slot ≤ slotCount → Within (told none slot r z)
+told-within true slot true true low = (omega arith, (omega arith, tt))
+told-within true slot true false low = (omega arith, tt)
+told-within true slot false true low = (omega arith, tt)
+told-within true slot false false low = tt
+told-within false slot true true low = (omega arith, (omega arith, (omega arith, tt)))
+told-within false slot true false low = (omega arith, (omega arith, tt))
+told-within false slot false true low = (omega arith, (omega arith, tt))
+told-within false slot false false low = (omega arith, tt)
 
--- a block that is not told is neither the slot's nor a block 0 that changed
-pub not-zeroth : (none : Bool) (slot : ℕ) (b : Bool) → Without 0 (told none slot b) → b ≡ false
-not-zeroth true slot true w = absurd (w .0 refl)
-not-zeroth true slot false w = refl
-not-zeroth false slot true w = absurd (w .1 .0 refl)
-not-zeroth false slot false w = refl
+-- a block that is not told is neither the slot's, nor a block 65 or a block 0 that changed
+pub not-zeroth : (none : Bool) (slot : ℕ) (r z : Bool) → Without 0 (told none slot r z) → z ≡ false
+not-zeroth true slot true true w = absurd (w .1 .0 refl)
+not-zeroth true slot true false w = refl
+not-zeroth true slot false true w = absurd (w .0 refl)
+not-zeroth true slot false false w = refl
+not-zeroth false slot true true w = absurd (w .1 .1 .0 refl)
+not-zeroth false slot true false w = refl
+not-zeroth false slot false true w = absurd (w .1 .0 refl)
+not-zeroth false slot false false w = refl
 
-pub not-slot : (none : Bool) (slot : ℕ) (b : Bool) (k : ℕ) → none ≡ eqb slot 0 → k ≢ 0 → Without k (told none slot b) → k ≢ slot
-not-slot true slot b k is some w = λ e. some (e ∙ eqb-true slot 0 (sym is))
-not-slot false slot b k is some w = w .0
+pub not-requests : (none : Bool) (slot : ℕ) (r z : Bool) → Without requestBlock (told none slot r z) → r ≡ false
+not-requests true slot true z w = absurd (w .0 refl)
+not-requests true slot false z w = refl
+not-requests false slot true z w = absurd (w .1 .0 refl)
+not-requests false slot false z w = refl
 
--- fewer than all of them: nothing, or the slot alone
-pub fewer-told : (P : List ℕ → Type 0) (medium next : List ℕ) (none : Bool) (slot : ℕ) (b : Bool) (n : ℕ) → n < length (told none slot b) → P medium
-    → (none ≡ false → P (withBlock medium slot (block next slot))) → P (written medium next (take n (told none slot b)))
-fewer-told P medium next true slot true zero less nothing alone = nothing
-fewer-told P medium next true slot true (suc n) less nothing alone = absurd (omega arith)
-fewer-told P medium next true slot false n less nothing alone = absurd (omega arith)
-fewer-told P medium next false slot true zero less nothing alone = nothing
-fewer-told P medium next false slot true (suc zero) less nothing alone = alone refl
-fewer-told P medium next false slot true (suc (suc n)) less nothing alone = absurd (omega arith)
-fewer-told P medium next false slot false zero less nothing alone = nothing
-fewer-told P medium next false slot false (suc n) less nothing alone = absurd (omega arith)
+pub not-slot : (none : Bool) (slot : ℕ) (r z : Bool) (k : ℕ) → none ≡ eqb slot 0 → k ≢ 0 → Without k (told none slot r z) → k ≢ slot
+not-slot true slot r z k is some w = λ e. some (e ∙ eqb-true slot 0 (sym is))
+not-slot false slot r z k is some w = w .0
+
+-- fewer than all of them: nothing, the slot alone, or the slot, if there is one, and block 65
+module _ (P : List ℕ → Type 0) (medium next : List ℕ) where
+  told-stops : (none : Bool) (slot : ℕ) (r z : Bool) → P medium → (none ≡ false → P (withBlock medium slot (block next slot)))
+      → (r ≡ true → P (withBlock (pick none medium (withBlock medium slot (block next slot))) requestBlock (block next requestBlock))) → Stops P medium next (told none slot r z)
+  told-stops true slot true true nothing alone both = (nothing, (both refl, tt))
+  told-stops true slot true false nothing alone both = (nothing, tt)
+  told-stops true slot false true nothing alone both = (nothing, tt)
+  told-stops true slot false false nothing alone both = tt
+  told-stops false slot true true nothing alone both = (nothing, (alone refl, (both refl, tt)))
+  told-stops false slot true false nothing alone both = (nothing, (alone refl, tt))
+  told-stops false slot false true nothing alone both = (nothing, (alone refl, tt))
+  told-stops false slot false false nothing alone both = (nothing, tt)
+
+  pub fewer-told : (none : Bool) (slot : ℕ) (r z : Bool) (n : ℕ) → n < length (told none slot r z) → P medium → (none ≡ false → P (withBlock medium slot (block next slot)))
+      → (r ≡ true → P (withBlock (pick none medium (withBlock medium slot (block next slot))) requestBlock (block next requestBlock))) → P (written medium next (take n (told none slot r z)))
+  fewer-told none slot r z n less nothing alone both = fewer-written P medium next (told none slot r z) n less (told-stops none slot r z nothing alone both)

@@ -10,8 +10,9 @@ use Rattle.octets.specs.Laid.{laid}
 use Rattle.octets.specs.Pick.{pick}
 use Rattle.octets.proofs.Differ.{differ-self}
 use Rattle.block0.specs.declared.Header.{Header}
-use Rattle.block0.specs.Unprotected.{unprotected}
+use Rattle.block0.specs.Coded.{unprotected}
 use Rattle.image.specs.Events.{releaseOf, breakOf}
+use Rattle.image.specs.Sizes.{block, requestBlock}
 use Rattle.image.specs.State.{decode}
 use Rattle.image.specs.Verdict.{IsSound}
 use Rattle.image.proofs.Same.{break-same, break-changed, release-same, release-changed}
@@ -23,6 +24,7 @@ use Rattle.protocol.specs.Phases.{restingPhase}
 use Rattle.calls.specs.declared.Outcome.{Outcome}
 use Rattle.calls.specs.Outcomes.{After, afterWith, refusal, settleOf, untouched, failedOn, releasedOn, leftBy}
 use Rattle.calls.specs.State.{stateOfNumbers}
+use Rattle.calls.proofs.Further.{further-break, further-release}
 use Rattle.calls.proofs.Putting.{break-puts, release-puts}
 
 -- ---- as connection failed; the premises are what the callees ensure
@@ -31,24 +33,24 @@ module _ (a : Answer) (im o : List ℕ) (s : IsSound im) (byte : Bytes im) {h : 
   -- no label is used without protection: the image stays as it is
   pub fail-none : {r : Outcome} → b ≡ false → r ≡ refusal a ph → afterWith r im o ≡ failedOn a im o
   unfolding failedOn laid
-  fail-none f e = rw (break-puts im s, break-same im s byte (sym e₃ ∙ f), differ-self, e, e₂, e₁)
+  fail-none f e = rw (break-puts im s, break-same im s byte (sym e₃ ∙ f), differ-self (block im 0), differ-self (block im requestBlock), e, e₂, e₁)
 
   pub fail-some : {im′ : List ℕ} → b ≡ true → im′ ≡ breakOf im
-      → afterWith (record { answer = a; phase = ph; written = 0; slot = 0; block0 = true }) im′ o ≡ failedOn a im o
+      → afterWith (record { answer = a; phase = ph; written = 0; slot = 0; block0 = true; further = 0 }) im′ o ≡ failedOn a im o
   unfolding failedOn laid
-  fail-some t e = rw (break-puts im s, ← break-changed im s byte (sym e₃ ∙ t), e, e₂, e₁)
+  fail-some t e = rw (break-puts im s, ← break-changed im s byte (sym e₃ ∙ t), further-break im (s .size), e, e₂, e₁)
 
 -- ---- released
 module _ (a : Answer) (im o : List ℕ) (s : IsSound im) {h : Header} (e : h ≡ decode im .header) where
   -- with kept 0 the image stays as it is
   pub release-none : {r : Outcome} → Bytes im → h .kept ≡ 0 → r ≡ refusal a Phase.Idle → afterWith r im o ≡ releasedOn a im o
   unfolding releasedOn laid
-  release-none byte idle p = rw (release-puts im, release-same im s byte (rw e at idle), differ-self, p)
+  release-none byte idle p = rw (release-puts im, release-same im s byte (rw e at idle), differ-self (block im 0), differ-self (block im requestBlock), p)
 
   pub release-some : {im′ : List ℕ} → h .kept ≢ 0 → im′ ≡ releaseOf im
-      → afterWith (record { answer = a; phase = Phase.Idle; written = 0; slot = 0; block0 = true }) im′ o ≡ releasedOn a im o
+      → afterWith (record { answer = a; phase = Phase.Idle; written = 0; slot = 0; block0 = true; further = 0 }) im′ o ≡ releasedOn a im o
   unfolding releasedOn laid
-  release-some kept p = rw (release-puts im, ← release-changed im (s .size) (rw e at kept), p)
+  release-some kept p = rw (release-puts im, ← release-changed im (s .size) (rw e at kept), further-release im (s .size), p)
 
 -- ---- by the answer's effect
 module _ (a : Answer) (ph : Phase) (im o : List ℕ) (done : After) {f : Effect} (e : f ≡ effectOf a) where

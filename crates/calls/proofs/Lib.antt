@@ -1,10 +1,13 @@
 pub mod Phasing
 pub mod Settled
+pub mod Marking
 pub mod Putting
 pub mod Releasing
 pub mod Freeing
+pub mod Further
 pub mod Ends
 pub mod Saying
 pub mod Called
 pub mod Acknowledged
 pub mod Slots
+pub mod Asked

@@ -19,6 +19,7 @@ use Rattle.protocol.specs.State.{releasedState}
 use Rattle.protocol.specs.Step.{broken}
 use Rattle.calls.specs.State.{stateOf}
 use Rattle.calls.specs.Storing.{headerFor, stored, stay, empty}
+use Rattle.calls.proofs.Marking.{marks-said}
 
 -- kept is 0 or 1
 pub kept-is : (k : ℕ) → k ≤ 1 → pick (eqb k 1) 1 0 ≡ k
@@ -31,7 +32,9 @@ kept-is k l =
 module _ (im : List ℕ) (s : IsSound im) where
   -- the numbers that the image says already
   pub header-same : headerFor (decode im .header .first) (stateOf im) ≡ decode im .header
-  header-same = rw (kept-is (decode im .header .kept) (sound-valid im s .kept), queue-length im)
+  header-same =
+      let v = sound-valid im s in
+      rw (kept-is (decode im .header .kept) (v .kept), marks-said (decode im .header .marks) (v .marks), queue-length im)
 
   -- a broken state stored is the image as after a break
   pub break-puts : stored im stay (broken (stateOf im)) ≡ breakOf im

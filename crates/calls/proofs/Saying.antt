@@ -24,8 +24,8 @@ use Rattle.image.proofs.Ranges.{labels-count}
 use Rattle.image.proofs.Same.{store-same, store-changed}
 
 pub header-eq : {a b : Header} → a .released .0 ≡ b .released .0 → a .issued .0 ≡ b .issued .0 → a .secured .0 ≡ b .secured .0 → a .first ≡ b .first
-    → a .held ≡ b .held → a .timeout ≡ b .timeout → a .kept ≡ b .kept → a .keepalive ≡ b .keepalive → a .maxpdu ≡ b .maxpdu → a ≡ b
-header-eq e₁ e₂ e₃ e₄ e₅ e₆ e₇ e₈ e₉ = λ i. record {
+    → a .held ≡ b .held → a .timeout ≡ b .timeout → a .kept ≡ b .kept → a .marks ≡ b .marks → a .keepalive ≡ b .keepalive → a .maxpdu ≡ b .maxpdu → a ≡ b
+header-eq e₁ e₂ e₃ e₄ e₅ e₆ e₇ e₈ e₉ e₁₀ = λ i. record {
   released = record { 0 = e₁ i };
   issued = record { 0 = e₂ i };
   secured = record { 0 = e₃ i };
@@ -33,8 +33,9 @@ header-eq e₁ e₂ e₃ e₄ e₅ e₆ e₇ e₈ e₉ = λ i. record {
   held = e₅ i;
   timeout = e₆ i;
   kept = e₇ i;
-  keepalive = e₈ i;
-  maxpdu = e₉ i;
+  marks = e₈ i;
+  keepalive = e₉ i;
+  maxpdu = e₁₀ i;
 }
 
 -- the numbers of a header that a function was given have their widths
@@ -47,6 +48,7 @@ header-fits g = record {
   held = omega (arith, g);
   timeout = omega (arith, g);
   kept = omega (arith, g);
+  marks = omega (arith, g);
   keepalive = omega (arith, g);
   maxpdu = omega (arith, g);
 }

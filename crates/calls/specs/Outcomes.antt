@@ -1,13 +1,14 @@
 -- What a call leaves: its outcome, the image and the output. A call is restore's checks, then the protocol's step on the state that the image stands for,
 -- and what that makes of the state is stored.
 use Prim.Native.Nat.{ℕ}
-use mathlib.Core.Bool.{false}
+use mathlib.Core.Bool.{Bool, false}
 use mathlib.Core.List.{List}
 use lib.ListN.{length}
 use Rattle.octets.specs.Differ.{differ}
 use Rattle.octets.specs.Laid.{laid}
+use Rattle.octets.specs.Pick.{pick}
 use Rattle.image.specs.declared.Verdict.{Verdict}
-use Rattle.image.specs.Sizes.{block}
+use Rattle.image.specs.Sizes.{block, requestBlock}
 use Rattle.image.specs.Verdict.{verdict}
 use Rattle.protocol.specs.declared.Answer.{Answer}
 use Rattle.protocol.specs.declared.Effect.{Effect}
@@ -29,10 +30,14 @@ afterWith r im o = record { outcome = r; image = im; out = o }
 
 -- "nothing changed"
 abbrev pub refusal : Answer → Phase → Outcome
-refusal a ph = record { answer = a; phase = ph; written = 0; slot = 0; block0 = false }
+refusal a ph = record { answer = a; phase = ph; written = 0; slot = 0; block0 = false; further = 0 }
 
 abbrev pub untouched : Answer → Phase → List ℕ → List ℕ → After
 untouched a ph im o = afterWith (refusal a ph) im o
+
+-- which of the further blocks are others, a bit for each: bit 0 for block 65
+abbrev pub furtherBits : Bool → ℕ
+furtherBits requests = pick requests 1 0
 
 -- what the protocol's step leaves is stored, and its output written: "0 writes the message from the start and no byte after it"
 abbrev pub stepStored : List ℕ → Slots → Step → List ℕ → After
@@ -44,6 +49,7 @@ stepStored im slots x o =
       written = length (x .output);
       slot = slotNamed im slots;
       block0 = differ (block im 0) (block (stored im slots (x .state)) 0);
+      further = furtherBits (differ (block im requestBlock) (block (stored im slots (x .state)) requestBlock));
     })
     (stored im slots (x .state))
     (laid o 0 (x .output))

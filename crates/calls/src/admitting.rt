@@ -45,5 +45,6 @@ pub fn refuse(answer: Answer, phase: Phase) -> Outcome
         written: 0,
         slot: 0,
         block0: false,
+        further: 0,
     }
 }

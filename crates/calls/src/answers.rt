@@ -23,6 +23,8 @@ pub fn answer_number(a: Answer) -> u32
         Answer::BadField(_) => 11,
         Answer::WrongSize => 12,
         Answer::NoLabelWord => 13,
+        Answer::RequestsStopped => 14,
+        Answer::RequestOutsideUpFt => 15,
         Answer::OutOfTurn => 20,
         Answer::NoWordForMapping => 21,
         Answer::MalformedReceived => 22,
@@ -37,7 +39,7 @@ pub fn answer_number(a: Answer) -> u32
     }
 }
 
-// What an answer leaves: 0 acts, 1 to 13 nothing, 20 to 23 as connection failed, 30 to 36 released.
+// What an answer leaves: 0 acts, 1 to 15 nothing, 20 to 23 as connection failed, 30 to 36 released.
 pub fn effect_of(a: Answer) -> Effect
     ensures { λ r. ⌜ r ≡ effectOf a ⌝ }
 {

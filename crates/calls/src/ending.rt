@@ -27,6 +27,7 @@ pub fn fail(image: &mut [u8], answer: Answer) -> Outcome
         written: 0,
         slot: 0,
         block0: true,
+        further: 0,
     }
 }
 
@@ -46,6 +47,7 @@ pub fn release(image: &mut [u8], answer: Answer) -> Outcome
         written: 0,
         slot: 0,
         block0: true,
+        further: 0,
     }
 }
 

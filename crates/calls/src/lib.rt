@@ -3,6 +3,7 @@ mod acking;
 mod admitting;
 mod answers;
 mod ending;
+mod marks;
 mod phases;
 mod receiving;
 mod storing;
@@ -19,6 +20,9 @@ pub use answers::is_done;
 pub use ending::fail;
 pub use ending::release;
 pub use ending::settle;
+pub use marks::marks_accepted;
+pub use marks::marks_heard;
+pub use marks::requests_stopped;
 pub use phases::issued_count;
 pub use phases::phase_fits;
 pub use phases::resting_phase;
@@ -31,12 +35,14 @@ pub use receiving::is_init;
 pub use storing::store_changed;
 pub use storing::store_numbers;
 
-// What a call answers. `slot` is the block of the slot that was written, to be stored before block 0, and 0 where none was;
-// `block0` says whether block 0's bytes changed, to be stored before output leaves.
+// What a call answers. `slot` is the block of the slot that was written, to be stored first, and 0 where none was; `further` has a bit for each further
+// block whose bytes changed, bit 0 for block 65, to be stored next; `block0` says whether block 0's bytes changed, to be stored last and before output
+// leaves.
 pub struct Outcome {
     pub answer: Answer,
     pub phase: Phase,
     pub written: usize,
     pub slot: usize,
     pub block0: bool,
+    pub further: u32,
 }

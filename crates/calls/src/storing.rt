@@ -35,6 +35,9 @@ fn same_numbers(a: Header, b: Header) -> bool
     if a.kept != b.kept {
         return false;
     }
+    if a.marks != b.marks {
+        return false;
+    }
     if a.keepalive != b.keepalive {
         return false;
     }

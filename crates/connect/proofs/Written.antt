@@ -12,12 +12,13 @@ use Rattle.octets.proofs.Differ.{differ-self}
 use Rattle.ft_number.specs.declared.MessageId.{MessageId}
 use Rattle.ft_number.specs.declared.Proposal.{Proposal}
 use Rattle.ft_number.specs.Timeout.{proposedOf}
-use Rattle.block0.specs.declared.Header.{Header}
 use Rattle.tlv.specs.declared.FtField.{FtField}
+use Rattle.block0.specs.declared.Header.{Header}
 use Rattle.message_writer.specs.declared.OwnParameters.{OwnParameters}
 use Rattle.message_writer.specs.declared.Written.{Written}
 use Rattle.message_writer.specs.Forms.{initBytes, keepaliveBytes}
 use Rattle.message_writer.specs.Written.{writtenOf}
+use Rattle.image.specs.Sizes.{block, requestBlock}
 use Rattle.image.specs.State.{decode}
 use Rattle.image.specs.Verdict.{IsSound}
 use Rattle.protocol.specs.declared.Answer.{Answer}
@@ -69,7 +70,7 @@ module _ (im : List ℕ) (ph : Phase) (next : Phase) (out bytes : List ℕ) wher
           (own-refused Answer.OutputTooShort ph im out done refl (p ∙ ap (λ (q : Written × List ℕ). writtenAs (q .0) ph next) z))
       by false t =
           let z : _≡_ {A = Written × List ℕ} (w, out′) (Written.Bytes (length bytes), laid out 0 bytes) = e ∙ rw t in
-          rw (settle-done, put-same im s byte, differ-self, ap (λ (q : Written × List ℕ). q .1) z, p, ap (λ (q : Written × List ℕ). q .0) z)
+          rw (settle-done, put-same im s byte, differ-self (block im 0), differ-self (block im requestBlock), ap (λ (q : Written × List ℕ). q .1) z, p, ap (λ (q : Written × List ℕ). q .0) z)
 
   module _ (may : Bool) where
     abbrev rule : Answer

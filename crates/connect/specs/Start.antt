@@ -10,15 +10,15 @@ use Rattle.image.specs.Sizes.{imageSize}
 use Rattle.protocol.specs.declared.Answer.{Answer}
 use Rattle.protocol.specs.declared.Phase.{Phase}
 use Rattle.protocol.specs.Begin.{format, restore}
-use Rattle.calls.specs.Outcomes.{After, afterWith, callOf, settleOf}
+use Rattle.calls.specs.Outcomes.{After, afterWith, callOf, settleOf, furtherBits}
 use Rattle.calls.specs.State.{stateOf}
 use Rattle.calls.specs.Storing.{stay}
 
 -- a new image, and no session; every block is to be stored
 abbrev pub formatted : After
-formatted = afterWith (record { answer = format .answer; phase = format .phase; written = length (format .output); slot = 0; block0 = true }) newImage (format .output)
+formatted = afterWith (record { answer = format .answer; phase = format .phase; written = length (format .output); slot = 0; block0 = true; further = furtherBits true }) newImage (format .output)
 
--- "12: image not 33,280 bytes"; one of another size is left, and has no session: Idle
+-- "12: image not 33,280 bytes", 02: "12 reads the new size"; one of another size is left, and has no session: Idle
 unfoldable pub formatOf : List ℕ → After
 formatOf im = settleOf (pick (not (eqb (length im) imageSize)) Answer.WrongSize Answer.Done) Phase.Idle im [] formatted
 

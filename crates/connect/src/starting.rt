@@ -21,6 +21,7 @@ pub fn format(image: &mut [u8]) -> Outcome
         written: 0,
         slot: 0,
         block0: true,
+        further: 1,
     }
 }
 

@@ -81,6 +81,7 @@ fn answer_written(written: Written, phase: Phase, next: Phase) -> Outcome
             written: n,
             slot: 0,
             block0: false,
+            further: 0,
         },
     }
 }

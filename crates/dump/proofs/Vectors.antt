@@ -1,11 +1,11 @@
--- The example of docs/LDP_DUMP.md computes: a Mapping with FT Protection, and a malformed Withdraw. Assumes nothing.
+-- The examples of docs/LDP_DUMP.md compute: a Mapping with FT Protection, an Abort, and a malformed Withdraw. Assumes nothing.
 use Prim.Native.Nat.{ℕ}
 use mathlib.Core.List.{List, [], _∷_}
 use mathlib.Core.Path.{_≡_, refl}
 use Rattle.octets.specs.Fix.{fix, steps}
 use Rattle.text.specs.Text.{ascii, decimal}
 use Rattle.tlv.specs.Tlv.{tlvOf}
-use Rattle.tlv.specs.Value.{partAt, fecAt, fieldAt, numberAt, parametersAt, sessionAt}
+use Rattle.tlv.specs.Value.{partAt, fecAt, fieldAt, numberAt, idAt, parametersAt, sessionAt}
 use Rattle.tlv.specs.Walk.{notedOf, turnOf, walkOf, tlvsOf}
 use Rattle.message.specs.Reading.{typeOf, messageOf, placesOf, readingOf}
 use Rattle.dump.specs.Line.{headText, lineOf}
@@ -19,9 +19,20 @@ mapping =
     ∷ []
 
 mapping-line : lineOf 0 0 mapping ≡ ascii "0 0 0x0400 7 fec 020001180a0000 label 16 ft-protection 27\n"
-unfolding lineOf headText decimal fix steps readingOf placesOf messageOf typeOf tlvsOf walkOf turnOf notedOf tlvOf partAt fecAt fieldAt numberAt parametersAt sessionAt
+unfolding lineOf headText decimal fix steps readingOf placesOf messageOf typeOf tlvsOf walkOf turnOf notedOf tlvOf partAt fecAt fieldAt numberAt idAt parametersAt sessionAt
 mapping-line = refl
 
-withdraw-line : lineOf 0 1 (0x84 ∷ 0x02 ∷ 0 ∷ 4 ∷ 0 ∷ 0 ∷ 0 ∷ 8 ∷ []) ≡ ascii "0 1 0x0402 8 malformed\n"
+abbrev abort : List ℕ
+abort =
+    0x04 ∷ 0x04 ∷ 0 ∷ 23 ∷ 0 ∷ 0 ∷ 0 ∷ 9
+    ∷ 0x01 ∷ 0x00 ∷ 0 ∷ 7 ∷ 0x02 ∷ 0x00 ∷ 0x01 ∷ 0x18 ∷ 0x0a ∷ 0x00 ∷ 0x00
+    ∷ 0x06 ∷ 0x00 ∷ 0 ∷ 4 ∷ 0 ∷ 0 ∷ 0 ∷ 7
+    ∷ []
+
+abort-line : lineOf 0 1 abort ≡ ascii "0 1 0x0404 9 fec 020001180a0000 request-id 7\n"
+unfolding lineOf headText decimal fix steps readingOf placesOf messageOf typeOf tlvsOf walkOf turnOf notedOf tlvOf partAt fecAt fieldAt numberAt idAt parametersAt sessionAt
+abort-line = refl
+
+withdraw-line : lineOf 0 2 (0x84 ∷ 0x02 ∷ 0 ∷ 4 ∷ 0 ∷ 0 ∷ 0 ∷ 8 ∷ []) ≡ ascii "0 2 0x0402 8 malformed\n"
 unfolding lineOf headText decimal fix steps readingOf placesOf messageOf typeOf tlvsOf walkOf turnOf notedOf tlvOf
 withdraw-line = refl

@@ -5,7 +5,7 @@ use lib.ListN.{length}
 use Rattle.octets.specs.Part.{part}
 use Rattle.text.specs.Text.{ascii}
 use Rattle.tlv.specs.declared.Part.{Part}
-use Rattle.dump_fields.specs.Field.{fecText, labelText, statusText, parametersText, sessionText, ftText}
+use Rattle.dump_fields.specs.Field.{fecText, labelText, statusText, parametersText, sessionText, ftText, requestIdText}
 use Rattle.message.specs.declared.Message.{Message}
 
 -- the bytes of a part of the message
@@ -34,4 +34,4 @@ ftTexts g = sessionText (g .session) ++ ftText (ascii " ft-protection ") (g .pro
 
 -- "each listed TLV that stands in it, in this order"
 abbrev pub fieldsText : List ℕ → Message → List ℕ
-fieldsText m g = bindingText m g ++ stateText m g ++ ftTexts g
+fieldsText m g = bindingText m g ++ stateText m g ++ ftTexts g ++ requestIdText (g .requestid)

@@ -36,7 +36,7 @@ fn dump_next(fd: i32, number: u64, buffer: &mut [u8], out: &mut [u8]) -> bool
 // Writes the text of every PDU of the stream. Proved safe and ending; what is read and written is tested (docs/LDP_DUMP.md).
 pub fn dump_stream(fd: i32) {
     let mut buffer = [0u8; 65539];
-    let mut out = [0u8; 2400000];
+    let mut out = [0u8; 2700000];
     let mut number: u64 = 0;
     while number < u64::MAX && dump_next(fd, number, &mut buffer, &mut out) {
         number += 1;

@@ -1,5 +1,5 @@
 -- A listed TLV as fields of a line: a space, its name, a space, its value; nothing where it does not stand.
--- docs/LDP_DUMP.md: "`fec HEX` (`fec -` where empty), `label N`, `status 0x0000000f`, `params HEX`, `ft-session R SECONDS`, `ft-protection N`, `ft-ack N`".
+-- docs/LDP_DUMP.md: "`fec HEX` (`fec -` where empty), `label N`, `status 0x0000000f`, `params HEX`, `ft-session R SECONDS`, `ft-protection N`, `ft-ack N`, `request-id N`".
 use Prim.Native.Nat.{ℕ}
 use mathlib.Core.Bool.{Bool}
 use mathlib.Core.List.{List, [], _∷_, _++_}
@@ -9,6 +9,7 @@ use Rattle.text.specs.Text.{ascii, decimal, hex}
 use Rattle.tlv.specs.declared.Fec.{Fec}
 use Rattle.tlv.specs.declared.Field.{Field}
 use Rattle.tlv.specs.declared.FtField.{FtField}
+use Rattle.tlv.specs.declared.IdField.{IdField}
 use Rattle.tlv.specs.declared.Parameters.{Parameters}
 use Rattle.tlv.specs.declared.Session.{Session}
 
@@ -50,3 +51,7 @@ sessionText (Session.Given reconnect seconds) = ascii " ft-session " ++ decimal 
 abbrev pub ftText : List ℕ → FtField → List ℕ
 ftText name FtField.Absent = []
 ftText name (FtField.Number n) = name ++ decimal (n .0)
+
+abbrev pub requestIdText : IdField → List ℕ
+requestIdText IdField.Absent = []
+requestIdText (IdField.Id id) = ascii " request-id " ++ decimal (id .0)

@@ -5,10 +5,11 @@ ghost use mathlib.Core.List.{_++_};
 ghost use mathlib.Core.Path.{_≡_};
 ghost use lib.ListN.{length};
 ghost use Rattle.text.specs.Text.{decimal, Put};
-ghost use Rattle.dump_fields.specs.Field.{bytesText, typeText, fecText, labelText, statusText, parametersText, bit, sessionText, ftText};
+ghost use Rattle.dump_fields.specs.Field.{bytesText, typeText, fecText, labelText, statusText, parametersText, bit, sessionText, ftText, requestIdText};
 use tlv::Fec;
 use tlv::Field;
 use tlv::FtField;
+use tlv::IdField;
 use tlv::Parameters;
 use tlv::Session;
 
@@ -132,5 +133,17 @@ pub fn put_ft_number(out: &mut [u8], at: usize, name: &[u8], field: FtField) -> 
     match field {
         FtField::Absent => at,
         FtField::Number(n) => put_number(out, at, name, n.0 as u64),
+    }
+}
+
+// The ID of the Request that the message names.
+pub fn put_request_id(out: &mut [u8], at: usize, requestid: IdField) -> usize
+    requires { ⌜ at + 32 ≤ length (now out) ⌝ }
+    ensures { λ r. ⌜ Put (now (out .entry)) at (requestIdText requestid) (now (out .exit)) r ⌝ }
+    ensures { λ r. ⌜ r ≤ at + 32 ⌝ }
+{
+    match requestid {
+        IdField::Absent => at,
+        IdField::Id(id) => put_number(out, at, b" request-id ", id.0 as u64),
     }
 }

@@ -1,11 +1,11 @@
 -- One block of an image put, and the others as they were. Assumes nothing.
 use Prim.Native.Nat.{ℕ, _+_, _-_, _*_, _≤_, _<_}
-use mathlib.Core.List.{List}
+use mathlib.Core.List.{List, _++_}
 use mathlib.Core.Logic.{_≢_}
-use mathlib.Core.Path.{_≡_, _∙_}
+use mathlib.Core.Path.{_≡_, _∙_, sym, ap}
 use native.Mathlib.Omega.{arith, ne-cases}
-use lib.ListN.{length}
-use Rattle.octets.proofs.Laid.{length-laid}
+use lib.ListN.{length, take, take-append-drop, drop}
+use Rattle.octets.proofs.Laid.{length-laid, laid-between}
 use Rattle.octets.proofs.Part.{length-part, part-same, part-before, part-after}
 use Rattle.block.specs.Check.{blockSize}
 use Rattle.image.specs.Sizes.{block, withBlock}
@@ -30,3 +30,11 @@ module _ (image : List ℕ) (b : ℕ) (p : List ℕ) (inside : b * blockSize + b
       ne-cases c b (block (withBlock image b p) c ≡ block image c) apart
       (λ (l : c < b). part-before image (b * 512) (b * 512 + 512) p (c * 512) (c * 512 + 512) (omega arith) inside fits (omega arith) (omega arith))
       (λ (l : b < c). part-after image (b * 512) (b * 512 + 512) p (c * 512) (c * 512 + 512) (omega arith) inside fits (omega arith))
+
+-- a block that is there already
+pub put-same : (image : List ℕ) (b : ℕ) → b * blockSize + blockSize ≤ length image → withBlock image b (block image b) ≡ image
+put-same image b inside =
+    let fits : length (block image b) ≡ b * 512 + 512 - b * 512 = length-part image (b * 512) (b * 512 + 512) inside in
+    sym (laid-between image (b * 512) (b * 512 + 512) (block image b) (omega arith) inside fits)
+    ∙ ap (λ (l : List ℕ). take (b * 512) image ++ l) (take-append-drop (b * 512 + 512 - b * 512) (drop (b * 512) image))
+    ∙ take-append-drop (b * 512) image

@@ -1,8 +1,8 @@
 -- The first fault of the blocks in an order, whatever judges them. Assumes nothing.
 use Prim.Native.Nat.{ℕ, zero, suc, _<_}
 use mathlib.Core.Bool.{true}
-use mathlib.Core.List.{List, [], _∷_}
-use mathlib.Core.Path.{_≡_, refl}
+use mathlib.Core.List.{List, [], _∷_, _++_}
+use mathlib.Core.Path.{_≡_, refl, ap, _∙_}
 use native.Mathlib.Omega.{arith}
 use lib.Dec.{eqb}
 use lib.ListN.{length, getD}
@@ -12,7 +12,7 @@ use Rattle.label_list.specs.Find.{any}
 use Rattle.image.specs.declared.Judgement.{Judgement}
 use Rattle.image.specs.declared.Judgement.the-variants.{Good, BadCheck, BadFields, Idle}
 use Rattle.image.specs.declared.Verdict.{Verdict}
-use Rattle.image.specs.declared.Verdict.the-variants.{Sound}
+use Rattle.image.specs.declared.Verdict.the-variants.{Sound, WrongSize, BadBlock, BadField}
 use Rattle.image.specs.Verdict.{faultThen, firstFault, verdictBlock}
 
 -- only the blocks of the order count
@@ -22,6 +22,24 @@ fault-same j k [] same = refl
 fault-same j k (b ∷ bs) same =
     let here : j b ≡ k b = same b (simp (eq-eqb b b refl)) in
     rw (here, fault-same j k bs (λ c l. same c (pick-all (λ t. t ≡ true) (eqb c b) refl l)))
+
+-- ---- one order behind another
+abbrev pub verdictThen : Verdict → Verdict → Verdict
+verdictThen Sound rest = rest
+verdictThen WrongSize rest = WrongSize
+verdictThen (BadBlock b) rest = BadBlock b
+verdictThen (BadField b) rest = BadField b
+
+fault-then : (j : Judgement) (b : ℕ) (v w : Verdict) → faultThen j b (verdictThen v w) ≡ verdictThen (faultThen j b v) w
+fault-then Good b v w = refl
+fault-then BadCheck b v w = refl
+fault-then BadFields b v w = refl
+fault-then Idle b v w = refl
+
+pub fault-append : (j : ℕ → Judgement) (bs cs : List ℕ) → firstFault j (bs ++ cs) ≡ verdictThen (firstFault j bs) (firstFault j cs)
+unfolding firstFault
+fault-append j [] cs = refl
+fault-append j (b ∷ bs) cs = ap (faultThen (j b) b) (fault-append j bs cs) ∙ fault-then (j b) b (firstFault j bs) (firstFault j cs)
 
 -- ---- no fault
 abbrev pub NoFault : Judgement → Type 0

@@ -11,9 +11,10 @@ use Rattle.octets.proofs.Fill.{length-zeros, zeros-at}
 use Rattle.octets.proofs.Laid.{laid-all}
 use Rattle.octets.proofs.Part.{part-at}
 use Rattle.block.specs.Check.{blockSize}
+use Rattle.request_ids.specs.Layout.{idBlock, noIds}
 use Rattle.image.specs.declared.Verdict.the-variants.{Sound, WrongSize}
 use Rattle.image.specs.Events.{sizeVerdict, releaseOf, newImage, formattedImage}
-use Rattle.image.specs.Sizes.{imageSize, block}
+use Rattle.image.specs.Sizes.{imageSize, block, withBlock, requestBlock}
 use Rattle.image.proofs.Blocks.{length-block}
 
 -- a block of zeros
@@ -28,6 +29,8 @@ module _ (s : List ℕ) where
   unfolding sizeVerdict formattedImage
   format-refused h = simp (ne-eqb (length s) imageSize h) (refl, refl)
 
-  pub format-done : length s ≡ imageSize → {z t : List ℕ} → z ≡ laid s 0 (replicate imageSize 0) → t ≡ releaseOf z → (Sound ≡ sizeVerdict s) × (t ≡ formattedImage s)
+  pub format-done : length s ≡ imageSize → {z c t : List ℕ} → z ≡ laid s 0 (replicate imageSize 0) → c ≡ withBlock z requestBlock (idBlock noIds) → t ≡ releaseOf c
+      → (Sound ≡ sizeVerdict s) × (t ≡ formattedImage s)
   unfolding sizeVerdict formattedImage newImage releaseOf
-  format-done size ez et = simp (eq-eqb (length s) imageSize size) (refl, et ∙ rw (ez, laid-all s (replicate imageSize 0) (length-zeros imageSize ∙ sym size)))
+  format-done size ez ec et =
+      simp (eq-eqb (length s) imageSize size) (refl, et ∙ rw (ec, ez, laid-all s (replicate imageSize 0) (length-zeros imageSize ∙ sym size)))

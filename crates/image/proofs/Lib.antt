@@ -1,5 +1,7 @@
 pub mod Blocks
 pub mod Rings
+pub mod Ranges
+pub mod Requests
 pub mod Faults
 pub mod Scans
 pub mod Stored
@@ -7,5 +9,5 @@ pub mod Sound
 pub mod Queue
 pub mod Formatted
 pub mod Changes
-pub mod Ranges
 pub mod Same
+pub mod Extended

@@ -3,23 +3,31 @@ use Prim.Native.Nat.{ℕ, _+_, _*_, _≤_, _<_}
 use mathlib.Core.Bool.{true}
 use mathlib.Core.List.{List}
 use mathlib.Core.Logic.{⊎-elim}
-use mathlib.Core.Path.{_≡_}
+use mathlib.Core.Path.{_≡_, _∙_}
 use native.Mathlib.Omega.{arith}
-use lib.ListN.{length, List·getD-eq-default}
+use lib.Dec.{eqb}
+use lib.ListN.{length, List·getD-eq-default, set, getD, length-set}
+use lib.Seq.{getD-set-same, getD-set-other}
+use borrow.Author.Tests.{eqb-true, eqb-false}
 use Rattle.octets.specs.Bytes.{Bytes}
 use Rattle.octets.proofs.Be.{beAt-lt}
-use Rattle.octets.proofs.Choice.{below-or-not}
+use Rattle.octets.proofs.Choice.{below-or-not, by-test}
 use Rattle.octets.proofs.Part.{part-at, part-inside}
 use Rattle.block.specs.Check.{blockSize}
 use Rattle.block.specs.Run.{wordsAt, Words}
 use Rattle.block.proofs.WordRun.{length-wordsAt, getD-wordsAt}
+use Rattle.label_list.specs.Requests.{openIds}
 use Rattle.label_list.specs.Valid.{validOf}
-use Rattle.label_list.specs.Word.{wordCount}
+use Rattle.label_list.specs.Word.{wordCount, isRequest}
+use Rattle.label_list.proofs.Counting.{counting-length, counting-at, counting-none}
+use Rattle.label_list.proofs.OpenIds.{request-inside}
 use Rattle.block0.specs.Fields.{Fits}
 use Rattle.block0.specs.Layout.{labelsAt, headerOf, labelsOf}
+use Rattle.request_ids.specs.Layout.{idsOf}
+use Rattle.request_ids.proofs.Written.{length-ids}
 use Rattle.label_meaning.proofs.Meaning.{valid-means, valid-range}
-use Rattle.image.specs.Sizes.{block}
-use Rattle.image.specs.State.{decode, InRange}
+use Rattle.image.specs.Sizes.{block, requestBlock}
+use Rattle.image.specs.State.{decode, InRange, storedIds}
 
 pub bytes-block : (image : List ℕ) (b : ℕ) → Bytes image → Bytes (block image b)
 bytes-block image b byte i =
@@ -39,6 +47,7 @@ fits-bytes b byte = record {
   held = beAt-lt 2 b 18 byte;
   timeout = beAt-lt 2 b 20 byte;
   kept = beAt-lt 1 b 22 byte;
+  marks = beAt-lt 1 b 23 byte;
   keepalive = beAt-lt 2 b 24 byte;
   maxpdu = beAt-lt 2 b 26 byte;
 }
@@ -53,18 +62,55 @@ words-bytes n s at byte = record {
       (below-or-not i n);
 }
 
--- the numbers in an image of bytes have their widths
+-- ---- the IDs that block 65 bears
+pub stored-count : (image : List ℕ) → length (storedIds image) ≡ wordCount
+unfolding storedIds
+stored-count image = length-ids (block image requestBlock)
+
+pub stored-words : (image : List ℕ) → Bytes image → Words wordCount (storedIds image)
+unfolding storedIds idsOf
+stored-words image byte = words-bytes wordCount (block image requestBlock) 0 (bytes-block image requestBlock byte)
+
+-- one of them is another
+pub set-words : (n : ℕ) (ws : List ℕ) (i v : ℕ) → Words n ws → v < 4294967296 → Words n (set ws i v)
+set-words n ws i v w small = record {
+  count = length-set ws i v ∙ w .count;
+  each = λ j.
+      by-test (eqb j i)
+      (λ e. rw (eqb-true j i e) (put i))
+      (λ e. rw (getD-set-other ws i j v 0 (eqb-false j i e)) (w .each j));
+}
+  where
+    put : (j : ℕ) → getD (set ws j v) j 0 < 4294967296
+    put j =
+        ⊎-elim
+        (λ (l : j < length ws). rw (getD-set-same ws j v 0 l) small)
+        (λ (l : length ws ≤ j). rw (List·getD-eq-default (set ws j v) 0 {n = j} (rw length-set l)) (omega arith))
+        (below-or-not j (length ws))
+
+-- those that count
+pub open-words : (ws xs : List ℕ) → length ws ≡ wordCount → ((i : ℕ) → getD xs i 0 < 4294967296) → Words wordCount (openIds ws xs)
+open-words ws xs n each = record {
+  count = counting-length 0 isRequest ws xs ∙ n;
+  each = λ i.
+      by-test (isRequest (getD ws i 0))
+      (λ t. rw (counting-at 0 isRequest ws xs i t (request-inside ws i t)) (each i))
+      (λ f. rw (counting-none 0 isRequest ws xs i f) (omega arith));
+}
+
+-- ---- the numbers in an image of bytes have their widths
+-- the label words of any image are 120
+pub labels-count : (image : List ℕ) → length (decode image .labels) ≡ wordCount
+unfolding decode labelsOf
+labels-count image = length-wordsAt wordCount (block image 0) labelsAt
+
 pub bytes-in-range : (image : List ℕ) → Bytes image → InRange (decode image)
 unfolding decode labelsOf
 bytes-in-range image byte = record {
   header = fits-bytes (block image 0) (bytes-block image 0 byte);
   labels = words-bytes wordCount (block image 0) labelsAt (bytes-block image 0 byte);
+  ids = open-words (decode image .labels) (storedIds image) (labels-count image) (stored-words image byte .each);
 }
-
--- the label words of any image are 120
-pub labels-count : (image : List ℕ) → length (decode image .labels) ≡ wordCount
-unfolding decode labelsOf
-labels-count image = length-wordsAt wordCount (block image 0) labelsAt
 
 -- valid label words have their width too
 pub valid-words : (ls : List ℕ) → length ls ≡ wordCount → validOf ls ≡ true → Words wordCount ls

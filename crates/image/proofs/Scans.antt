@@ -1,47 +1,75 @@
 -- The blocks that restore looks at, and the clauses of `verdict` by the tests that lead to each answer. Assumes nothing.
 use Prim.Native.Nat.{ℕ, zero, suc, _+_, _-_, _%_, _≤_, _<_}
 use mathlib.Core.Bool.{Bool, true, false, not}
-use mathlib.Core.List.{List}
-use mathlib.Core.Logic.{_≢_}
+use mathlib.Core.List.{List, [], _++_}
+use mathlib.Core.Logic.{_≢_, ⊎-elim}
 use mathlib.Core.Path.{_≡_, refl, sym, ap, _∙_}
+use native.Mathlib.Nat.{eq-or-lt-of-le}
 use native.Mathlib.Omega.{arith}
 use lib.Dec.{eqb}
-use lib.ListN.{length, getD}
+use lib.ListN.{length, getD, length-append, List·getD-append}
+use lib.Seq.{getD-append-seam}
 use borrow.Author.Tests.{eq-eqb, ne-eqb, not-true, not-false}
-use Rattle.octets.specs.Pick.{pick}
-use Rattle.octets.proofs.Choice.{pick-all}
+use Rattle.octets.specs.Pick.{pick, both}
+use Rattle.octets.proofs.Choice.{pick-all, denied}
 use Rattle.block.specs.Check.{sound}
 use Rattle.label_list.specs.Find.{any}
+use Rattle.label_list.specs.Word.{requestCode}
 use Rattle.label_list.proofs.Sought.{any-cons}
 use Rattle.block0.specs.declared.Header.{Header}
+use Rattle.block0.specs.Coded.{hasCode}
 use Rattle.block0.specs.Fields.{fieldsOk}
-use Rattle.block0.specs.Layout.{slotCount, headerOf}
+use Rattle.block0.specs.Layout.{slotCount, headerOf, labelsOf}
+use Rattle.request_ids.specs.Fields.{restZero, idsOk}
+use Rattle.request_ids.specs.Layout.{idsOf}
 use Rattle.slot.specs.declared.SlotVerdict.{SlotVerdict}
 use Rattle.slot.specs.Fields.{slotOk, slotVerdict, slotVerdictNumber}
 use Rattle.image.specs.declared.Judgement.{Judgement}
 use Rattle.image.specs.declared.Verdict.{Verdict}
 use Rattle.image.specs.declared.Verdict.the-variants.{Sound, WrongSize, BadBlock, BadField}
 use Rattle.image.specs.Ring.{ring}
-use Rattle.image.specs.Sizes.{blockCount, imageSize, block, blockOf, slotAt}
+use Rattle.image.specs.Sizes.{requestBlock, further, blockCount, imageSize, block, blockOf, slotAt}
 use Rattle.image.specs.State.{decode, NotLive}
 use Rattle.image.specs.Verdict.{looked, fieldsRight, bytesJudged, blockJudged, faultThen, firstFault, verdict, verdictNumber, verdictBlock, judgementNumber}
-use Rattle.image.proofs.Faults.{fault-same, named-below}
+use Rattle.image.proofs.Faults.{fault-same, verdictThen, fault-append, named-below}
+use Rattle.image.proofs.Requests.{none-once}
 use Rattle.image.proofs.Rings.{ring-length, ring-at}
 
 -- ---- the blocks that are looked at
 not-zeroth : (k : ℕ) → eqb (blockOf k) 0 ≡ false
 not-zeroth k = ne-eqb (blockOf k) 0 (omega arith)
 
+not-further : (k : ℕ) → k < slotCount → eqb (blockOf k) requestBlock ≡ false
+not-further k l = ne-eqb (blockOf k) requestBlock (omega arith)
+
 module _ (h : Header) where
-  pub looked-length : length (looked h) ≡ suc (h .held)
-  looked-length = ap suc (ring-length blockOf (h .first) (h .held))
+  live : List ℕ
+  live = ring blockOf (h .first) (h .held)
+
+  live-length : length live ≡ h .held
+  unfolding live
+  live-length = ring-length blockOf (h .first) (h .held)
+
+  pub looked-length : length (looked h) ≡ suc (h .held + 1)
+  unfolding live
+  looked-length = ap suc (length-append live further ∙ ap (λ (n : ℕ). n + 1) live-length)
 
   pub looked-slot : (i : ℕ) → i < h .held → getD (looked h) (suc i) 0 ≡ blockOf (slotAt (h .first) i)
-  looked-slot i l = ring-at blockOf 0 (h .first) (h .held) i l
+  unfolding live
+  looked-slot i l = List·getD-append live further 0 i (rw live-length l) ∙ ring-at blockOf 0 (h .first) (h .held) i l
+
+  -- the last is block 65
+  pub looked-last : getD (looked h) (suc (h .held)) 0 ≡ requestBlock
+  unfolding live
+  looked-last = ap (λ (n : ℕ). getD (live ++ further) n 0) (sym live-length) ∙ getD-append-seam live requestBlock [] 0
 
   looked-below : (i : ℕ) → i < length (looked h) → getD (looked h) i 0 < blockCount
   looked-below zero l = omega arith
-  looked-below (suc i) l = rw (looked-slot i (omega (arith, looked-length))) (omega arith)
+  looked-below (suc i) l =
+      ⊎-elim
+      (λ (last : i ≡ h .held). rw (last, looked-last) (omega arith))
+      (λ (before : i < h .held). rw (looked-slot i before) (omega arith))
+      (eq-or-lt-of-le (omega (arith, looked-length)))
 
 module _ (image : List ℕ) where
   -- none of these is idle
@@ -53,16 +81,16 @@ module _ (image : List ℕ) where
   looked-judged = fault-same (blockJudged image) (bytesJudged image) (looked (headerOf (block image 0))) live-judged
 
   -- a slot that is not live is idle
-  pub idle-judged : (k : ℕ) → NotLive image k → blockJudged image (blockOf k) ≡ Judgement.Idle
+  pub idle-judged : (k : ℕ) → k < slotCount → NotLive image k → blockJudged image (blockOf k) ≡ Judgement.Idle
   unfolding blockJudged any decode ring
-  idle-judged k idle = rw (not-zeroth k, none (headerOf (block image 0) .first) (headerOf (block image 0) .held) idle)
+  idle-judged k room idle = rw (not-zeroth k, none (headerOf (block image 0) .first) (headerOf (block image 0) .held) idle)
     where
-      none : (f n : ℕ) → ((i : ℕ) → i < n → slotAt f i ≢ k) → any (eqb (blockOf k)) (ring blockOf f n) ≡ false
-      none f zero apart = refl
+      none : (f n : ℕ) → ((i : ℕ) → i < n → slotAt f i ≢ k) → any (eqb (blockOf k)) (ring blockOf f n ++ further) ≡ false
+      none f zero apart = rw (not-further k room)
       none f (suc n) apart =
           let e : f + 0 ≡ f = omega arith in
           let first : f % slotCount ≢ k = rw e at (apart 0 (omega arith)) in
-          any-cons (eqb (blockOf k)) (blockOf (f % slotCount)) (ring blockOf (f + 1) n) (ne-eqb (blockOf k) (blockOf (f % slotCount)) (λ same. first (omega arith)))
+          any-cons (eqb (blockOf k)) (blockOf (f % slotCount)) (ring blockOf (f + 1) n ++ further) (ne-eqb (blockOf k) (blockOf (f % slotCount)) (λ same. first (omega arith)))
           ∙ none (f + 1) n (λ i l. let e : f + suc i ≡ f + 1 + i = omega arith in rw e at (apart (suc i) (omega arith)))
 
   -- the block that restore's checks name is a block of the image
@@ -79,12 +107,12 @@ slotJudged SlotVerdict.Good = Judgement.Good
 slotJudged SlotVerdict.BadCheck = Judgement.BadCheck
 slotJudged SlotVerdict.BadFields = Judgement.BadFields
 
-pub slot-fields : (s : List ℕ) (k : ℕ) → fieldsRight s (blockOf k) ≡ slotOk (block s (blockOf k))
-slot-fields s k = rw (not-zeroth k)
+pub slot-fields : (s : List ℕ) (k : ℕ) → k < slotCount → fieldsRight s (blockOf k) ≡ slotOk (block s (blockOf k))
+slot-fields s k room = rw (not-zeroth k, not-further k room)
 
-slot-bytes : (s : List ℕ) (k : ℕ) → bytesJudged s (blockOf k) ≡ slotJudged (slotVerdict (block s (blockOf k)))
+slot-bytes : (s : List ℕ) (k : ℕ) → k < slotCount → bytesJudged s (blockOf k) ≡ slotJudged (slotVerdict (block s (blockOf k)))
 unfolding bytesJudged slotVerdict
-slot-bytes s k = rw (slot-fields s k) (by (sound (block s (blockOf k))) (slotOk (block s (blockOf k))))
+slot-bytes s k room = rw (slot-fields s k room) (by (sound (block s (blockOf k))) (slotOk (block s (blockOf k))))
   where
     by : (c f : Bool)
         → pick (not c) Judgement.BadCheck (pick (not f) Judgement.BadFields Judgement.Good)
@@ -94,8 +122,8 @@ slot-bytes s k = rw (slot-fields s k) (by (sound (block s (blockOf k))) (slotOk 
     by false f = refl
 
 -- the numbers agree: of a slot's verdict and the judgement of its block, and of a judgement that is a fault and the image's verdict
-pub slot-numbered : (s : List ℕ) (k : ℕ) → judgementNumber (bytesJudged s (blockOf k)) ≡ slotVerdictNumber (slotVerdict (block s (blockOf k)))
-slot-numbered s k = rw (slot-bytes s k) (by (slotVerdict (block s (blockOf k))))
+pub slot-numbered : (s : List ℕ) (k : ℕ) → k < slotCount → judgementNumber (bytesJudged s (blockOf k)) ≡ slotVerdictNumber (slotVerdict (block s (blockOf k)))
+slot-numbered s k room = rw (slot-bytes s k room) (by (slotVerdict (block s (blockOf k))))
   where
     by : (v : SlotVerdict) → judgementNumber (slotJudged v) ≡ slotVerdictNumber v
     by SlotVerdict.Good = refl
@@ -130,7 +158,7 @@ module _ (s : List ℕ) (f n : ℕ) where
       turned =
           let more : n - i ≡ suc (n - (i + 1)) = omega arith in
           let next : f + i + 1 ≡ f + (i + 1) = omega arith in
-          rw (ev, eb, ← slot-bytes s ((f + i) % slotCount)) (rw (more, next) at inv)
+          rw (ev, eb, ← slot-bytes s ((f + i) % slotCount) (omega arith)) (rw (more, next) at inv)
 
       pub scan-check : v ≡ SlotVerdict.BadCheck → BadBlock ((f + i) % slotCount + 1) ≡ all
       scan-check h = rw h at turned
@@ -143,6 +171,39 @@ module _ (s : List ℕ) (f n : ℕ) where
 
 pub ruleset scans = (scan-start, scan-end, scan-check, scan-fields, scan-next)
 
+-- ---- block 65
+both-yes : (t : Bool) → t ≡ both t true
+both-yes true = refl
+both-yes false = refl
+
+-- where no word has a Request's code, zeros behind the IDs are enough
+pub unasked : (z b : List ℕ) {t : Bool} → t ≡ any (hasCode requestCode) (labelsOf z) → not t ≡ true → {r : Bool} → r ≡ restZero b → r ≡ idsOk (labelsOf z) b
+unfolding idsOk
+unasked z b et none er = er ∙ rw (none-once (labelsOf z) (denied et none) (idsOf b)) (both-yes (restZero b))
+
+module _ (s : List ℕ) {b : List ℕ} (eb : b ≡ block s requestBlock) {t : Bool} (et : t ≡ sound b) where
+  last-judged : faultThen (bytesJudged s requestBlock) requestBlock Sound ≡ firstFault (bytesJudged s) further
+  unfolding firstFault
+  last-judged = refl
+
+  pub requests-check : not t ≡ true → BadBlock requestBlock ≡ firstFault (bytesJudged s) further
+  unfolding bytesJudged
+  requests-check h = simp (← eb, ← et, not-true t h) at last-judged
+
+  module _ (fine : not t ≡ false) {u : Bool} (eu : u ≡ idsOk (labelsOf (block s 0)) (block s requestBlock)) where
+    fields : u ≡ idsOk (labelsOf (block s 0)) b
+    fields = eu ∙ ap (idsOk (labelsOf (block s 0))) (sym eb)
+
+    pub requests-fields : not u ≡ true → BadField requestBlock ≡ firstFault (bytesJudged s) further
+    unfolding bytesJudged
+    requests-fields h = simp (← eb, ← et, not-false t fine, ← fields, not-true u h) at last-judged
+
+    pub requests-right : not u ≡ false → Sound ≡ firstFault (bytesJudged s) further
+    unfolding bytesJudged
+    requests-right h = simp (← eb, ← et, not-false t fine, ← fields, not-false u h) at last-judged
+
+pub ruleset requested = (requests-check, requests-fields, requests-right)
+
 -- ---- restore's checks
 module _ (s : List ℕ) where
   pub wrong-size : (length s ≡ imageSize → ⊥) → WrongSize ≡ verdict s
@@ -150,10 +211,14 @@ module _ (s : List ℕ) where
   wrong-size h = simp (ne-eqb (length s) imageSize h)
 
   module _ (size : length s ≡ imageSize) where
-    -- block 0, and then the live slots
-    sized : faultThen (bytesJudged s 0) 0 (firstFault (bytesJudged s) (ring blockOf (headerOf (block s 0) .first) (headerOf (block s 0) .held))) ≡ verdict s
+    -- block 0, then the live slots, then block 65
+    sized : faultThen (bytesJudged s 0) 0
+        (verdictThen (firstFault (bytesJudged s) (ring blockOf (headerOf (block s 0) .first) (headerOf (block s 0) .held))) (firstFault (bytesJudged s) further)) ≡ verdict s
     unfolding verdict firstFault
-    sized = simp (eq-eqb (length s) imageSize size) (sym (looked-judged s))
+    sized =
+        simp (eq-eqb (length s) imageSize size)
+        (ap (faultThen (bytesJudged s 0) 0) (sym (fault-append (bytesJudged s) (ring blockOf (headerOf (block s 0) .first) (headerOf (block s 0) .held)) further))
+        ∙ sym (looked-judged s))
 
     module _ {b : List ℕ} (eb : b ≡ block s 0) {t : Bool} (et : t ≡ sound b) where
       pub zeroth-check : not t ≡ true → BadBlock 0 ≡ verdict s
@@ -165,12 +230,28 @@ module _ (s : List ℕ) where
         unfolding bytesJudged
         zeroth-fields h = simp (← eb, ← et, not-false t fine, ← eu, not-true u h) at sized
 
-        pub slots-judged : not u ≡ false → {h : Header} → h ≡ headerOf b → {f n : ℕ} → f ≡ h .first → n ≡ h .held
-            → {r : Verdict} → r ≡ firstFault (bytesJudged s) (ring blockOf f n) → r ≡ verdict s
-        unfolding bytesJudged
-        slots-judged hu eh ef en er = er ∙ (simp (← eb, ← et, not-false t fine, ← eu, not-false u hu, ← eh, ← ef, ← en) at sized)
+        module _ (hu : not u ≡ false) {h : Header} (eh : h ≡ headerOf b) {f n : ℕ} (ef : f ≡ h .first) (en : n ≡ h .held)
+            {r : Verdict} (er : r ≡ firstFault (bytesJudged s) (ring blockOf f n)) where
+          slots-judged : verdictThen r (firstFault (bytesJudged s) further) ≡ verdict s
+          unfolding bytesJudged
+          slots-judged =
+              ap (λ (v : Verdict). verdictThen v (firstFault (bytesJudged s) further)) er
+              ∙ (simp (← eb, ← et, not-false t fine, ← eu, not-false u hu, ← eh, ← ef, ← en) at sized)
 
-pub ruleset verdicts = (wrong-size, zeroth-check, zeroth-fields, slots-judged)
+          -- a fault of a slot is the verdict, else block 65 decides
+          pub slots-sound : r ≡ Sound → {q : Verdict} → q ≡ firstFault (bytesJudged s) further → q ≡ verdict s
+          slots-sound e eq = eq ∙ (rw e at slots-judged)
+
+          pub slots-size : r ≡ WrongSize → WrongSize ≡ verdict s
+          slots-size e = rw e at slots-judged
+
+          pub slots-check : {k : ℕ} → r ≡ BadBlock k → BadBlock k ≡ verdict s
+          slots-check e = rw e at slots-judged
+
+          pub slots-fields : {k : ℕ} → r ≡ BadField k → BadField k ≡ verdict s
+          slots-fields e = rw e at slots-judged
+
+pub ruleset verdicts = (wrong-size, zeroth-check, zeroth-fields, slots-sound, slots-size, slots-check, slots-fields)
 
 -- a verdict whose number is 0
 pub number-sound : (v : Verdict) → verdictNumber v ≡ 0 → v ≡ Sound

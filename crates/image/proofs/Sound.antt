@@ -3,32 +3,41 @@ use Prim.Native.Nat.{ℕ, zero, suc, _+_, _-_, _≤_, _<_}
 use mathlib.Core.Bool.{Bool, true, false, not}
 use mathlib.Core.List.{List}
 use mathlib.Core.Logic.{_≢_, ⊎-elim}
-use mathlib.Core.Path.{_≡_, refl, sym, _∙_}
+use mathlib.Core.Path.{_≡_, refl, sym, _∙_, ap}
 use native.Mathlib.Nat.{eq-or-lt-of-le}
 use native.Mathlib.Omega.{arith}
 use lib.Dec.{eqb}
-use lib.ListN.{length, getD}
+use lib.ListN.{length, getD, set}
 use borrow.Author.Tests.{eqb-true, eq-eqb, not-false}
 use Rattle.octets.specs.Pick.{pick}
 use Rattle.octets.proofs.Choice.{cleared}
 use Rattle.block.specs.Check.{sound}
 use Rattle.block.specs.Run.{Words}
-use Rattle.label_list.specs.Word.{wordCount}
+use Rattle.ft_number.specs.declared.MessageId.{MessageId}
+use Rattle.label_list.specs.Requests.{onceOf, openIds}
+use Rattle.label_list.specs.Word.{wordCount, isRequest}
+use Rattle.label_list.proofs.OpenIds.{once-freed}
 use Rattle.block0.specs.declared.Header.{Header}
 use Rattle.block0.specs.Fields.{Fits, Valid}
-use Rattle.block0.specs.Layout.{slotCount, headerOf, block0}
+use Rattle.block0.specs.Layout.{slotCount, headerOf, block0, labelsOf}
 use Rattle.block0.proofs.Rules.{fields-valid, valid-fields}
-use Rattle.block0.proofs.Written.{header-block0, block0-sound}
+use Rattle.block0.proofs.Written.{header-block0, block0-sound, labels-block0}
 use Rattle.message.specs.Storable.{Storable}
+use Rattle.request_ids.specs.Fields.{IdsGood}
+use Rattle.request_ids.specs.Layout.{idBlock}
+use Rattle.request_ids.proofs.Counted.{idBlock-good}
+use Rattle.request_ids.proofs.Written.{good-once, good-beside}
 use Rattle.slot.proofs.Holding.{slotFor-sound, slotFor-ok}
 use Rattle.image.specs.declared.Judgement.the-variants.{Good, BadCheck, BadFields}
 use Rattle.image.specs.declared.Verdict.the-variants.{Sound, WrongSize}
-use Rattle.image.specs.Sizes.{block, blockOf, slotAt, imageSize}
-use Rattle.image.specs.State.{NotLive, decode, storeSlot, store0}
+use Rattle.image.specs.Sizes.{block, blockOf, slotAt, imageSize, requestBlock}
+use Rattle.image.specs.State.{NotLive, decode, storeSlot, store0, storedIds, Contents, storeId}
 use Rattle.image.specs.Verdict.{looked, fieldsRight, bytesJudged, verdict, IsSound, SlotGood}
 use Rattle.image.proofs.Faults.{NoFault, faultless-each, each-faultless}
-use Rattle.image.proofs.Scans.{looked-length, looked-slot, looked-judged, slot-fields}
-use Rattle.image.proofs.Stored.{length-storeSlot, slot-put, slot-other, length-store0, zeroth-put, zeroth-other}
+use Rattle.image.proofs.Ranges.{labels-count}
+use Rattle.image.proofs.Requests.{Fewer, once-dead}
+use Rattle.image.proofs.Scans.{looked-length, looked-slot, looked-judged, slot-fields, looked-last}
+use Rattle.image.proofs.Stored.{length-storeSlot, slot-put, slot-other, length-store0, zeroth-put, zeroth-other, decode-slot, id-other, ids-storeSlot, decode-id, length-storeId, id-put, open-dead, once-storeId, asked-count}
 
 -- ---- a verdict and its clauses
 bytes-good : (image : List ℕ) (b : ℕ) → NoFault (bytesJudged image b) → (sound (block image b) ≡ true) × (fieldsRight image b ≡ true)
@@ -59,7 +68,10 @@ sound-parts image h =
       slots = λ i l.
           let k : ℕ = slotAt (z .first) i in
           let g = bytes-good image (blockOf k) (rw (looked-slot z i l) at (each (suc i) (omega (arith, looked-length z)))) in
-          record { check = g .0; fields = sym (slot-fields image k) ∙ g .1 };
+          record { check = g .0; fields = sym (slot-fields image k (omega arith)) ∙ g .1 };
+      requests =
+          let g = bytes-good image requestBlock (rw (looked-last z) at (each (suc (z .held)) (omega (arith, looked-length z)))) in
+          record { check = g .0; fields = g .1 };
     }
 
 -- and back
@@ -70,9 +82,13 @@ parts-sound image s = simp (eq-eqb _ _ (s .size)) (looked-judged image ∙ each-
     each : (i : ℕ) → i < length (looked (headerOf (block image 0))) → NoFault (bytesJudged image (getD (looked (headerOf (block image 0))) i 0))
     each zero l = good-bytes image 0 (s .check) (s .fields)
     each (suc i) l =
-        let live : i < headerOf (block image 0) .held = omega (arith, looked-length (headerOf (block image 0))) in
-        let k : ℕ = slotAt (headerOf (block image 0) .first) i in
-        rw (looked-slot (headerOf (block image 0)) i live) (good-bytes image (blockOf k) (s .slots i live .check) (slot-fields image k ∙ s .slots i live .fields))
+        let z : Header = headerOf (block image 0) in
+        let k : ℕ = slotAt (z .first) i in
+        ⊎-elim
+        (λ (last : i ≡ z .held). rw (last, looked-last z) (good-bytes image requestBlock (s .requests .check) (s .requests .fields)))
+        (λ (live : i < z .held).
+        rw (looked-slot z i live) (good-bytes image (blockOf k) (s .slots i live .check) (slot-fields image k (omega arith) ∙ s .slots i live .fields)))
+        (eq-or-lt-of-le (omega (arith, looked-length z)))
 
 -- ---- what a sound image tells of its state
 pub sound-valid : (image : List ℕ) → IsSound image → Valid (decode image .header) (decode image .labels)
@@ -87,6 +103,20 @@ pub sound-live : (image : List ℕ) → IsSound image → Live image (decode ima
 unfolding decode
 sound-live image s = s .slots
 
+-- no ID that counts stands twice
+pub sound-once : (image : List ℕ) → IsSound image → onceOf (decode image .labels) (storedIds image) ≡ true
+unfolding decode storedIds
+sound-once image s = good-once (labelsOf (block image 0)) (block image requestBlock) (s .requests)
+
+-- so its block 65 is good beside other words under which none does
+pub sound-ids : (image ls : List ℕ) → IsSound image → onceOf ls (storedIds image) ≡ true → IdsGood ls (block image requestBlock)
+unfolding storedIds
+sound-ids image ls s once = good-beside (labelsOf (block image 0)) (block image requestBlock) (s .requests) ls once
+
+-- as under words with fewer Requests
+pub once-fewer : (image ls : List ℕ) → IsSound image → Fewer ls (decode image .labels) → onceOf ls (storedIds image) ≡ true
+once-fewer image ls s f = once-freed ls (decode image .labels) (storedIds image) f (sound-once image s)
+
 -- ---- stored, it is sound again
 -- a slot that is not live
 pub sound-slot : (image : List ℕ) (k : ℕ) (m : List ℕ) → IsSound image → k < slotCount → Storable m → NotLive image k → IsSound (storeSlot image k m)
@@ -100,6 +130,7 @@ sound-slot image k m s room fits idle =
       slots = rw e (λ i l.
           let apart : slotAt (headerOf (block image 0) .first) i ≢ k = idle i l in
           rw (slot-other image (s .size) k room m fits (blockOf (slotAt (headerOf (block image 0) .first) i)) (omega arith)) (s .slots i l));
+      requests = rw (e, slot-other image (s .size) k room m fits requestBlock (omega arith)) (s .requests);
     }
 
 -- that slot is then good itself
@@ -107,52 +138,106 @@ pub slot-good : (image : List ℕ) (k : ℕ) (m : List ℕ) → length image ≡
 slot-good image k m size room s =
     rw (slot-put image size k room m s) (record { check = slotFor-sound m s; fields = slotFor-ok m s })
 
--- block 0, over an image whose live slots are good
-pub sound-store0 : (image : List ℕ) (h : Header) (ls : List ℕ) → length image ≡ imageSize → Fits h → Words wordCount ls → Valid h ls → Live image h → IsSound (store0 image h ls)
-sound-store0 image h ls size fh fl v live =
+-- block 65: an ID at a place where it does not count yet
+pub sound-id : (image : List ℕ) (place : ℕ) (id : MessageId) → IsSound image → Words wordCount (decode image .ids)
+    → isRequest (getD (decode image .labels) place 0) ≡ false → IsSound (storeId image place id)
+unfolding decode
+sound-id image place id s fits dead =
+    let ls : List ℕ = decode image .labels in
+    let xs : List ℕ = set (storedIds image) place (id .0) in
+    let e : block (storeId image place id) 0 ≡ block image 0 = id-other image (s .size) place id 0 (omega arith) in
+    let counted : Words wordCount (openIds ls xs) = rw (open-dead image (s .size) place id dead) fits in
+    let good : IdsGood ls (idBlock xs) =
+    idBlock-good xs (asked-count image (s .size) place id) ls counted (labels-count image) (once-dead image place id dead (sound-once image s)) in
+    record {
+      size = length-storeId image (s .size) place id;
+      check = rw e (s .check);
+      fields = rw e (s .fields);
+      slots = rw e (λ i l.
+          rw (id-other image (s .size) place id (blockOf (slotAt (headerOf (block image 0) .first) i)) (omega arith)) (s .slots i l));
+      requests = rw (e, id-put image (s .size) place id) good;
+    }
+
+-- block 0, over an image whose live slots and block 65 are good
+pub sound-store0 : (image : List ℕ) (h : Header) (ls : List ℕ) → length image ≡ imageSize → Fits h → Words wordCount ls → Valid h ls → Live image h
+    → IdsGood ls (block image requestBlock) → IsSound (store0 image h ls)
+sound-store0 image h ls size fh fl v live good =
     let e : block (store0 image h ls) 0 ≡ block0 h ls = zeroth-put image size h ls in
     let d : headerOf (block0 h ls) ≡ h = header-block0 h ls fh fl in
+    let dl : labelsOf (block0 h ls) ≡ ls = labels-block0 h ls fh fl in
     record {
       size = length-store0 image size h ls;
       check = rw e (block0-sound h ls);
       fields = rw e (valid-fields h ls fh fl v);
       slots = rw (e, d) (λ i l. rw (zeroth-other image size h ls (blockOf (slotAt (h .first) i)) (omega arith)) (live i l));
+      requests = rw (e, dl, zeroth-other image size h ls requestBlock (omega arith)) good;
     }
 
--- ---- the three ways in which a call stores leave a sound image
+-- ---- the ways in which a call stores leave a sound image, where no ID that counts under the new words stands twice
 -- the slot after the last is not live
 pub idle-last : (image : List ℕ) → decode image .header .held < slotCount → NotLive image (slotAt (decode image .header .first) (decode image .header .held))
 idle-last image room i l = omega arith
 
--- one more held, where the new fields keep the rules
-pub sound-accept : (image : List ℕ) (h : Header) (ls m : List ℕ) → IsSound image → Fits h → Words wordCount ls → Valid h ls → Storable m
-    → h .first ≡ decode image .header .first → h .held ≡ decode image .header .held + 1 → decode image .header .held < slotCount
-    → IsSound (store0 (storeSlot image (slotAt (decode image .header .first) (decode image .header .held)) m) h ls)
-sound-accept image h ls m s fh fl v fits ef eh room =
-    let f : ℕ = decode image .header .first in
-    let n : ℕ = decode image .header .held in
-    let k : ℕ = slotAt f n in
-    let low : k < slotCount = omega arith in
-    let t : List ℕ = storeSlot image k m in
-    sound-store0 t h ls (length-storeSlot image (s .size) k low m fits) fh fl v (λ i l.
+-- one more held, in the slot after the last: `t` is the image with that slot stored, and perhaps an ID
+sound-queued : (image t : List ℕ) (h : Header) (ls : List ℕ) → IsSound t → Fits h → Words wordCount ls → Valid h ls
+    → h .first ≡ decode image .header .first → h .held ≡ decode image .header .held + 1 → decode t .header ≡ decode image .header
+    → SlotGood (block t (blockOf (slotAt (decode image .header .first) (decode image .header .held))))
+    → onceOf ls (storedIds t) ≡ true → IsSound (store0 t h ls)
+sound-queued image t h ls s fh fl v ef eh same last once =
+    sound-store0 t h ls (s .size) fh fl v (λ i l.
     rw ef
     (⊎-elim
-    (λ (last : i ≡ n). rw last (slot-good image k m (s .size) low fits))
-    (λ (before : i < n).
-    rw (slot-other image (s .size) k low m fits (blockOf (slotAt f i)) (omega arith)) (sound-live image s i before))
+    (λ (e : i ≡ decode image .header .held). rw e last)
+    (λ (before : i < decode image .header .held). rw same at (sound-live t s) i before)
     (eq-or-lt-of-le (omega arith))))
+    (sound-ids t ls s once)
+
+-- the slot, then block 0
+pub sound-accept : (image : List ℕ) (h : Header) (ls m : List ℕ) → IsSound image → Fits h → Words wordCount ls → Valid h ls → Storable m
+    → h .first ≡ decode image .header .first → h .held ≡ decode image .header .held + 1 → decode image .header .held < slotCount
+    → onceOf ls (storedIds image) ≡ true
+    → IsSound (store0 (storeSlot image (slotAt (decode image .header .first) (decode image .header .held)) m) h ls)
+sound-accept image h ls m s fh fl v fits ef eh room once =
+    let k : ℕ = slotAt (decode image .header .first) (decode image .header .held) in
+    let low : k < slotCount = omega arith in
+    let idle : NotLive image k = idle-last image room in
+    sound-queued image (storeSlot image k m) h ls (sound-slot image k m s low fits idle) fh fl v ef eh
+    (ap (λ (c : Contents). c .header) (decode-slot image (s .size) k low m fits idle))
+    (slot-good image k m (s .size) low fits) (rw (ids-storeSlot image (s .size) k low m fits) once)
+
+-- a Request: the slot, then its ID at a place where none counted, then block 0
+pub sound-ask : (image : List ℕ) (h : Header) (ls m : List ℕ) (place : ℕ) (id : MessageId) → IsSound image → Fits h → Words wordCount ls → Valid h ls → Storable m
+    → Words wordCount (decode image .ids) → isRequest (getD (decode image .labels) place 0) ≡ false → Words wordCount (openIds ls (set (storedIds image) place (id .0)))
+    → h .first ≡ decode image .header .first → h .held ≡ decode image .header .held + 1 → decode image .header .held < slotCount
+    → onceOf ls (set (storedIds image) place (id .0)) ≡ true
+    → IsSound (store0 (storeId (storeSlot image (slotAt (decode image .header .first) (decode image .header .held)) m) place id) h ls)
+sound-ask image h ls m place id s fh fl v fits ids dead words ef eh room once =
+    let k : ℕ = slotAt (decode image .header .first) (decode image .header .held) in
+    let low : k < slotCount = omega arith in
+    let idle : NotLive image k = idle-last image room in
+    let t : List ℕ = storeSlot image k m in
+    let st : IsSound t = sound-slot image k m s low fits idle in
+    let same : decode t ≡ decode image = decode-slot image (s .size) k low m fits idle in
+    let kept : storedIds t ≡ storedIds image = ids-storeSlot image (s .size) k low m fits in
+    let it : Words wordCount (decode t .ids) = rw same ids in
+    let dt : isRequest (getD (decode t .labels) place 0) ≡ false = rw same dead in
+    sound-queued image (storeId t place id) h ls (sound-id t place id st it dt) fh fl v ef eh
+    (ap (λ (c : Contents). c .header) (decode-id t (st .size) place id it dt ∙ same))
+    (rw (id-other t (st .size) place id (blockOf k) (omega arith)) (slot-good image k m (s .size) low fits))
+    (once-storeId t (st .size) place id ls (rw kept words) (fl .count) ∙ rw kept once)
 
 -- the oldest let go
 pub sound-release : (image : List ℕ) (h : Header) (ls : List ℕ) (n : ℕ) → IsSound image → Fits h → Words wordCount ls → Valid h ls
     → n ≤ decode image .header .held → h .first ≡ slotAt (decode image .header .first) n → h .held ≡ decode image .header .held - n
-    → IsSound (store0 image h ls)
-sound-release image h ls n s fh fl v low ef eh =
+    → onceOf ls (storedIds image) ≡ true → IsSound (store0 image h ls)
+sound-release image h ls n s fh fl v low ef eh once =
     sound-store0 image h ls (s .size) fh fl v (λ i l.
     let there : slotAt (h .first) i ≡ slotAt (decode image .header .first) (n + i) = omega arith in
     rw there (sound-live image s (n + i) (omega arith)))
+    (sound-ids image ls s once)
 
 -- block 0 alone
 pub sound-keep : (image : List ℕ) (h : Header) (ls : List ℕ) → IsSound image → Fits h → Words wordCount ls → Valid h ls
-    → h .first ≡ decode image .header .first → h .held ≡ decode image .header .held → IsSound (store0 image h ls)
-sound-keep image h ls s fh fl v ef eh =
-    sound-store0 image h ls (s .size) fh fl v (λ i l. rw ef (sound-live image s i (omega arith)))
+    → h .first ≡ decode image .header .first → h .held ≡ decode image .header .held → onceOf ls (storedIds image) ≡ true → IsSound (store0 image h ls)
+sound-keep image h ls s fh fl v ef eh once =
+    sound-store0 image h ls (s .size) fh fl v (λ i l. rw ef (sound-live image s i (omega arith))) (sound-ids image ls s once)

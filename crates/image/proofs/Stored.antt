@@ -1,30 +1,49 @@
 -- What is stored is what is read again. Assumes nothing.
 use Prim.Native.Nat.{ℕ, _+_, _-_, _*_, _≤_, _<_}
+use mathlib.Core.Bool.{false}
 use mathlib.Core.List.{List, [], _∷_, _++_}
 use mathlib.Core.Logic.{_≢_}
 use mathlib.Core.Path.{_≡_, refl, sym, ap, ap₂, _∙_}
 use native.Mathlib.Omega.{arith}
-use lib.ListN.{length, drop}
+use lib.ListN.{length, drop, set, getD, length-set}
 use Rattle.block.specs.Check.{blockSize}
 use Rattle.block.specs.Run.{Words}
-use Rattle.label_list.specs.Word.{wordCount}
+use Rattle.ft_number.specs.declared.MessageId.{MessageId}
+use Rattle.label_list.specs.Requests.{openIds, onceOf}
+use Rattle.label_list.specs.Word.{wordCount, isRequest}
+use Rattle.label_list.proofs.Counting.{counting-dead}
 use Rattle.block0.specs.declared.Header.{Header}
 use Rattle.block0.specs.Fields.{Fits}
 use Rattle.block0.specs.Layout.{slotCount, headerOf, labelsOf, block0}
 use Rattle.block0.proofs.Written.{length-block0, header-block0, labels-block0}
 use Rattle.message.specs.Storable.{Storable}
+use Rattle.request_ids.specs.Layout.{idsOf, idBlock}
+use Rattle.request_ids.proofs.Counted.{open-idBlock, once-idBlock}
+use Rattle.request_ids.proofs.Written.{length-idBlock}
 use Rattle.slot.specs.Held.{slotFor}
 use Rattle.slot.specs.Layout.{slotMessage}
 use Rattle.slot.proofs.Holding.{length-slotFor, slotFor-message}
 use Rattle.image.specs.Ring.{ring}
-use Rattle.image.specs.Sizes.{block, blockOf, slotAt, imageSize}
-use Rattle.image.specs.State.{NotLive, Contents, slotsOf, decode, storeSlot, store0}
+use Rattle.image.specs.Sizes.{block, blockOf, slotAt, imageSize, requestBlock}
+use Rattle.image.specs.State.{NotLive, Contents, slotsOf, decode, storeSlot, store0, storedIds, storeId}
 use Rattle.image.proofs.Blocks.{length-put, block-put, block-other}
+use Rattle.image.proofs.Ranges.{stored-count}
 use Rattle.image.proofs.Rings.{ring-same, ring-snoc, ring-drop}
 
-pub state-eq : {h h′ : Header} {l l′ : List ℕ} {q q′ : List (List ℕ)} → h ≡ h′ → l ≡ l′ → q ≡ q′
-    → _≡_ {A = Contents} (record { header = h; labels = l; queue = q }) (record { header = h′; labels = l′; queue = q′ })
-state-eq p q r = λ i. record { header = p i; labels = q i; queue = r i }
+pub state-eq : {h h′ : Header} {l l′ x x′ : List ℕ} {q q′ : List (List ℕ)} → h ≡ h′ → l ≡ l′ → x ≡ x′ → q ≡ q′
+    → _≡_ {A = Contents} (record { header = h; labels = l; ids = x; queue = q }) (record { header = h′; labels = l′; ids = x′; queue = q′ })
+state-eq p q r t = λ i. record { header = p i; labels = q i; ids = r i; queue = t i }
+
+-- an image whose block 0, block 65 and live slots are another's stands for the same
+pub decode-same : (t image : List ℕ) → block t 0 ≡ block image 0 → openIds (decode image .labels) (storedIds t) ≡ decode image .ids
+    → ((i : ℕ) → i < decode image .header .held → slotsOf t (slotAt (decode image .header .first) i) ≡ slotsOf image (slotAt (decode image .header .first) i))
+    → decode t ≡ decode image
+unfolding decode
+decode-same t image zeroth ids slots =
+    let h : Header = headerOf (block image 0) in
+    state-eq (ap headerOf zeroth) (ap labelsOf zeroth)
+    (ap (λ (b : List ℕ). openIds (labelsOf b) (storedIds t)) zeroth ∙ ids)
+    (ap (λ (b : List ℕ). ring (slotsOf t) (headerOf b .first) (headerOf b .held)) zeroth ∙ ring-same (slotsOf t) (slotsOf image) (h .first) (h .held) slots)
 
 -- ---- the slot alone
 module _ (image : List ℕ) (size : length image ≡ imageSize) (k : ℕ) (room : k < slotCount) (m : List ℕ) (s : Storable m) where
@@ -55,15 +74,68 @@ module _ (image : List ℕ) (size : length image ≡ imageSize) (k : ℕ) (room 
   unfolding slotsOf
   slots-other j apart = ap slotMessage (slot-other (blockOf j) (omega arith))
 
+  pub ids-storeSlot : storedIds (storeSlot image k m) ≡ storedIds image
+  unfolding storedIds
+  ids-storeSlot = ap idsOf (slot-other requestBlock (omega arith))
+
   -- "With only the slot stored, restore gives the state before the call": the slot is not live
   pub decode-slot : NotLive image k → decode (storeSlot image k m) ≡ decode image
   unfolding decode
   decode-slot idle =
-      let zeroth : block (storeSlot image k m) 0 ≡ block image 0 = slot-other 0 (omega arith) in
-      let h : Header = headerOf (block image 0) in
-      state-eq (ap headerOf zeroth) (ap labelsOf zeroth)
-      (ap (λ (b : List ℕ). ring (slotsOf (storeSlot image k m)) (headerOf b .first) (headerOf b .held)) zeroth
-      ∙ ring-same (slotsOf (storeSlot image k m)) (slotsOf image) (h .first) (h .held) (λ i l. slots-other (slotAt (h .first) i) (idle i l)))
+      decode-same (storeSlot image k m) image (slot-other 0 (omega arith)) (ap (openIds (decode image .labels)) ids-storeSlot)
+      (λ i l. slots-other (slotAt (decode image .header .first) i) (idle i l))
+
+-- ---- block 65 alone
+module _ (image : List ℕ) (size : length image ≡ imageSize) (place : ℕ) (id : MessageId) where
+  asked : List ℕ
+  asked = set (storedIds image) place (id .0)
+
+  pub asked-count : length (set (storedIds image) place (id .0)) ≡ wordCount
+  asked-count = length-set (storedIds image) place (id .0) ∙ stored-count image
+
+  inside65 : requestBlock * blockSize + blockSize ≤ length image
+  inside65 = omega arith
+
+  written65 : length (idBlock asked) ≡ blockSize
+  written65 = length-idBlock asked
+
+  pub length-storeId : length (storeId image place id) ≡ imageSize
+  unfolding storeId asked
+  length-storeId = length-put image requestBlock (idBlock asked) ∙ size
+
+  pub id-put : block (storeId image place id) requestBlock ≡ idBlock (set (storedIds image) place (id .0))
+  unfolding storeId asked
+  id-put = block-put image requestBlock (idBlock asked) inside65 written65
+
+  -- every other block keeps its bytes
+  pub id-other : (c : ℕ) → c ≢ requestBlock → block (storeId image place id) c ≡ block image c
+  unfolding storeId asked
+  id-other c apart = block-other image requestBlock (idBlock asked) inside65 written65 c apart
+
+  pub slots-storeId : (j : ℕ) → j < slotCount → slotsOf (storeId image place id) j ≡ slotsOf image j
+  unfolding slotsOf
+  slots-storeId j l = ap slotMessage (id-other (blockOf j) (omega arith))
+
+  -- the IDs that count under some words: those that the block bears and the new one
+  module _ (ls : List ℕ) (fits : Words wordCount (openIds ls (set (storedIds image) place (id .0)))) where
+    pub open-storeId : openIds ls (storedIds (storeId image place id)) ≡ openIds ls (set (storedIds image) place (id .0))
+    unfolding storedIds
+    open-storeId = ap (λ (b : List ℕ). openIds ls (idsOf b)) id-put ∙ open-idBlock (set (storedIds image) place (id .0)) asked-count ls fits
+
+    pub once-storeId : length ls ≡ wordCount → onceOf ls (storedIds (storeId image place id)) ≡ onceOf ls (set (storedIds image) place (id .0))
+    unfolding storedIds
+    once-storeId n = ap (λ (b : List ℕ). onceOf ls (idsOf b)) id-put ∙ once-idBlock (set (storedIds image) place (id .0)) asked-count ls fits n
+
+  -- 02: "so a cut leaves the state before": the ID does not count yet
+  pub open-dead : isRequest (getD (decode image .labels) place 0) ≡ false → openIds (decode image .labels) (set (storedIds image) place (id .0)) ≡ decode image .ids
+  unfolding decode
+  open-dead dead = counting-dead 0 isRequest (decode image .labels) (storedIds image) place (id .0) dead
+
+  pub decode-id : Words wordCount (decode image .ids) → isRequest (getD (decode image .labels) place 0) ≡ false → decode (storeId image place id) ≡ decode image
+  decode-id fits dead =
+      decode-same (storeId image place id) image (id-other 0 (omega arith))
+      (open-storeId (decode image .labels) (rw (open-dead dead) fits) ∙ open-dead dead)
+      (λ i l. slots-storeId (slotAt (decode image .header .first) i) (omega arith))
 
 -- ---- block 0 alone
 module _ (image : List ℕ) (size : length image ≡ imageSize) (h : Header) (ls : List ℕ) where
@@ -86,49 +158,82 @@ module _ (image : List ℕ) (size : length image ≡ imageSize) (h : Header) (ls
   unfolding store0
   zeroth-other c apart = block-other image 0 (block0 h ls) inside0 written0 c apart
 
+  pub ids-store0 : storedIds (store0 image h ls) ≡ storedIds image
+  unfolding storedIds
+  ids-store0 = ap idsOf (zeroth-other requestBlock (omega arith))
+
   slots-store0 : (j : ℕ) → slotsOf (store0 image h ls) j ≡ slotsOf image j
   unfolding slotsOf
   slots-store0 j = ap slotMessage (zeroth-other (blockOf j) (omega arith))
 
   module _ (fh : Fits h) (fl : Words wordCount ls) where
-    pub decode-store0 : decode (store0 image h ls) ≡ record { header = h; labels = ls; queue = ring (slotsOf image) (h .first) (h .held) }
+    pub decode-store0 : decode (store0 image h ls)
+        ≡ record { header = h; labels = ls; ids = openIds ls (storedIds image); queue = ring (slotsOf image) (h .first) (h .held) }
     unfolding decode
     decode-store0 =
         let e : headerOf (block (store0 image h ls) 0) ≡ h = ap headerOf zeroth-put ∙ header-block0 h ls fh fl in
-        state-eq e (ap labelsOf zeroth-put ∙ labels-block0 h ls fh fl)
+        let el : labelsOf (block (store0 image h ls) 0) ≡ ls = ap labelsOf zeroth-put ∙ labels-block0 h ls fh fl in
+        state-eq e el (ap₂ (λ (x y : List ℕ). openIds x y) el ids-store0)
         (ap (λ (x : Header). ring (slotsOf (store0 image h ls)) (x .first) (x .held)) e
         ∙ ring-same (slotsOf (store0 image h ls)) (slotsOf image) (h .first) (h .held) (λ i l. slots-store0 (slotAt (h .first) i)))
 
--- ---- the three ways in which a call stores
--- one more held: the slot after the last, then block 0
+-- ---- the ways in which a call stores; the IDs that count are those under the new words
+-- one more held, in the slot after the last: `t` is the image with that slot stored, and perhaps an ID
+decode-queued : (image t : List ℕ) (h : Header) (ls m : List ℕ) → length t ≡ imageSize → Fits h → Words wordCount ls
+    → h .first ≡ decode image .header .first → h .held ≡ decode image .header .held + 1 → decode image .header .held < slotCount
+    → slotsOf t (slotAt (decode image .header .first) (decode image .header .held)) ≡ m
+    → ((j : ℕ) → j < slotCount → j ≢ slotAt (decode image .header .first) (decode image .header .held) → slotsOf t j ≡ slotsOf image j)
+    → decode (store0 t h ls) ≡ record { header = h; labels = ls; ids = openIds ls (storedIds t); queue = decode image .queue ++ (m ∷ []) }
+unfolding decode
+decode-queued image t h ls m size fh fl ef eh room put other =
+    let f : ℕ = headerOf (block image 0) .first in
+    let n : ℕ = headerOf (block image 0) .held in
+    decode-store0 t size h ls fh fl
+    ∙ state-eq refl refl refl
+    (ap (λ (x : ℕ). ring (slotsOf t) x (h .held)) ef
+    ∙ ap (λ (x : ℕ). ring (slotsOf t) f x) eh
+    ∙ ring-snoc (slotsOf t) f n
+    ∙ ap₂ (λ (x : List (List ℕ)) (y : List ℕ). x ++ (y ∷ []))
+    (ring-same (slotsOf t) (slotsOf image) f n (λ j l. other (slotAt f j) (omega arith) (omega arith)))
+    put)
+
+-- the slot, then block 0
 pub decode-accept : (image : List ℕ) (h : Header) (ls m : List ℕ) → length image ≡ imageSize → Fits h → Words wordCount ls → Storable m
     → h .first ≡ decode image .header .first → h .held ≡ decode image .header .held + 1 → decode image .header .held < slotCount
     → decode (store0 (storeSlot image (slotAt (decode image .header .first) (decode image .header .held)) m) h ls)
-    ≡ record { header = h; labels = ls; queue = decode image .queue ++ (m ∷ []) }
-unfolding decode
+    ≡ record { header = h; labels = ls; ids = openIds ls (storedIds image); queue = decode image .queue ++ (m ∷ []) }
 decode-accept image h ls m size fh fl s ef eh room =
-    let f : ℕ = headerOf (block image 0) .first in
-    let n : ℕ = headerOf (block image 0) .held in
-    let k : ℕ = slotAt f n in
+    let k : ℕ = slotAt (decode image .header .first) (decode image .header .held) in
     let low : k < slotCount = omega arith in
-    let i : List ℕ = storeSlot image k m in
-    decode-store0 i (length-storeSlot image size k low m s) h ls fh fl
-    ∙ state-eq refl refl
-    (ap (λ (x : ℕ). ring (slotsOf i) x (h .held)) ef
-    ∙ ap (λ (x : ℕ). ring (slotsOf i) f x) eh
-    ∙ ring-snoc (slotsOf i) f n
-    ∙ ap₂ (λ (x : List (List ℕ)) (y : List ℕ). x ++ (y ∷ []))
-    (ring-same (slotsOf i) (slotsOf image) f n (λ j l. slots-other image size k low m s (slotAt f j) (omega arith)))
-    (slots-put image size k low m s))
+    decode-queued image (storeSlot image k m) h ls m (length-storeSlot image size k low m s) fh fl ef eh room
+    (slots-put image size k low m s) (λ j l apart. slots-other image size k low m s j apart)
+    ∙ state-eq refl refl (ap (openIds ls) (ids-storeSlot image size k low m s)) refl
+
+-- a Request: the slot, then its ID, then block 0
+pub decode-ask : (image : List ℕ) (h : Header) (ls m : List ℕ) (place : ℕ) (id : MessageId) → length image ≡ imageSize → Fits h → Words wordCount ls → Storable m
+    → Words wordCount (openIds ls (set (storedIds image) place (id .0)))
+    → h .first ≡ decode image .header .first → h .held ≡ decode image .header .held + 1 → decode image .header .held < slotCount
+    → decode (store0 (storeId (storeSlot image (slotAt (decode image .header .first) (decode image .header .held)) m) place id) h ls)
+    ≡ record { header = h; labels = ls; ids = openIds ls (set (storedIds image) place (id .0)); queue = decode image .queue ++ (m ∷ []) }
+decode-ask image h ls m place id size fh fl s fits ef eh room =
+    let k : ℕ = slotAt (decode image .header .first) (decode image .header .held) in
+    let low : k < slotCount = omega arith in
+    let slot : List ℕ = storeSlot image k m in
+    let long : length slot ≡ imageSize = length-storeSlot image size k low m s in
+    let same : storedIds slot ≡ storedIds image = ids-storeSlot image size k low m s in
+    decode-queued image (storeId slot place id) h ls m (length-storeId slot long place id) fh fl ef eh room
+    (slots-storeId slot long place id k low ∙ slots-put image size k low m s)
+    (λ j l apart. slots-storeId slot long place id j l ∙ slots-other image size k low m s j apart)
+    ∙ state-eq refl refl (open-storeId slot long place id ls (rw same fits) ∙ ap (λ (xs : List ℕ). openIds ls (set xs place (id .0))) same) refl
 
 -- the n oldest let go: block 0
 pub decode-release : (image : List ℕ) (h : Header) (ls : List ℕ) (n : ℕ) → length image ≡ imageSize → Fits h → Words wordCount ls
     → n ≤ decode image .header .held → h .first ≡ slotAt (decode image .header .first) n → h .held ≡ decode image .header .held - n
-    → decode (store0 image h ls) ≡ record { header = h; labels = ls; queue = drop n (decode image .queue) }
+    → decode (store0 image h ls) ≡ record { header = h; labels = ls; ids = openIds ls (storedIds image); queue = drop n (decode image .queue) }
 unfolding decode
 decode-release image h ls n size fh fl low ef eh =
     decode-store0 image size h ls fh fl
-    ∙ state-eq refl refl
+    ∙ state-eq refl refl refl
     (ap (λ (x : ℕ). ring (slotsOf image) x (h .held)) ef
     ∙ ap (λ (x : ℕ). ring (slotsOf image) (slotAt (headerOf (block image 0) .first) n) x) eh
     ∙ sym (ring-drop (slotsOf image) (headerOf (block image 0) .first) (headerOf (block image 0) .held) n low))
@@ -136,8 +241,8 @@ decode-release image h ls n size fh fl low ef eh =
 -- the queue as it was: block 0
 pub decode-keep : (image : List ℕ) (h : Header) (ls : List ℕ) → length image ≡ imageSize → Fits h → Words wordCount ls
     → h .first ≡ decode image .header .first → h .held ≡ decode image .header .held
-    → decode (store0 image h ls) ≡ record { header = h; labels = ls; queue = decode image .queue }
+    → decode (store0 image h ls) ≡ record { header = h; labels = ls; ids = openIds ls (storedIds image); queue = decode image .queue }
 unfolding decode
 decode-keep image h ls size fh fl ef eh =
     decode-store0 image size h ls fh fl
-    ∙ state-eq refl refl (ap₂ (λ (x y : ℕ). ring (slotsOf image) x y) ef eh)
+    ∙ state-eq refl refl refl (ap₂ (λ (x y : ℕ). ring (slotsOf image) x y) ef eh)

@@ -6,25 +6,27 @@ use lib.Dec.{eqb}
 use lib.ListN.{length, replicate}
 use Rattle.octets.specs.Pick.{pick}
 use Rattle.label_list.specs.declared.SweepRule.the-variants.{AfterBreak}
+use Rattle.label_list.specs.Requests.{openIds}
 use Rattle.label_list.specs.Sweep.{sweptOf}
 use Rattle.block0.specs.Layout.{releasedHeader, noLabels}
+use Rattle.request_ids.specs.Layout.{idBlock, noIds}
 use Rattle.image.specs.declared.Verdict.{Verdict}
 use Rattle.image.specs.declared.Verdict.the-variants.{Sound, WrongSize}
-use Rattle.image.specs.Sizes.{imageSize}
+use Rattle.image.specs.Sizes.{imageSize, withBlock, requestBlock}
 use Rattle.image.specs.State.{Contents, decode, store}
 
 -- "Released means block 0 with kept 0": nothing is held, and no label is listed
 abbrev pub releasedContents : Contents
-releasedContents = record { header = releasedHeader; labels = noLabels; queue = [] }
+releasedContents = record { header = releasedHeader; labels = noLabels; ids = noIds; queue = [] }
 
 unfoldable pub releaseOf : List ℕ → List ℕ
 releaseOf image = store image releasedContents
 
--- a new image: block 0 with kept 0, and 64 slots of 512 zeros
+-- a new image: block 0 with kept 0, 64 slots of 512 zeros, and block 65 of zeros with its check
 unfoldable pub newImage : List ℕ
-newImage = store (replicate imageSize 0) releasedContents
+newImage = store (withBlock (replicate imageSize 0) requestBlock (idBlock noIds)) releasedContents
 
--- "12: image not 33,280 bytes"
+-- "12: image not 33,280 bytes"; 02: "12 reads the new size"
 unfoldable pub sizeVerdict : List ℕ → Verdict
 sizeVerdict image = pick (not (eqb (length image) imageSize)) WrongSize Sound
 
@@ -34,7 +36,12 @@ formattedImage image = pick (not (eqb (length image) imageSize)) image newImage
 
 -- "Connection failed ..: code 6 words are freed"
 abbrev pub brokenContents : Contents → Contents
-brokenContents s = record { header = s .header; labels = sweptOf (s .labels) AfterBreak; queue = s .queue }
+brokenContents s = record {
+  header = s .header;
+  labels = sweptOf (s .labels) AfterBreak;
+  ids = openIds (sweptOf (s .labels) AfterBreak) (s .ids);
+  queue = s .queue;
+}
 
 unfoldable pub breakOf : List ℕ → List ℕ
 breakOf image = store image (brokenContents (decode image))

@@ -3,3 +3,4 @@ pub mod Ring
 pub mod State
 pub mod Verdict
 pub mod Events
+pub mod Extend

@@ -1,15 +1,23 @@
 -- The sizes of a stored image, its blocks and its ring of slots.
--- "Stored image: 65 blocks of 512 bytes, 33,280 in all." "Blocks 1 to 64, slots 0 to 63, used in a ring."
+-- "Blocks 1 to 64, slots 0 to 63, used in a ring." 02: "stored in block 65", a further block: 66 blocks of 512 bytes, 33,792 in all.
 use Prim.Native.Nat.{ℕ, _+_, _*_, _%_}
-use mathlib.Core.List.{List}
+use mathlib.Core.List.{List, [], _∷_}
+use lib.ListN.{length}
 use Rattle.octets.specs.Laid.{laid}
 use Rattle.octets.specs.Part.{part}
 use Rattle.block.specs.Check.{blockSize}
 use Rattle.block0.specs.Layout.{slotCount}
 
--- block 0, and a block for each slot
+-- the further blocks, behind the slots: the IDs of open Requests
+abbrev pub requestBlock : ℕ
+requestBlock = 1 + slotCount
+
+abbrev pub further : List ℕ
+further = requestBlock ∷ []
+
+-- block 0, a block for each slot, and the further ones
 abbrev pub blockCount : ℕ
-blockCount = 1 + slotCount
+blockCount = 1 + slotCount + length further
 
 abbrev pub imageSize : ℕ
 imageSize = blockCount * blockSize

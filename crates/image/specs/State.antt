@@ -1,32 +1,42 @@
--- The state that an image stands for, and the two stages in which it is stored.
+-- The state that an image stands for, and the three stages in which it is stored.
 use Prim.Native.Nat.{_<_, ℕ, _*_}
 use mathlib.Core.List.{List}
 use mathlib.Core.Logic.{_≢_}
+use lib.ListN.{set}
 use Rattle.block.specs.Check.{blockSize}
 use Rattle.block.specs.Run.{Words}
+use Rattle.ft_number.specs.declared.MessageId.{MessageId}
+use Rattle.label_list.specs.Requests.{openIds}
 use Rattle.label_list.specs.Word.{wordCount}
 use Rattle.block0.specs.declared.Header.{Header}
 use Rattle.block0.specs.Fields.{Fits}
 use Rattle.block0.specs.Layout.{headerOf, labelsOf, block0}
+use Rattle.request_ids.specs.Layout.{idsOf, idBlock}
 use Rattle.slot.specs.Held.{slotFor}
 use Rattle.slot.specs.Layout.{slotMessage}
 use Rattle.image.specs.Ring.{ring}
-use Rattle.image.specs.Sizes.{block, withBlock, blockOf, slotAt}
+use Rattle.image.specs.Sizes.{requestBlock, block, withBlock, blockOf, slotAt}
 
--- the numbers of block 0, its label words, and the messages held, the oldest first
+-- the numbers of block 0, its label words, the IDs of open Requests beside them, and the messages held, the oldest first
 pub record Contents : Type 0 where
   pub header : Header
   pub labels : List ℕ
+  pub ids : List ℕ
   pub queue : List (List ℕ)
 
 -- the message of slot k, live or not
 unfoldable pub slotsOf : List ℕ → ℕ → List ℕ
 slotsOf image k = slotMessage (block image (blockOf k))
 
+-- the IDs that block 65 bears; 02: "an ID counts only under code 7"
+unfoldable pub storedIds : List ℕ → List ℕ
+storedIds image = idsOf (block image requestBlock)
+
 unfoldable pub decode : List ℕ → Contents
 decode image = record {
   header = headerOf (block image 0);
   labels = labelsOf (block image 0);
+  ids = openIds (labelsOf (block image 0)) (storedIds image);
   queue = ring (slotsOf image) (headerOf (block image 0) .first) (headerOf (block image 0) .held);
 }
 
@@ -45,6 +55,10 @@ NotLive image k = (i : ℕ) → i < decode image .header .held → slotAt (decod
 unfoldable pub storeSlot : List ℕ → ℕ → List ℕ → List ℕ
 storeSlot image k m = withBlock image (blockOf k) (slotFor m)
 
+-- .. 02: "stored in block 65 .. before block 0": then the ID of a Request at its place; the others stay ..
+unfoldable pub storeId : List ℕ → ℕ → MessageId → List ℕ
+storeId image place id = withBlock image requestBlock (idBlock (set (storedIds image) place (id .0)))
+
 -- .. then block 0
 unfoldable pub store0 : List ℕ → Header → List ℕ → List ℕ
 store0 image h ls = withBlock image 0 (block0 h ls)
@@ -56,3 +70,4 @@ store image s = store0 image (s .header) (s .labels)
 pub record InRange (s : Contents) : Type 0 where
   pub header : Fits (s .header)
   pub labels : Words wordCount (s .labels)
+  pub ids : Words wordCount (s .ids)

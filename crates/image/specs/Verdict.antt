@@ -1,7 +1,7 @@
--- Restore's checks. "Restore checks size, block 0, its fields, then live slots in ring order: check, then fields."
+-- Restore's checks. "Restore checks size, block 0, its fields, then live slots in ring order: check, then fields." 02: block 65 is "checked after the slots".
 use Prim.Native.Nat.{ℕ, _<_}
 use mathlib.Core.Bool.{Bool, true, not}
-use mathlib.Core.List.{List, [], _∷_}
+use mathlib.Core.List.{List, [], _∷_, _++_}
 use mathlib.Core.Path.{_≡_}
 use lib.Dec.{eqb}
 use lib.ListN.{length}
@@ -10,23 +10,26 @@ use Rattle.block.specs.Check.{sound}
 use Rattle.label_list.specs.Find.{any}
 use Rattle.block0.specs.declared.Header.{Header}
 use Rattle.block0.specs.Fields.{fieldsOk}
-use Rattle.block0.specs.Layout.{headerOf}
+use Rattle.block0.specs.Layout.{headerOf, labelsOf}
+use Rattle.request_ids.specs.Fields.{idsOk, IdsGood}
 use Rattle.slot.specs.Fields.{slotOk}
 use Rattle.image.specs.declared.Judgement.{Judgement}
 use Rattle.image.specs.declared.Judgement.the-variants.{Good, BadCheck, BadFields, Idle}
 use Rattle.image.specs.declared.Verdict.{Verdict}
 use Rattle.image.specs.declared.Verdict.the-variants.{Sound, WrongSize, BadBlock, BadField}
 use Rattle.image.specs.Ring.{ring}
-use Rattle.image.specs.Sizes.{imageSize, slotAt, block, blockOf}
+use Rattle.image.specs.Sizes.{imageSize, slotAt, block, blockOf, further, requestBlock}
 
 -- ---- the judgement of a block
--- the blocks that are looked at, in this order: block 0, then the live slots that it names. "Slots that aren't live are not looked at."
+-- the blocks that are looked at, in this order: block 0, the live slots that it names, then the further blocks. "Slots that aren't live are not looked at."
 abbrev pub looked : Header → List ℕ
-looked h = 0 ∷ ring blockOf (h .first) (h .held)
+looked h = 0 ∷ (ring blockOf (h .first) (h .held) ++ further)
 
--- the fields of block b are right: block 0's, or a slot's
+-- the fields of block b are right: block 0's, a slot's, or block 65's beside the label words
 abbrev pub fieldsRight : List ℕ → ℕ → Bool
-fieldsRight image b = pick (eqb b 0) (fieldsOk (block image b)) (slotOk (block image b))
+fieldsRight image b =
+    pick (eqb b 0) (fieldsOk (block image b))
+    (pick (eqb b requestBlock) (idsOk (labelsOf (block image 0)) (block image b)) (slotOk (block image b)))
 
 -- the judgement of block b by its bytes: "check, then fields"
 unfoldable pub bytesJudged : List ℕ → ℕ → Judgement
@@ -59,7 +62,7 @@ firstFault judgement (b ∷ rest) = faultThen (judgement b) b (firstFault judgem
 unfoldable pub verdict : List ℕ → Verdict
 verdict image = pick (not (eqb (length image) imageSize)) WrongSize (firstFault (blockJudged image) (looked (headerOf (block image 0))))
 
--- the answer's number: "10 bad block, with its number; 11 bad field, with block number; 12 image not 33,280 bytes"
+-- the answer's number: "10 bad block, with its number; 11 bad field, with block number; 12 image not 33,792 bytes"
 abbrev pub verdictNumber : Verdict → ℕ
 verdictNumber Sound = 0
 verdictNumber WrongSize = 12
@@ -84,3 +87,4 @@ pub record IsSound (image : List ℕ) : Type 0 where
   pub check : sound (block image 0) ≡ true
   pub fields : fieldsOk (block image 0) ≡ true
   pub slots : (i : ℕ) → i < headerOf (block image 0) .held → SlotGood (block image (blockOf (slotAt (headerOf (block image 0) .first) i)))
+  pub requests : IdsGood (labelsOf (block image 0)) (block image requestBlock)

@@ -1,7 +1,7 @@
 // What is made of a whole image: a new one, one released, one as after a break.
 ghost use mathlib.Core.Path.{_≡_};
 ghost use lib.ListN.{length};
-ghost use Rattle.block0.specs.Unprotected.{unprotected};
+ghost use Rattle.block0.specs.Coded.{unprotected};
 ghost use Rattle.image.specs.Events.{sizeVerdict, formattedImage, releaseOf, breakOf};
 ghost use Rattle.image.specs.Sizes.{imageSize};
 ghost use Rattle.image.specs.State.{decode};
@@ -16,7 +16,7 @@ pub fn release(image: &mut [u8])
     block0::write_released(&mut image[0..block::BLOCK_SIZE]);
 }
 
-// A new image: released, with slots of zeros. Bytes of another size are left as they are (12).
+// A new image: released, with slots of zeros and no ID. Bytes of another size are left as they are (12).
 pub fn format(image: &mut [u8]) -> Verdict
     ensures { λ r. ⌜ (r ≡ sizeVerdict (now (image .entry))) × (now (image .exit) ≡ formattedImage (now (image .entry))) ⌝ }
 {
@@ -24,6 +24,7 @@ pub fn format(image: &mut [u8]) -> Verdict
         return Verdict::WrongSize;
     }
     octets::zero_to(image, 0, crate::IMAGE_SIZE);
+    crate::clear_ids(image);
     release(image);
     Verdict::Sound
 }

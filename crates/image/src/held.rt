@@ -30,7 +30,7 @@ pub fn held_message(image: &[u8], i: usize) -> &[u8]
     slot::message_of(held_slot(image, i))
 }
 
-// The number of its kind, 1 to 6, as Submit judges it.
+// The number of its kind, 1 to 9, as Submit judges it.
 pub fn held_kind(image: &[u8], i: usize) -> u8
     requires { ⌜ IsSound (now image) × (i < decode (now image) .header .held) ⌝ }
     ensures { λ r. ⌜ r ≡ kindIn (submissionOf (getD (decode (now (image .entry)) .queue) i [])) ⌝ }

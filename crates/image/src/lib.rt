@@ -1,28 +1,34 @@
-// The stored image: 65 blocks of 512 bytes. Block 0 holds the session's numbers and label words, the others are slots of a ring.
+// The stored image: 66 blocks of 512 bytes. Block 0 holds the session's numbers and label words, blocks 1 to 64 are slots of a ring, block 65 holds the
+// IDs of open Requests.
 ghost use Prim.Native.Nat.{_+_, _*_, _≤_, _<_};
 ghost use mathlib.Core.Path.{_≡_};
 ghost use lib.ListN.{length, getD, set};
 ghost use Rattle.block.specs.Check.{blockSize};
 ghost use Rattle.label_list.specs.Word.{wordCount};
-ghost use Rattle.block0.specs.Layout.{slotCount};
+ghost use Rattle.block0.specs.Layout.{slotCount, labelsOf};
 ghost use Rattle.message.specs.declared.Submission.the-variants.{Accepted};
 ghost use Rattle.message.specs.Storable.{longest};
 ghost use Rattle.message.specs.Submission.{submissionOf};
+ghost use Rattle.request_ids.specs.Fields.{idsOk};
+ghost use Rattle.request_ids.specs.Layout.{idBlock, noIds};
 ghost use Rattle.image.specs.Ring.{ring};
-ghost use Rattle.image.specs.Sizes.{blockCount, imageSize, block, blockOf};
-ghost use Rattle.image.specs.State.{decode, storeSlot, store0};
+ghost use Rattle.image.specs.Sizes.{requestBlock, further, blockCount, imageSize, block, withBlock, blockOf};
+ghost use Rattle.image.specs.State.{storedIds, decode, storeSlot, storeId, store0};
 ghost use Rattle.image.specs.Verdict.{bytesJudged, firstFault, verdict, verdictNumber, verdictBlock};
 use block0::Header;
+use ft_number::MessageId;
 use message::Kind;
 use slot::SlotVerdict;
 
 mod events;
+mod extending;
 mod held;
 
 pub use events::format;
 pub use events::free_unprotected;
 pub use events::has_unprotected;
 pub use events::release;
+pub use extending::extend;
 pub use held::held_kind;
 pub use held::held_label;
 pub use held::held_message;
@@ -43,10 +49,12 @@ pub enum Judgement {
     Idle,
 }
 
-// The slots of the ring; the blocks of the image, block 0 and the slots; its size.
+// The slots of the ring; the block of the IDs behind them; the blocks of the image; its size.
 pub const SLOT_COUNT: usize = block0::SLOT_COUNT as usize;
 
-const BLOCK_COUNT: usize = 1 + SLOT_COUNT;
+pub const REQUEST_BLOCK: usize = 1 + SLOT_COUNT;
+
+const BLOCK_COUNT: usize = REQUEST_BLOCK + 1;
 
 pub const IMAGE_SIZE: usize = BLOCK_COUNT * block::BLOCK_SIZE;
 
@@ -113,8 +121,37 @@ fn scan_slots(image: &[u8], first: usize, held: usize) -> Verdict
     Verdict::Sound
 }
 
+// Whether block 65's fields are right beside the label words. These are read only where one of them has a Request's code.
+fn requests_are_valid(image: &[u8]) -> bool
+    requires { ⌜ length (now image) ≡ imageSize ⌝ }
+    ensures { λ r. ⌜ r ≡ idsOk (labelsOf (block (now (image .entry)) 0)) (block (now (image .entry)) requestBlock) ⌝ }
+{
+    let block = block_at(image, REQUEST_BLOCK);
+    let zeroth = block_at(image, 0);
+    if !block0::has_requests(zeroth) {
+        return request_ids::rest_is_zero(block);
+    }
+    let mut words = [0u32; label_list::WORD_COUNT];
+    block0::read_labels(zeroth, &mut words);
+    request_ids::ids_are_valid(block, &words)
+}
+
+// Block 65: its check, then its fields.
+fn judge_requests(image: &[u8]) -> Verdict
+    requires { ⌜ length (now image) ≡ imageSize ⌝ }
+    ensures { λ r. ⌜ r ≡ firstFault (bytesJudged (now (image .entry))) further ⌝ }
+{
+    if !request_ids::is_sound(block_at(image, REQUEST_BLOCK)) {
+        return Verdict::BadBlock(REQUEST_BLOCK);
+    }
+    if !requests_are_valid(image) {
+        return Verdict::BadField(REQUEST_BLOCK);
+    }
+    Verdict::Sound
+}
+
 // Restore's checks of any bytes, in the paper's order: size (12), block 0's check (10), its fields (11), then each live slot in ring order,
-// check before fields. Slots that are not live are not looked at; each block is summed once, and after a fault none is read.
+// then block 65, check before fields. Slots that are not live are not looked at; each block is summed once, and after a fault none is read.
 pub fn check_image(image: &[u8]) -> Verdict
     ensures { λ r. ⌜ r ≡ verdict (now (image .entry)) ⌝ }
 {
@@ -129,7 +166,12 @@ pub fn check_image(image: &[u8]) -> Verdict
         return Verdict::BadField(0);
     }
     let h = block0::read_header(zeroth);
-    scan_slots(image, wide(h.first), wide(h.held))
+    match scan_slots(image, wide(h.first), wide(h.held)) {
+        Verdict::Sound => judge_requests(image),
+        Verdict::WrongSize => Verdict::WrongSize,
+        Verdict::BadBlock(b) => Verdict::BadBlock(b),
+        Verdict::BadField(b) => Verdict::BadField(b),
+    }
 }
 
 // The numbers of block 0.
@@ -156,6 +198,22 @@ pub fn label_at(image: &[u8], place: usize) -> u32
     block0::read_label(block_at(image, 0), place)
 }
 
+// The IDs that block 65 bears, those that count and those that do not.
+pub fn ids_of(image: &[u8], ids: &mut [u32])
+    requires { ⌜ (length (now image) ≡ imageSize) × (length (now ids) ≡ wordCount) ⌝ }
+    ensures { λ _. ⌜ now (ids .exit) ≡ storedIds (now (image .entry)) ⌝ }
+{
+    request_ids::read_ids(block_at(image, REQUEST_BLOCK), ids)
+}
+
+// The ID at a place; it counts where the label word there is an open Request's.
+pub fn id_at(image: &[u8], place: usize) -> u32
+    requires { ⌜ (length (now image) ≡ imageSize) × (place < wordCount) ⌝ }
+    ensures { λ r. ⌜ r ≡ getD (storedIds (now (image .entry))) place 0 ⌝ }
+{
+    request_ids::read_id(block_at(image, REQUEST_BLOCK), place)
+}
+
 // First stage: stores a message that Submit takes in slot k, with its kind and label; every other block stays.
 pub fn store_slot(image: &mut [u8], k: usize, m: &[u8], kind: Kind, label: u32)
     requires { ⌜ (length (now image) ≡ imageSize) × (k < slotCount) × (length (now m) ≤ longest) × (submissionOf (now m) ≡ Accepted kind label) ⌝ }
@@ -165,7 +223,25 @@ pub fn store_slot(image: &mut [u8], k: usize, m: &[u8], kind: Kind, label: u32)
     slot::write_slot(&mut image[start..start + block::BLOCK_SIZE], m, kind, label);
 }
 
-// Second stage: stores block 0; every slot stays.
+// Second stage: stores the ID of a Request at its place of block 65; every other block stays.
+pub fn store_id(image: &mut [u8], place: usize, id: MessageId)
+    requires { ⌜ (length (now image) ≡ imageSize) × (place < wordCount) ⌝ }
+    ensures { λ _. ⌜ now (image .exit) ≡ storeId (now (image .entry)) place id ⌝ }
+{
+    let start = REQUEST_BLOCK * block::BLOCK_SIZE;
+    request_ids::write_id(&mut image[start..start + block::BLOCK_SIZE], place, id);
+}
+
+// Stores block 65 with no IDs; every other block stays.
+fn clear_ids(image: &mut [u8])
+    requires { ⌜ length (now image) ≡ imageSize ⌝ }
+    ensures { λ _. ⌜ now (image .exit) ≡ withBlock (now (image .entry)) requestBlock (idBlock noIds) ⌝ }
+{
+    let start = REQUEST_BLOCK * block::BLOCK_SIZE;
+    request_ids::write_none(&mut image[start..start + block::BLOCK_SIZE]);
+}
+
+// Last stage: stores block 0; every other block stays.
 pub fn store_block0(image: &mut [u8], h: Header, labels: &[u32])
     requires { ⌜ (length (now image) ≡ imageSize) × (length (now labels) ≡ wordCount) ⌝ }
     ensures { λ _. ⌜ now (image .exit) ≡ store0 (now (image .entry)) h (now (labels .entry)) ⌝ }
@@ -173,7 +249,7 @@ pub fn store_block0(image: &mut [u8], h: Header, labels: &[u32])
     block0::write_block0(&mut image[0..block::BLOCK_SIZE], h, labels);
 }
 
-// The second stage where the label words stay.
+// The last stage where the label words stay.
 pub fn store_header(image: &mut [u8], h: Header)
     requires { ⌜ length (now image) ≡ imageSize ⌝ }
     ensures { λ _. ⌜ now (image .exit) ≡ store0 (now (image .entry)) h (decode (now (image .entry)) .labels) ⌝ }
@@ -181,7 +257,7 @@ pub fn store_header(image: &mut [u8], h: Header)
     block0::write_header(&mut image[0..block::BLOCK_SIZE], h);
 }
 
-// The second stage where one label word changes.
+// The last stage where one label word changes.
 pub fn store_label(image: &mut [u8], h: Header, place: usize, word: u32)
     requires { ⌜ (length (now image) ≡ imageSize) × (place < wordCount) ⌝ }
     ensures { λ _. ⌜ now (image .exit) ≡ store0 (now (image .entry)) h (set (decode (now (image .entry)) .labels) place word) ⌝ }

@@ -1,4 +1,4 @@
--- What the image printer says of an image. "(numbers, counts, words not zero as read, code 6 included). A refused image gives one line".
+-- What the image printer says of an image. "(numbers, counts, words not zero as read, code 6 included). A refused image gives one line". So an open Request counts too.
 use Prim.Native.Nat.{ℕ, _-_}
 use mathlib.Core.Bool.{not}
 use mathlib.Core.List.{List}

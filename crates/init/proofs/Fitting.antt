@@ -9,11 +9,11 @@ use Rattle.ft_number.specs.declared.Ack.{Ack}
 use Rattle.ft_number.specs.Ack.{ackOf}
 use Rattle.ft_number.specs.Circle.{stepsOf}
 use Rattle.ft_number.proofs.Circle.{Acknowledged, ack-releases}
-use Rattle.block0.specs.declared.Header.{Header}
-use Rattle.block0.specs.Fields.{atMost}
 use Rattle.tlv.specs.declared.FtField.{FtField}
 use Rattle.tlv.specs.declared.Parameters.{Parameters}
 use Rattle.tlv.specs.declared.Session.{Session}
+use Rattle.block0.specs.declared.Header.{Header}
+use Rattle.block0.specs.Fields.{atMost}
 use Rattle.message.specs.declared.Reading.{Reading}
 use Rattle.protocol.specs.declared.Terms.{Terms}
 use Rattle.protocol.specs.Init.{termsOf, resumedBy, equalParameters, bothSet, peerSet, sessionStart, parametersStart, startOf}

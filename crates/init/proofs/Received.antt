@@ -52,7 +52,7 @@ module _ (im : List ℕ) (ph : Phase) (m : List ℕ) where
       module _ (w : awaits ph ≡ true) {h : Header} {p : ℕ} {rd : Reading} {st : Start} (eh : h ≡ decode im .header) (ep : p ≡ proposalOf ph) (er : rd ≡ readingOf m)
           (es : st ≡ startOf (stateOfNumbers h) p rd) where
         start-is : st ≡ initStart (stateOf im) ph m
-        start-is = es ∙ rw (eh, ep, er) (start-alone (decode im .header) (decode im .labels) (decode im .queue) (proposalOf ph) (readingOf m))
+        start-is = es ∙ rw (eh, ep, er) (start-alone (decode im .header) (decode im .labels) (decode im .ids) (decode im .queue) (proposalOf ph) (readingOf m))
 
         pub init-fits : IsSound im → StartFits (decode im .header .held) st
         init-fits s = rw (es, eh) (start-fits (decode im .header) (sound-valid im s .window) p rd)

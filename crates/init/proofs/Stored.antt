@@ -3,12 +3,12 @@ use Prim.Native.Nat.{ℕ, _-_}
 use mathlib.Core.Bool.{Bool}
 use mathlib.Core.List.{List, []}
 use mathlib.Core.Path.{_≡_, refl, _∙_, sym, ap}
-use lib.ListN.{take}
+use lib.ListN.{take, length}
 use Rattle.octets.specs.Differ.{differ}
 use Rattle.octets.specs.Laid.{laid}
 use Rattle.block0.specs.declared.Header.{Header}
 use Rattle.block0.specs.Updates.{headerReleased, headerTimeout}
-use Rattle.image.specs.Sizes.{block, slotAt}
+use Rattle.image.specs.Sizes.{block, requestBlock, slotAt, imageSize}
 use Rattle.image.specs.State.{decode, store0}
 use Rattle.image.specs.Verdict.{IsSound}
 use Rattle.protocol.specs.declared.Answer.{Answer}
@@ -17,12 +17,13 @@ use Rattle.protocol.specs.declared.Start.{Start}
 use Rattle.protocol.specs.declared.Terms.{Terms}
 use Rattle.protocol.specs.Acked.{releasedLabels, acked}
 use Rattle.protocol.specs.Init.{resumed, startPhase, startState}
-use Rattle.protocol.specs.State.{releasedState}
+use Rattle.protocol.specs.State.{releasedState, State}
 use Rattle.calls.specs.declared.Outcome.{Outcome}
-use Rattle.calls.specs.Outcomes.{afterWith, releasedOn}
+use Rattle.calls.specs.Outcomes.{afterWith, releasedOn, furtherBits}
 use Rattle.calls.specs.State.{stateOf}
 use Rattle.calls.specs.Storing.{empty, fewer, headerFor, slotNamed, stored}
 use Rattle.calls.proofs.Acknowledged.{header-acked}
+use Rattle.calls.proofs.Further.{further-none}
 use Rattle.init.specs.Received.{startSlots, begunOn}
 
 -- ---- resumed; the premises are what the callees ensure
@@ -57,8 +58,15 @@ slotless im Start.Plain = refl
 slotless im (Start.Fresh t) = refl
 slotless im (Start.Resumed t k a) = refl
 
-pub begun-is : (im : List ℕ) (ph : Phase) (st : Start) {im′ : List ℕ} {next : Phase} {b : Bool} → im′ ≡ stored im (startSlots st) (startState (stateOf im) st)
-    → next ≡ startPhase ph st → b ≡ differ (block im 0) (block im′ 0)
-    → afterWith (record { answer = Answer.Done; phase = next; written = 0; slot = 0; block0 = b }) im′ [] ≡ begunOn im ph st
+-- block 65 keeps its bytes
+idless : (im : List ℕ) → length im ≡ imageSize → (st : Start) (s : State) → furtherBits (differ (block im requestBlock) (block (stored im (startSlots st) s) requestBlock)) ≡ 0
+idless im size (Start.Refused a) s = further-none im size _ _
+idless im size Start.Plain s = further-none im size _ _
+idless im size (Start.Fresh t) s = further-none im size _ _
+idless im size (Start.Resumed t k a) s = further-none im size _ _
+
+pub begun-is : (im : List ℕ) → length im ≡ imageSize → (ph : Phase) (st : Start) {im′ : List ℕ} {next : Phase} {b : Bool}
+    → im′ ≡ stored im (startSlots st) (startState (stateOf im) st) → next ≡ startPhase ph st → b ≡ differ (block im 0) (block im′ 0)
+    → afterWith (record { answer = Answer.Done; phase = next; written = 0; slot = 0; block0 = b; further = 0 }) im′ [] ≡ begunOn im ph st
 unfolding begunOn laid
-begun-is im ph st ei en eb = rw (eb, ei, en, ← slotless im st)
+begun-is im size ph st ei en eb = rw (eb, ei, en, ← slotless im st, idless im size st (startState (stateOf im) st))

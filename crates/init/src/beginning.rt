@@ -51,7 +51,7 @@ fn proposal_of(phase: Phase) -> u16
     }
 }
 
-// A fresh session: kept 1, the terms, and nothing else. Whether block 0 changed.
+// A fresh session: kept 1, the terms, and nothing else. The IDs in block 65 stay: without a Request's word none counts. Whether block 0 changed.
 fn store_fresh(image: &mut [u8], terms: Terms) -> bool
     requires { ⌜ IsSound (now image) ⌝ }
     ensures { λ r. ⌜ (now (image .exit) ≡ stored (now (image .entry)) empty (fresh terms)) × (r ≡ differ (block (now (image .entry)) 0) (block (now (image .exit)) 0)) ⌝ }
@@ -64,6 +64,7 @@ fn store_fresh(image: &mut [u8], terms: Terms) -> bool
         held: 0,
         timeout: terms.timeout,
         kept: 1,
+        marks: 0,
         keepalive: terms.keepalive,
         maxpdu: terms.maxpdu,
     };
@@ -134,6 +135,7 @@ fn begin(image: &mut [u8], phase: Phase, start: Start) -> Outcome
         written: 0,
         slot: 0,
         block0: store_start(image, start),
+        further: 0,
     }
 }
 

@@ -1,2 +1,5 @@
 pub mod Written
 pub mod Planned
+pub mod Asked
+pub mod Ended
+pub mod Received

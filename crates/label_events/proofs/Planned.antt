@@ -18,7 +18,7 @@ use Rattle.label_list.specs.declared.Side.{Side}
 use Rattle.label_list.specs.Find.{findOf, FoundIn}
 use Rattle.label_list.specs.Protection.{codeProtection}
 use Rattle.label_list.specs.Rules.{sentSide, receivedSide, codeAccepted, codeAcked, codeReceived}
-use Rattle.label_list.specs.Word.{labelCount, codeOf, wordOf, isFree, listable, standsFor}
+use Rattle.label_list.specs.Word.{labelCount, codeOf, wordOf, listable, standsFor}
 use Rattle.label_list.proofs.Reached.{found-in, found-passes}
 use Rattle.label_list.proofs.Standing.{within-in, within-below, within-above, stands-parts}
 use Rattle.label_events.specs.declared.Acceptance.{Acceptance}
@@ -27,15 +27,14 @@ use Rattle.label_events.specs.declared.Change.{Change}
 use Rattle.label_events.specs.declared.Change.the-variants.{Keep, Put, NoRoom}
 use Rattle.label_events.specs.declared.Plan.{Plan}
 use Rattle.label_events.specs.declared.Plan.the-variants.{Allowed, Refused}
-use Rattle.label_events.specs.declared.Reception.{Reception}
-use Rattle.label_events.specs.declared.Reception.the-variants.{Taken}
 use Rattle.label_events.specs.declared.Touched.{Touched}
 use Rattle.label_events.specs.declared.Touched.the-variants.{Label, Every, Nothing}
 use Rattle.label_events.specs.Accept.{planBy, planOf, acceptanceOf, acceptedOf, planChange, acceptedBy}
 use Rattle.label_events.specs.Ack.{ackedAt, ackedOf}
 use Rattle.label_events.specs.Change.{ChangeIn, codeIn, codeAt, changeAt, changed}
 use Rattle.label_events.specs.Protect.{protectionOf}
-use Rattle.label_events.specs.Receive.{receivedPlace, receivedChange, receptionOf, everyReceived, receivedOf}
+use Rattle.label_events.specs.Receive.{receivedPlace, receivedChange}
+use Rattle.label_events.specs.Requests.{roomAt}
 use Rattle.label_events.proofs.Written.{change-of-in}
 
 -- A change, by what the two searches found.
@@ -67,9 +66,15 @@ listable-low label h = sym (within-below 16 1048575 label h)
 listable-high : (label : ℕ) → labelCount ≤ label → listable label ≡ false
 listable-high label h = sym (within-above 16 1048575 label (omega arith) (omega arith))
 
-abbrev PlanIn : List ℕ → Plan → Type 0
+-- A plan writes inside the list; so does the change told of it, which makes the list afterwards.
+abbrev pub PlanIn : List ℕ → Plan → Type 0
 PlanIn words (Allowed change) = ChangeIn words change
 PlanIn words Refused = Unit {0}
+
+pub told : (words : List ℕ) (p : Plan) → PlanIn words p → (acceptedBy words p .1 ≡ changed words (planChange p)) × ChangeIn words (planChange p)
+unfolding changed
+told words (Allowed change) h = (refl, h)
+told words Refused h = (refl, tt)
 
 -- A message of ours: its plan, and what becomes of it.
 module _ (words : List ℕ) (message : LabelMessage) (label : ℕ) where
@@ -87,7 +92,8 @@ module _ (words : List ℕ) (message : LabelMessage) (label : ℕ) where
     unfolding planOf
     plan-is = rw (listable-yes label low high, en, ec, ef, es)
 
-    pub plan-allowed : {code : ℕ} {change : Change} → n ≡ Code code → change ≡ changeAt f (findOf isFree words) label code → Allowed change ≡ planOf words message label
+    pub plan-allowed : {code : ℕ} {change : Change} → n ≡ Code code → change ≡ changeAt f (roomAt Nowhere words) label code → Allowed change ≡ planOf words message label
+    unfolding roomAt
     plan-allowed e ex = rw (ex, ef) (rw e at plan-is)
 
     pub plan-refused : n ≡ Next.NotAllowed → Refused ≡ planOf words message label
@@ -116,19 +122,9 @@ module _ (words : List ℕ) (message : LabelMessage) (label : ℕ) where
   unfolding acceptedOf
   refused-is e g = (rw (← e, g), rw (← e, g), rw (← e, g))
 
-  -- the change told makes the list, and writes inside it
-  told-in : (p : Plan) → PlanIn words p → ChangeIn words (planChange p)
-  told-in (Allowed change) h = h
-  told-in Refused h = tt
-
-  told-makes : (p : Plan) → acceptedBy words p .1 ≡ changed words (planChange p)
-  unfolding changed
-  told-makes (Allowed change) = refl
-  told-makes Refused = refl
-
   pub told-change : {change : Change} → change ≡ planChange (planOf words message label) → (acceptedOf words message label .1 ≡ changed words change) × ChangeIn words change
   unfolding acceptedOf
-  told-change e = (rw e (told-makes (planOf words message label)), rw e (told-in (planOf words message label) plan-inside))
+  told-change e = rw e (told words (planOf words message label) plan-inside)
 
   -- an ACK of it
   module _ {s : Side} {f : Found} (es : s ≡ sentSide message) (ef : f ≡ findOf (standsFor s label) words) where
@@ -155,37 +151,17 @@ pub protection-label : (words : List ℕ) (message : LabelMessage) (protected : 
 unfolding receivedPlace protectionOf
 protection-label words message protected label et ef ec ep = ep ∙ rw (ec, ef, et)
 
-module _ (words : List ℕ) (message : LabelMessage) (protected : Bool) where
-  module _ (label : ℕ) where
-    pub received-low : label < 16 → Keep ≡ receivedChange words message protected label
-    unfolding receivedChange
-    received-low h = rw (listable-low label h)
+module _ (words : List ℕ) (room : Found) (message : LabelMessage) (protected : Bool) (label : ℕ) where
+  pub received-low : label < 16 → Keep ≡ receivedChange words room message protected label
+  unfolding receivedChange
+  received-low h = rw (listable-low label h)
 
-    pub received-high : labelCount ≤ label → Keep ≡ receivedChange words message protected label
-    unfolding receivedChange
-    received-high h = rw (listable-high label h)
+  pub received-high : labelCount ≤ label → Keep ≡ receivedChange words room message protected label
+  unfolding receivedChange
+  received-high h = rw (listable-high label h)
 
-    pub received-is : 16 ≤ label → label < labelCount → {f : Found} {c n : ℕ}
-        → f ≡ receivedPlace words message (Label label) → c ≡ codeIn words f → n ≡ codeReceived message protected c
-        → changeAt f (findOf isFree words) label n ≡ receivedChange words message protected label
-    unfolding receivedChange receivedPlace
-    received-is l h ef ec en = rw (listable-yes label l h, en, ec, ef)
-
-    pub received-in : {change : Change} → change ≡ receivedChange words message protected label → ChangeIn words change
-    unfolding receivedChange
-    received-in e = rw e (pick-all (ChangeIn words) (not (listable label)) tt (change-of-in words (receivedSide message) label (codeReceived message protected (codeAt words (receivedSide message) label))))
-
-    pub received-label : {t : Touched} {change : Change} {a : Reception} {after : List ℕ}
-        → t ≡ Label label → change ≡ receivedChange words message protected label → a ≡ receptionOf change → after ≡ changed words change
-        → (a ≡ receivedOf words message protected t .0) × (after ≡ receivedOf words message protected t .1)
-    unfolding receivedOf
-    received-label et ec ea el = (rw (et, ← ec) ea, rw (et, ← ec) el)
-
-  pub received-every : {t : Touched} {after : List ℕ} → t ≡ Every → after ≡ everyReceived message words
-      → (Taken ≡ receivedOf words message protected t .0) × (after ≡ receivedOf words message protected t .1)
-  unfolding receivedOf
-  received-every et el = (rw et, rw et el)
-
-  pub received-nothing : {t : Touched} → t ≡ Nothing → (Taken ≡ receivedOf words message protected t .0) × (words ≡ receivedOf words message protected t .1)
-  unfolding receivedOf
-  received-nothing et = (rw et, rw et)
+  pub received-is : 16 ≤ label → label < labelCount → {f : Found} {c n : ℕ}
+      → f ≡ receivedPlace words message (Label label) → c ≡ codeIn words f → n ≡ codeReceived message protected c
+      → changeAt f room label n ≡ receivedChange words room message protected label
+  unfolding receivedChange receivedPlace
+  received-is l h ef ec en = rw (listable-yes label l h, en, ec, ef)

@@ -13,10 +13,10 @@ use Rattle.label_list.specs.Word.{isFree, standsFor, wordOf}
 use Rattle.label_list.proofs.Reached.{found-in}
 use Rattle.label_events.specs.declared.Change.{Change}
 use Rattle.label_events.specs.declared.Change.the-variants.{Put}
-use Rattle.label_events.specs.Change.{ChangeIn, takeFree, changeAt, changeOf}
+use Rattle.label_events.specs.Change.{ChangeIn, takeFree, changeAt, changeWith, changeOf}
 
 -- A change writes inside the list where the places that it was given are inside.
-take-in : (words : List ℕ) (g : Found) (w : ℕ) → FoundIn words g → ChangeIn words (takeFree g w)
+pub take-in : (words : List ℕ) (g : Found) (w : ℕ) → FoundIn words g → ChangeIn words (takeFree g w)
 take-in words (At i) w h = h
 take-in words Nowhere w h = tt
 
@@ -25,9 +25,12 @@ unfolding changeAt
 change-in words (At i) g label code h k = h
 change-in words Nowhere g label code h k = pick-all (ChangeIn words) (eqb code 0) tt (take-in words g (wordOf label code) k)
 
+pub change-with-in : (words : List ℕ) (room : Found) (side : Side) (label code : ℕ) → FoundIn words room → ChangeIn words (changeWith words room side label code)
+change-with-in words room side label code =
+    change-in words (findOf (standsFor side label) words) room label code (found-in (standsFor side label) words refl)
+
 pub change-of-in : (words : List ℕ) (side : Side) (label code : ℕ) → ChangeIn words (changeOf words side label code)
-change-of-in words side label code =
-    change-in words (findOf (standsFor side label) words) (findOf isFree words) label code (found-in (standsFor side label) words refl) (found-in isFree words refl)
+change-of-in words side label code = change-with-in words (findOf isFree words) side label code (found-in isFree words refl)
 
 pub change-place : (words : List ℕ) (f : Change) (i w : ℕ) → ChangeIn words f → f ≡ Put i w → i < length words
 change-place words f i w h e = rw e at h

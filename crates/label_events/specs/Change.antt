@@ -31,9 +31,12 @@ unfoldable pub changeAt : Found → Found → ℕ → ℕ → Change
 changeAt (At i) free label code = Put i (wordOf label code)
 changeAt Nowhere free label code = pick (eqb code 0) Keep (takeFree free (wordOf label code))
 
--- the label's code on that side becomes `code`
+-- the label's code on that side becomes `code`; a word that is needed is taken at `room`
+abbrev pub changeWith : List ℕ → Found → Side → ℕ → ℕ → Change
+changeWith words room side label code = changeAt (findOf (standsFor side label) words) room label code
+
 abbrev pub changeOf : List ℕ → Side → ℕ → ℕ → Change
-changeOf words side label code = changeAt (findOf (standsFor side label) words) (findOf isFree words) label code
+changeOf words side label code = changeWith words (findOf isFree words) side label code
 
 -- the list afterwards
 unfoldable pub changed : List ℕ → Change → List ℕ

@@ -17,7 +17,8 @@ use Rattle.label_events.specs.declared.Reception.{Reception}
 use Rattle.label_events.specs.declared.Reception.the-variants.{Taken, NoRoom}
 use Rattle.label_events.specs.declared.Touched.{Touched}
 use Rattle.label_events.specs.declared.Touched.the-variants.{Label, Every, Nothing}
-use Rattle.label_events.specs.Change.{codeAt, changeOf, changed}
+use Rattle.label_events.specs.Change.{codeAt, changeWith, changed}
+use Rattle.label_events.specs.Requests.{endedAt, roomAt}
 
 -- 01's answer 21: "Mapping received that needs a word, none free"
 abbrev pub receptionNumber : Reception → ℕ
@@ -31,9 +32,10 @@ receivedPlace words message Every = Nowhere
 receivedPlace words message Nothing = Nowhere
 
 -- 01: "Labels 0 to 15 are never listed, and passed on when received"; so is what is no label of 20 bits
-unfoldable pub receivedChange : List ℕ → LabelMessage → Bool → ℕ → Change
-receivedChange words message protected label =
-    pick (not (listable label)) Change.Keep (changeOf words (receivedSide message) label (codeReceived message protected (codeAt words (receivedSide message) label)))
+unfoldable pub receivedChange : List ℕ → Found → LabelMessage → Bool → ℕ → Change
+receivedChange words room message protected label =
+    pick (not (listable label)) Change.Keep
+    (changeWith words room (receivedSide message) label (codeReceived message protected (codeAt words (receivedSide message) label)))
 
 abbrev pub receptionOf : Change → Reception
 receptionOf Change.Keep = Taken
@@ -46,9 +48,13 @@ everyReceived Mapping words = words
 everyReceived Withdraw words = sweptOf words WithdrawAll
 everyReceived Release words = sweptOf words ReleaseAll
 
--- "of another FEC it is accepted and changes no label here"
-unfoldable pub receivedOf : List ℕ → LabelMessage → Bool → Touched → Reception × List ℕ
-receivedOf words message protected (Label label) =
-    (receptionOf (receivedChange words message protected label), changed words (receivedChange words message protected label))
-receivedOf words message protected Every = (Taken, everyReceived message words)
-receivedOf words message protected Nothing = (Taken, words)
+-- "of another FEC it is accepted and changes no label here"; a word that is needed is taken at `room`
+unfoldable pub receivedWith : List ℕ → Found → LabelMessage → Bool → Touched → Reception × List ℕ
+receivedWith words room message protected (Label label) =
+    (receptionOf (receivedChange words room message protected label), changed words (receivedChange words room message protected label))
+receivedWith words room message protected Every = (Taken, everyReceived message words)
+receivedWith words room message protected Nothing = (Taken, words)
+
+-- a message that ends the Request at the place `request`: its word is freed first, and is there for the message's label
+abbrev pub receivedOf : List ℕ → Found → LabelMessage → Bool → Touched → Reception × List ℕ
+receivedOf words request message protected touched = receivedWith (endedAt request words) (roomAt request words) message protected touched

@@ -5,12 +5,16 @@ mod accepting;
 mod changing;
 mod protecting;
 mod receiving;
+mod requests;
 
 pub use accepting::accept;
 pub use accepting::release_by_ack;
 pub use protecting::judge_protection;
 pub use receiving::receive;
 pub use receiving::received_place;
+pub use requests::abort;
+pub use requests::ask;
+pub use requests::end_request;
 
 // What an event makes of the list: nothing, one word written at an index, or a word is needed and none is free.
 pub enum Change {

@@ -2,12 +2,14 @@
 ghost use mathlib.Core.Path.{_≡_};
 ghost use Rattle.label_events.specs.declared.Touched.the-variants.{Label};
 ghost use Rattle.label_events.specs.Receive.{receivedPlace, receivedChange, receptionOf, everyReceived, receivedOf};
+ghost use Rattle.label_events.specs.Requests.{roomAt};
 use crate::Change;
 use crate::Reception;
 use crate::Touched;
 use crate::changing::code_at;
 use crate::changing::make_change;
 use crate::changing::plan_change;
+use crate::requests::end_request;
 use label_list::FIRST_LABEL;
 use label_list::Found;
 use label_list::LABEL_COUNT;
@@ -33,12 +35,13 @@ pub fn received_place(words: &[u32], message: LabelMessage, touched: Touched) ->
 fn plan_received(
     words: &[u32],
     place: Found,
+    request: Found,
     message: LabelMessage,
     protected: bool,
     label: u32,
 ) -> Change
     requires { ⌜ place ≡ receivedPlace (now words) message (Label label) ⌝ }
-    ensures { λ r. ⌜ r ≡ receivedChange (now (words .entry)) message protected label ⌝ }
+    ensures { λ r. ⌜ r ≡ receivedChange (now (words .entry)) (roomAt request (now (words .entry))) message protected label ⌝ }
 {
     if label < FIRST_LABEL {
         return Change::Keep;
@@ -47,7 +50,7 @@ fn plan_received(
         return Change::Keep;
     }
     let code = code_received(message, protected, code_at(words, place));
-    plan_change(words, place, label, code)
+    plan_change(words, place, request, label, code)
 }
 
 fn reception(change: Change) -> Reception
@@ -70,27 +73,34 @@ fn receive_every(words: &mut [u32], message: LabelMessage)
     }
 }
 
-// Receives the message, whose label was found at that place; where there is no room (21) the list stays as it was.
+// Receives the message, whose label was found at that place and which ends the Request at the place `request`; where there is no room (21) no
+// Request is ended, and the list stays as it was.
 pub fn receive(
     words: &mut [u32],
     place: Found,
+    request: Found,
     message: LabelMessage,
     protected: bool,
     touched: Touched,
 ) -> Reception
     requires { ⌜ place ≡ receivedPlace (now words) message touched ⌝ }
-    ensures { λ r. ⌜ (r ≡ receivedOf (now (words .entry)) message protected touched .0) × (now (words .exit) ≡ receivedOf (now (words .entry)) message protected touched .1) ⌝ }
+    ensures { λ r. ⌜ (r ≡ receivedOf (now (words .entry)) request message protected touched .0) × (now (words .exit) ≡ receivedOf (now (words .entry)) request message protected touched .1) ⌝ }
 {
     match touched {
         Touched::Label(label) => {
-            let change = plan_received(words, place, message, protected, label);
+            let change = plan_received(words, place, request, message, protected, label);
+            end_request(words, request);
             make_change(words, change);
             reception(change)
         }
         Touched::Every => {
+            end_request(words, request);
             receive_every(words, message);
             Reception::Taken
         }
-        Touched::Nothing => Reception::Taken,
+        Touched::Nothing => {
+            end_request(words, request);
+            Reception::Taken
+        }
     }
 }

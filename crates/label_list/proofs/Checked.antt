@@ -5,16 +5,17 @@ use mathlib.Core.List.{List, [], _∷_}
 use mathlib.Core.Logic.{_≢_}
 use mathlib.Core.Path.{_≡_, sym, _∙_}
 use native.Mathlib.Omega.{arith}
-use lib.ListN.{length, getD, drop, take, length-drop}
-use lib.Seq.{drop-cons, drop-length, take-all}
+use lib.ListN.{length, getD, drop}
+use lib.Seq.{drop-cons, drop-length}
 use borrow.Author.Tests.{le-leb, lt-leb, eq-eqb, ne-eqb}
 use Rattle.octets.specs.Pick.{both}
 use Rattle.octets.proofs.Choice.{both-true, by-test}
 use Rattle.label_list.specs.declared.Side.the-variants.{Given, Used}
 use Rattle.label_list.specs.Marks.{MarksTell}
 use Rattle.label_list.specs.Valid.{absent, validWord, validOf}
-use Rattle.label_list.specs.Word.{labelOf, codeOf, isFree, onSide}
+use Rattle.label_list.specs.Word.{labelOf, codeOf, isFree, onSide, requestWord, isRequest}
 use Rattle.label_list.proofs.Marks.{marked-none}
+use Rattle.label_list.proofs.Sought.{later, later-is}
 
 -- The words from index i on are valid and marked.
 pub record Checked (words marks : List ℕ) (i : ℕ) : Type 0 where
@@ -36,30 +37,28 @@ module _ (w : ℕ) (later : List ℕ) where
   word-free e = rw (eq-eqb w 0 e)
 
   module _ (listed : w ≢ 0) where
-    pub word-low : labelOf w < 16 → false ≡ validWord w later
-    unfolding validWord isFree
-    word-low h = simp (ne-eqb w 0 listed, lt-leb 16 (labelOf w) h)
+    pub word-request : w ≡ requestWord → true ≡ validWord w later
+    unfolding validWord isFree isRequest
+    word-request e = simp (ne-eqb w 0 listed, eq-eqb w requestWord e)
 
-    module _ (high : 16 ≤ labelOf w) where
-      pub word-given : onSide Given (codeOf w) ≡ true → absent Given (labelOf w) later ≡ validWord w later
-      unfolding validWord isFree
-      word-given e = simp (ne-eqb w 0 listed, le-leb 16 (labelOf w) high, e)
+    module _ (label : w ≢ requestWord) where
+      pub word-low : labelOf w < 16 → false ≡ validWord w later
+      unfolding validWord isFree isRequest
+      word-low h = simp (ne-eqb w 0 listed, ne-eqb w requestWord label, lt-leb 16 (labelOf w) h)
 
-      module _ (e : onSide Given (codeOf w) ≡ false) where
-        pub word-used : onSide Used (codeOf w) ≡ true → absent Used (labelOf w) later ≡ validWord w later
-        unfolding validWord isFree
-        word-used f = simp (ne-eqb w 0 listed, le-leb 16 (labelOf w) high, e, f)
+      module _ (high : 16 ≤ labelOf w) where
+        pub word-given : onSide Given (codeOf w) ≡ true → absent Given (labelOf w) later ≡ validWord w later
+        unfolding validWord isFree isRequest
+        word-given e = simp (ne-eqb w 0 listed, ne-eqb w requestWord label, le-leb 16 (labelOf w) high, e)
 
-        pub word-other : onSide Used (codeOf w) ≡ false → false ≡ validWord w later
-        unfolding validWord isFree
-        word-other f = simp (ne-eqb w 0 listed, le-leb 16 (labelOf w) high, e, f)
+        module _ (e : onSide Given (codeOf w) ≡ false) where
+          pub word-used : onSide Used (codeOf w) ≡ true → absent Used (labelOf w) later ≡ validWord w later
+          unfolding validWord isFree isRequest
+          word-used f = simp (ne-eqb w 0 listed, ne-eqb w requestWord label, le-leb 16 (labelOf w) high, e, f)
 
--- The words from an index to the end, `&words[i..]`.
-abbrev later : List ℕ → ℕ → List ℕ
-later words i = take (length words - i) (drop i words)
-
-later-is : (words : List ℕ) (i : ℕ) → later words i ≡ drop i words
-later-is words i = take-all (length words - i) (drop i words) (simp length-drop (omega arith))
+          pub word-other : onSide Used (codeOf w) ≡ false → false ≡ validWord w later
+          unfolding validWord isFree isRequest
+          word-other f = simp (ne-eqb w 0 listed, ne-eqb w requestWord label, le-leb 16 (labelOf w) high, e, f)
 
 -- The check of the list, from its end down.
 module _ (words : List ℕ) where

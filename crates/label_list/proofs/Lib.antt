@@ -4,3 +4,7 @@ pub mod Reached
 pub mod Marks
 pub mod Checked
 pub mod Small
+pub mod Counting
+pub mod Open
+pub mod Once
+pub mod OpenIds

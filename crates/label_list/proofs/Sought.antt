@@ -3,18 +3,25 @@ use Prim.Native.Nat.{ℕ, zero, suc, _+_, _-_, _≤_, _<_}
 use mathlib.Core.Bool.{Bool, true, false}
 use mathlib.Core.List.{List, [], _∷_}
 use mathlib.Core.Logic.{_≢_}
-use mathlib.Core.Path.{_≡_, refl, sym, _∙_}
+use mathlib.Core.Path.{_≡_, refl, sym, ap, _∙_}
 use native.Mathlib.Numerals.{add-one}
 use native.Mathlib.Omega.{arith}
-use lib.ListN.{length, getD, drop, drop-of-length-le}
-use lib.Seq.{drop-cons}
+use lib.ListN.{length, getD, drop, take, length-drop, drop-of-length-le, set}
+use lib.Seq.{drop-cons, take-all}
 use borrow.Author.Tests.{ne-eqb}
 use Rattle.octets.specs.Pick.{pick}
 use Rattle.octets.proofs.Choice.{by-test, no}
 use Rattle.label_list.specs.declared.Found.{Found}
 use Rattle.label_list.specs.declared.Found.the-variants.{At, Nowhere}
-use Rattle.label_list.specs.Find.{findOf, findFrom, nextOf, any, listedCount}
+use Rattle.label_list.specs.Find.{findOf, findFrom, nextOf, any, isFound, listedCount}
 use Rattle.label_list.specs.Word.{isFree}
+
+-- The words from an index to the end, `&words[i..]`.
+abbrev pub later : List ℕ → ℕ → List ℕ
+later words i = take (length words - i) (drop i words)
+
+pub later-is : (words : List ℕ) (i : ℕ) → later words i ≡ drop i words
+later-is words i = take-all (length words - i) (drop i words) (simp length-drop (omega arith))
 
 -- A search is one from the first word on.
 pub find-next : (test : ℕ → Bool) (words : List ℕ) → findOf test words ≡ nextOf test words 0
@@ -81,23 +88,29 @@ module _ (test wanted : ℕ → Bool) (wider : (w : ℕ) → test w ≡ false �
     pub led-nowhere : f ≡ Nowhere → nextOf wanted words i ≡ Nowhere
     led-nowhere e = none-from (length words - i) i (omega arith) (sym is ∙ e)
 
--- A search finds a word exactly if any word passes.
-abbrev pub isAt : Found → Bool
-isAt (At i) = true
-isAt Nowhere = false
+-- A word that does not pass is another now, which does not pass either.
+find-set-from : (test : ℕ → Bool) (k : ℕ) (words : List ℕ) (i w : ℕ) → test (getD words i 0) ≡ false → test w ≡ false → findFrom test k (set words i w) ≡ findFrom test k words
+find-set-from test k [] i w was now = refl
+find-set-from test k (v ∷ vs) zero w was now = rw (was, now)
+find-set-from test k (v ∷ vs) (suc i) w was now = ap (pick (test v) (At k)) (find-set-from test (suc k) vs i w was now)
 
-isAt-pick : (b : Bool) (k : ℕ) (f : Found) (rest : Bool) → isAt f ≡ rest → isAt (pick b (At k) f) ≡ pick b true rest
-isAt-pick true k f rest e = refl
-isAt-pick false k f rest e = e
-
-isAt-from : (test : ℕ → Bool) (k : ℕ) (words : List ℕ) → isAt (findFrom test k words) ≡ any test words
-unfolding any
-isAt-from test k [] = refl
-isAt-from test k (w ∷ ws) = isAt-pick (test w) k (findFrom test (suc k) ws) (any test ws) (isAt-from test (suc k) ws)
-
-pub found-any : (test : ℕ → Bool) (words : List ℕ) {f : Found} → f ≡ findOf test words → isAt f ≡ any test words
+pub find-set : (test : ℕ → Bool) (words : List ℕ) (i w : ℕ) → test (getD words i 0) ≡ false → test w ≡ false → findOf test (set words i w) ≡ findOf test words
 unfolding findOf
-found-any test words e = rw e (isAt-from test 0 words)
+find-set test words = find-set-from test 0 words
+
+-- A search finds a word exactly if any word passes.
+found-pick : (b : Bool) (k : ℕ) (f : Found) (rest : Bool) → isFound f ≡ rest → isFound (pick b (At k) f) ≡ pick b true rest
+found-pick true k f rest e = refl
+found-pick false k f rest e = e
+
+found-from : (test : ℕ → Bool) (k : ℕ) (words : List ℕ) → isFound (findFrom test k words) ≡ any test words
+unfolding any
+found-from test k [] = refl
+found-from test k (w ∷ ws) = found-pick (test w) k (findFrom test (suc k) ws) (any test ws) (found-from test (suc k) ws)
+
+pub found-any : (test : ℕ → Bool) (words : List ℕ) {f : Found} → f ≡ findOf test words → isFound f ≡ any test words
+unfolding findOf
+found-any test words e = rw e (found-from test 0 words)
 
 pub any-cons : (test : ℕ → Bool) (w : ℕ) (ws : List ℕ) → test w ≡ false → any test (w ∷ ws) ≡ any test ws
 unfolding any

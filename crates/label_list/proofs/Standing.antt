@@ -10,7 +10,7 @@ use Rattle.octets.proofs.Choice.{both-true, both-commutes}
 use Rattle.label_list.specs.declared.Side.{Side}
 use Rattle.label_list.specs.declared.Side.the-variants.{Given, Used}
 use Rattle.label_list.specs.Find.{bearsLabel}
-use Rattle.label_list.specs.Word.{labelOf, codeOf, within, onSide, standsFor}
+use Rattle.label_list.specs.Word.{labelOf, codeOf, within, onSide, standsFor, isRequest, requestWord}
 
 module _ (low high n : ℕ) where
   pub within-in : low ≤ n → n ≤ high → true ≡ within low high n
@@ -74,3 +74,13 @@ pub free-stands : (s : Side) (l : ℕ) → standsFor s l 0 ≡ false
 unfolding standsFor onSide
 free-stands Given l = refl
 free-stands Used l = refl
+
+-- An open Request's word lists no label.
+pub request-stands : (s : Side) (l w : ℕ) → w ≡ requestWord → standsFor s l w ≡ false
+unfolding standsFor onSide
+request-stands Given l w e = rw e
+request-stands Used l w e = rw e
+
+pub request-word : (w : ℕ) → isRequest w ≡ true → w ≡ requestWord
+unfolding isRequest
+request-word w e = eqb-true w requestWord e

@@ -43,6 +43,11 @@ unfoldable pub listedCount : List ℕ → ℕ
 listedCount [] = 0
 listedCount (w ∷ ws) = pick (isFree w) (listedCount ws) (suc (listedCount ws))
 
+-- whether the search found a word
+abbrev pub isFound : Found → Bool
+isFound (At i) = true
+isFound Nowhere = false
+
 -- what was found is inside the list
 abbrev pub FoundIn : List ℕ → Found → Type 0
 FoundIn words (At i) = i < length words

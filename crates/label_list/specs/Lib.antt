@@ -5,3 +5,5 @@ pub mod Find
 pub mod Valid
 pub mod Marks
 pub mod Sweep
+pub mod Counting
+pub mod Requests

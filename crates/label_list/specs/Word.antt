@@ -44,6 +44,16 @@ unfoldable pub onSide : Side → ℕ → Bool
 onSide Given code = within 1 2 code
 onSide Used code = within 3 6 code
 
+-- 02: "An open Request takes one of the 120 words under code 7, with label part 0": every open Request has this one word; its code is on no side
+abbrev pub requestCode : ℕ
+requestCode = 7
+
+abbrev pub requestWord : ℕ
+requestWord = labelCount * requestCode
+
+unfoldable pub isRequest : ℕ → Bool
+isRequest w = eqb w requestWord
+
 -- the word lists that label on that side
 unfoldable pub standsFor : Side → ℕ → ℕ → Bool
 standsFor side label w = both (onSide side (codeOf w)) (eqb (labelOf w) label)

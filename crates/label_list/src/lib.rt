@@ -1,12 +1,16 @@
 // The label list: label words, what each event makes of a label's code, validity, and the rules that act on every word.
 //
-// A word is label + 1,048,576 x code, and 0 is a free word. Codes: 1 given, 2 withdrawing, 3 using, 4 asked back, 5 releasing, 6 using without protection.
+// A word is label + 1,048,576 x code, and 0 is a free word. Codes: 1 given, 2 withdrawing, 3 using, 4 asked back, 5 releasing, 6 using without protection, 7 an open
+// Request, whose message ID stands at the same place of a list beside the words.
+mod requests;
 mod rules;
 mod search;
 mod sweeping;
 mod validity;
 mod word;
 
+pub use requests::find_request;
+pub use requests::ids_stand_once;
 pub use rules::code_accepted;
 pub use rules::code_acked;
 pub use rules::code_protection;
@@ -20,6 +24,7 @@ pub use sweeping::sweep;
 pub use validity::valid;
 pub use word::FIRST_LABEL;
 pub use word::LABEL_COUNT;
+pub use word::REQUEST_WORD;
 pub use word::WORD_COUNT;
 pub use word::word_of;
 

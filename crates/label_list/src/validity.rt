@@ -13,6 +13,7 @@ use crate::Side;
 use crate::search::find_label;
 use crate::word::FIRST_LABEL;
 use crate::word::LABEL_COUNT;
+use crate::word::REQUEST_WORD;
 use crate::word::on_side;
 
 // The place of a side and a label in the table of marks.
@@ -56,6 +57,9 @@ fn mark_word(word: u32, later: &[u32], marks: &mut [u8]) -> bool
     if word == 0 {
         return true;
     }
+    if word == REQUEST_WORD {
+        return true;
+    }
     let label = word % LABEL_COUNT;
     if label < FIRST_LABEL {
         return false;
@@ -70,7 +74,7 @@ fn mark_word(word: u32, later: &[u32], marks: &mut [u8]) -> bool
     false
 }
 
-// Restore's rule for the label words: each is 0 or has a label from 16 up and a code from 1 to 6; no label stands twice among
+// Restore's rule for the label words: each is 0, or an open Request's, or has a label from 16 up and a code from 1 to 6; no label stands twice among
 // codes 1-2 nor twice among 3-6.
 pub fn valid(words: &[u32]) -> bool
     ensures { λ r. ⌜ r ≡ validOf (now (words .entry)) ⌝ }

@@ -13,6 +13,9 @@ pub const LABEL_COUNT: u32 = 1048576;
 // 01: "Labels 0 to 15 are never listed."
 pub const FIRST_LABEL: u32 = 16;
 
+// The word of every open Request: code 7 and no label.
+pub const REQUEST_WORD: u32 = 7340032;
+
 // 01: "A label stands once among codes 1-2 and once among 3-6."
 pub fn on_side(side: Side, code: u32) -> bool
     ensures { λ r. ⌜ r ≡ onSide side code ⌝ }

@@ -14,11 +14,11 @@ use Rattle.label_list.specs.declared.Found.{Found}
 use Rattle.label_list.specs.declared.Found.the-variants.{At, Nowhere}
 use Rattle.label_list.specs.declared.Side.{Side}
 use Rattle.label_list.specs.Find.{findOf}
-use Rattle.label_list.specs.Word.{labelCount, labelOf, codeOf, wordOf, isFree, onSide, standsFor}
+use Rattle.label_list.specs.Word.{labelCount, labelOf, codeOf, wordOf, isFree, onSide, requestWord, standsFor}
 use Rattle.label_list.proofs.Reached.{found-in, found-place, found-passes}
 use Rattle.label_list.proofs.Standing.{side-listed, parts-stands, free-stands}
 use Rattle.label_events.specs.declared.Change.the-variants.{NoRoom}
-use Rattle.label_events.specs.Change.{takeFree, changeAt, changeOf, changed}
+use Rattle.label_events.specs.Change.{takeFree, changeAt, changeWith, changed}
 use Rattle.label_meaning.specs.Valid.{WordInRange, IsValid}
 use Rattle.label_meaning.specs.View.{CodeIs, listed, absent, Effect}
 use Rattle.label_meaning.proofs.Meaning.{stands-same}
@@ -50,18 +50,21 @@ word-written s l c low high =
       range = record { label = omega arith; side = s; on = rw code on };
     })))
 
+-- A list with one word another, by index.
+pub at-index : (words : List ℕ) (i w : ℕ) → i < length words → (P : ℕ → Type 0) (j : ℕ) → (j ≡ i → P w) → (j ≢ i → P (getD words j 0)) → P (getD (set words i w) j 0)
+at-index words i w inside P j here there =
+    by-test
+    (eqb j i)
+    (λ e. let same : j ≡ i = eqb-true j i e in rw (same, getD-set-same words i w 0 inside) (here same))
+    (λ e. let apart : j ≢ i = eqb-false j i e in rw (getD-set-other words i j w 0 apart) (there apart))
+
 -- One word is written, at an index where a free word or one for that label stood.
 module _ (words : List ℕ) (v : IsValid words) (s : Side) (l c i w : ℕ) (inside : i < length words)
     (was : (getD words i 0 ≡ 0) ⊎ (standsFor s l (getD words i 0) ≡ true))
     (alone : (j : ℕ) → standsFor s l (getD words j 0) ≡ true → j ≡ i)
     (written : Written s l c w) where
-  -- by index
   at : (P : ℕ → Type 0) (j : ℕ) → (j ≡ i → P w) → (j ≢ i → P (getD words j 0)) → P (getD (set words i w) j 0)
-  at P j here there =
-      by-test
-      (eqb j i)
-      (λ e. let same : j ≡ i = eqb-true j i e in rw (same, getD-set-same words i w 0 inside) (here same))
-      (λ e. let apart : j ≢ i = eqb-false j i e in rw (getD-set-other words i j w 0 apart) (there apart))
+  at = at-index words i w inside
 
   -- the word written stands for nothing else
   only : (t : Side) (k : ℕ) → standsFor t k w ≡ true → (t ≡ s) × (k ≡ l)
@@ -79,12 +82,12 @@ module _ (words : List ℕ) (v : IsValid words) (s : Side) (l c i w : ℕ) (insi
       (λ (q : standsFor s l (getD words i 0) ≡ true). stands-same t s k l (getD words i 0) p q)
       was
 
-  after-each : (j : ℕ) → getD (set words i w) j 0 ≢ 0 → WordInRange (getD (set words i w) j 0)
+  after-each : (j : ℕ) → getD (set words i w) j 0 ≢ 0 → (getD (set words i w) j 0 ≡ requestWord) ⊎ WordInRange (getD (set words i w) j 0)
   after-each j =
       at
-      (λ (x : ℕ). x ≢ 0 → WordInRange x)
+      (λ (x : ℕ). x ≢ 0 → (x ≡ requestWord) ⊎ WordInRange x)
       j
-      (λ e h. ⊎-elim (λ (z : (w ≡ 0) × (c ≡ 0)). absurd (h (z .0))) (λ (new : Lists s l c w). new .range) written)
+      (λ e h. ⊎-elim (λ (z : (w ≡ 0) × (c ≡ 0)). absurd (h (z .0))) (λ (new : Lists s l c w). inr (new .range)) written)
       (λ e h. v .each j h)
 
   after-once : (t : Side) (k j m : ℕ) → standsFor t k (getD (set words i w) j 0) ≡ true → standsFor t k (getD (set words i w) m 0) ≡ true → j ≡ m
@@ -144,16 +147,25 @@ pub free-word : (words : List ℕ) {g : Found} (j : ℕ) → g ≡ findOf isFree
 unfolding isFree
 free-word words j e h = eqb-true (getD words j 0) 0 (found-passes isFree words j e h)
 
+-- The place for a label that needs a word is one of a free word: the first free one is.
+abbrev pub FreeAt : List ℕ → Found → Type 0
+FreeAt words (At j) = (j < length words) × (getD words j 0 ≡ 0)
+FreeAt words Nowhere = Unit {0}
+
+pub free-first : (words : List ℕ) (g : Found) → g ≡ findOf isFree words → FreeAt words g
+free-first words (At j) e = (found-place words (At j) j (found-in isFree words e) refl, free-word words j e refl)
+free-first words Nowhere e = tt
+
 module _ (words : List ℕ) (v : IsValid words) (s : Side) (l c : ℕ) (low : 16 ≤ l) (high : l < labelCount) (proper : Proper s c) where
   -- an absent label takes the free word
-  effect-free : (g : Found) → findOf (standsFor s l) words ≡ Nowhere → g ≡ findOf isFree words → takeFree g (wordOf l c) ≢ NoRoom → Effect words (changed words (takeFree g (wordOf l c))) s l c
+  effect-free : (g : Found) → findOf (standsFor s l) words ≡ Nowhere → FreeAt words g → takeFree g (wordOf l c) ≢ NoRoom → Effect words (changed words (takeFree g (wordOf l c))) s l c
   unfolding changed
   effect-free (At j) e h room =
-      write-effect words v s l c j (wordOf l c) (found-place words (At j) j (found-in isFree words h) refl) (inl (free-word words j h refl))
+      write-effect words v s l c j (wordOf l c) (h .0) (inl (h .1))
       (λ k p. absurd (true≢false (sym p ∙ found-none words s l e k))) (word-written s l c low high proper)
   effect-free Nowhere e h room = absurd (room refl)
 
-  pub effect-found : (f g : Found) → f ≡ findOf (standsFor s l) words → g ≡ findOf isFree words → changeAt f g l c ≢ NoRoom → Effect words (changed words (changeAt f g l c)) s l c
+  pub effect-found : (f g : Found) → f ≡ findOf (standsFor s l) words → FreeAt words g → changeAt f g l c ≢ NoRoom → Effect words (changed words (changeAt f g l c)) s l c
   unfolding changeAt changed
   effect-found (At i) g e h = λ room.
       let here : standsFor s l (getD words i 0) ≡ true = found-passes (standsFor s l) words i e refl in
@@ -166,5 +178,5 @@ module _ (words : List ℕ) (v : IsValid words) (s : Side) (l c : ℕ) (low : 16
       rw (ne-eqb c 0 listed) (effect-free g (sym e) h))
       proper
 
-  pub change-effect : changeOf words s l c ≢ NoRoom → Effect words (changed words (changeOf words s l c)) s l c
-  change-effect = effect-found (findOf (standsFor s l) words) (findOf isFree words) refl refl
+  pub change-effect : (room : Found) → FreeAt words room → changeWith words room s l c ≢ NoRoom → Effect words (changed words (changeWith words room s l c)) s l c
+  change-effect room free = effect-found (findOf (standsFor s l) words) room refl free

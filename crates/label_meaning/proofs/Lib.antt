@@ -2,6 +2,7 @@ pub mod Meaning
 pub mod View
 pub mod Proper
 pub mod Effect
+pub mod Unlisted
 pub mod Swept
 pub mod Kept
 pub mod Step
@@ -9,3 +10,5 @@ pub mod Moved
 pub mod Life
 pub mod Protected
 pub mod Room
+pub mod Requests
+pub mod RequestIds

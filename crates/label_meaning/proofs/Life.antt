@@ -5,6 +5,7 @@ use mathlib.Core.List.{List}
 use mathlib.Core.Logic.{_≢_, _⊎_, inl, inr, ⊎-elim}
 use mathlib.Core.Path.{_≡_, refl, sym, _∙_}
 use native.Mathlib.Omega.{arith}
+use Rattle.label_list.specs.declared.Found.{Found}
 use Rattle.label_list.specs.declared.LabelMessage.{LabelMessage}
 use Rattle.label_list.specs.declared.LabelMessage.the-variants.{Mapping, Withdraw, Release}
 use Rattle.label_list.specs.declared.Next.the-variants.{Code}
@@ -18,7 +19,9 @@ use Rattle.label_list.specs.Word.{withoutProtection}
 use Rattle.label_events.specs.declared.Touched.{Touched}
 use Rattle.label_events.specs.declared.Touched.the-variants.{Label}
 use Rattle.label_events.specs.Change.{codeAt}
-use Rattle.label_events.specs.Receive.{everyReceived, receivedOf}
+use Rattle.label_events.specs.Receive.{everyReceived, receivedWith}
+use Rattle.label_events.specs.Requests.{endedAt}
+use Rattle.label_events.proofs.Ended.{ended-code}
 use Rattle.label_meaning.specs.Event.{LabelEvent, Accepted, Acked, Received, afterEvent, Touches, named, every, Moves, given, withdrawn, released, returned, withdraw-acked, release-acked, taken, taken-again, taken-bare, asked-back, bare-withdrawn, given-back, withdrawn-back, bare-lost}
 use Rattle.label_meaning.specs.Life.{EndsWithdrawal, by-ack, by-release, Frees, release-of-given, release-of-withdrawing, ack-of-withdraw, our-release, ack-of-release}
 use Rattle.label_meaning.specs.Valid.{IsValid}
@@ -26,6 +29,7 @@ use Rattle.label_meaning.specs.View.{Effect}
 use Rattle.label_meaning.proofs.Moved.{every-move}
 use Rattle.label_meaning.proofs.Step.{accepted-listed, received-listed, acked-effect}
 use Rattle.label_meaning.proofs.Swept.{sweep-valid, sweep-code}
+use Rattle.label_meaning.proofs.Unlisted.{ended-stays}
 use Rattle.label_meaning.proofs.View.{code-is, is-code}
 
 -- The moves from one code, taken apart.
@@ -106,37 +110,46 @@ module _ (words : List ℕ) (v : IsValid words) where
   unfolding afterEvent
   ack-happens m k c d e f = effect-code (codeAcked m (codeAt words (sentSide m) k)) d (acked-effect words v m k) (rw e f)
 
-  receive-happens : (m : LabelMessage) (p : Bool) (k c d : ℕ) → codeAt words (receivedSide m) k ≡ c → c ≢ 0 → codeReceived m p c ≡ d → codeAt (afterEvent words (Received m p (Label k))) (receivedSide m) k ≡ d
+  receive-happens : (r : Found) (m : LabelMessage) (p : Bool) (k c d : ℕ) → codeAt words (receivedSide m) k ≡ c → c ≢ 0 → codeReceived m p c ≡ d
+      → codeAt (afterEvent words (Received r m p (Label k))) (receivedSide m) k ≡ d
   unfolding afterEvent
-  receive-happens m p k c d e h f = effect-code (codeReceived m p (codeAt words (receivedSide m) k)) d (received-listed words v m p k (rw e h)) (rw e f)
+  receive-happens r m p k c d e h f = effect-code (codeReceived m p (codeAt words (receivedSide m) k)) d (received-listed words v r m p k (rw e h)) (rw e f)
 
-  withdraw-happens : (p : Bool) (t : Touched) (k c d : ℕ) → Touches t k → codeAt words Used k ≡ c → c ≢ 0 → ((q : Bool) → codeReceived Withdraw q c ≡ d) → codeAt (afterEvent words (Received Withdraw p t)) Used k ≡ d
-  unfolding afterEvent receivedOf everyReceived codeSwept receivedSide
-  withdraw-happens p t k c d named e h f = receive-happens Withdraw p k c d e h (f p)
-  withdraw-happens p t k c d every e h f = sweep-happens WithdrawAll Used k c d e (f true)
+module _ (words : List ℕ) (v : IsValid words) (r : Found) where
+  -- under the wildcard, of the list in which the Request has ended
+  swept-ended : (rule : SweepRule) (s : Side) (k c d : ℕ) → codeAt words s k ≡ c → codeSwept rule c ≡ d → codeAt (sweptOf (endedAt r words) rule) s k ≡ d
+  swept-ended rule s k c d e f = sweep-happens (endedAt r words) (ended-stays words v r .valid) rule s k c d (ended-code words s k r ∙ e) f
 
-  release-happens : (p : Bool) (t : Touched) (k c d : ℕ) → Touches t k → codeAt words Given k ≡ c → c ≢ 0 → ((q : Bool) → codeReceived Release q c ≡ d) → codeAt (afterEvent words (Received Release p t)) Given k ≡ d
-  unfolding afterEvent receivedOf everyReceived codeSwept receivedSide
-  release-happens p t k c d named e h f = receive-happens Release p k c d e h (f p)
-  release-happens p t k c d every e h f = sweep-happens ReleaseAll Given k c d e (f true)
+  withdraw-happens : (p : Bool) (t : Touched) (k c d : ℕ) → Touches t k → codeAt words Used k ≡ c → c ≢ 0 → ((q : Bool) → codeReceived Withdraw q c ≡ d)
+      → codeAt (afterEvent words (Received r Withdraw p t)) Used k ≡ d
+  unfolding afterEvent receivedWith everyReceived codeSwept receivedSide
+  withdraw-happens p t k c d named e h f = receive-happens words v r Withdraw p k c d e h (f p)
+  withdraw-happens p t k c d every e h f = swept-ended WithdrawAll Used k c d e (f true)
 
+  release-happens : (p : Bool) (t : Touched) (k c d : ℕ) → Touches t k → codeAt words Given k ≡ c → c ≢ 0 → ((q : Bool) → codeReceived Release q c ≡ d)
+      → codeAt (afterEvent words (Received r Release p t)) Given k ≡ d
+  unfolding afterEvent receivedWith everyReceived codeSwept receivedSide
+  release-happens p t k c d named e h f = receive-happens words v r Release p k c d e h (f p)
+  release-happens p t k c d every e h f = swept-ended ReleaseAll Given k c d e (f true)
+
+module _ (words : List ℕ) (v : IsValid words) where
   -- Each move of a listed label takes place.
   pub move-happens : {e : LabelEvent} {s : Side} {k c d : ℕ} → Moves e s k c d → c ≢ 0 → codeAt words s k ≡ c → codeAt (afterEvent words e) s k ≡ d
   unfolding sentSide receivedSide codeAccepted codeAcked codeReceived codeSwept afterEvent
   move-happens given h e = absurd (h refl)
-  move-happens (withdrawn {k}) h e = accept-happens Withdraw k 1 2 e h refl
-  move-happens (released {k}) h e = accept-happens Release k 3 5 e h refl
-  move-happens (returned {k}) h e = accept-happens Release k 4 0 e h refl
-  move-happens (withdraw-acked {k}) h e = ack-happens Withdraw k 2 0 e refl
-  move-happens (release-acked {k}) h e = ack-happens Release k 5 0 e refl
+  move-happens (withdrawn {k}) h e = accept-happens words v Withdraw k 1 2 e h refl
+  move-happens (released {k}) h e = accept-happens words v Release k 3 5 e h refl
+  move-happens (returned {k}) h e = accept-happens words v Release k 4 0 e h refl
+  move-happens (withdraw-acked {k}) h e = ack-happens words v Withdraw k 2 0 e refl
+  move-happens (release-acked {k}) h e = ack-happens words v Release k 5 0 e refl
   move-happens taken h e = absurd (h refl)
-  move-happens (taken-again {k}) h e = receive-happens Mapping true k 5 3 e h refl
+  move-happens (taken-again {k} {r}) h e = receive-happens words v r Mapping true k 5 3 e h refl
   move-happens taken-bare h e = absurd (h refl)
-  move-happens (asked-back {p} {t} {k} touches) h e = withdraw-happens p t k 3 4 touches e h (λ q. refl)
-  move-happens (bare-withdrawn {p} {t} {k} touches) h e = withdraw-happens p t k withoutProtection 0 touches e h (λ q. refl)
-  move-happens (given-back {p} {t} {k} touches) h e = release-happens p t k 1 0 touches e h (λ q. refl)
-  move-happens (withdrawn-back {p} {t} {k} touches) h e = release-happens p t k 2 0 touches e h (λ q. refl)
-  move-happens (bare-lost {k}) h e = sweep-happens AfterBreak Used k withoutProtection 0 e refl
+  move-happens (asked-back {p} {t} {k} {r} touches) h e = withdraw-happens words v r p t k 3 4 touches e h (λ q. refl)
+  move-happens (bare-withdrawn {p} {t} {k} {r} touches) h e = withdraw-happens words v r p t k withoutProtection 0 touches e h (λ q. refl)
+  move-happens (given-back {p} {t} {k} {r} touches) h e = release-happens words v r p t k 1 0 touches e h (λ q. refl)
+  move-happens (withdrawn-back {p} {t} {k} {r} touches) h e = release-happens words v r p t k 2 0 touches e h (λ q. refl)
+  move-happens (bare-lost {k}) h e = sweep-happens words v AfterBreak Used k withoutProtection 0 e refl
 
   -- So both the ACK and a Release free a withdrawn label.
   pub withdrawal-ends : (e : LabelEvent) (k : ℕ) → codeAt words Given k ≡ 2 → EndsWithdrawal e k → codeAt (afterEvent words e) Given k ≡ 0

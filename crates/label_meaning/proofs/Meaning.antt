@@ -2,7 +2,7 @@
 use Prim.Native.Nat.{ℕ, zero, suc, _*_, _≤_, _<_}
 use mathlib.Core.Bool.{Bool, true, false, not, false≢true, true≢false}
 use mathlib.Core.List.{List, [], _∷_}
-use mathlib.Core.Logic.{_≢_, ⊎-elim}
+use mathlib.Core.Logic.{_≢_, _⊎_, inl, inr, ⊎-elim}
 use mathlib.Core.Path.{_≡_, refl, sym, ap, _∙_}
 use native.Mathlib.Omega.{arith}
 use lib.Dec.{eqb, leb}
@@ -14,9 +14,9 @@ use Rattle.label_list.specs.declared.Side.{Side}
 use Rattle.label_list.specs.declared.Side.the-variants.{Given, Used}
 use Rattle.label_list.specs.Find.{any}
 use Rattle.label_list.specs.Valid.{absent, standsOnce, validWord, validOf}
-use Rattle.label_list.specs.Word.{labelCount, labelOf, codeOf, isFree, onSide, standsFor}
-use Rattle.label_list.proofs.Checked.{word-free, word-given, word-used}
-use Rattle.label_list.proofs.Standing.{off-high, side-listed, one-side, stands-parts, parts-stands, free-stands}
+use Rattle.label_list.specs.Word.{labelCount, labelOf, codeOf, isFree, onSide, requestWord, isRequest, standsFor}
+use Rattle.label_list.proofs.Checked.{word-free, word-request, word-given, word-used}
+use Rattle.label_list.proofs.Standing.{off-high, side-listed, one-side, stands-parts, parts-stands, free-stands, request-stands}
 use Rattle.label_meaning.specs.Valid.{WordInRange, IsValid}
 
 -- No word passes a test exactly if none does at any index.
@@ -62,11 +62,11 @@ once-stands w later false on high e =
     let parts : (onSide Used (codeOf w) ≡ true) × (absent Used (labelOf w) later ≡ true) = both-true (onSide Used (codeOf w)) (absent Used (labelOf w) later) e in
     record { range = record { label = high; side = Used; on = parts .0 }; alone = not-any _ (parts .1) }
 
-word-stands : (w : ℕ) (later : List ℕ) → validWord w later ≡ true → w ≢ 0 → Stands w later
-unfolding validWord isFree
-word-stands w later e listed =
+word-stands : (w : ℕ) (later : List ℕ) → validWord w later ≡ true → w ≢ 0 → w ≢ requestWord → Stands w later
+unfolding validWord isFree isRequest
+word-stands w later e listed label =
     let parts : (leb 16 (labelOf w) ≡ true) × (standsOnce (labelOf w) (codeOf w) later ≡ true) =
-    both-true (leb 16 (labelOf w)) (standsOnce (labelOf w) (codeOf w) later) (rw (ne-eqb w 0 listed) at e) in
+    both-true (leb 16 (labelOf w)) (standsOnce (labelOf w) (codeOf w) later) (rw (ne-eqb w 0 listed, ne-eqb w requestWord label) at e) in
     once-stands w later (onSide Given (codeOf w)) refl (leb-true 16 (labelOf w) (parts .0)) (parts .1)
 
 -- A listed word does not stand again later.
@@ -77,8 +77,20 @@ stands-alone w later st s l j p q =
     let none : standsFor t (labelOf w) (getD later j 0) ≡ false = any-none (standsFor t (labelOf w)) later (st .alone) (free-stands t (labelOf w)) j in
     true≢false (sym (rw (same .0, same .1) at q) ∙ none)
 
-listed-word : (s : Side) (l w : ℕ) → standsFor s l w ≡ true → w ≢ 0
+-- A word that lists a label is neither free nor an open Request's.
+pub listed-word : (s : Side) (l w : ℕ) → standsFor s l w ≡ true → w ≢ 0
 listed-word s l w e z = true≢false (sym e ∙ rw z (free-stands s l))
+
+pub label-word : (s : Side) (l w : ℕ) → standsFor s l w ≡ true → w ≢ requestWord
+label-word s l w e r = true≢false (sym e ∙ request-stands s l w r)
+
+-- So in a valid list it has its label and code in range.
+pub stands-range : {words : List ℕ} → IsValid words → (s : Side) (l i : ℕ) → standsFor s l (getD words i 0) ≡ true → WordInRange (getD words i 0)
+stands-range {words} v s l i e =
+    ⊎-elim
+    (λ (r : getD words i 0 ≡ requestWord). absurd (label-word s l (getD words i 0) e r))
+    (λ (range : WordInRange (getD words i 0)). range)
+    (v .each i (listed-word s l (getD words i 0) e))
 
 -- A code of some side that is not one of a label given is one of a label used.
 unless-given : (s : Side) (c : ℕ) → onSide s c ≡ true → onSide Given c ≡ false → onSide Used c ≡ true
@@ -90,14 +102,17 @@ suc-same e = omega arith
 
 -- One word more.
 module _ (w : ℕ) (ws : List ℕ) where
-  cons-each : validWord w ws ≡ true → IsValid ws → (i : ℕ) → getD (w ∷ ws) i 0 ≢ 0 → WordInRange (getD (w ∷ ws) i 0)
-  cons-each e v zero h = word-stands w ws e h .range
+  cons-each : validWord w ws ≡ true → IsValid ws → (i : ℕ) → getD (w ∷ ws) i 0 ≢ 0 → (getD (w ∷ ws) i 0 ≡ requestWord) ⊎ WordInRange (getD (w ∷ ws) i 0)
+  cons-each e v zero h = by-test (eqb w requestWord) (λ r. inl (eqb-true w requestWord r)) (λ r. inr (word-stands w ws e h (eqb-false w requestWord r) .range))
   cons-each e v (suc i) h = v .each i h
+
+  head-stands : (s : Side) (l : ℕ) → validWord w ws ≡ true → standsFor s l w ≡ true → Stands w ws
+  head-stands s l e p = word-stands w ws e (listed-word s l w p) (label-word s l w p)
 
   cons-once : validWord w ws ≡ true → IsValid ws → (s : Side) (l i j : ℕ) → standsFor s l (getD (w ∷ ws) i 0) ≡ true → standsFor s l (getD (w ∷ ws) j 0) ≡ true → i ≡ j
   cons-once e v s l zero zero p q = refl
-  cons-once e v s l zero (suc j) p q = absurd (stands-alone w ws (word-stands w ws e (listed-word s l w p)) s l j p q)
-  cons-once e v s l (suc i) zero p q = absurd (stands-alone w ws (word-stands w ws e (listed-word s l w q)) s l i q p)
+  cons-once e v s l zero (suc j) p q = absurd (stands-alone w ws (head-stands s l e p) s l j p q)
+  cons-once e v s l (suc i) zero p q = absurd (stands-alone w ws (head-stands s l e q) s l i q p)
   cons-once e v s l (suc i) (suc j) p q = ap suc (v .once s l i j p q)
 
   -- and the other way
@@ -119,15 +134,20 @@ module _ (w : ℕ) (ws : List ℕ) where
       (λ z. word-free w ws (eqb-true w 0 z))
       (λ z.
       let listed : w ≢ 0 = eqb-false w 0 z in
-      let range : WordInRange w = v .each 0 listed in
+      by-test
+      (eqb w requestWord)
+      (λ r. word-request w ws listed (eqb-true w requestWord r))
+      (λ r.
+      let label : w ≢ requestWord = eqb-false w requestWord r in
+      let range : WordInRange w = ⊎-elim (λ (same : w ≡ requestWord). absurd (label same)) (λ (x : WordInRange w). x) (v .each 0 listed) in
       by-test
       (onSide Given (codeOf w))
-      (λ on. later-absent v Given on ∙ word-given w ws listed (range .label) on)
+      (λ on. later-absent v Given on ∙ word-given w ws listed label (range .label) on)
       (λ off.
       let on : onSide Used (codeOf w) ≡ true = unless-given (range .side) (codeOf w) (range .on) off in
-      later-absent v Used on ∙ word-used w ws listed (range .label) off on))
+      later-absent v Used on ∙ word-used w ws listed label (range .label) off on)))
 
--- every word but 0 has a label from 16 up and a code of a side, and two indices that list one label on one side are one
+-- every word but 0 and an open Request's has a label from 16 up and a code of a side, and two indices that list one label on one side are one
 pub valid-means : (words : List ℕ) → validOf words ≡ true → IsValid words
 unfolding validOf
 valid-means [] e = record { each = λ i h. absurd (h refl); once = λ side label i j p q. absurd (true≢false (sym p ∙ free-stands side label)) }
@@ -142,16 +162,21 @@ unfolding validOf
 means-valid [] v = refl
 means-valid (w ∷ ws) v = rw (← head-valid w ws v) (means-valid ws (tail-valid w ws v))
 
--- Every word of a valid list is below 7 x 1,048,576, so it has 32 bits.
-pub valid-range : {words : List ℕ} → IsValid words → (i : ℕ) → getD words i 0 < 7 * labelCount
+-- Every word of a valid list is below 8 x 1,048,576, so it has 32 bits.
+pub valid-range : {words : List ℕ} → IsValid words → (i : ℕ) → getD words i 0 < 8 * labelCount
 valid-range {words} v i =
     by-test
     (eqb (getD words i 0) 0)
     (λ z. omega (arith, eqb-true (getD words i 0) 0 z))
     (λ z.
-    let range : WordInRange (getD words i 0) = v .each i (eqb-false (getD words i 0) 0 z) in
-    let code : ℕ = codeOf (getD words i 0) in
     ⊎-elim
-    (λ (high : 6 < code). absurd (false≢true (off-high (range .side) code high ∙ range .on)))
-    (λ (fits : code ≤ 6). omega arith)
-    (below-or-not 6 code))
+    (λ (r : getD words i 0 ≡ requestWord). omega arith)
+    (λ (range : WordInRange (getD words i 0)). in-range (range .side) (range .on))
+    (v .each i (eqb-false (getD words i 0) 0 z)))
+  where
+    in-range : (s : Side) → onSide s (codeOf (getD words i 0)) ≡ true → getD words i 0 < 8 * labelCount
+    in-range s on =
+        ⊎-elim
+        (λ (high : 6 < codeOf (getD words i 0)). absurd (false≢true (off-high s (codeOf (getD words i 0)) high ∙ on)))
+        (λ (fits : codeOf (getD words i 0) ≤ 6). omega arith)
+        (below-or-not 6 (codeOf (getD words i 0)))

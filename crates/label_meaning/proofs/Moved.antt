@@ -8,6 +8,7 @@ use native.Mathlib.Omega.{arith}
 use lib.Dec.{eqb, leb}
 use borrow.Author.Tests.{eqb-true, eqb-false, leb-true}
 use Rattle.octets.proofs.Choice.{by-test}
+use Rattle.label_list.specs.declared.Found.{Found}
 use Rattle.label_list.specs.declared.LabelMessage.{LabelMessage}
 use Rattle.label_list.specs.declared.LabelMessage.the-variants.{Mapping, Withdraw, Release}
 use Rattle.label_list.specs.declared.Next.the-variants.{Code}
@@ -23,14 +24,17 @@ use Rattle.label_events.specs.declared.Touched.{Touched}
 use Rattle.label_events.specs.declared.Touched.the-variants.{Label, Every, Nothing}
 use Rattle.label_events.specs.Accept.{acceptedOf}
 use Rattle.label_events.specs.Change.{codeAt}
-use Rattle.label_events.specs.Receive.{everyReceived, receivedOf}
-use Rattle.label_meaning.specs.Event.{LabelEvent, Accepted, Acked, Received, Broken, afterEvent, Touches, named, every, Moves, given, withdrawn, released, returned, withdraw-acked, release-acked, taken, taken-again, taken-bare, asked-back, bare-withdrawn, given-back, withdrawn-back, bare-lost}
+use Rattle.label_events.specs.Receive.{everyReceived, receivedWith, receivedOf}
+use Rattle.label_events.specs.Requests.{endedAt}
+use Rattle.label_events.proofs.Ended.{ended-code}
+use Rattle.label_meaning.specs.Event.{LabelEvent, Accepted, Acked, Received, Asked, Ended, Broken, afterEvent, Touches, named, every, Moves, given, withdrawn, released, returned, withdraw-acked, release-acked, taken, taken-again, taken-bare, asked-back, bare-withdrawn, given-back, withdrawn-back, bare-lost}
 use Rattle.label_meaning.specs.Life.{Moved}
 use Rattle.label_meaning.specs.Valid.{IsValid}
 use Rattle.label_meaning.specs.View.{Effect}
 use Rattle.label_meaning.proofs.Proper.{Proper, proper-side}
 use Rattle.label_meaning.proofs.Step.{Accepts, code-proper, accepted-outcome, acked-effect, received-outcome}
 use Rattle.label_meaning.proofs.Swept.{sweep-valid, sweep-code}
+use Rattle.label_meaning.proofs.Unlisted.{LabelsStay, stay-code, ended-stays, asked-stays}
 use Rattle.label_meaning.proofs.View.{code-is, is-code}
 
 -- The rules, as moves of one code: it stays, or it is a move.
@@ -80,19 +84,19 @@ acked-move Mapping k c = inl refl
 acked-move Withdraw k c = by-test (eqb c 2) (λ p. let two : c ≡ 2 = eqb-true c 2 p in inr (rw two withdraw-acked)) (λ p. inl (rw p))
 acked-move Release k c = by-test (eqb c 5) (λ p. let five : c ≡ 5 = eqb-true c 5 p in inr (rw five release-acked)) (λ p. inl (rw p))
 
-mapping-move : (p : Bool) (k c : ℕ) → Move (Received Mapping p (Label k)) Used k c (codeReceived Mapping p c)
+mapping-move : (r : Found) (p : Bool) (k c : ℕ) → Move (Received r Mapping p (Label k)) Used k c (codeReceived Mapping p c)
 unfolding codeReceived
-mapping-move true k c =
+mapping-move r true k c =
     by-test
     (eqb c 0)
     (λ z. let none : c ≡ 0 = eqb-true c 0 z in inr (rw none taken))
     (λ z. by-test (eqb c 5) (λ p. let five : c ≡ 5 = eqb-true c 5 p in inr (rw five taken-again)) (λ p. inl (rw (z, p))))
-mapping-move false k c = by-test (eqb c 0) (λ z. let none : c ≡ 0 = eqb-true c 0 z in inr (rw none taken-bare)) (λ z. inl (rw z))
+mapping-move r false k c = by-test (eqb c 0) (λ z. let none : c ≡ 0 = eqb-true c 0 z in inr (rw none taken-bare)) (λ z. inl (rw z))
 
 module _ (s : Side) (k c : ℕ) (proper : Proper s c) where
-  withdraw-move : (p q : Bool) (t : Touched) → Touches t k → Move (Received Withdraw p t) s k c (codeReceived Withdraw q c)
+  withdraw-move : (r : Found) (p q : Bool) (t : Touched) → Touches t k → Move (Received r Withdraw p t) s k c (codeReceived Withdraw q c)
   unfolding codeReceived onSide
-  withdraw-move p q t touches =
+  withdraw-move r p q t touches =
       by-test
       (eqb c 3)
       (λ z.
@@ -105,9 +109,9 @@ module _ (s : Side) (k c : ℕ) (proper : Proper s c) where
       inr (rw (proper-side s Used c proper (rw bare), bare) (bare-withdrawn touches)))
       (λ y. inl (rw (z, y))))
 
-  release-move : (p q : Bool) (t : Touched) → Touches t k → Move (Received Release p t) s k c (codeReceived Release q c)
+  release-move : (r : Found) (p q : Bool) (t : Touched) → Touches t k → Move (Received r Release p t) s k c (codeReceived Release q c)
   unfolding codeReceived onSide
-  release-move p q t touches =
+  release-move r p q t touches =
       by-test
       (within 1 2 c)
       (λ z.
@@ -162,39 +166,46 @@ module _ (words : List ℕ) (v : IsValid words) where
       rw (is-code (sweptOf words r) t k (sweep-valid words v r) (sweep-code words v r t k (codeAt words t k) (code-is words t k)))
       (move t k (codeAt words t k) (code-proper words t k))
 
-  named-move : (m : LabelMessage) (p : Bool) (l : ℕ) → Move (Received m p (Label l)) (receivedSide m) l (codeAt words (receivedSide m) l) (codeReceived m p (codeAt words (receivedSide m) l))
+  named-move : (r : Found) (m : LabelMessage) (p : Bool) (l : ℕ)
+      → Move (Received r m p (Label l)) (receivedSide m) l (codeAt words (receivedSide m) l) (codeReceived m p (codeAt words (receivedSide m) l))
   unfolding receivedSide
-  named-move Mapping p l = mapping-move p l (codeAt words Used l)
-  named-move Withdraw p l = withdraw-move Used l (codeAt words Used l) (code-proper words Used l) p p (Label l) named
-  named-move Release p l = release-move Given l (codeAt words Given l) (code-proper words Given l) p p (Label l) named
+  named-move r Mapping p l = mapping-move r p l (codeAt words Used l)
+  named-move r Withdraw p l = withdraw-move Used l (codeAt words Used l) (code-proper words Used l) r p p (Label l) named
+  named-move r Release p l = release-move Given l (codeAt words Given l) (code-proper words Given l) r p p (Label l) named
 
-  every-moved : (m : LabelMessage) (p : Bool) (t : Side) (k : ℕ) → MovedTo words (everyReceived m words) (Received m p Every) t k
+  every-moved : (r : Found) (m : LabelMessage) (p : Bool) (t : Side) (k : ℕ) → MovedTo words (everyReceived m words) (Received r m p Every) t k
   unfolding everyReceived codeSwept
-  every-moved Mapping p t k = inl refl
-  every-moved Withdraw p t k = swept-moved (Received Withdraw p Every) WithdrawAll (λ s l c proper. withdraw-move s l c proper p true Every every) t k
-  every-moved Release p t k = swept-moved (Received Release p Every) ReleaseAll (λ s l c proper. release-move s l c proper p true Every every) t k
+  every-moved r Mapping p t k = inl refl
+  every-moved r Withdraw p t k = swept-moved (Received r Withdraw p Every) WithdrawAll (λ s l c proper. withdraw-move s l c proper r p true Every every) t k
+  every-moved r Release p t k = swept-moved (Received r Release p Every) ReleaseAll (λ s l c proper. release-move s l c proper r p true Every every) t k
 
-  received-moved : (m : LabelMessage) (p : Bool) (x : Touched) (t : Side) (k : ℕ) → MovedTo words (receivedOf words m p x .1) (Received m p x) t k
-  unfolding receivedOf
-  received-moved m p (Label l) t k =
+module _ (words : List ℕ) (v : IsValid words) where
+  stay-moved : {after : List ℕ} (e : LabelEvent) → LabelsStay words after → (t : Side) (k : ℕ) → MovedTo words after e t k
+  stay-moved e x t k = inl (stay-code x t k)
+
+  received-moved : (r : Found) (m : LabelMessage) (p : Bool) (x : Touched) (t : Side) (k : ℕ) → MovedTo words (receivedOf words r m p x .1) (Received r m p x) t k
+  unfolding receivedWith
+  received-moved r m p (Label l) t k =
       ⊎-elim
-      (λ (same : receivedOf words m p (Label l) .1 ≡ words). same-moved (Received m p (Label l)) same t k)
-      (λ (x : Effect words (receivedOf words m p (Label l) .1) (receivedSide m) l (codeReceived m p (codeAt words (receivedSide m) l))).
-      effect-moved (Received m p (Label l)) (receivedSide m) l (codeReceived m p (codeAt words (receivedSide m) l)) x (named-move m p l) t k)
-      (received-outcome words v m p l)
-  received-moved m p Every t k = every-moved m p t k
-  received-moved m p Nothing t k = inl refl
+      (λ (same : receivedOf words r m p (Label l) .1 ≡ endedAt r words). inl (rw same (ended-code words t k r)))
+      (λ (x : Effect words (receivedOf words r m p (Label l) .1) (receivedSide m) l (codeReceived m p (codeAt words (receivedSide m) l))).
+      effect-moved words v (Received r m p (Label l)) (receivedSide m) l (codeReceived m p (codeAt words (receivedSide m) l)) x (named-move words v r m p l) t k)
+      (received-outcome words v r m p l)
+  received-moved r m p Every t k = rw (ended-code words t k r) at (every-moved (endedAt r words) (ended-stays words v r .valid) r m p t k)
+  received-moved r m p Nothing t k = inl (ended-code words t k r)
 
   -- Every event leaves every label's code, or moves it as 01 says.
   pub every-move : (e : LabelEvent) (side : Side) (label : ℕ) → Moved words e side label
   unfolding afterEvent
   every-move (Accepted m l) t k =
       ⊎-elim
-      (λ (same : acceptedOf words m l .1 ≡ words). same-moved (Accepted m l) same t k)
+      (λ (same : acceptedOf words m l .1 ≡ words). same-moved words v (Accepted m l) same t k)
       (λ (x : Accepts words m l (acceptedOf words m l .1)).
-      effect-moved (Accepted m l) (sentSide m) l (x .code) (x .effect) (accepted-move m l (codeAt words (sentSide m) l) (x .code) (x .rule)) t k)
+      effect-moved words v (Accepted m l) (sentSide m) l (x .code) (x .effect) (accepted-move m l (codeAt words (sentSide m) l) (x .code) (x .rule)) t k)
       (accepted-outcome words v m l)
   every-move (Acked m l) t k =
-      effect-moved (Acked m l) (sentSide m) l (codeAcked m (codeAt words (sentSide m) l)) (acked-effect words v m l) (acked-move m l (codeAt words (sentSide m) l)) t k
-  every-move (Received m p x) t k = received-moved m p x t k
-  every-move Broken t k = swept-moved Broken AfterBreak (λ s l c proper. break-move s l c proper) t k
+      effect-moved words v (Acked m l) (sentSide m) l (codeAcked m (codeAt words (sentSide m) l)) (acked-effect words v m l) (acked-move m l (codeAt words (sentSide m) l)) t k
+  every-move (Received r m p x) t k = received-moved r m p x t k
+  every-move Asked t k = stay-moved Asked (asked-stays words v) t k
+  every-move (Ended r) t k = stay-moved (Ended r) (ended-stays words v r) t k
+  every-move Broken t k = swept-moved words v Broken AfterBreak (λ s l c proper. break-move s l c proper) t k

@@ -10,6 +10,7 @@ use lib.ListN.{getD}
 use borrow.Author.Tests.{eqb-false}
 use Rattle.octets.specs.Pick.{pick}
 use Rattle.octets.proofs.Choice.{by-test, both-true}
+use Rattle.label_list.specs.declared.Found.{Found}
 use Rattle.label_list.specs.declared.LabelMessage.{LabelMessage}
 use Rattle.label_list.specs.declared.LabelMessage.the-variants.{Mapping, Withdraw, Release}
 use Rattle.label_list.specs.declared.Protection.{Protection}
@@ -54,7 +55,7 @@ right-missing : {verdict : Protection} → verdict ≡ Right → verdict ≡ Mis
 right-missing p q = let z : _≡_ {A = ℕ} 0 1 = cc in omega arith
 
 -- No move of a listed label of any code but 6 by an unprotected message agrees with a verdict that its protection is right.
-no-move : (words : List ℕ) {m : LabelMessage} {t : Touched} {s : Side} {k c d : ℕ} → codeAt words s k ≡ c → c ≢ 0 → c ≢ withoutProtection → protectionOf words m false t ≡ Right → Moves (Received m false t) s k c d → ⊥
+no-move : (words : List ℕ) {r : Found} {m : LabelMessage} {t : Touched} {s : Side} {k c d : ℕ} → codeAt words s k ≡ c → c ≢ 0 → c ≢ withoutProtection → protectionOf words m false t ≡ Right → Moves (Received r m false t) s k c d → ⊥
 unfolding receivedSide needsProtection onSide
 no-move words e there kept right taken-bare = there refl
 no-move words e there kept right (asked-back {k = k} touches) = right-missing right (touched-missing words Withdraw _ k touches (rw e))
@@ -110,10 +111,10 @@ protected-names words Withdraw l u e = eqb-false (codeAt words Used l) withoutPr
 protected-names words Release l u e = λ bare. let z : _≡_ {A = ℕ} 0 1 = cc in omega arith
 
 -- What is right never loses a protected label to an unprotected message.
-pub unprotected-harmless : (words : List ℕ) → IsValid words → (m : LabelMessage) (t : Touched) → protectionOf words m false t ≡ Right
-    → (s : Side) (k : ℕ) → codeAt words s k ≢ 0 → codeAt words s k ≢ withoutProtection → codeAt (afterEvent words (Received m false t)) s k ≡ codeAt words s k
-unprotected-harmless words v m t right s k there kept =
+pub unprotected-harmless : (words : List ℕ) → IsValid words → (r : Found) (m : LabelMessage) (t : Touched) → protectionOf words m false t ≡ Right
+    → (s : Side) (k : ℕ) → codeAt words s k ≢ 0 → codeAt words s k ≢ withoutProtection → codeAt (afterEvent words (Received r m false t)) s k ≡ codeAt words s k
+unprotected-harmless words v r m t right s k there kept =
     ⊎-elim
-    (λ (same : codeAt (afterEvent words (Received m false t)) s k ≡ codeAt words s k). same)
-    (λ (move : Moves (Received m false t) s k (codeAt words s k) (codeAt (afterEvent words (Received m false t)) s k)). absurd (no-move words refl there kept right move))
-    (every-move words v (Received m false t) s k)
+    (λ (same : codeAt (afterEvent words (Received r m false t)) s k ≡ codeAt words s k). same)
+    (λ (move : Moves (Received r m false t) s k (codeAt words s k) (codeAt (afterEvent words (Received r m false t)) s k)). absurd (no-move words refl there kept right move))
+    (every-move words v (Received r m false t) s k)

@@ -1,11 +1,12 @@
 -- Each event changes one label's code by its rule, or takes every label through a rule; a valid list stays valid. Assumes nothing.
 use Prim.Native.Nat.{ℕ, _≤_, _<_}
-use mathlib.Core.Bool.{Bool, true, true≢false}
+use mathlib.Core.Bool.{Bool, true}
 use mathlib.Core.List.{List}
 use mathlib.Core.Logic.{_≢_, _⊎_, inl, inr, ⊎-elim}
-use mathlib.Core.Path.{_≡_, refl, sym, _∙_}
+use mathlib.Core.Path.{_≡_, refl, sym}
 use native.Mathlib.Omega.{arith}
-use lib.ListN.{getD, set}
+use lib.ListN.{length, getD, set, length-set}
+use lib.Seq.{getD-set-same}
 use Rattle.octets.proofs.Choice.{by-test}
 use Rattle.label_list.specs.declared.Found.{Found}
 use Rattle.label_list.specs.declared.Found.the-variants.{At, Nowhere}
@@ -18,24 +19,27 @@ use Rattle.label_list.specs.declared.SweepRule.the-variants.{WithdrawAll, Relea
 use Rattle.label_list.specs.Find.{findOf}
 use Rattle.label_list.specs.Rules.{sentSide, receivedSide, codeAccepted, codeAcked, codeReceived}
 use Rattle.label_list.specs.Valid.{validOf}
-use Rattle.label_list.specs.Word.{labelCount, labelOf, codeOf, wordOf, isFree, listable, onSide, standsFor}
+use Rattle.label_list.specs.Word.{labelCount, labelOf, codeOf, wordOf, isFree, isRequest, listable, onSide, standsFor}
+use Rattle.label_list.proofs.OpenIds.{request-inside}
 use Rattle.label_list.proofs.Reached.{found-passes}
-use Rattle.label_list.proofs.Standing.{within-in, within-range, stands-parts, free-stands}
+use Rattle.label_list.proofs.Standing.{within-in, within-range, stands-parts}
 use Rattle.label_events.specs.declared.Change.{Change}
 use Rattle.label_events.specs.declared.Change.the-variants.{Keep, Put, NoRoom}
 use Rattle.label_events.specs.declared.Touched.{Touched}
 use Rattle.label_events.specs.declared.Touched.the-variants.{Label, Every, Nothing}
 use Rattle.label_events.specs.Accept.{planBy, planOf, acceptedBy, acceptedOf}
 use Rattle.label_events.specs.Ack.{ackedAt, ackedOf}
-use Rattle.label_events.specs.Change.{codeIn, codeAt, changeAt, changeOf, changed}
-use Rattle.label_events.specs.Receive.{receivedChange, everyReceived, receivedOf}
-use Rattle.label_meaning.specs.Event.{LabelEvent, Accepted, Acked, Received, Broken, afterEvent}
+use Rattle.label_events.specs.Change.{codeIn, codeAt, changeAt, changeWith, changed, changeOf}
+use Rattle.label_events.specs.Receive.{receivedChange, everyReceived, receivedWith, receivedOf}
+use Rattle.label_events.specs.Requests.{endedAt, roomAt}
+use Rattle.label_meaning.specs.Event.{LabelEvent, Accepted, Acked, Received, Asked, Ended, Broken, afterEvent}
 use Rattle.label_meaning.specs.Valid.{WordInRange, IsValid}
 use Rattle.label_meaning.specs.View.{CodeIs, listed, absent, Effect}
-use Rattle.label_meaning.proofs.Effect.{keep-effect, effect-found, change-effect}
-use Rattle.label_meaning.proofs.Meaning.{valid-means, means-valid}
+use Rattle.label_meaning.proofs.Effect.{FreeAt, free-first, keep-effect, effect-found, change-effect}
+use Rattle.label_meaning.proofs.Meaning.{stands-range, valid-means, means-valid}
 use Rattle.label_meaning.proofs.Proper.{Proper, accepted-proper, acked-proper, received-proper}
 use Rattle.label_meaning.proofs.Swept.{sweep-valid}
+use Rattle.label_meaning.proofs.Unlisted.{LabelsStay, stay-code, stay-effect, ended-stays, asked-stays}
 use Rattle.label_meaning.proofs.View.{found-none, code-is}
 
 -- The code of a label on a side is 0 or one of that side.
@@ -59,14 +63,15 @@ pub record Accepts (words : List ℕ) (m : LabelMessage) (l : ℕ) (after : List
 
 module _ (words : List ℕ) (v : IsValid words) where
   -- a change to a proper code, where the label may be listed
-  change-outcome : (s : Side) (l c : ℕ) → listable l ≡ true → Proper s c → (changed words (changeOf words s l c) ≡ words) ⊎ Effect words (changed words (changeOf words s l c)) s l c
+  change-outcome : (place : Found) → FreeAt words place → (s : Side) (l c : ℕ) → listable l ≡ true → Proper s c
+      → (changed words (changeWith words place s l c) ≡ words) ⊎ Effect words (changed words (changeWith words place s l c)) s l c
   unfolding changed
-  change-outcome s l c may proper =
+  change-outcome place free s l c may proper =
       let range : (16 ≤ l) × (l ≤ 1048575) = within-range 16 1048575 l may in
       ⊎-elim
-      (λ (full : changeOf words s l c ≡ NoRoom). inl (rw full))
-      (λ (free : changeOf words s l c ≢ NoRoom). inr (change-effect words v s l c (range .0) (omega arith) proper free))
-      (room (changeOf words s l c))
+      (λ (full : changeWith words place s l c ≡ NoRoom). inl (rw full))
+      (λ (there : changeWith words place s l c ≢ NoRoom). inr (change-effect words v s l c (range .0) (omega arith) proper place free there))
+      (room (changeWith words place s l c))
 
   -- a message of ours: refused, or its label's code becomes what the rule says
   module _ (m : LabelMessage) (l : ℕ) where
@@ -76,7 +81,7 @@ module _ (words : List ℕ) (v : IsValid words) where
         ⊎-elim
         inl
         (λ (x : Effect words (changed words (changeOf words (sentSide m) l c)) (sentSide m) l c). inr (record { code = c; rule = e; effect = x }))
-        (change-outcome (sentSide m) l c may (accepted-proper m (codeAt words (sentSide m) l) c e))
+        (change-outcome (findOf isFree words) (free-first words (findOf isFree words) refl) (sentSide m) l c may (accepted-proper m (codeAt words (sentSide m) l) c e))
     next-outcome may NotAllowed e = inl refl
 
     pub accepted-outcome : (acceptedOf words m l .1 ≡ words) ⊎ Accepts words m l (acceptedOf words m l .1)
@@ -91,8 +96,7 @@ module _ (words : List ℕ) (v : IsValid words) where
   listed-label : (s : Side) (l i : ℕ) → standsFor s l (getD words i 0) ≡ true → (16 ≤ l) × (l < labelCount)
   listed-label s l i p =
       let label : labelOf (getD words i 0) ≡ l = stands-parts s l (getD words i 0) p .1 in
-      let listed-i : getD words i 0 ≢ 0 = λ z. true≢false (sym p ∙ rw z (free-stands s l)) in
-      let range : WordInRange (getD words i 0) = v .each i listed-i in
+      let range : WordInRange (getD words i 0) = stands-range v s l i p in
       (omega (arith, range .label), omega arith)
 
   module _ (s : Side) (l n : ℕ) (proper : Proper s n) where
@@ -100,32 +104,23 @@ module _ (words : List ℕ) (v : IsValid words) where
     unfolding changeAt changed
     found-effect i e =
         let range : (16 ≤ l) × (l < labelCount) = listed-label s l i (found-passes (standsFor s l) words i e refl) in
-        effect-found words v s l n (range .0) (range .1) proper (At i) (findOf isFree words) e refl (λ z. let z : _≡_ {A = ℕ} 0 1 = cc in omega arith)
+        effect-found words v s l n (range .0) (range .1) proper (At i) Nowhere e tt (λ z. let z : _≡_ {A = ℕ} 0 1 = cc in omega arith)
 
-    listed-found : (f : Found) → f ≡ findOf (standsFor s l) words → codeIn words f ≢ 0 → (listable l ≡ true) × Effect words (changed words (changeAt f (findOf isFree words) l n)) s l n
+    listed-found : (f place : Found) → f ≡ findOf (standsFor s l) words → codeIn words f ≢ 0 → (listable l ≡ true) × Effect words (changed words (changeAt f place l n)) s l n
     unfolding codeIn changeAt changed
-    listed-found (At i) e h =
+    listed-found (At i) place e h =
         let range : (16 ≤ l) × (l < labelCount) = listed-label s l i (found-passes (standsFor s l) words i e refl) in
         (sym (within-in 16 1048575 l (range .0) (omega arith)), found-effect i e)
-    listed-found Nowhere e h = absurd (h refl)
+    listed-found Nowhere place e h = absurd (h refl)
 
-    listed-effect : codeAt words s l ≢ 0 → (listable l ≡ true) × Effect words (changed words (changeOf words s l n)) s l n
-    listed-effect = listed-found (findOf (standsFor s l) words) refl
+    listed-effect : (place : Found) → codeAt words s l ≢ 0 → (listable l ≡ true) × Effect words (changed words (changeWith words place s l n)) s l n
+    listed-effect place = listed-found (findOf (standsFor s l) words) place refl
 
   pub accepted-listed : (m : LabelMessage) (l n : ℕ) → codeAt words (sentSide m) l ≢ 0 → codeAccepted m (codeAt words (sentSide m) l) ≡ Code n → Effect words (acceptedOf words m l .1) (sentSide m) l n
   unfolding acceptedOf planOf
   accepted-listed m l n h e =
-      let listed-l = listed-effect (sentSide m) l n (accepted-proper m (codeAt words (sentSide m) l) n e) h in
+      let listed-l = listed-effect (sentSide m) l n (accepted-proper m (codeAt words (sentSide m) l) n e) (findOf isFree words) h in
       rw (listed-l .0, e) (listed-l .1)
-
-  pub received-listed : (m : LabelMessage) (p : Bool) (l : ℕ) → codeAt words (receivedSide m) l ≢ 0
-      → Effect words (receivedOf words m p (Label l) .1) (receivedSide m) l (codeReceived m p (codeAt words (receivedSide m) l))
-  unfolding receivedOf receivedChange
-  received-listed m p l h =
-      let proper : Proper (receivedSide m) (codeReceived m p (codeAt words (receivedSide m) l)) =
-      received-proper m p (codeAt words (receivedSide m) l) (code-proper words (receivedSide m) l) in
-      let listed-l = listed-effect (receivedSide m) l (codeReceived m p (codeAt words (receivedSide m) l)) proper h in
-      rw (listed-l .0) (listed-l .1)
 
   -- an ACK
   acked-none : (m : LabelMessage) → codeAcked m 0 ≡ 0
@@ -144,20 +139,26 @@ module _ (words : List ℕ) (v : IsValid words) where
   pub acked-effect : (m : LabelMessage) (l : ℕ) → Effect words (ackedOf words m l) (sentSide m) l (codeAcked m (codeAt words (sentSide m) l))
   acked-effect m l = acked-at m l (findOf (standsFor (sentSide m) l) words) refl
 
-  -- a message of the peer's that names its label
-  pub received-outcome : (m : LabelMessage) (p : Bool) (l : ℕ)
-      → (receivedOf words m p (Label l) .1 ≡ words) ⊎ Effect words (receivedOf words m p (Label l) .1) (receivedSide m) l (codeReceived m p (codeAt words (receivedSide m) l))
-  unfolding receivedOf receivedChange changed
-  received-outcome m p l =
-      by-test
-      (listable l)
-      (λ may. rw may (change-outcome (receivedSide m) l (codeReceived m p (codeAt words (receivedSide m) l)) may
-      (received-proper m p (codeAt words (receivedSide m) l) (code-proper words (receivedSide m) l))))
-      (λ may. inl (rw may))
+  -- a message of the peer's that names its label, where `place` is that of a free word
+  module _ (place : Found) (m : LabelMessage) (p : Bool) (l : ℕ) where
+    proper-received : Proper (receivedSide m) (codeReceived m p (codeAt words (receivedSide m) l))
+    proper-received = received-proper m p (codeAt words (receivedSide m) l) (code-proper words (receivedSide m) l)
 
-  -- validity
-  outcome-valid : {after : List ℕ} (s : Side) (l c : ℕ) → (after ≡ words) ⊎ Effect words after s l c → IsValid after
-  outcome-valid {after} s l c = ⊎-elim (λ (same : after ≡ words). rw same v) (λ (x : Effect words after s l c). x .valid)
+    listed-with : codeAt words (receivedSide m) l ≢ 0
+        → Effect words (receivedWith words place m p (Label l) .1) (receivedSide m) l (codeReceived m p (codeAt words (receivedSide m) l))
+    unfolding receivedWith receivedChange
+    listed-with h =
+        let listed-l = listed-effect (receivedSide m) l (codeReceived m p (codeAt words (receivedSide m) l)) proper-received place h in
+        rw (listed-l .0) (listed-l .1)
+
+    outcome-with : FreeAt words place → (receivedWith words place m p (Label l) .1 ≡ words)
+        ⊎ Effect words (receivedWith words place m p (Label l) .1) (receivedSide m) l (codeReceived m p (codeAt words (receivedSide m) l))
+    unfolding receivedWith receivedChange changed
+    outcome-with free =
+        by-test
+        (listable l)
+        (λ may. rw may (change-outcome place free (receivedSide m) l (codeReceived m p (codeAt words (receivedSide m) l)) may proper-received))
+        (λ may. inl (rw may))
 
   every-valid : (m : LabelMessage) → IsValid (everyReceived m words)
   unfolding everyReceived
@@ -165,22 +166,61 @@ module _ (words : List ℕ) (v : IsValid words) where
   every-valid Withdraw = sweep-valid words v WithdrawAll
   every-valid Release = sweep-valid words v ReleaseAll
 
-  received-valid : (m : LabelMessage) (p : Bool) (t : Touched) → IsValid (receivedOf words m p t .1)
-  unfolding receivedOf
-  received-valid m p (Label l) = outcome-valid (receivedSide m) l (codeReceived m p (codeAt words (receivedSide m) l)) (received-outcome m p l)
-  received-valid m p Every = every-valid m
-  received-valid m p Nothing = v
+-- The place that a message of the peer's is given for a new label is one of a free word.
+pub room-is-free : (request : Found) (words : List ℕ) → FreeAt (endedAt request words) (roomAt request words)
+unfolding endedAt roomAt
+room-is-free (At i) words =
+    by-test
+    (isRequest (getD words i 0))
+    (λ t.
+    let inside : i < length words = request-inside words i t in
+    rw t (rw (length-set words i 0) inside, getD-set-same words i 0 0 inside))
+    (λ f. rw f (free-first words (findOf isFree words) refl))
+room-is-free Nowhere words = free-first words (findOf isFree words) refl
 
-  pub step-is-valid : (e : LabelEvent) → IsValid (afterEvent words e)
-  unfolding afterEvent
-  step-is-valid (Accepted m l) =
+-- A message of the peer's, with the Request that it ends.
+module _ (words : List ℕ) (v : IsValid words) (request : Found) where
+  stays : LabelsStay words (endedAt request words)
+  stays = ended-stays words v request
+
+  pub received-listed : (m : LabelMessage) (p : Bool) (l : ℕ) → codeAt words (receivedSide m) l ≢ 0
+      → Effect words (receivedOf words request m p (Label l) .1) (receivedSide m) l (codeReceived m p (codeAt words (receivedSide m) l))
+  received-listed m p l h =
+      let same : codeAt (endedAt request words) (receivedSide m) l ≡ codeAt words (receivedSide m) l = stay-code stays (receivedSide m) l in
+      rw (← same) (stay-effect stays (listed-with (endedAt request words) (stays .valid) (roomAt request words) m p l (rw same h)))
+
+  pub received-outcome : (m : LabelMessage) (p : Bool) (l : ℕ) → (receivedOf words request m p (Label l) .1 ≡ endedAt request words)
+      ⊎ Effect words (receivedOf words request m p (Label l) .1) (receivedSide m) l (codeReceived m p (codeAt words (receivedSide m) l))
+  received-outcome m p l =
+      let same : codeAt (endedAt request words) (receivedSide m) l ≡ codeAt words (receivedSide m) l = stay-code stays (receivedSide m) l in
       ⊎-elim
-      (λ (same : acceptedOf words m l .1 ≡ words). rw same v)
-      (λ (x : Accepts words m l (acceptedOf words m l .1)). x .effect .valid)
-      (accepted-outcome m l)
-  step-is-valid (Acked m l) = acked-effect m l .valid
-  step-is-valid (Received m p t) = received-valid m p t
-  step-is-valid Broken = sweep-valid words v AfterBreak
+      inl
+      (λ (x : Effect (endedAt request words) (receivedOf words request m p (Label l) .1) (receivedSide m) l (codeReceived m p (codeAt (endedAt request words) (receivedSide m) l))).
+      inr (rw (← same) (stay-effect stays x)))
+      (outcome-with (endedAt request words) (stays .valid) (roomAt request words) m p l (room-is-free request words))
+
+  received-valid : (m : LabelMessage) (p : Bool) (t : Touched) → IsValid (receivedOf words request m p t .1)
+  unfolding receivedWith
+  received-valid m p (Label l) =
+      ⊎-elim
+      (λ (same : receivedOf words request m p (Label l) .1 ≡ endedAt request words). rw same (stays .valid))
+      (λ (x : Effect words (receivedOf words request m p (Label l) .1) (receivedSide m) l (codeReceived m p (codeAt words (receivedSide m) l))). x .valid)
+      (received-outcome m p l)
+  received-valid m p Every = every-valid (endedAt request words) (stays .valid) m
+  received-valid m p Nothing = stays .valid
+
+pub step-is-valid : (words : List ℕ) → IsValid words → (e : LabelEvent) → IsValid (afterEvent words e)
+unfolding afterEvent
+step-is-valid words v (Accepted m l) =
+    ⊎-elim
+    (λ (same : acceptedOf words m l .1 ≡ words). rw same v)
+    (λ (x : Accepts words m l (acceptedOf words m l .1)). x .effect .valid)
+    (accepted-outcome words v m l)
+step-is-valid words v (Acked m l) = acked-effect words v m l .valid
+step-is-valid words v (Received request m p t) = received-valid words v request m p t
+step-is-valid words v Asked = asked-stays words v .valid
+step-is-valid words v (Ended request) = ended-stays words v request .valid
+step-is-valid words v Broken = sweep-valid words v AfterBreak
 
 -- Every event leaves a valid list valid.
 pub step-valid : (words : List ℕ) (e : LabelEvent) → validOf words ≡ true → validOf (afterEvent words e) ≡ true

@@ -2,7 +2,7 @@
 use Prim.Native.Nat.{ℕ}
 use mathlib.Core.Bool.{true, true≢false}
 use mathlib.Core.List.{List}
-use mathlib.Core.Logic.{_≢_, inr, ⊎-elim}
+use mathlib.Core.Logic.{_≢_, inr, ⊎-elim, _⊎_, inl}
 use mathlib.Core.Path.{_≡_, refl, sym, _∙_}
 use native.Mathlib.Omega.{arith}
 use lib.Dec.{eqb}
@@ -14,12 +14,12 @@ use Rattle.label_list.specs.declared.SweepRule.{SweepRule}
 use Rattle.label_list.specs.declared.SweepRule.the-variants.{WithdrawAll, ReleaseAll, AfterBreak}
 use Rattle.label_list.specs.Rules.{codeReceived, codeSwept}
 use Rattle.label_list.specs.Sweep.{wordSwept, sweptOf}
-use Rattle.label_list.specs.Word.{labelOf, codeOf, wordOf, onSide, standsFor}
-use Rattle.label_list.proofs.Standing.{stands-parts, parts-stands, free-stands}
+use Rattle.label_list.specs.Word.{labelOf, codeOf, wordOf, onSide, standsFor, requestCode, requestWord}
+use Rattle.label_list.proofs.Standing.{stands-parts, parts-stands, free-stands, request-stands}
 use Rattle.label_meaning.specs.Valid.{WordInRange, IsValid}
 use Rattle.label_meaning.specs.View.{CodeIs, listed, absent}
 use Rattle.label_meaning.proofs.Effect.{Lists, Written, word-written}
-use Rattle.label_meaning.proofs.Meaning.{stands-same}
+use Rattle.label_meaning.proofs.Meaning.{stands-same, stands-range}
 use Rattle.label_meaning.proofs.Proper.{swept-proper}
 
 rule-none : (r : SweepRule) → codeSwept r 0 ≡ 0
@@ -28,11 +28,22 @@ rule-none WithdrawAll = refl
 rule-none ReleaseAll = refl
 rule-none AfterBreak = refl
 
+rule-request : (r : SweepRule) → codeSwept r requestCode ≡ requestCode
+unfolding codeSwept codeReceived
+rule-request WithdrawAll = refl
+rule-request ReleaseAll = refl
+rule-request AfterBreak = refl
+
 module _ (r : SweepRule) where
   -- a free word stays free
   swept-free : wordSwept r 0 ≡ 0
   unfolding wordSwept wordOf
   swept-free = rw (rule-none r)
+
+  -- an open Request's word stays
+  pub swept-request : wordSwept r requestWord ≡ requestWord
+  unfolding wordSwept wordOf
+  swept-request = rw (rule-request r)
 
   -- a listed word becomes one for the same label on the same side
   swept-written : (s : Side) (w : ℕ) → WordInRange w → onSide s (codeOf w) ≡ true → Written s (labelOf w) (codeSwept r (codeOf w)) (wordSwept r w)
@@ -41,12 +52,16 @@ module _ (r : SweepRule) where
       word-written s (labelOf w) (codeSwept r (codeOf w)) (range .label) (omega arith) (swept-proper r s (codeOf w) (inr on))
 
   -- so what a rewritten word stands for, the word stood for
-  swept-back : (s : Side) (l w : ℕ) → (w ≢ 0 → WordInRange w) → standsFor s l (wordSwept r w) ≡ true → standsFor s l w ≡ true
+  swept-back : (s : Side) (l w : ℕ) → (w ≢ 0 → (w ≡ requestWord) ⊎ WordInRange w) → standsFor s l (wordSwept r w) ≡ true → standsFor s l w ≡ true
   swept-back s l w ranged p =
       by-test
       (eqb w 0)
       (λ z. absurd (true≢false (sym p ∙ rw (eqb-true w 0 z, swept-free) (free-stands s l))))
-      (λ z. listed-back (ranged (eqb-false w 0 z)))
+      (λ z.
+      ⊎-elim
+      (λ (e : w ≡ requestWord). absurd (true≢false (sym p ∙ request-stands s l (wordSwept r w) (rw e swept-request))))
+      (λ (range : WordInRange w). listed-back range)
+      (ranged (eqb-false w 0 z)))
     where
       listed-back : WordInRange w → standsFor s l w ≡ true
       listed-back range =
@@ -57,27 +72,33 @@ module _ (r : SweepRule) where
           rw (same .0, same .1) (parts-stands (range .side) (labelOf w) w (range .on) refl))
           (swept-written (range .side) w range (range .on))
 
-module _ (words : List ℕ) (v : IsValid words) (r : SweepRule) where
-  ranged : (i : ℕ) → getD words i 0 ≢ 0 → WordInRange (getD words i 0)
-  ranged i h = v .each i h
+-- a sweep by index
+pub swept-at : (words : List ℕ) (r : SweepRule) (i : ℕ) → getD (sweptOf words r) i 0 ≡ wordSwept r (getD words i 0)
+swept-at words r i =
+    let mapped : getD (sweptOf words r) i (wordSwept r 0) ≡ wordSwept r (getD words i 0) = List·getD-map (wordSwept r) words i 0 in
+    rw (swept-free r) at mapped
 
+module _ (words : List ℕ) (v : IsValid words) (r : SweepRule) where
   at : (i : ℕ) → getD (sweptOf words r) i 0 ≡ wordSwept r (getD words i 0)
-  at i =
-      let mapped : getD (sweptOf words r) i (wordSwept r 0) ≡ wordSwept r (getD words i 0) = List·getD-map (wordSwept r) words i 0 in
-      rw (swept-free r) at mapped
+  at = swept-at words r
 
   back : (s : Side) (l i : ℕ) → standsFor s l (getD (sweptOf words r) i 0) ≡ true → standsFor s l (getD words i 0) ≡ true
-  back s l i p = swept-back r s l (getD words i 0) (ranged i) (rw (at i) at p)
+  back s l i p = swept-back r s l (getD words i 0) (v .each i) (rw (at i) at p)
 
-  swept-each : (i : ℕ) → getD (sweptOf words r) i 0 ≢ 0 → WordInRange (getD (sweptOf words r) i 0)
+  swept-each : (i : ℕ) → getD (sweptOf words r) i 0 ≢ 0 → (getD (sweptOf words r) i 0 ≡ requestWord) ⊎ WordInRange (getD (sweptOf words r) i 0)
   swept-each i h =
       let listed : getD words i 0 ≢ 0 = λ z. h (at i ∙ rw (z, swept-free r)) in
-      let range : WordInRange (getD words i 0) = v .each i listed in
-      rw (at i)
-      (⊎-elim
-      (λ (e : (wordSwept r (getD words i 0) ≡ 0) × (codeSwept r (codeOf (getD words i 0)) ≡ 0)). absurd (h (at i ∙ e .0)))
-      (λ (new : Lists (range .side) (labelOf (getD words i 0)) (codeSwept r (codeOf (getD words i 0))) (wordSwept r (getD words i 0))). new .range)
-      (swept-written r (range .side) (getD words i 0) range (range .on)))
+      ⊎-elim
+      (λ (e : getD words i 0 ≡ requestWord). inl (at i ∙ rw (e, swept-request r)))
+      (λ (range : WordInRange (getD words i 0)). inr (rw (at i) (in-range range)))
+      (v .each i listed)
+    where
+      in-range : WordInRange (getD words i 0) → WordInRange (wordSwept r (getD words i 0))
+      in-range range =
+          ⊎-elim
+          (λ (e : (wordSwept r (getD words i 0) ≡ 0) × (codeSwept r (codeOf (getD words i 0)) ≡ 0)). absurd (h (at i ∙ e .0)))
+          (λ (new : Lists (range .side) (labelOf (getD words i 0)) (codeSwept r (codeOf (getD words i 0))) (wordSwept r (getD words i 0))). new .range)
+          (swept-written r (range .side) (getD words i 0) range (range .on))
 
   -- A sweep leaves a valid list valid,
   pub sweep-valid : IsValid (sweptOf words r)
@@ -86,7 +107,6 @@ module _ (words : List ℕ) (v : IsValid words) (r : SweepRule) where
   swept-listed : (s : Side) (k i : ℕ) → standsFor s k (getD words i 0) ≡ true → CodeIs (sweptOf words r) s k (codeSwept r (codeOf (getD words i 0)))
   swept-listed s k i p =
       let parts : (onSide s (codeOf (getD words i 0)) ≡ true) × (labelOf (getD words i 0) ≡ k) = stands-parts s k (getD words i 0) p in
-      let listed-i : getD words i 0 ≢ 0 = λ z. true≢false (sym p ∙ rw z (free-stands s k)) in
       ⊎-elim
       (λ (e : (wordSwept r (getD words i 0) ≡ 0) × (codeSwept r (codeOf (getD words i 0)) ≡ 0)).
       rw (e .1)
@@ -100,7 +120,7 @@ module _ (words : List ℕ) (v : IsValid words) (r : SweepRule) where
       (λ (new : Lists s (labelOf (getD words i 0)) (codeSwept r (codeOf (getD words i 0))) (wordSwept r (getD words i 0))).
       let found : CodeIs (sweptOf words r) s k (codeOf (getD (sweptOf words r) i 0)) = listed i (rw (at i, ← parts .1) (new .stands)) in
       rw (at i, new .code) at found)
-      (swept-written r s (getD words i 0) (v .each i listed-i) (parts .0))
+      (swept-written r s (getD words i 0) (stands-range v s k i p) (parts .0))
 
   -- and takes the code of each label on each side through the rule.
   pub sweep-code : (s : Side) (k c : ℕ) → CodeIs words s k c → CodeIs (sweptOf words r) s k (codeSwept r c)

@@ -2,6 +2,7 @@
 use Prim.Native.Nat.{ℕ}
 use mathlib.Core.Bool.{Bool, true, false}
 use mathlib.Core.List.{List}
+use Rattle.label_list.specs.declared.Found.{Found}
 use Rattle.label_list.specs.declared.LabelMessage.{LabelMessage}
 use Rattle.label_list.specs.declared.LabelMessage.the-variants.{Mapping, Withdraw, Release}
 use Rattle.label_list.specs.declared.Side.{Side}
@@ -13,19 +14,26 @@ use Rattle.label_events.specs.declared.Touched.{Touched}
 use Rattle.label_events.specs.declared.Touched.the-variants.{Label, Every}
 use Rattle.label_events.specs.Accept.{acceptedOf}
 use Rattle.label_events.specs.Ack.{ackedOf}
+use Rattle.label_events.specs.Change.{changed}
 use Rattle.label_events.specs.Receive.{receivedOf}
+use Rattle.label_events.specs.Requests.{askedChange, endedAt}
 
--- a message of ours is accepted for sending or released by an ACK, one of the peer's is received (the Bool: protected), a connection ends
+-- a message of ours is accepted for sending or released by an ACK, one of the peer's is received (the place of the Request that it ends; the Bool: protected),
+-- a Request of ours is accepted under an ID that is not open, one is ended at a place (by its Abort, or by a Notification), a connection ends
 pub data LabelEvent : Type 0 where
   Accepted : LabelMessage → ℕ → LabelEvent
   Acked : LabelMessage → ℕ → LabelEvent
-  Received : LabelMessage → Bool → Touched → LabelEvent
+  Received : Found → LabelMessage → Bool → Touched → LabelEvent
+  Asked : LabelEvent
+  Ended : Found → LabelEvent
   Broken : LabelEvent
 
 unfoldable pub afterEvent : List ℕ → LabelEvent → List ℕ
 afterEvent words (Accepted message label) = acceptedOf words message label .1
 afterEvent words (Acked message label) = ackedOf words message label
-afterEvent words (Received message protected touched) = receivedOf words message protected touched .1
+afterEvent words (Received request message protected touched) = receivedOf words request message protected touched .1
+afterEvent words Asked = changed words (askedChange words)
+afterEvent words (Ended request) = endedAt request words
 afterEvent words Broken = sweptOf words AfterBreak
 
 -- the labels that a received message touches
@@ -33,7 +41,7 @@ pub data Touches : Touched → ℕ → Type 0 where
   named : {k : ℕ} → Touches (Label k) k
   every : {k : ℕ} → Touches Every k
 
--- an event moves a label on a side from a code to a code; 0: absent
+-- an event moves a label on a side from a code to a code; 0: absent. A Request asked or ended moves none
 pub data Moves : LabelEvent → Side → ℕ → ℕ → ℕ → Type 0 where
   -- "Accepted for sending: Mapping, absent or 1, becomes 1; Withdraw, 1 becomes 2; Release, 3 becomes 5, 4 becomes free."
   given : {k : ℕ} → Moves (Accepted Mapping k) Given k 0 1
@@ -44,14 +52,14 @@ pub data Moves : LabelEvent → Side → ℕ → ℕ → ℕ → Type 0 where
   withdraw-acked : {k : ℕ} → Moves (Acked Withdraw k) Given k 2 0
   release-acked : {k : ℕ} → Moves (Acked Release k) Used k 5 0
   -- "Received: Mapping protected, absent or 3 or 5 becomes 3 ..; unprotected, absent becomes 6"
-  taken : {k : ℕ} → Moves (Received Mapping true (Label k)) Used k 0 3
-  taken-again : {k : ℕ} → Moves (Received Mapping true (Label k)) Used k 5 3
-  taken-bare : {k : ℕ} → Moves (Received Mapping false (Label k)) Used k 0 withoutProtection
+  taken : {k : ℕ} {r : Found} → Moves (Received r Mapping true (Label k)) Used k 0 3
+  taken-again : {k : ℕ} {r : Found} → Moves (Received r Mapping true (Label k)) Used k 5 3
+  taken-bare : {k : ℕ} {r : Found} → Moves (Received r Mapping false (Label k)) Used k 0 withoutProtection
   -- "Withdraw: 3 becomes 4; .. 6 becomes free"
-  asked-back : {p : Bool} {t : Touched} {k : ℕ} → Touches t k → Moves (Received Withdraw p t) Used k 3 4
-  bare-withdrawn : {p : Bool} {t : Touched} {k : ℕ} → Touches t k → Moves (Received Withdraw p t) Used k withoutProtection 0
+  asked-back : {p : Bool} {t : Touched} {k : ℕ} {r : Found} → Touches t k → Moves (Received r Withdraw p t) Used k 3 4
+  bare-withdrawn : {p : Bool} {t : Touched} {k : ℕ} {r : Found} → Touches t k → Moves (Received r Withdraw p t) Used k withoutProtection 0
   -- "Release: 1, 2 become free"
-  given-back : {p : Bool} {t : Touched} {k : ℕ} → Touches t k → Moves (Received Release p t) Given k 1 0
-  withdrawn-back : {p : Bool} {t : Touched} {k : ℕ} → Touches t k → Moves (Received Release p t) Given k 2 0
+  given-back : {p : Bool} {t : Touched} {k : ℕ} {r : Found} → Touches t k → Moves (Received r Release p t) Given k 1 0
+  withdrawn-back : {p : Bool} {t : Touched} {k : ℕ} {r : Found} → Touches t k → Moves (Received r Release p t) Given k 2 0
   -- "code 6 words are freed"
   bare-lost : {k : ℕ} → Moves Broken Used k withoutProtection 0

@@ -5,3 +5,4 @@ pub mod Keep
 pub mod Life
 pub mod Protected
 pub mod Room
+pub mod Requests

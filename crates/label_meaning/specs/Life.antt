@@ -4,6 +4,7 @@ use mathlib.Core.Bool.{Bool}
 use mathlib.Core.List.{List}
 use mathlib.Core.Logic.{_⊎_}
 use mathlib.Core.Path.{_≡_}
+use Rattle.label_list.specs.declared.Found.{Found}
 use Rattle.label_list.specs.declared.LabelMessage.the-variants.{Withdraw, Release}
 use Rattle.label_list.specs.declared.Side.{Side}
 use Rattle.label_list.specs.declared.Side.the-variants.{Given, Used}
@@ -19,12 +20,12 @@ Moved words e side label =
 -- 01: "So the first of Release and ACK frees a withdrawn label."
 pub data EndsWithdrawal : LabelEvent → ℕ → Type 0 where
   by-ack : {k : ℕ} → EndsWithdrawal (Acked Withdraw k) k
-  by-release : {p : Bool} {t : Touched} {k : ℕ} → Touches t k → EndsWithdrawal (Received Release p t) k
+  by-release : {p : Bool} {t : Touched} {k : ℕ} {r : Found} → Touches t k → EndsWithdrawal (Received r Release p t) k
 
 -- the events that free a label of any code but 6, and from which code
 pub data Frees : LabelEvent → Side → ℕ → ℕ → Type 0 where
-  release-of-given : {p : Bool} {t : Touched} {k : ℕ} → Touches t k → Frees (Received Release p t) Given k 1
-  release-of-withdrawing : {p : Bool} {t : Touched} {k : ℕ} → Touches t k → Frees (Received Release p t) Given k 2
+  release-of-given : {p : Bool} {t : Touched} {k : ℕ} {r : Found} → Touches t k → Frees (Received r Release p t) Given k 1
+  release-of-withdrawing : {p : Bool} {t : Touched} {k : ℕ} {r : Found} → Touches t k → Frees (Received r Release p t) Given k 2
   ack-of-withdraw : {k : ℕ} → Frees (Acked Withdraw k) Given k 2
   our-release : {k : ℕ} → Frees (Accepted Release k) Used k 4
   ack-of-release : {k : ℕ} → Frees (Acked Release k) Used k 5

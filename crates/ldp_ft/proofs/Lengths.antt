@@ -23,8 +23,8 @@ use Rattle.protocol.specs.Calls.{Call, formats, restores, fails, opens, greets,
 use Rattle.protocol.specs.Judged.{judged, done}
 use Rattle.protocol.specs.KeepAlive.{aliveAck}
 use Rattle.protocol.specs.Open.{keptAck}
-use Rattle.protocol.specs.Phases.{sentOf}
-use Rattle.protocol.specs.Receive.{takenAs}
+use Rattle.protocol.specs.Phases.{isUpFT, sentOf}
+use Rattle.protocol.specs.Receive.{takenInFt, takenAs}
 use Rattle.protocol.specs.Send.{nextMessage, queueNumber, ackAsked, sendBytes, sendRule}
 use Rattle.protocol.specs.State.{State}
 use Rattle.protocol.specs.Step.{Step, roomFor}
@@ -50,12 +50,11 @@ alive-short id (FtField.Number a) = omega arith
 
 -- nothing is written to what is received
 taken-short : (s : State) (ph : Phase) (r : Reading) → length (takenAs s ph r .output) ≤ longestWritten
-taken-short s Phase.Idle r = omega arith
-taken-short s (Phase.InitWait v) r = omega arith
-taken-short s (Phase.UpFT u) Reading.Malformed = omega arith
-taken-short s (Phase.UpFT u) (Reading.Whole g) = omega arith
-taken-short s Phase.UpPlain r = omega arith
-taken-short s Phase.Failed r = omega arith
+taken-short s ph r = pick-all (λ (x : Step). length (x .output) ≤ longestWritten) (isUpFT ph) (by r) (omega arith)
+  where
+    by : (r : Reading) → length (takenInFt s ph r .output) ≤ longestWritten
+    by Reading.Malformed = omega arith
+    by (Reading.Whole g) = omega arith
 
 module _ (im : List ℕ) (ph : Phase) (sound : IsSound im) where
   -- a held message has 480 bytes at most, and two TLVs of 8 are added

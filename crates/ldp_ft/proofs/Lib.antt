@@ -6,4 +6,6 @@ pub mod Written
 pub mod Called
 pub mod Parts
 pub mod LabelWord
+pub mod Requests
+pub mod Extending
 pub mod Again

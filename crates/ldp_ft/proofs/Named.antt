@@ -4,8 +4,8 @@ use mathlib.Core.Bool.{not}
 use mathlib.Core.List.{List}
 use native.Mathlib.Omega.{arith}
 use Rattle.octets.proofs.Choice.{pick-all}
-use Rattle.block0.specs.Layout.{slotCount}
 use Rattle.image.specs.declared.Verdict.{Verdict}
+use Rattle.image.specs.Sizes.{requestBlock}
 use Rattle.image.specs.Verdict.{verdict, verdictBlock}
 use Rattle.image.proofs.Scans.{verdict-below}
 use Rattle.protocol.specs.declared.Answer.{Answer}
@@ -16,16 +16,16 @@ use Rattle.protocol.specs.State.{State}
 use Rattle.protocol.specs.Step.{admitted}
 use Rattle.calls.specs.Outcomes.{checked}
 
--- an image has the blocks 0 to 64
+-- an image has the blocks 0 to 65
 abbrev pub Named : Answer → Type 0
-Named a = answerBlock a ≤ slotCount
+Named a = answerBlock a ≤ requestBlock
 
 -- an answer that names none
-pub none : 0 ≤ slotCount
+pub none : 0 ≤ requestBlock
 none = omega arith
 
 -- what the checks name
-checked-by : (v : Verdict) (a : Answer) → verdictBlock v ≤ slotCount → Named a → Named (checked v a)
+checked-by : (v : Verdict) (a : Answer) → verdictBlock v ≤ requestBlock → Named a → Named (checked v a)
 checked-by Verdict.Sound a l n = n
 checked-by Verdict.WrongSize a l n = none
 checked-by (Verdict.BadBlock b) a l n = l

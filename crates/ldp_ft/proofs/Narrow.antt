@@ -38,12 +38,12 @@ use Rattle.ldp_ft.proofs.Rules.{step-named}
 
 -- ---- how calls end
 -- nothing written, and no slot
-quiet : (a : Answer) (ph : Phase) (b : Bool) → Named a → Narrow (record { answer = a; phase = ph; written = 0; slot = 0; block0 = b })
-quiet a ph b n = record { block = n; written = omega arith; slot = omega arith }
+quiet : (a : Answer) (ph : Phase) (b : Bool) (f : ℕ) → Named a → Narrow (record { answer = a; phase = ph; written = 0; slot = 0; block0 = b; further = f })
+quiet a ph b f n = record { block = n; written = omega arith; slot = omega arith }
 
 module _ (a : Answer) (ph : Phase) (im o : List ℕ) (n : Named a) where
   pub unchanged-narrow : Narrow (untouched a ph im o .outcome)
-  unchanged-narrow = quiet a ph _ n
+  unchanged-narrow = quiet a ph _ _ n
 
   settled-narrow : (d : After) → (isDone a ≡ true → Narrow (d .outcome)) → Narrow (settleOf a ph im o d .outcome)
   unfolding settleOf failedOn releasedOn
@@ -51,15 +51,15 @@ module _ (a : Answer) (ph : Phase) (im o : List ℕ) (n : Named a) where
     where
       by : (f : Effect) → effectOf a ≡ f → Narrow (leftBy f a ph im o d .outcome)
       by Effect.Nothing e = unchanged-narrow
-      by Effect.Fail e = quiet a _ _ n
-      by Effect.Release e = quiet a _ _ n
+      by Effect.Fail e = quiet a _ _ _ n
+      by Effect.Release e = quiet a _ _ _ n
       by Effect.Act e = by-test (isDone a) w (λ f. absurd (act-done a e f))
 
 -- a slot stands in one of the blocks 1 to 64
 slot-low : (im : List ℕ) (slots : Slots) → slotNamed im slots ≤ slotCount
 slot-low im stay = omega arith
 slot-low im empty = omega arith
-slot-low im (one-more m) = omega arith
+slot-low im (one-more m ids) = omega arith
 slot-low im (fewer k) = omega arith
 
 -- ---- each call: the protocol's step on what an image stands for that passed restore's checks
@@ -81,7 +81,7 @@ pub format-narrow : (im : List ℕ) → Narrow (formatOf im .outcome)
 unfolding formatOf
 format-narrow im =
     settled-narrow _ Phase.Idle im [] (pick-all Named (not (eqb (length im) imageSize)) none none) formatted
-    (λ t. quiet Answer.Done _ _ none)
+    (λ t. quiet Answer.Done _ _ _ none)
 
 pub restore-narrow : (im : List ℕ) → Narrow (restoreOf im .outcome)
 unfolding restoreOf step

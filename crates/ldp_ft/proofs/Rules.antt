@@ -21,7 +21,7 @@ use Rattle.protocol.specs.Phases.{connected, waiting, mayOpen, awaits, isUp, is
 use Rattle.protocol.specs.Send.{sendBytes, sendRule}
 use Rattle.protocol.specs.State.{State, held}
 use Rattle.protocol.specs.Step.{whereOpen, roomFor}
-use Rattle.protocol.specs.SubmitCases.{SubmitCase, not-kept, too-short, too-long, malformed-submission, not-sent, still-held, code-forbids, no-free-word, store-full, queues}
+use Rattle.protocol.specs.SubmitCases.{SubmitCase, not-kept, too-short, too-long, malformed-submission, not-sent, still-held, code-forbids, stopped, outside, no-free-word, store-full, queues}
 use Rattle.protocol.proofs.Cases.{cases}
 use Rattle.protocol.proofs.InitCases.{start-cases}
 use Rattle.protocol.proofs.Settles.{step-answer}
@@ -38,7 +38,7 @@ send-named : (s : State) (ph : Phase) (a : Answer) → Named a → Named (sendRu
 unfolding sendRule
 send-named s ph a n = may-named (isUpFT ph) _ (pick-all Named (leb (held s) (sentOf ph)) none n)
 
-submit-named : {s : State} {m : List ℕ} {a : Answer} → SubmitCase s m a → Named a
+submit-named : {s : State} {ph : Phase} {m : List ℕ} {a : Answer} → SubmitCase s ph m a → Named a
 submit-named (not-kept k) = none
 submit-named (too-short k l) = none
 submit-named (too-long k l) = none
@@ -46,9 +46,11 @@ submit-named (malformed-submission f e) = none
 submit-named (not-sent f e) = none
 submit-named (still-held f e b) = none
 submit-named (code-forbids u e) = none
-submit-named (no-free-word u e) = none
-submit-named (store-full u e l) = none
-submit-named (queues u e l) = none
+submit-named (stopped u e t o) = none
+submit-named (outside u e t o p) = none
+submit-named (no-free-word u y e) = none
+submit-named (store-full u y e l) = none
+submit-named (queues u y e l) = none
 
 start-named : {s : State} {p : ℕ} {rd : Reading} {st : Start} → StartCase s p rd st → Named (startAnswer st)
 start-named unread = none
@@ -85,7 +87,7 @@ judged-named fails s ph room = admitted-named s ph _ (may-named (connected ph) A
 judged-named (opens id own proposal) s ph room = admitted-named s ph _ (may-named (mayOpen ph) _ (room-named (openBytes s id own proposal) room))
 judged-named (greets m) s ph room = admitted-named s ph _ (may-named (awaits ph) _ (start-named (start-cases s (proposalOf ph) (readingOf m))))
 judged-named (passes elapsed) s ph room = admitted-named s ph _ (may-named (waiting ph) Answer.Done none)
-judged-named (submits m) s ph room = admitted-named s ph _ (submit-named (submit-cases s m))
+judged-named (submits m) s ph room = admitted-named s ph _ (submit-named (submit-cases s ph m))
 judged-named (sends ask) s ph room = admitted-named s ph _ (send-named s ph _ (room-named (sendBytes s (sentOf ph) ask) room))
 judged-named (keeps-alive id) s ph room = admitted-named s ph _ (may-named (isUp ph) _ (room-named (aliveBytes s ph id) room))
 judged-named (receives m) s ph room = admitted-named s ph _ (receive-named (cases s ph (readingOf m)))

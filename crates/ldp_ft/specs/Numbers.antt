@@ -1,19 +1,22 @@
--- Distances, checks and label words as numbers.
+-- Distances, checks, label words, open Requests and an extended image as numbers.
 use Prim.Native.Nat.{ℕ}
 use mathlib.Core.Bool.{not}
 use mathlib.Core.List.{List}
-use lib.Dec.{ltb}
+use lib.Dec.{eqb, ltb}
 use lib.IntN.{pos}
 use lib.ListN.{getD}
 use Rattle.octets.specs.Pick.{pick}
 use Rattle.block.specs.declared.BlockCheck.{BlockCheck}
 use Rattle.ft_number.specs.declared.Distance.{Distance}
 use Rattle.ft_number.specs.Distance.{distanceNumber}
-use Rattle.label_list.specs.Word.{wordCount}
+use Rattle.label_list.specs.Word.{wordCount, isRequest}
 use Rattle.image.specs.declared.Verdict.{Verdict}
 use Rattle.image.specs.State.{decode}
-use Rattle.image.specs.Verdict.{verdict}
+use Rattle.image.specs.Verdict.{verdict, verdictNumber}
+use Rattle.calls.specs.Outcomes.{furtherBits}
 use Rattle.ldp_ft.specs.declared.DistanceNumbers.{DistanceNumbers}
+use Rattle.ldp_ft.specs.declared.ExtendedNumbers.{ExtendedNumbers}
+use Rattle.ldp_ft.specs.declared.RequestNumbers.{RequestNumbers}
 
 -- "answer 0 or 2; steps 0 with 2"
 abbrev pub distanceNumbers : Distance → DistanceNumbers
@@ -38,3 +41,20 @@ labelBy (Verdict.BadField b) words place = refusedNumber
 
 unfoldable pub labelAt : List ℕ → ℕ → ℕ
 labelAt im place = labelBy (verdict im) (decode im .labels) place
+
+-- "open 1 and the message ID where the word at place has code 7; else 0, 0: other word, no such place, image refused"
+abbrev pub noRequest : RequestNumbers
+noRequest = record { isopen = 0; id = 0 }
+
+abbrev pub requestBy : Verdict → List ℕ → List ℕ → ℕ → RequestNumbers
+requestBy Verdict.Sound words ids place = pick (isRequest (getD words place 0)) (record { isopen = 1; id = getD ids place 0 }) noRequest
+requestBy Verdict.WrongSize words ids place = noRequest
+requestBy (Verdict.BadBlock b) words ids place = noRequest
+requestBy (Verdict.BadField b) words ids place = noRequest
+
+unfoldable pub openRequest : List ℕ → ℕ → RequestNumbers
+openRequest im place = requestBy (verdict im) (decode im .labels) (decode im .ids) place
+
+-- "The blocks behind it are made .. and named in `further`"; 12 where nothing is done
+abbrev pub extendedNumbers : Verdict → ExtendedNumbers
+extendedNumbers v = record { answer = verdictNumber v; further = furtherBits (eqb (verdictNumber v) 0) }

@@ -8,8 +8,8 @@ use Rattle.message_writer.specs.declared.OwnParameters.{OwnParameters}
 abbrev pub idOf : ℕ → MessageId
 idOf n = record { 0 = n }
 
-abbrev pub parametersOf : ℕ → ℕ → ℕ → ℕ → OwnParameters
-parametersOf ka mp lsr space = record { keepalive = ka; pdulength = mp; lsr = lsr; space = space }
+abbrev pub parametersOf : ℕ → ℕ → ℕ → ℕ → Bool → OwnParameters
+parametersOf ka mp lsr space ondemand = record { keepalive = ka; pdulength = mp; lsr = lsr; space = space; ondemand = ondemand }
 
 -- a proposal that is not given is the default; its seconds are not read
 abbrev pub proposalGiven : Bool → ℕ → Proposal

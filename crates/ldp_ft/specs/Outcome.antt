@@ -3,6 +3,7 @@ use Prim.Native.Nat.{ℕ, _≤_}
 use mathlib.Core.Bool.{Bool, true, false}
 use mathlib.Core.List.{List}
 use Rattle.block0.specs.Layout.{slotCount}
+use Rattle.image.specs.Sizes.{requestBlock}
 use Rattle.image.specs.Verdict.{verdict}
 use Rattle.protocol.specs.declared.Answer.{Answer}
 use Rattle.protocol.specs.declared.Phase.{Phase}
@@ -27,15 +28,16 @@ outcomeNumbers s o = record {
   length = o .written;
   slot = o .slot;
   block0 = bitOf (o .block0);
+  further = o .further;
 }
 
 -- the longest message that a call writes: "8 to 480" as it was submitted, and at its end FT Protection and FT ACK of 8 bytes each
 abbrev pub longestWritten : ℕ
 longestWritten = 496
 
--- an outcome whose numbers have 32 bits: what is written is such a message, and an image has block 0 and those of its slots
+-- an outcome whose numbers have 32 bits: what is written is such a message, and an image has block 0, those of its slots and block 65
 pub record Narrow (o : Outcome) : Type 0 where
-  pub block : answerBlock (o .answer) ≤ slotCount
+  pub block : answerBlock (o .answer) ≤ requestBlock
   pub written : o .written ≤ longestWritten
   pub slot : o .slot ≤ slotCount
 

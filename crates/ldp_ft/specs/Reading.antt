@@ -9,6 +9,7 @@ use Rattle.pdu.specs.Pdu.{openedNumber, placeNumber}
 use Rattle.tlv.specs.declared.Field.{Field}
 use Rattle.tlv.specs.declared.Found.{Found}
 use Rattle.tlv.specs.declared.FtField.{FtField}
+use Rattle.tlv.specs.declared.IdField.{IdField}
 use Rattle.tlv.specs.declared.Parameters.{Parameters}
 use Rattle.tlv.specs.declared.Session.{Session}
 use Rattle.message.specs.declared.Message.{Message}
@@ -36,12 +37,14 @@ abbrev pub partNumbers : Place → PartNumbers
 partNumbers (Place.Message start end) = partOf start end
 partNumbers Place.None = noPart
 
--- "1 FEC, 2 label, 4 status, 8 parameters, 16 FT Session, 32 FT Protection, 64 FT ACK"; a TLV that does not stand has place 0
+-- "1 FEC, 2 label, 4 status, 8 parameters, 16 FT Session, 32 FT Protection, 64 FT ACK", and 128 Label Request Message ID; a TLV that does not stand has place 0
 abbrev pub borne : ℕ → ℕ → ℕ
 borne place bit = pick (eqb place 0) 0 bit
 
 abbrev pub hasOf : Found → ℕ
-hasOf f = borne (f .fec) 1 + borne (f .label) 2 + borne (f .status) 4 + borne (f .parameters) 8 + borne (f .session) 16 + borne (f .protection) 32 + borne (f .ack) 64
+hasOf f =
+    borne (f .fec) 1 + borne (f .label) 2 + borne (f .status) 4 + borne (f .parameters) 8 + borne (f .session) 16 + borne (f .protection) 32 + borne (f .ack) 64
+    + borne (f .requestid) 128
 
 -- "0 where not borne"
 abbrev pub fieldNumber : Field → ℕ
@@ -51,6 +54,10 @@ fieldNumber (Field.Value v) = v
 abbrev pub ftNumber : FtField → ℕ
 ftNumber FtField.Absent = 0
 ftNumber (FtField.Number n) = n .0
+
+abbrev pub idNumber : IdField → ℕ
+idNumber IdField.Absent = 0
+idNumber (IdField.Id id) = id .0
 
 -- "FT Session: R and seconds"
 abbrev pub reconnectOf : Session → ℕ
@@ -93,6 +100,8 @@ noMessage = record {
   timeout = 0;
   keepalive = 0;
   maxpdu = 0;
+  requestid = 0;
+  statusid = 0;
 }
 
 unfoldable pub wholeMessage : Message → MessageNumbers
@@ -112,6 +121,8 @@ wholeMessage g = record {
   timeout = secondsOf (g .session);
   keepalive = keepaliveIn (g .parameters);
   maxpdu = maxpduIn (g .parameters);
+  requestid = idNumber (g .requestid);
+  statusid = idNumber (g .statusid);
 }
 
 abbrev pub messageNumbers : Reading → MessageNumbers

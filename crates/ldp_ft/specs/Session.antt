@@ -36,7 +36,7 @@ phases value =
 unfoldable pub givenOf : SessionNumbers → Given
 givenOf s = lookup Given.Unknown (phases (s .value)) (s .phase)
 
--- "the session afterwards; on answers 1 to 13 as given, both numbers": these are the answers that leave nothing changed
+-- "the session afterwards; on answers 1 to 15 as given, both numbers": these are the answers that leave nothing changed
 abbrev pub sessionLeft : Effect → SessionNumbers → Phase → SessionNumbers
 sessionLeft Effect.Nothing s ph = s
 sessionLeft Effect.Fail s ph = sessionOf ph

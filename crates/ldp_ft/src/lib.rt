@@ -21,7 +21,7 @@ pub enum Given {
     Unknown,
 }
 
-// An outcome: its answer's number and block, the session afterwards, the bytes written, the slot's block and block 0 to be stored.
+// An outcome: its answer's number and block, the session afterwards, the bytes written, the slot's block, block 0 and the further blocks to be stored.
 #[repr(C)]
 pub struct OutcomeNumbers {
     pub answer: u32,
@@ -30,6 +30,7 @@ pub struct OutcomeNumbers {
     pub length: u32,
     pub slot: u32,
     pub block0: u32,
+    pub further: u32,
 }
 
 // A whole PDU: 0 or 4, and how many messages.
@@ -65,6 +66,22 @@ pub struct MessageNumbers {
     pub timeout: u32,
     pub keepalive: u32,
     pub maxpdu: u32,
+    pub requestid: u32,
+    pub statusid: u32,
+}
+
+// A Request that is open at a place of the label words: 1 and its message ID, or 0 and 0.
+#[repr(C)]
+pub struct RequestNumbers {
+    pub isopen: u32,
+    pub id: u32,
+}
+
+// An image extended to this release's size: 0 and the further blocks that were made, or 12 and none.
+#[repr(C)]
+pub struct ExtendedNumbers {
+    pub answer: u32,
+    pub further: u32,
 }
 
 // A signed distance: 0, or 2 and no steps.

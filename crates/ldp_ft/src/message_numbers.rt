@@ -3,19 +3,20 @@ ghost use Prim.Native.Nat.{_≤_};
 ghost use mathlib.Core.Path.{_≡_};
 ghost use Rattle.tlv.specs.Value.{Places};
 ghost use Rattle.message.specs.Reading.{messageOf};
-ghost use Rattle.ldp_ft.specs.Reading.{borne, hasOf, fieldNumber, ftNumber, reconnectOf, secondsOf, keepaliveIn, maxpduIn, NarrowMessage, noMessage, wholeMessage};
+ghost use Rattle.ldp_ft.specs.Reading.{borne, hasOf, fieldNumber, ftNumber, idNumber, reconnectOf, secondsOf, keepaliveIn, maxpduIn, NarrowMessage, noMessage, wholeMessage};
 use crate::MessageNumbers;
 use message::Field;
 use message::Found;
 use message::FtField;
+use message::IdField;
 use message::Parameters;
 use message::Session;
 use tlv::value;
 
 // The bit of a TLV that was found.
 fn bit_where(place: usize, bit: u32) -> u32
-    requires { ⌜ bit ≤ 64 ⌝ }
-    ensures { λ r. ⌜ (r ≡ borne place bit) × (r ≤ 64) ⌝ }
+    requires { ⌜ bit ≤ 128 ⌝ }
+    ensures { λ r. ⌜ (r ≡ borne place bit) × (r ≤ 128) ⌝ }
 {
     if place == 0 {
         return 0;
@@ -33,6 +34,7 @@ fn has_of(found: Found) -> u32
         + bit_where(found.session, 16)
         + bit_where(found.protection, 32)
         + bit_where(found.ack, 64)
+        + bit_where(found.requestid, 128)
 }
 
 fn field_number(field: Field) -> u32
@@ -50,6 +52,15 @@ fn ft_number(field: FtField) -> u32
     match field {
         FtField::Absent => 0,
         FtField::Number(n) => n.0,
+    }
+}
+
+fn id_number(field: IdField) -> u32
+    ensures { λ r. ⌜ r ≡ idNumber field ⌝ }
+{
+    match field {
+        IdField::Absent => 0,
+        IdField::Id(id) => id.0,
     }
 }
 
@@ -120,6 +131,8 @@ pub fn no_message() -> MessageNumbers
         timeout: 0,
         keepalive: 0,
         maxpdu: 0,
+        requestid: 0,
+        statusid: 0,
     }
 }
 
@@ -132,7 +145,8 @@ pub fn whole_message(m: &[u8], found: Found) -> MessageNumbers
     let has = has_of(found);
     let number = message::number_in(m);
     let id = message::id_in(m);
-    let kind = message::kind_for(message::type_of(number), value::field_at(m, found.status));
+    let requestid = value::id_at(m, found.requestid, 0);
+    let kind = message::kind_for(message::type_of(number), value::field_at(m, found.status), id, requestid);
     let part = value::part_at(m, found.fec);
     let session = value::session_at(m, found.session);
     let parameters = value::parameters_at(m, found.parameters);
@@ -152,5 +166,7 @@ pub fn whole_message(m: &[u8], found: Found) -> MessageNumbers
         timeout: seconds_of(session),
         keepalive: keepalive_of(parameters),
         maxpdu: maxpdu_of(parameters),
+        requestid: id_number(requestid),
+        statusid: id_number(value::id_at(m, found.status, 4)),
     }
 }

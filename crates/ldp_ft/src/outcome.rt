@@ -1,7 +1,7 @@
 // An outcome as numbers.
 ghost use Prim.Native.Nat.{_≤_};
 ghost use mathlib.Core.Path.{_≡_};
-ghost use Rattle.block0.specs.Layout.{slotCount};
+ghost use Rattle.image.specs.Sizes.{requestBlock};
 ghost use Rattle.protocol.specs.Answers.{answerBlock};
 ghost use Rattle.ldp_ft.specs.Outcome.{bitOf, Narrow, outcomeNumbers, unknownPhase};
 use crate::OutcomeNumbers;
@@ -13,7 +13,7 @@ use calls::Phase;
 
 // The block that an answer names.
 fn answer_block(a: Answer) -> u32
-    requires { ⌜ answerBlock a ≤ slotCount ⌝ }
+    requires { ⌜ answerBlock a ≤ requestBlock ⌝ }
     ensures { λ r. ⌜ r ≡ answerBlock a ⌝ }
 {
     match a {
@@ -31,6 +31,8 @@ fn answer_block(a: Answer) -> u32
         Answer::BadField(b) => b as u32,
         Answer::WrongSize => 0,
         Answer::NoLabelWord => 0,
+        Answer::RequestsStopped => 0,
+        Answer::RequestOutsideUpFt => 0,
         Answer::OutOfTurn => 0,
         Answer::NoWordForMapping => 0,
         Answer::MalformedReceived => 0,
@@ -68,6 +70,7 @@ pub fn outcome_numbers(s: SessionNumbers, o: Outcome) -> OutcomeNumbers
         length: o.written as u32,
         slot: o.slot as u32,
         block0: bit_of(o.block0),
+        further: o.further,
     }
 }
 

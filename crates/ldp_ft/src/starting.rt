@@ -57,15 +57,17 @@ pub extern "C" fn ldp_ft_open(
     space: u16,
     given: bool,
     seconds: u16,
+    ondemand: bool,
     out: &mut [u8],
 ) -> OutcomeNumbers
-    ensures { λ r. ⌜ shown r (now (image .exit)) (now (out .exit)) ≡ shownCall s (now (image .entry)) (now (out .entry)) (λ ph. openOf (now (image .entry)) ph (idOf id) (parametersOf keepalive maxpdu lsr space) (proposalGiven given seconds) (now (out .entry))) ⌝ }
+    ensures { λ r. ⌜ shown r (now (image .exit)) (now (out .exit)) ≡ shownCall s (now (image .entry)) (now (out .entry)) (λ ph. openOf (now (image .entry)) ph (idOf id) (parametersOf keepalive maxpdu lsr space ondemand) (proposalGiven given seconds) (now (out .entry))) ⌝ }
 {
     let parameters = OwnParameters {
         keepalive: keepalive,
         pdulength: maxpdu,
         lsr: lsr,
         space: space,
+        ondemand: ondemand,
     };
     let proposal = proposal_of(given, seconds);
     match phase_given(s) {

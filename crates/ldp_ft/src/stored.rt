@@ -1,7 +1,10 @@
-// What a stored image says: the check of a block, and the label words.
+// What a stored image says: the check of a block, the label words and the open Requests; and an image of an earlier release extended.
 ghost use mathlib.Core.Path.{_≡_};
 ghost use Rattle.block.specs.Check.{blockCheckOf};
-ghost use Rattle.ldp_ft.specs.Numbers.{checkNumber, labelAt};
+ghost use Rattle.image.specs.Extend.{extendVerdict, extendOf};
+ghost use Rattle.ldp_ft.specs.Numbers.{checkNumber, labelAt, openRequest, extendedNumbers};
+use crate::ExtendedNumbers;
+use crate::RequestNumbers;
 use block::BlockCheck;
 
 // What stands for no number: no check and no label word is so large.
@@ -30,4 +33,38 @@ pub extern "C" fn ldp_ft_label(image: &[u8], place: u32) -> u32
         return NONE;
     }
     image::label_at(image, place as usize)
+}
+
+// The Request that is open at a place of an image that passes restore's checks, with its message ID; 0 and 0 where they refuse, there is no such place,
+// or its word is no open Request's.
+#[no_mangle]
+pub extern "C" fn ldp_ft_request_at(image: &[u8], place: u32) -> RequestNumbers
+    ensures { λ r. ⌜ r ≡ openRequest (now (image .entry)) place ⌝ }
+{
+    // What stands for no word is no open Request's word.
+    if ldp_ft_label(image, place) != label_list::REQUEST_WORD {
+        return RequestNumbers { isopen: 0, id: 0 };
+    }
+    RequestNumbers {
+        isopen: 1,
+        id: image::id_at(image, place as usize),
+    }
+}
+
+// An image that an earlier release stored, at the start of a buffer of this release's size, with the blocks made that it lacks. 12, and nothing changed,
+// where the buffer has another size, or so many bytes are no earlier release's image.
+#[no_mangle]
+pub extern "C" fn ldp_ft_extend(image: &mut [u8], stored: usize) -> ExtendedNumbers
+    ensures { λ r. ⌜ (r ≡ extendedNumbers (extendVerdict (now (image .entry)) stored)) × (now (image .exit) ≡ extendOf (now (image .entry)) stored) ⌝ }
+{
+    if image::verdict_number(image::extend(image, stored)) != 0 {
+        return ExtendedNumbers {
+            answer: 12,
+            further: 0,
+        };
+    }
+    ExtendedNumbers {
+        answer: 0,
+        further: 1,
+    }
 }

@@ -52,6 +52,8 @@ bearing g a = record {
   session = g .session;
   protection = g .protection;
   ack = FtField.Number (record { 0 = a });
+  requestid = g .requestid;
+  statusid = g .statusid;
 }
 
 -- what acknowledging a does, and how a message is answered that is judged by its ACK

@@ -9,8 +9,10 @@ use lib.ListN.{length}
 use borrow.Author.Tests.{eqb-true, not-false}
 use Rattle.octets.specs.Be.{beAt}
 use Rattle.octets.specs.Pick.{pick, both}
+use Rattle.ft_number.specs.declared.MessageId.{MessageId}
 use Rattle.tlv.specs.declared.Field.{Field}
 use Rattle.tlv.specs.declared.Found.{Found}
+use Rattle.tlv.specs.declared.IdField.{IdField}
 use Rattle.tlv.specs.declared.walk.Walk.{Walk}
 use Rattle.tlv.specs.Tlv.{largestLabel}
 use Rattle.tlv.specs.Value.{Places}
@@ -19,9 +21,10 @@ use Rattle.tlv.proofs.Places.{whole-tlvs, found-lies, places}
 use Rattle.tlv.proofs.Values.{InMessage, part-in, field-low}
 use Rattle.message.specs.declared.Kind.{Kind}
 use Rattle.message.specs.declared.Message.{Message}
+use Rattle.message.specs.declared.MessageType.{MessageType}
 use Rattle.message.specs.declared.Reading.{Reading}
 use Rattle.message.specs.declared.Submission.{Submission}
-use Rattle.message.specs.Kinds.{kindOf, kindNumber}
+use Rattle.message.specs.Kinds.{kindNumber, lastKind, fatalOf, statusCode, resourcesAvailable, noResources, notificationKind, abortKind, kindFor, kindOf}
 use Rattle.message.specs.Reading.{typeOf, numberIn, idIn, bearsOf, placesBy, placesOf, messageOf, readingBy, readingOf}
 use Rattle.message.specs.Submission.{bearsFt, noLabel, labelledAs, submissionByKind, submissionByReading, submissionOf}
 
@@ -106,7 +109,7 @@ no-ft f e = go (eqb (f .session) 0) (eqb (f .protection) 0) (eqb (f .ack) 0) ref
 -- the label that goes with a kind: that of kinds 1 to 3, else 0xFFFFFFFF
 pub record Labelled (g : Message) (k : Kind) (l : ℕ) : Type 0 where
   pub some : 1 ≤ kindNumber k
-  pub kinds : kindNumber k ≤ 6
+  pub kinds : kindNumber k ≤ lastKind
   pub label : kindNumber k ≤ 3 → g .label ≡ Field.Value l
   pub none : 3 < kindNumber k → l ≡ noLabel
 
@@ -121,7 +124,7 @@ labelled g kind k l e = by-kind kind (g .label) refl e
         let value : v ≡ l = cc in
         (same, record { some = omega arith; kinds = omega arith; label = λ z. q ∙ ap Field.Value value; none = λ z. absurd (omega arith) })
 
-    plain : (j : Kind) → 4 ≤ kindNumber j → kindNumber j ≤ 6 → Submission.Accepted j noLabel ≡ Submission.Accepted k l → (j ≡ k) × Labelled g k l
+    plain : (j : Kind) → 4 ≤ kindNumber j → kindNumber j ≤ lastKind → Submission.Accepted j noLabel ≡ Submission.Accepted k l → (j ≡ k) × Labelled g k l
     plain j a b h =
         let same : j ≡ k = cc in
         let number : kindNumber j ≡ kindNumber k = ap kindNumber same in
@@ -135,7 +138,61 @@ labelled g kind k l e = by-kind kind (g .label) refl e
     by-kind Kind.Address field q h = plain Kind.Address (omega arith) (omega arith) h
     by-kind Kind.AddressWithdraw field q h = plain Kind.AddressWithdraw (omega arith) (omega arith) h
     by-kind Kind.ResourcesAvailable field q h = plain Kind.ResourcesAvailable (omega arith) (omega arith) h
+    by-kind (Kind.Request id) field q h = plain (Kind.Request id) (omega arith) (omega arith) h
+    by-kind (Kind.Abort id) field q h = plain (Kind.Abort id) (omega arith) (omega arith) h
+    by-kind Kind.NoResources field q h = plain Kind.NoResources (omega arith) (omega arith) h
     by-kind Kind.NoKind field q h = let z : _≡_ {A = ℕ} 0 1 = cc in absurd (omega arith)
+
+-- the ID that a kind bears: a Request's is its own, an Abort's the one that it names
+abbrev Bears : Message → Kind → Type 0
+Bears g Kind.Mapping = Unit {0}
+Bears g Kind.Withdraw = Unit {0}
+Bears g Kind.Release = Unit {0}
+Bears g Kind.Address = Unit {0}
+Bears g Kind.AddressWithdraw = Unit {0}
+Bears g Kind.ResourcesAvailable = Unit {0}
+Bears g (Kind.Request id) = g .id ≡ id
+Bears g (Kind.Abort id) = g .requestid ≡ IdField.Id id
+Bears g Kind.NoResources = Unit {0}
+Bears g Kind.NoKind = Unit {0}
+
+notification-bears : (g : Message) (status : Field) → Bears g (notificationKind status)
+unfolding notificationKind
+notification-bears g Field.Absent = tt
+notification-bears g (Field.Value v) = go (fatalOf v) (eqb (statusCode v) resourcesAvailable) (eqb (statusCode v) noResources)
+  where
+    go : (fatal available none : Bool) → Bears g (pick fatal Kind.NoKind (pick available Kind.ResourcesAvailable (pick none Kind.NoResources Kind.NoKind)))
+    go true available none = tt
+    go false true none = tt
+    go false false true = tt
+    go false false false = tt
+
+abort-bears : (g : Message) (requestid : IdField) → g .requestid ≡ requestid → Bears g (abortKind requestid)
+abort-bears g IdField.Absent e = tt
+abort-bears g (IdField.Id id) e = e
+
+kind-bears : (g : Message) → Bears g (kindOf g)
+unfolding kindOf
+kind-bears g = by (g .typename)
+  where
+    by : (t : MessageType) → Bears g (kindFor t (g .status) (g .id) (g .requestid))
+    by MessageType.Notification = notification-bears g (g .status)
+    by MessageType.Initialization = tt
+    by MessageType.KeepAlive = tt
+    by MessageType.Address = tt
+    by MessageType.AddressWithdraw = tt
+    by MessageType.Mapping = tt
+    by MessageType.Request = refl
+    by MessageType.Withdraw = tt
+    by MessageType.Release = tt
+    by MessageType.Abort = abort-bears g (g .requestid) refl
+    by MessageType.Other = tt
+
+pub request-id : (g : Message) (id : MessageId) → kindOf g ≡ Kind.Request id → g .id ≡ id
+request-id g id e = rw e at (kind-bears g)
+
+pub abort-id : (g : Message) (id : MessageId) → kindOf g ≡ Kind.Abort id → g .requestid ≡ IdField.Id id
+abort-id g id e = rw e at (kind-bears g)
 
 -- a submission that is accepted
 pub record Accepted (m : List ℕ) (k : Kind) (l : ℕ) : Type 0 where

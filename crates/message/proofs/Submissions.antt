@@ -11,16 +11,20 @@ use mir.Syntax.{w64}
 use mir.Val.{Fits}
 use Rattle.octets.specs.Be.{beAt}
 use Rattle.octets.specs.Pick.{pick}
+use Rattle.ft_number.specs.declared.MessageId.{MessageId}
 use Rattle.tlv.specs.declared.Field.{Field}
 use Rattle.tlv.specs.declared.Found.{Found}
+use Rattle.tlv.specs.declared.IdField.{IdField}
 use Rattle.tlv.specs.declared.walk.Walk.{Walk}
-use Rattle.tlv.specs.Value.{Within, fieldAt}
+use Rattle.tlv.specs.Table.{lookup}
+use Rattle.tlv.specs.Value.{Within, fieldAt, idAt}
 use Rattle.tlv.specs.Walk.{tlvsOf}
+use Rattle.tlv.proofs.Rows.{Absent, lookup-absent}
 use Rattle.message.specs.declared.Kind.{Kind}
 use Rattle.message.specs.declared.MessageType.{MessageType}
 use Rattle.message.specs.declared.Submission.{Submission}
-use Rattle.message.specs.Kinds.{fatalOf, statusCode, resourcesAvailable, notificationKind, kindFor, kindOf, kindNumber}
-use Rattle.message.specs.Reading.{typeOf, numberIn, bearsOf, placesOf, messageOf, readingOf}
+use Rattle.message.specs.Kinds.{fatalOf, statusCode, resourcesAvailable, noResources, statusKinds, notificationKind, kindFor, kindOf, kindNumber}
+use Rattle.message.specs.Reading.{typeOf, numberIn, idIn, bearsOf, placesOf, messageOf, readingOf}
 use Rattle.message.specs.Submission.{bearsFt, noLabel, labelledAs, submissionByKind, submissionOf}
 use Rattle.message.proofs.Readings.{tlvs-head, tlvs-places}
 
@@ -36,15 +40,20 @@ module _ (status : Field) where
     kind-fatal h = simp (e, sym fatalq, h)
 
     module _ (h : fatal ≡ false) (code : ℕ) (codeq : code ≡ statusCode v) where
-      pub kind-code : (code ≡ resourcesAvailable → ⊥) → Kind.NoKind ≡ notificationKind status
+      kind-code : {kind : Kind} → kind ≡ lookup Kind.NoKind statusKinds code → kind ≡ notificationKind status
       unfolding notificationKind
-      kind-code k = simp (e, sym fatalq, h, sym codeq, ne-eqb code resourcesAvailable k)
+      kind-code k = simp (e, sym fatalq, h, sym codeq, k)
 
       pub kind-available : code ≡ resourcesAvailable → Kind.ResourcesAvailable ≡ notificationKind status
-      unfolding notificationKind
-      kind-available k = simp (e, sym fatalq, h, sym codeq, eq-eqb code resourcesAvailable k)
+      kind-available k = kind-code (rw k)
 
-pub ruleset kinds = (kind-absent, kind-fatal, kind-code, kind-available)
+      pub kind-none : code ≡ noResources → Kind.NoResources ≡ notificationKind status
+      kind-none k = kind-code (rw k)
+
+      pub kind-other : Absent statusKinds code → Kind.NoKind ≡ notificationKind status
+      kind-other k = kind-code (lookup-absent Kind.NoKind statusKinds code k)
+
+pub ruleset kinds = (kind-absent, kind-fatal, kind-available, kind-none, kind-other)
 
 -- the FT TLVs
 module _ (f : Found) where
@@ -73,6 +82,9 @@ accepted-by Kind.Release label = refl
 accepted-by Kind.Address label = refl
 accepted-by Kind.AddressWithdraw label = refl
 accepted-by Kind.ResourcesAvailable label = refl
+accepted-by (Kind.Request id) label = refl
+accepted-by (Kind.Abort id) label = refl
+accepted-by Kind.NoResources label = refl
 accepted-by Kind.NoKind label = refl
 
 -- a submission, by the tests and the calls of the code
@@ -83,7 +95,10 @@ module _ (m : List ℕ) (w : Walk) (wq : w ≡ tlvsOf m) where
 
   module _ (f : Found) (e : w ≡ Walk.Whole f) where
     pub judged-status : Within m (f .status) 4
-    judged-status = tlvs-places m w wq f e .status
+    judged-status z = omega (arith, tlvs-places m w wq f e .status z)
+
+    pub judged-requestid : Within m (f .requestid) (0 + 4)
+    judged-requestid = tlvs-places m w wq f e .requestid
 
     module _ (q : f .label ≡ 0 → ⊥) where
       pub judged-room : f .label + 4 + 4 ≤ length m
@@ -102,12 +117,12 @@ module _ (m : List ℕ) (w : Walk) (wq : w ≡ tlvsOf m) where
         unfolding submissionOf readingOf placesOf messageOf
         judged-ft p = simp (sym wq ∙ e, sym cq, sym tq, sym bq ∙ not-false b h, sym ftq ∙ p)
 
-        module _ (p : ft ≡ false) (s : Field) (sq : s ≡ fieldAt m (f .status)) (k : Kind) (kq : k ≡ kindFor t s) (n : ℕ) (nq : n ≡ kindNumber k) where
+        module _ (p : ft ≡ false) (s : Field) (sq : s ≡ fieldAt m (f .status)) (id : MessageId) (iq : id ≡ idIn m) (r : IdField) (rq : r ≡ idAt m (f .requestid) 0) (k : Kind) (kq : k ≡ kindFor t s id r) (n : ℕ) (nq : n ≡ kindNumber k) where
           judged-as : (a : Submission) → a ≡ byNumber n k (fieldAt m (f .label)) → a ≡ submissionOf m
           unfolding submissionOf readingOf placesOf messageOf kindOf
           judged-as a aq =
               let accepted : byNumber n k (fieldAt m (f .label)) ≡ submissionByKind k (fieldAt m (f .label)) = rw nq (sym (accepted-by k (fieldAt m (f .label)))) in
-              let all : submissionByKind k (fieldAt m (f .label)) ≡ submissionOf m = simp (kq, sq, sym wq ∙ e, sym cq, sym tq, sym bq ∙ not-false b h, sym ftq ∙ p) in
+              let all : submissionByKind k (fieldAt m (f .label)) ≡ submissionOf m = simp (kq, sq, iq, rq, sym wq ∙ e, sym cq, sym tq, sym bq ∙ not-false b h, sym ftq ∙ p) in
               aq ∙ accepted ∙ all
 
           pub judged-none : n ≡ 0 → Submission.Refused ≡ submissionOf m
@@ -127,4 +142,4 @@ module _ (m : List ℕ) (w : Walk) (wq : w ≡ tlvsOf m) where
               judged-label q v vq = judged-as (Submission.Accepted k v) (simp (ne-eqb n 0 z, le-ltb 3 n l, ne-eqb (f .label) 0 q, vq))
 
 pub ruleset judgements =
-    (tlvs-head, judged-malformed, judged-status, judged-room, judged-fits, judged-lacks, judged-ft, judged-none, judged-plain, judged-absent, judged-label)
+    (tlvs-head, judged-malformed, judged-status, judged-requestid, judged-room, judged-fits, judged-lacks, judged-ft, judged-none, judged-plain, judged-absent, judged-label)

@@ -4,31 +4,40 @@ use mathlib.Core.Bool.{Bool}
 use mathlib.Core.List.{List}
 use mathlib.Core.Path.{_≡_}
 use Rattle.octets.specs.Bytes.{Bytes}
+use Rattle.octets.proofs.Be.{beAt-lt}
 use Rattle.octets.proofs.Choice.{no}
 use Rattle.ft_number.specs.declared.FtNumber.{FtNumber}
+use Rattle.ft_number.specs.declared.MessageId.{MessageId}
 use Rattle.tlv.specs.declared.Found.{Found}
 use Rattle.tlv.specs.declared.FtField.{FtField}
+use Rattle.tlv.specs.declared.IdField.{IdField}
 use Rattle.tlv.specs.declared.Parameters.{Parameters}
 use Rattle.tlv.specs.declared.Session.{Session}
 use Rattle.tlv.specs.declared.walk.Walk.{Walk}
-use Rattle.tlv.proofs.Values.{number-width, parameters-width, session-width}
+use Rattle.tlv.proofs.Values.{number-width, id-width, parameters-width, session-width}
 use Rattle.message.specs.declared.Message.{Message}
 use Rattle.message.specs.declared.Reading.{Reading}
 use Rattle.message.specs.Reading.{placesOf, messageOf, readingBy, readingOf}
 
 pub record Widths (g : Message) : Type 0 where
+  pub id : g .id .0 < 4294967296
   pub ack : (a : FtNumber) → g .ack ≡ FtField.Number a → a .0 < 4294967296
   pub protection : (a : FtNumber) → g .protection ≡ FtField.Number a → a .0 < 4294967296
   pub parameters : (ka mp : ℕ) → g .parameters ≡ Parameters.Given ka mp → (ka < 65536) × (mp < 65536)
   pub session : (r : Bool) (n : ℕ) → g .session ≡ Session.Given r n → n < 65536
+  pub requestid : (id : MessageId) → g .requestid ≡ IdField.Id id → id .0 < 4294967296
+  pub statusid : (id : MessageId) → g .statusid ≡ IdField.Id id → id .0 < 4294967296
 
 message-widths : (m : List ℕ) → Bytes m → (f : Found) → Widths (messageOf m f)
 unfolding messageOf
 message-widths m byte f = record {
+  id = beAt-lt 4 m 4 byte;
   ack = number-width m byte (f .ack);
   protection = number-width m byte (f .protection);
   parameters = parameters-width m byte (f .parameters);
   session = session-width m byte (f .session);
+  requestid = id-width m byte (f .requestid) 0;
+  statusid = id-width m byte (f .status) 4;
 }
 
 pub read-widths : (m : List ℕ) → Bytes m → (g : Message) → readingOf m ≡ Reading.Whole g → Widths g

@@ -10,7 +10,7 @@ use Rattle.ft_number.specs.declared.MessageId.{MessageId}
 use Rattle.tlv.specs.declared.Found.{Found}
 use Rattle.tlv.specs.declared.walk.Walk.{Walk}
 use Rattle.tlv.specs.Table.{lookup}
-use Rattle.tlv.specs.Value.{partAt, fecAt, fieldAt, numberAt, parametersAt, sessionAt}
+use Rattle.tlv.specs.Value.{partAt, fecAt, fieldAt, numberAt, idAt, parametersAt, sessionAt}
 use Rattle.tlv.specs.Walk.{tlvsOf}
 use Rattle.message.specs.declared.Message.{Message}
 use Rattle.message.specs.declared.MessageType.{MessageType}
@@ -76,22 +76,23 @@ numberIn m = beAt 2 m 0 % messageTypeRange
 abbrev pub idIn : List ℕ → MessageId
 idIn m = record { 0 = beAt 4 m 4 }
 
--- 01: "Malformed: .. Mapping without FEC or label; Withdraw or Release without FEC": what a type must bear, by whether FEC and label stand
-abbrev pub bearsBy : MessageType → Bool → Bool → Bool
-bearsBy MessageType.Notification fec label = true
-bearsBy MessageType.Initialization fec label = true
-bearsBy MessageType.KeepAlive fec label = true
-bearsBy MessageType.Address fec label = true
-bearsBy MessageType.AddressWithdraw fec label = true
-bearsBy MessageType.Mapping fec label = both fec label
-bearsBy MessageType.Request fec label = true
-bearsBy MessageType.Withdraw fec label = fec
-bearsBy MessageType.Release fec label = fec
-bearsBy MessageType.Abort fec label = true
-bearsBy MessageType.Other fec label = true
+-- 01: "Malformed: .. Mapping without FEC or label; Withdraw or Release without FEC"; 02: "malformed also Request and Abort without FEC, Abort without 0x0600":
+-- what a type must bear, by whether FEC, label and Label Request Message ID stand
+abbrev pub bearsBy : MessageType → Bool → Bool → Bool → Bool
+bearsBy MessageType.Notification fec label requestid = true
+bearsBy MessageType.Initialization fec label requestid = true
+bearsBy MessageType.KeepAlive fec label requestid = true
+bearsBy MessageType.Address fec label requestid = true
+bearsBy MessageType.AddressWithdraw fec label requestid = true
+bearsBy MessageType.Mapping fec label requestid = both fec label
+bearsBy MessageType.Request fec label requestid = fec
+bearsBy MessageType.Withdraw fec label requestid = fec
+bearsBy MessageType.Release fec label requestid = fec
+bearsBy MessageType.Abort fec label requestid = both fec requestid
+bearsBy MessageType.Other fec label requestid = true
 
 abbrev pub bearsOf : MessageType → Found → Bool
-bearsOf t f = bearsBy t (not (eqb (f .fec) 0)) (not (eqb (f .label) 0))
+bearsOf t f = bearsBy t (not (eqb (f .fec) 0)) (not (eqb (f .label) 0)) (not (eqb (f .requestid) 0))
 
 -- where the TLVs of a well-formed message stand
 abbrev pub placesBy : List ℕ → Walk → Walk
@@ -117,6 +118,8 @@ messageOf m f = record {
   session = sessionAt m (f .session);
   protection = numberAt m (f .protection);
   ack = numberAt m (f .ack);
+  requestid = idAt m (f .requestid) 0;
+  statusid = idAt m (f .status) 4;
 }
 
 -- the message read at the places of its TLVs

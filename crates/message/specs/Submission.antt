@@ -1,5 +1,5 @@
 -- Submit's answers 4 and 5 as one judgement.
--- 01: "4: malformed submission or PDU. 5: submitted kind not 1 to 6, FT TLV present, or kinds 1-3 without a label".
+-- 01: "4: malformed submission or PDU. 5: submitted kind not 1 to 6, FT TLV present, or kinds 1-3 without a label"; with 02's kinds, 1 to 9.
 use Prim.Native.Nat.{ℕ}
 use mathlib.Core.Bool.{Bool, not}
 use mathlib.Core.List.{List}
@@ -38,6 +38,9 @@ submissionByKind Kind.Release label = labelledAs Kind.Release label
 submissionByKind Kind.Address label = Submission.Accepted Kind.Address noLabel
 submissionByKind Kind.AddressWithdraw label = Submission.Accepted Kind.AddressWithdraw noLabel
 submissionByKind Kind.ResourcesAvailable label = Submission.Accepted Kind.ResourcesAvailable noLabel
+submissionByKind (Kind.Request id) label = Submission.Accepted (Kind.Request id) noLabel
+submissionByKind (Kind.Abort id) label = Submission.Accepted (Kind.Abort id) noLabel
+submissionByKind Kind.NoResources label = Submission.Accepted Kind.NoResources noLabel
 submissionByKind Kind.NoKind label = Submission.Refused
 
 abbrev pub submissionByReading : Reading → Submission

@@ -4,7 +4,7 @@ ghost use mathlib.Core.Path.{_≡_};
 ghost use lib.ListN.{length};
 ghost use Rattle.tlv.specs.Value.{Places};
 ghost use Rattle.tlv.specs.Walk.{headSize};
-ghost use Rattle.message.specs.Kinds.{fatalOf, statusCode, notificationKind, kindFor, kindOf, kindNumber};
+ghost use Rattle.message.specs.Kinds.{fatalOf, statusCode, notificationKind, abortKind, kindFor, kindOf, kindNumber};
 ghost use Rattle.message.specs.Reading.{typeOf, numberIn, idIn, bearsOf, placesOf, messageOf, readingOf};
 ghost use Rattle.message.specs.Submission.{bearsFt, submissionOf};
 use ft_number::MessageId;
@@ -12,6 +12,7 @@ pub use tlv::Fec;
 pub use tlv::Field;
 pub use tlv::Found;
 pub use tlv::FtField;
+pub use tlv::IdField;
 pub use tlv::Parameters;
 pub use tlv::Part;
 pub use tlv::Session;
@@ -48,6 +49,8 @@ pub struct Message {
     pub session: Session,
     pub protection: FtField,
     pub ack: FtField,
+    pub requestid: IdField,
+    pub statusid: IdField,
 }
 
 pub enum Reading {
@@ -55,7 +58,7 @@ pub enum Reading {
     Whole(Message),
 }
 
-// The kinds of message that are stored and protected; NoKind is every other message.
+// The kinds of message that are stored and protected; NoKind is every other message. A Request bears its own message ID, an Abort the one that it names.
 pub enum Kind {
     Mapping,
     Withdraw,
@@ -63,6 +66,9 @@ pub enum Kind {
     Address,
     AddressWithdraw,
     ResourcesAvailable,
+    Request(MessageId),
+    Abort(MessageId),
+    NoResources,
     NoKind,
 }
 
@@ -119,10 +125,10 @@ fn bears(t: MessageType, found: Found) -> bool
         MessageType::Address => true,
         MessageType::AddressWithdraw => true,
         MessageType::Mapping => found.fec != 0 && found.label != 0,
-        MessageType::Request => true,
+        MessageType::Request => found.fec != 0,
         MessageType::Withdraw => found.fec != 0,
         MessageType::Release => found.fec != 0,
-        MessageType::Abort => true,
+        MessageType::Abort => found.fec != 0 && found.requestid != 0,
         MessageType::Other => true,
     }
 }
@@ -145,6 +151,8 @@ fn message_at(m: &[u8], found: Found) -> Message
         session: value::session_at(m, found.session),
         protection: value::number_at(m, found.protection),
         ack: value::number_at(m, found.ack),
+        requestid: value::id_at(m, found.requestid, 0),
+        statusid: value::id_at(m, found.status, 4),
         id: id_in(m),
     }
 }
@@ -165,7 +173,7 @@ pub fn places_in(m: &[u8]) -> walk::Walk
 }
 
 // Reads one message: type, type number without U, message ID, and what each listed TLV says. Malformed is what the walk refuses, a
-// Mapping without FEC or label, and a Withdraw or a Release without FEC.
+// Mapping without FEC or label, a Withdraw, a Release or a Request without FEC, and an Abort without FEC or the ID of its Request.
 pub fn read_message(m: &[u8]) -> Reading
     ensures { λ r. ⌜ r ≡ readingOf (now (m .entry)) ⌝ }
 {
@@ -198,17 +206,27 @@ fn notification_kind(status: Field) -> Kind
             if is_fatal(v) {
                 return Kind::NoKind;
             }
-            if status_code(v) != 15 {
-                return Kind::NoKind;
+            match status_code(v) {
+                0x0000000F => Kind::ResourcesAvailable,
+                0x0000000E => Kind::NoResources,
+                _ => Kind::NoKind,
             }
-            Kind::ResourcesAvailable
         }
     }
 }
 
-// The kind of a message of that type and status.
-pub fn kind_for(t: MessageType, status: Field) -> Kind
-    ensures { λ r. ⌜ r ≡ kindFor t status ⌝ }
+fn abort_kind(requestid: IdField) -> Kind
+    ensures { λ r. ⌜ r ≡ abortKind requestid ⌝ }
+{
+    match requestid {
+        IdField::Absent => Kind::NoKind,
+        IdField::Id(id) => Kind::Abort(id),
+    }
+}
+
+// The kind of a message of that type, status and message ID, which names that Request.
+pub fn kind_for(t: MessageType, status: Field, id: MessageId, requestid: IdField) -> Kind
+    ensures { λ r. ⌜ r ≡ kindFor t status id requestid ⌝ }
 {
     match t {
         MessageType::Notification => notification_kind(status),
@@ -217,10 +235,10 @@ pub fn kind_for(t: MessageType, status: Field) -> Kind
         MessageType::Address => Kind::Address,
         MessageType::AddressWithdraw => Kind::AddressWithdraw,
         MessageType::Mapping => Kind::Mapping,
-        MessageType::Request => Kind::NoKind,
+        MessageType::Request => Kind::Request(id),
         MessageType::Withdraw => Kind::Withdraw,
         MessageType::Release => Kind::Release,
-        MessageType::Abort => Kind::NoKind,
+        MessageType::Abort => abort_kind(requestid),
         MessageType::Other => Kind::NoKind,
     }
 }
@@ -231,7 +249,9 @@ pub fn kind_of(g: Message) -> Kind
 {
     let t = g.typename;
     let status = g.status;
-    kind_for(t, status)
+    let id = g.id;
+    let requestid = g.requestid;
+    kind_for(t, status, id, requestid)
 }
 
 // The kind's number in the stored image; 0 for no kind.
@@ -245,6 +265,9 @@ pub fn kind_number(kind: Kind) -> u8
         Kind::Address => 4,
         Kind::AddressWithdraw => 5,
         Kind::ResourcesAvailable => 6,
+        Kind::Request(_) => 7,
+        Kind::Abort(_) => 8,
+        Kind::NoResources => 9,
         Kind::NoKind => 0,
     }
 }
@@ -262,8 +285,8 @@ pub fn bears_ft(found: Found) -> bool
     found.ack != 0
 }
 
-// Submit's answers 4 (malformed) and 5 (no kind 1 to 6, an FT TLV, or kinds 1 to 3 without a label), else its kind and label, 0xFFFFFFFF for
-// kinds 4 to 6. Of what the message says only its type, its status and its label are read. Its length is Submit's own test (3).
+// Submit's answers 4 (malformed) and 5 (no kind 1 to 9, an FT TLV, or kinds 1 to 3 without a label), else its kind and label, 0xFFFFFFFF for
+// kinds 4 to 9. Of what the message says only its type, its status, its label and the IDs are read. Its length is Submit's own test (3).
 pub fn judge_submission(m: &[u8]) -> Submission
     ensures { λ r. ⌜ r ≡ submissionOf (now (m .entry)) ⌝ }
 {
@@ -275,7 +298,8 @@ pub fn judge_submission(m: &[u8]) -> Submission
             if !bears(t, found) {
                 return Submission::Malformed;
             }
-            let kind = kind_for(t, status);
+            let requestid = value::id_at(m, found.requestid, 0);
+            let kind = kind_for(t, status, id_in(m), requestid);
             if bears_ft(found) {
                 return Submission::Refused;
             }

@@ -60,7 +60,7 @@ abbrev Grown : Found → Found → Type 0
 Grown f g = Each (λ tlv p. (placeOf f tlv ≡ 0 → ⊥) → p ≡ 0 → ⊥) g
 
 grown-same : (f : Found) → Grown f f
-grown-same f = record { fec = λ z. z; label = λ z. z; status = λ z. z; parameters = λ z. z; session = λ z. z; protection = λ z. z; ack = λ z. z }
+grown-same f = record { fec = λ z. z; label = λ z. z; status = λ z. z; parameters = λ z. z; session = λ z. z; protection = λ z. z; ack = λ z. z; requestid = λ z. z }
 
 walk-grows : (s : List ℕ) (at : ℕ) (f g : Found) → 0 < at → at ≤ length s → walkOf at (drop at s) f ≡ Walk.Whole g → Grown f g
 walk-grows s at f g h k e = walk-keeps s at (Grown f) keeps k f g e (grown-same f)
@@ -80,6 +80,7 @@ not-ft Tlv.Parameters f g at h grown none = refl
 not-ft Tlv.Session f g at h grown none = absurd (grown .session (λ z. omega arith) (none .session))
 not-ft Tlv.Protection f g at h grown none = absurd (grown .protection (λ z. omega arith) (none .protection))
 not-ft Tlv.Ack f g at h grown none = absurd (grown .ack (λ z. omega arith) (none .ack))
+not-ft Tlv.RequestId f g at h grown none = refl
 not-ft Tlv.Other f g at h grown none = refl
 
 -- TLVs of which none is an FT TLV are kept, whatever stands behind them

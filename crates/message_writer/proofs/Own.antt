@@ -8,7 +8,7 @@ use Rattle.octets.specs.Fix.{fix, steps}
 use Rattle.ft_number.specs.declared.MessageId.{MessageId}
 use Rattle.tlv.specs.declared.FtField.{FtField}
 use Rattle.tlv.specs.Tlv.{tlvOf}
-use Rattle.tlv.specs.Value.{partAt, fecAt, fieldAt, numberAt, parametersAt, sessionAt, topBitWeight}
+use Rattle.tlv.specs.Value.{partAt, fecAt, fieldAt, numberAt, idAt, parametersAt, sessionAt, topBitWeight}
 use Rattle.tlv.specs.Walk.{notedOf, turnOf, walkOf, tlvsOf}
 use Rattle.message.specs.declared.Reading.{Reading}
 use Rattle.message.specs.Reading.{typeOf, messageOf, placesOf, readingOf}
@@ -19,14 +19,14 @@ use Rattle.message_writer.proofs.Raised.{bytes-read}
 
 -- our KeepAlive is read back as what was written
 pub keepalive-reads : (id : MessageId) (ack : FtField) → id .0 < 256 ^ 4 → AckFits ack → readingOf (keepaliveBytes id ack) ≡ Reading.Whole (keepaliveMessage id ack)
-unfolding readingOf placesOf messageOf tlvsOf walkOf turnOf notedOf tlvOf typeOf fix steps partAt fecAt fieldAt numberAt parametersAt sessionAt
+unfolding readingOf placesOf messageOf tlvsOf walkOf turnOf notedOf tlvOf typeOf fix steps partAt fecAt fieldAt numberAt idAt parametersAt sessionAt
 keepalive-reads id FtField.Absent small fits = simp (bytes-read 4 (id .0) small)
 keepalive-reads id (FtField.Number a) small fits = simp (bytes-read 4 (id .0) small, bytes-read 4 (a .0) fits)
 
 -- so is our Init
 pub init-reads : (id : MessageId) (p : OwnParameters) (seconds : ℕ) (ack : FtField) → InitFits id p seconds ack
     → readingOf (initBytes id p seconds ack) ≡ Reading.Whole (initMessage id p seconds ack)
-unfolding readingOf placesOf messageOf tlvsOf walkOf turnOf notedOf tlvOf typeOf fix steps partAt fecAt fieldAt numberAt parametersAt sessionAt
+unfolding readingOf placesOf messageOf tlvsOf walkOf turnOf notedOf tlvOf typeOf fix steps partAt fecAt fieldAt numberAt idAt parametersAt sessionAt
 init-reads id p seconds FtField.Absent fits =
     let number : beAt 4 (bytes 4 seconds) 0 ≡ seconds = bytes-read 4 seconds (omega (arith, fits .seconds)) in
     let last : beAt 2 (bytes 4 seconds) 2 ≡ seconds = omega (arith, fits .seconds) in

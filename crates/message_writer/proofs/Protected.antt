@@ -20,7 +20,7 @@ use Rattle.tlv.specs.declared.FtField.{FtField}
 use Rattle.tlv.specs.declared.walk.Tlv.{Tlv}
 use Rattle.tlv.specs.declared.walk.Walk.{Walk}
 use Rattle.tlv.specs.Tlv.{tlvOf, lengthFits, headOf, labelValue, protectionType, ackType}
-use Rattle.tlv.specs.Value.{Within, Places, partAt, fecAt, fieldAt, numberAt, parametersAt, sessionAt}
+use Rattle.tlv.specs.Value.{Within, Places, partAt, fecAt, fieldAt, numberAt, idAt, parametersAt, sessionAt}
 use Rattle.tlv.specs.Walk.{placeOf, placedOf, notedOf, turnOf, walkOf, headSize, tlvsOf}
 use Rattle.tlv.proofs.Places.{Each, Lies, found-lies, places}
 use Rattle.tlv.proofs.Turns.{walk-step}
@@ -72,6 +72,13 @@ module _ (m t : List ℕ) (same : (w at : ℕ) → headSize ≤ at → at + w �
     field-same : Within m p 4 → fieldAt t p ≡ fieldAt m p
     unfolding fieldAt
     field-same within = where-same p 0 _ _ (λ z. ap Field.Value (value-same 4 0 within z))
+
+    id-same : (n : ℕ) → Within m p (n + 4) → idAt t p n ≡ idAt m p n
+    unfolding idAt
+    id-same n within =
+        where-same p 0 _ _ (λ z.
+        let a : beAt 4 t (p + 4 + n) ≡ beAt 4 m (p + 4 + n) = same 4 (p + 4 + n) (omega (arith, lies z .after)) (omega (arith, within z)) in
+        rw a)
 
     parameters-same : Within m p 14 → parametersAt t p ≡ parametersAt m p
     unfolding parametersAt
@@ -139,10 +146,12 @@ module _ (m t : List ℕ) (f : Found) (e : tlvsOf m ≡ Walk.Whole f) (n : FtNum
         fec-same m (raised m t) same Tlv.Fec (f .fec) (l .fec),
         part-same m (raised m t) same Tlv.Fec (f .fec) (l .fec),
         field-same m (raised m t) same Tlv.Label (f .label) (l .label) (w .label),
-        field-same m (raised m t) same Tlv.Status (f .status) (l .status) (w .status),
+        field-same m (raised m t) same Tlv.Status (f .status) (l .status) (λ z. omega (arith, w .status z)),
         parameters-same m (raised m t) same Tlv.Parameters (f .parameters) (l .parameters) (w .parameters),
         part-same m (raised m t) same Tlv.Parameters (f .parameters) (l .parameters),
         session-same m (raised m t) same Tlv.Session (f .session) (l .session) (w .session),
+        id-same m (raised m t) same Tlv.RequestId (f .requestid) (l .requestid) 0 (w .requestid),
+        id-same m (raised m t) same Tlv.Status (f .status) (l .status) 4 (λ z. omega (arith, w .status z)),
       )
 
   -- and it is read whole: its type bears what it bore

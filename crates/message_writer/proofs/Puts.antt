@@ -15,7 +15,7 @@ use Rattle.tlv.specs.Tlv.{protectionType}
 use Rattle.message.specs.Reading.{initializationType}
 use Rattle.message_writer.specs.declared.OwnParameters.{OwnParameters}
 use Rattle.message_writer.specs.declared.Written.{Written}
-use Rattle.message_writer.specs.Forms.{tlvBytes, headBytes, parametersTlv, sessionTlv, initHead, ackTlv, raisedTo, raised, ftTlvs, protectedBytes}
+use Rattle.message_writer.specs.Forms.{tlvBytes, headBytes, modeByte, parametersTlv, sessionTlv, initHead, ackTlv, raisedTo, raised, ftTlvs, protectedBytes}
 use Rattle.message_writer.specs.Written.{writtenOf}
 use Rattle.message_writer.proofs.Room.{written-whole, written-short}
 
@@ -43,17 +43,19 @@ module _ (s : List ℕ) where
       let l₂ = then-part l₁ (bytes 2 4) (at + 2) e₂ refl in
       then-part l₂ (bytes 4 value) (at + 4) e₃ refl .is
 
-  pub parameters-laid : (x₁ x₂ x₃ x₄ x₅ x₆ x₇ : List ℕ) (p : OwnParameters)
-      → x₁ ≡ laid s 8 (bytes 4 0x0500000E) → x₂ ≡ laid x₁ 12 (bytes 2 1) → x₃ ≡ laid x₂ 14 (bytes 2 (p .keepalive)) → x₄ ≡ laid x₃ 16 (bytes 2 0)
-      → x₅ ≡ laid x₄ 18 (bytes 2 (p .pdulength)) → x₆ ≡ laid x₅ 20 (bytes 4 (p .lsr)) → x₇ ≡ laid x₆ 24 (bytes 2 (p .space)) → x₇ ≡ laid s 8 (parametersTlv p)
-  parameters-laid x₁ x₂ x₃ x₄ x₅ x₆ x₇ p e₁ e₂ e₃ e₄ e₅ e₆ e₇ =
+  pub parameters-laid : (x₁ x₂ x₃ x₄ x₅ x₆ x₇ x₈ : List ℕ) (p : OwnParameters) (mode : ℕ) → mode ≡ modeByte (p .ondemand)
+      → x₁ ≡ laid s 8 (bytes 4 0x0500000E) → x₂ ≡ laid x₁ 12 (bytes 2 1) → x₃ ≡ laid x₂ 14 (bytes 2 (p .keepalive)) → x₄ ≡ laid x₃ 16 (bytes 1 mode)
+      → x₅ ≡ laid x₄ 17 (bytes 1 0) → x₆ ≡ laid x₅ 18 (bytes 2 (p .pdulength)) → x₇ ≡ laid x₆ 20 (bytes 4 (p .lsr)) → x₈ ≡ laid x₇ 24 (bytes 2 (p .space))
+      → x₈ ≡ laid s 8 (parametersTlv p)
+  parameters-laid x₁ x₂ x₃ x₄ x₅ x₆ x₇ x₈ p mode modeq e₁ e₂ e₃ e₄ e₅ e₆ e₇ e₈ =
       let l₁ = then-part (laid-start s 8) (bytes 4 0x0500000E) 8 e₁ refl in
       let l₂ = then-part l₁ (bytes 2 1) 12 e₂ refl in
       let l₃ = then-part l₂ (bytes 2 (p .keepalive)) 14 e₃ refl in
-      let l₄ = then-part l₃ (bytes 2 0) 16 e₄ refl in
-      let l₅ = then-part l₄ (bytes 2 (p .pdulength)) 18 e₅ refl in
-      let l₆ = then-part l₅ (bytes 4 (p .lsr)) 20 e₆ refl in
-      then-part l₆ (bytes 2 (p .space)) 24 e₇ refl .is
+      let l₄ = then-part l₃ (bytes 1 (modeByte (p .ondemand))) 16 (rw modeq at e₄) refl in
+      let l₅ = then-part l₄ (bytes 1 0) 17 e₅ refl in
+      let l₆ = then-part l₅ (bytes 2 (p .pdulength)) 18 e₆ refl in
+      let l₇ = then-part l₆ (bytes 4 (p .lsr)) 20 e₇ refl in
+      then-part l₇ (bytes 2 (p .space)) 24 e₈ refl .is
 
   pub init-laid : (x₁ x₂ x₃ : List ℕ) (size : ℕ) (id : MessageId) (p : OwnParameters) (session : ℕ)
       → x₁ ≡ laid s 0 (headBytes initializationType size (id .0)) → x₂ ≡ laid x₁ 8 (parametersTlv p) → x₃ ≡ laid x₂ 26 (sessionTlv session)

@@ -1,8 +1,10 @@
 -- The messages that we write, byte by byte.
 -- 01: "Our Init: parameters (protocol version 1, KeepAlive time, A, D and PVLim zero, maximum PDU length, receiver identifier), FT Session,
 -- then FT ACK if R is 1: 34 or 42 bytes. KeepAlive .. carries FT ACK in UpFT, 16 bytes, and none in UpPlain, 8 bytes."
+-- 02: "bit A of our Init, as Open says".
 -- "adds at its end FT Protection, then FT ACK if asked, raising its length"; "on writing FT Session begins 85 03".
 use Prim.Native.Nat.{ℕ, _+_, _-_}
+use mathlib.Core.Bool.{Bool, true, false}
 use mathlib.Core.List.{List, [], _++_}
 use lib.ListN.{length}
 use Rattle.octets.specs.Be.{bytes}
@@ -31,11 +33,16 @@ abbrev pub ackTlv : FtField → List ℕ
 ackTlv FtField.Absent = []
 ackTlv (FtField.Number a) = tlvBytes ackType (bytes 4 (a .0))
 
+-- the byte of the A and D bits: A, downstream on demand, is the top one
+abbrev pub modeByte : Bool → ℕ
+modeByte true = 0x80
+modeByte false = 0
+
 -- protocol version 1 (2), KeepAlive time (2), the A and D bits (1), PVLim (1), maximum PDU length (2), receiver's LSR ID (4) and label space (2)
 abbrev pub parametersTlv : OwnParameters → List ℕ
 parametersTlv p =
     tlvBytes parametersType
-    (bytes 2 1 ++ (bytes 2 (p .keepalive) ++ (bytes 1 0 ++ (bytes 1 0 ++ (bytes 2 (p .pdulength) ++ (bytes 4 (p .lsr) ++ bytes 2 (p .space)))))))
+    (bytes 2 1 ++ (bytes 2 (p .keepalive) ++ (bytes 1 (modeByte (p .ondemand)) ++ (bytes 1 0 ++ (bytes 2 (p .pdulength) ++ (bytes 4 (p .lsr) ++ bytes 2 (p .space)))))))
 
 -- the 32 bits of FT Session: the top bit is R, set where there is an ACK; the last 16 are the seconds
 abbrev pub sessionValue : FtField → ℕ → ℕ

@@ -21,6 +21,7 @@ isFt Tlv.Parameters = false
 isFt Tlv.Session = true
 isFt Tlv.Protection = true
 isFt Tlv.Ack = true
+isFt Tlv.RequestId = false
 isFt Tlv.Other = false
 
 -- one TLV, kept where it is no FT TLV, and what is kept of the rest; bytes that hold no whole TLV are kept as they are

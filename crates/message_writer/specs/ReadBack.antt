@@ -7,6 +7,7 @@ use Rattle.tlv.specs.declared.Fec.{Fec}
 use Rattle.tlv.specs.declared.Field.{Field}
 use Rattle.tlv.specs.declared.Found.{Found}
 use Rattle.tlv.specs.declared.FtField.{FtField}
+use Rattle.tlv.specs.declared.IdField.{IdField}
 use Rattle.tlv.specs.declared.Parameters.{Parameters}
 use Rattle.tlv.specs.declared.Part.{Part}
 use Rattle.tlv.specs.declared.Session.{Session}
@@ -55,6 +56,8 @@ withFt g found protection ack = record {
   session = g .session;
   protection = protection;
   ack = ack;
+  requestid = g .requestid;
+  statusid = g .statusid;
 }
 
 -- the message g, of `size` bytes, with the number n and an ACK
@@ -77,6 +80,8 @@ ownMessage type number id found parameters value session ack = record {
   session = session;
   protection = FtField.Absent;
   ack = ack;
+  requestid = IdField.Absent;
+  statusid = IdField.Absent;
 }
 
 -- the places with that of FT ACK, where one is given

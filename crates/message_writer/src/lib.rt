@@ -6,18 +6,20 @@ ghost use lib.ListN.{length};
 ghost use Rattle.octets.specs.Be.{bytes};
 ghost use Rattle.octets.specs.Laid.{laid};
 ghost use Rattle.tlv.specs.Tlv.{protectionType};
-ghost use Rattle.message_writer.specs.Forms.{tlvBytes, headBytes, parametersTlv, initHead, initBytes, keepaliveBytes, raisedTo, protectedBytes};
+ghost use Rattle.message_writer.specs.Forms.{tlvBytes, headBytes, modeByte, parametersTlv, initHead, initBytes, keepaliveBytes, raisedTo, protectedBytes};
 ghost use Rattle.message_writer.specs.Written.{writtenOf};
 use ft_number::FtNumber;
 use ft_number::MessageId;
 use tlv::FtField;
 
-// What our Init proposes: KeepAlive time, maximum PDU length, and the receiver's LDP identifier (LSR ID and label space).
+// What our Init proposes: KeepAlive time, maximum PDU length, the receiver's LDP identifier (LSR ID and label space), and whether labels
+// are asked for before they are offered (downstream on demand, bit A).
 pub struct OwnParameters {
     pub keepalive: u16,
     pub pdulength: u16,
     pub lsr: u32,
     pub space: u16,
+    pub ondemand: bool,
 }
 
 // Nothing written, for want of room (9), or the number of bytes written.
@@ -46,6 +48,16 @@ fn put_tlv(out: &mut [u8], at: usize, number: u16, value: u32)
     octets::put_u32(out, at + 4, value);
 }
 
+// The byte of the A and D bits.
+fn mode_byte(ondemand: bool) -> u8
+    ensures { λ r. ⌜ r ≡ modeByte ondemand ⌝ }
+{
+    if ondemand {
+        return 0x80;
+    }
+    0
+}
+
 // Writes the Common Session Parameters behind an Init's head.
 fn put_parameters(out: &mut [u8], p: OwnParameters)
     requires { ⌜ 26 ≤ length (now out) ⌝ }
@@ -54,7 +66,8 @@ fn put_parameters(out: &mut [u8], p: OwnParameters)
     octets::put_u32(out, 8, 0x0500000E);
     octets::put_u16(out, 12, 1);
     octets::put_u16(out, 14, p.keepalive);
-    octets::put_u16(out, 16, 0);
+    octets::put_u8(out, 16, mode_byte(p.ondemand));
+    octets::put_u8(out, 17, 0);
     octets::put_u16(out, 18, p.pdulength);
     octets::put_u32(out, 20, p.lsr);
     octets::put_u16(out, 24, p.space);

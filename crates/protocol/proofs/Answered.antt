@@ -100,13 +100,13 @@ module _ (s : State) (ph : Phase) (m : List ℕ) where
   queued : Step
   queued = stepped Answer.Done (submitted s m) ph []
 
-  pub submit-says : submit s ph m .answer ≡ admitted s ph (submitRule s m)
+  pub submit-says : submit s ph m .answer ≡ admitted s ph (submitRule s ph m)
   unfolding submit queued
-  submit-says = settle-answer (admitted s ph (submitRule s m)) s ph queued refl
+  submit-says = settle-answer (admitted s ph (submitRule s ph m)) s ph queued refl
 
   pub submit-does : submit s ph m .answer ≡ Answer.Done → submit s ph m ≡ stepped Answer.Done (submitted s m) ph []
   unfolding submit queued
-  submit-does e = settled-does s ph (admitted s ph (submitRule s m)) queued refl e
+  submit-does e = settled-does s ph (admitted s ph (submitRule s ph m)) queued refl e
 
   begun : Step
   begun = stepped Answer.Done (startState s (initStart s ph m)) (startPhase ph (initStart s ph m)) []

@@ -13,8 +13,8 @@ use Rattle.protocol.specs.declared.Answer.{Answer}
 use Rattle.protocol.specs.declared.Phase.{Phase}
 use Rattle.protocol.specs.declared.Progress.{Progress}
 use Rattle.protocol.specs.Acked.{acked}
-use Rattle.protocol.specs.Cases.{mayReceive, wordsAfter, Heard, AckRight, ProtectionRight, TurnRight, Takes, Case, wrong-phase, malformed, an-init, fatal, ft-tlv, passed-on, zero-number, wrong-ack, missing, wrong, out-of-turn, no-word, taken}
-use Rattle.protocol.specs.Labels.{labelEffect, isProtected, protectionRule, effectReception}
+use Rattle.protocol.specs.Cases.{mayReceive, wordsAfter, Heard, AckRight, ProtectionRight, TurnRight, Takes, Case, wrong-phase, malformed, an-init, fatal, ft-tlv, passed-on, zero-number, wrong-ack, missing, wrong, out-of-turn, no-word, taken, tableAfter}
+use Rattle.protocol.specs.Labels.{labelEffect, isProtected, protectionRule, effectReception, answeredAt}
 use Rattle.protocol.specs.Receive.{ackRule, ackOn, ftRule, receiveRule, isFatal, messageRule, plainRule, isZero, inTurn, receptionRule, protectedRule, labelsRule, readRule, ackCount}
 use Rattle.protocol.specs.Received.{isInit}
 use Rattle.protocol.specs.State.{State}
@@ -35,16 +35,16 @@ module _ (s : State) (u : Progress) (g : Message) where
   abbrev Here : Answer → Type 0
   Here a = Case s (Phase.UpFT u) (Reading.Whole g) a
 
-  room-case : {k : ℕ} → TurnRight s g k → (r : Reception) → effectReception (wordsAfter s k) (isProtected (g .protection)) (labelEffect g) ≡ r → Here (receptionRule r)
+  room-case : {k : ℕ} → TurnRight s g k → (r : Reception) → effectReception (wordsAfter s k) (answeredAt (tableAfter s k) g) (isProtected (g .protection)) (labelEffect g) ≡ r → Here (receptionRule r)
   room-case t Reception.Taken e = taken (record { turn = t; room = e })
   room-case t Reception.NoRoom e = no-word t e
 
   turn-case : {k : ℕ} → ProtectionRight s g k → (b : Bool) → inTurn (s .secured .0) (g .protection) ≡ b
-      → Here (pick (not b) Answer.OutOfTurn (receptionRule (effectReception (wordsAfter s k) (isProtected (g .protection)) (labelEffect g))))
-  turn-case {k} p true e = room-case (record { protection = p; turn = e }) (effectReception (wordsAfter s k) (isProtected (g .protection)) (labelEffect g)) refl
+      → Here (pick (not b) Answer.OutOfTurn (receptionRule (effectReception (wordsAfter s k) (answeredAt (tableAfter s k) g) (isProtected (g .protection)) (labelEffect g))))
+  turn-case {k} p true e = room-case (record { protection = p; turn = e }) (effectReception (wordsAfter s k) (answeredAt (tableAfter s k) g) (isProtected (g .protection)) (labelEffect g)) refl
   turn-case p false e = out-of-turn p e
 
-  protection-case : {k : ℕ} → AckRight s g k → (p : Protection) → protectionRule (wordsAfter s k) g ≡ p → Here (protectedRule (wordsAfter s k) (s .secured .0) g p)
+  protection-case : {k : ℕ} → AckRight s g k → (p : Protection) → protectionRule (wordsAfter s k) g ≡ p → Here (protectedRule (tableAfter s k) (s .secured .0) g p)
   protection-case a Protection.Missing e = missing a e
   protection-case a Protection.Wrong e = wrong a e
   protection-case a Protection.Right e = turn-case (record { ack = a; right = e }) (inTurn (s .secured .0) (g .protection)) refl
@@ -105,7 +105,7 @@ alike s Phase.Failed rd x e f = absurd (false≢true e)
 
 -- past 30 and 34 the labels are judged, as the ACK leaves them
 acked-rule : (s : State) (u : Progress) (g : Message) (k : ℕ) → AckRight s g k
-    → receiveRule s (Phase.UpFT u) (Reading.Whole g) ≡ protectedRule (wordsAfter s k) (s .secured .0) g (protectionRule (wordsAfter s k) g)
+    → receiveRule s (Phase.UpFT u) (Reading.Whole g) ≡ protectedRule (tableAfter s k) (s .secured .0) g (protectionRule (wordsAfter s k) g)
 unfolding ftRule messageRule labelsRule acked
 acked-rule s u g k a = rw (a .heard .another, a .heard .mild, a .nonzero, a .acks)
 

@@ -62,9 +62,9 @@ module _ (s : State) (few : Few s) where
   taken-few Phase.UpPlain r = few
   taken-few Phase.Failed r = few
 
-  submitted-few : (m : List ℕ) → submitRule s m ≡ Answer.Done → Few (submitted s m)
+  submitted-few : (ph : Phase) (m : List ℕ) → submitRule s ph m ≡ Answer.Done → Few (submitted s m)
   unfolding submitted
-  submitted-few m e = omega (arith, done-accepted s m e .room, length-append (s .queue) (m ∷ []))
+  submitted-few ph m e = omega (arith, done-accepted s ph m e .room, length-append (s .queue) (m ∷ []))
 
   -- ---- every call
   module _ (ph : Phase) where
@@ -87,7 +87,7 @@ module _ (s : State) (few : Few s) where
     few-held (opens id p q) room = writer-few (mayOpen ph) (waitingFor (proposedOf q)) (openBytes s id p q) room
     few-held (greets m) room = settled-few _ _ (λ t. begun-few (initStart s ph m))
     few-held (passes elapsed) room = settled-few _ _ (λ t. pick-all Left (expired s elapsed) (omega arith) few)
-    few-held (submits m) room = settled-few _ _ (λ t. submitted-few m (done-is (submitRule s m) (admitted-done s ph (submitRule s m) t)))
+    few-held (submits m) room = settled-few _ _ (λ t. submitted-few ph m (done-is (submitRule s ph m) (admitted-done s ph (submitRule s ph m) t)))
     few-held (sends ask) room = settled-few _ _ (λ t. sent-few (sentOf ph))
     few-held (keeps-alive id) room = writer-few (isUp ph) ph (aliveBytes s ph id) room
     few-held (receives m) room = settled-few _ _ (λ t. taken-few ph (readingOf m))

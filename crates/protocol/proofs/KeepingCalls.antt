@@ -32,7 +32,7 @@ abbrev Stands : Step → Type 0
 Stands x = LawfulIn (x .state) (x .phase)
 
 -- the call's own tests said Done
-own-done : (s : State) (ph : Phase) (a : Answer) → admitted s ph a ≡ Answer.Done → a ≡ Answer.Done
+pub own-done : (s : State) (ph : Phase) (a : Answer) → admitted s ph a ≡ Answer.Done → a ≡ Answer.Done
 own-done s ph a e = done-is a (admitted-done s ph a (rw e))
 
 -- ---- a message queued rules no phase out
@@ -53,7 +53,7 @@ done-stands fails s ph room p st d = (lawful-broken s (st .0), resting-fits s)
 done-stands (opens id own proposal) s ph room p st d = (st .0, refl)
 done-stands (greets m) s ph room p st d = greeted-lawful s ph m (st .0) (st .1) (p .0) (p .1)
 done-stands (passes elapsed) s ph room p st d = pick-all Stands (expired s elapsed) (lawful-released, refl) st
-done-stands (submits m) s ph room p st d = (lawful-submitted s (st .0) m (own-done s ph (submitRule s m) d), submitted-fits ph s m ∙ st .1)
+done-stands (submits m) s ph room p st d = (lawful-submitted s (st .0) ph m p (own-done s ph (submitRule s ph m) d), submitted-fits ph s m ∙ st .1)
 done-stands (sends ask) s ph room p st d =
     let e : sendRule s ph (roomFor (sendBytes s (sentOf ph) ask) room) ≡ Answer.Done = own-done s ph (sendRule s ph (roomFor (sendBytes s (sentOf ph) ask) room)) d in
     let x : Sendable s ph = sendable s ph (roomFor (sendBytes s (sentOf ph) ask) room) (rw e) in

@@ -5,27 +5,31 @@ use mathlib.Core.List.{List, [], _∷_}
 use mathlib.Core.Path.{_≡_, refl, sym, ap, _∙_}
 use native.Mathlib.Omega.{arith}
 use lib.ListN.{take, length-append, length-drop}
+use Rattle.octets.specs.Bytes.{Bytes}
 use Rattle.ft_number.specs.declared.Ack.{Ack}
 use Rattle.ft_number.specs.Ack.{ackOf}
 use Rattle.ft_number.specs.Circle.{stepsOf}
 use Rattle.ft_number.proofs.Circle.{counted, Acknowledged, ack-releases}
+use Rattle.label_list.specs.declared.SweepRule.the-variants.{AfterBreak}
+use Rattle.label_list.specs.Counting.{counting}
 use Rattle.label_list.specs.Rules.{codeSwept}
-use Rattle.label_list.specs.Sweep.{wordSwept}
-use Rattle.label_list.specs.Word.{wordOf}
+use Rattle.label_list.specs.Sweep.{wordSwept, sweptOf}
+use Rattle.label_list.specs.Word.{wordOf, isRequest}
 use Rattle.message.specs.declared.Message.{Message}
 use Rattle.message.specs.Submission.{submissionOf}
 use Rattle.protocol.specs.declared.Answer.{Answer}
+use Rattle.protocol.specs.declared.Phase.{Phase}
 use Rattle.protocol.specs.declared.Terms.{Terms}
 use Rattle.protocol.specs.Acked.{releasedLabels, acked}
 use Rattle.protocol.specs.Init.{fresh, resumed}
-use Rattle.protocol.specs.Labels.{labelEffect, isProtected}
+use Rattle.protocol.specs.Labels.{labelEffect, isProtected, answeredAt}
 use Rattle.protocol.specs.Lawful.{TermsFit, Lawful}
-use Rattle.protocol.specs.Receive.{securedBy, taken}
+use Rattle.protocol.specs.Receive.{securedBy, taken, messageLabels}
 use Rattle.protocol.specs.Send.{numbered}
 use Rattle.protocol.specs.State.{State, held, releasedState}
 use Rattle.protocol.specs.Step.{broken}
 use Rattle.protocol.specs.Submit.{submitRule, submitted}
-use Rattle.protocol.proofs.KeepingLabels.{WordsValid, none-words, broken-words, released-words, accepted-words, effect-words}
+use Rattle.protocol.proofs.KeepingLabels.{TableLaw, none-law, table-law, broken-keeps, acked-keeps, effect-keeps, accepted-law, id-fits}
 use Rattle.protocol.proofs.KeepingNumbers.{ack-window, number-fits, numbered-window}
 use Rattle.protocol.proofs.KeepingQueue.{queued-storable, dropped-storable}
 use Rattle.protocol.proofs.Submits.{Accepted, done-accepted}
@@ -40,8 +44,12 @@ lawful-fresh t f = record {
   terms = f;
   few = omega arith;
   window = record { steps = 0; reaches = refl; within = omega arith };
-  words = none-words .0;
-  labels = none-words .1;
+  words = none-law .beside .words;
+  labels = none-law .beside .valid;
+  ids = none-law .beside .ids;
+  width = none-law .beside .width;
+  counted = none-law .counted;
+  once = none-law .beside .once;
   storable = λ i l. absurd (omega arith);
   idle = λ z. absurd (true≢false z);
 }
@@ -55,24 +63,31 @@ lawful-released = record {
   terms = record { timeout = omega arith; keepalive = omega arith; maxpdu = omega arith };
   few = omega arith;
   window = record { steps = 0; reaches = refl; within = omega arith };
-  words = none-words .0;
-  labels = none-words .1;
+  words = none-law .beside .words;
+  labels = none-law .beside .valid;
+  ids = none-law .beside .ids;
+  width = none-law .beside .width;
+  counted = none-law .counted;
+  once = none-law .beside .once;
   storable = λ i l. absurd (omega arith);
   idle = λ z. refl;
 }
 
 module _ (s : State) (law : Lawful s) where
-  words-valid : WordsValid (s .table .words)
-  words-valid = (law .words, law .labels)
+  pub table-lawful : TableLaw (s .table)
+  table-lawful = record {
+    beside = record { words = law .words; valid = law .labels; ids = law .ids; width = law .width; once = law .once };
+    counted = law .counted;
+  }
 
   -- ---- a connection that ends: free words stay free
   broken-idle : s .kept ≡ false → broken s ≡ releasedState
-  unfolding wordSwept wordOf codeSwept
+  unfolding wordSwept wordOf codeSwept counting isRequest
   broken-idle z = ap broken (law .idle z)
 
   pub lawful-broken : Lawful (broken s)
   lawful-broken =
-      let v = broken-words (s .table .words) words-valid in
+      let v = table-law (sweptOf (s .table .words) AfterBreak) (s .table .ids) (broken-keeps (s .table .ids) (s .table .words) (table-lawful .beside)) in
       record {
         released = law .released;
         issued = law .issued;
@@ -80,18 +95,22 @@ module _ (s : State) (law : Lawful s) where
         terms = law .terms;
         few = law .few;
         window = record { steps = law .window .steps; reaches = law .window .reaches; within = law .window .within };
-        words = v .0;
-        labels = v .1;
+        words = v .beside .words;
+        labels = v .beside .valid;
+        ids = v .beside .ids;
+        width = v .beside .width;
+        counted = v .counted;
+        once = v .beside .once;
         storable = law .storable;
         idle = broken-idle;
       }
 
   -- ---- a message is queued
-  pub lawful-submitted : (m : List ℕ) → submitRule s m ≡ Answer.Done → Lawful (submitted s m)
+  pub lawful-submitted : (ph : Phase) (m : List ℕ) → Bytes m → submitRule s ph m ≡ Answer.Done → Lawful (submitted s m)
   unfolding submitted
-  lawful-submitted m e =
-      let d : Accepted s m = done-accepted s m e in
-      let v = accepted-words (s .table .words) words-valid (submissionOf m) in
+  lawful-submitted ph m byte e =
+      let d : Accepted s m = done-accepted s ph m e in
+      let v = accepted-law (s .table) table-lawful (submissionOf m) (id-fits m byte) in
       let more : held (submitted s m) ≡ held s + 1 = length-append (s .queue) (m ∷ []) in
       record {
         released = law .released;
@@ -100,8 +119,12 @@ module _ (s : State) (law : Lawful s) where
         terms = law .terms;
         few = omega (arith, d .room, more);
         window = record { steps = law .window .steps; reaches = law .window .reaches; within = omega (arith, law .window .within, more) };
-        words = v .0;
-        labels = v .1;
+        words = v .beside .words;
+        labels = v .beside .valid;
+        ids = v .beside .ids;
+        width = v .beside .width;
+        counted = v .counted;
+        once = v .beside .once;
         storable = queued-storable (s .queue) m (law .storable) (d .storable);
         idle = λ z. absurd (true≢false (sym (d .kept) ∙ z));
       }
@@ -118,6 +141,10 @@ module _ (s : State) (law : Lawful s) where
     window = numbered-window s (law .released) sent (omega (arith, law .few)) l;
     words = law .words;
     labels = law .labels;
+    ids = law .ids;
+    width = law .width;
+    counted = law .counted;
+    once = law .once;
     storable = law .storable;
     idle = λ z. let none : held s ≡ 0 = ap held (law .idle z) in absurd (omega arith);
   }
@@ -126,7 +153,7 @@ module _ (s : State) (law : Lawful s) where
   module _ (a k : ℕ) (la : a < 4294967296) (e : ackOf (s .released .0) (s .issued .0) a ≡ Ack.Releases k) where
     -- of a released state nothing but itself
     acked-idle : s .kept ≡ false → acked s k a ≡ releasedState
-    unfolding acked releasedLabels
+    unfolding acked releasedLabels counting isRequest
     acked-idle z =
         let c : Acknowledged (s .released .0) (s .issued .0) a k = ack-releases (s .released .0) (s .issued .0) a k e in
         let r : s .released .0 ≡ 0 = ap (λ (x : State). x .released .0) (law .idle z) in
@@ -138,7 +165,7 @@ module _ (s : State) (law : Lawful s) where
     pub lawful-acked : Lawful (acked s k a)
     unfolding acked
     lawful-acked =
-        let v = released-words (take k (s .queue)) (s .table .words) words-valid in
+        let v = table-law (releasedLabels (take k (s .queue)) (s .table .words)) (s .table .ids) (acked-keeps (s .table .ids) (take k (s .queue)) (s .table .words) (table-lawful .beside)) in
         record {
           released = la;
           issued = law .issued;
@@ -146,8 +173,12 @@ module _ (s : State) (law : Lawful s) where
           terms = law .terms;
           few = omega (arith, law .few, length-drop k (s .queue));
           window = ack-window s (law .window) a k e (law .released) (law .issued) la (law .few);
-          words = v .0;
-          labels = v .1;
+          words = v .beside .words;
+          labels = v .beside .valid;
+          ids = v .beside .ids;
+          width = v .beside .width;
+          counted = v .counted;
+          once = v .beside .once;
           storable = dropped-storable (s .queue) k (law .storable);
           idle = acked-idle;
         }
@@ -161,7 +192,8 @@ module _ (s : State) (law : Lawful s) (kept : s .kept ≡ true) where
   pub lawful-taken : (g : Message) → securedBy (s .secured) (g .protection) .0 < 4294967296 → Lawful (taken s g)
   unfolding taken
   lawful-taken g l =
-      let v = effect-words (s .table .words) (isProtected (g .protection)) (labelEffect g) (law .words, law .labels) in
+      let v = table-law (messageLabels (s .table) g) (s .table .ids)
+      (effect-keeps (s .table .ids) (s .table .words) (answeredAt (s .table) g) (isProtected (g .protection)) (labelEffect g) (table-lawful s law .beside)) in
       record {
         released = law .released;
         issued = law .issued;
@@ -169,8 +201,12 @@ module _ (s : State) (law : Lawful s) (kept : s .kept ≡ true) where
         terms = law .terms;
         few = law .few;
         window = record { steps = law .window .steps; reaches = law .window .reaches; within = law .window .within };
-        words = v .0;
-        labels = v .1;
+        words = v .beside .words;
+        labels = v .beside .valid;
+        ids = v .beside .ids;
+        width = v .beside .width;
+        counted = v .counted;
+        once = v .beside .once;
         storable = law .storable;
         idle = not-idle;
       }
@@ -189,6 +225,10 @@ module _ (s : State) (law : Lawful s) (kept : s .kept ≡ true) where
         window = record { steps = n .window .steps; reaches = n .window .reaches; within = n .window .within };
         words = n .words;
         labels = n .labels;
+        ids = n .ids;
+        width = n .width;
+        counted = n .counted;
+        once = n .once;
         storable = n .storable;
         idle = not-idle;
       }

@@ -37,6 +37,13 @@ pub mod MeaningTimeout
 pub mod MeaningSubmit
 pub mod MeaningSend
 pub mod MeaningReceive
+pub mod Requests
+pub mod OpenRequests
+pub mod RequestsSubmitted
+pub mod RequestsReceived
+pub mod MeaningRequests
+pub mod MeaningMarks
+pub mod Asking
 pub mod Numbered
 -- what is settled, case by case; the writers and the peer's Init as two ends need them
 pub mod Leaving

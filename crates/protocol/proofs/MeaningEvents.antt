@@ -9,26 +9,32 @@ use Rattle.label_list.specs.declared.LabelMessage.{LabelMessage}
 use Rattle.label_list.specs.declared.Side.{Side}
 use Rattle.label_events.specs.declared.Acceptance.{Acceptance}
 use Rattle.label_events.specs.Change.{codeAt}
+use Rattle.message.specs.declared.Kind.{Kind}
 use Rattle.label_meaning.specs.Event.{Accepted, afterEvent, withdraw-acked, release-acked}
 use Rattle.label_meaning.specs.Valid.{IsValid}
 use Rattle.label_meaning.proofs.Life.{move-happens}
-use Rattle.message.specs.declared.Kind.{Kind}
 use Rattle.protocol.specs.Accepting.{acceptedAs}
 use Rattle.protocol.specs.Acked.{releasedKind}
 use Rattle.protocol.specs.MeaningLabels.{NeverBare, address, address-withdraw, resources, SentKind, sent-mapping, sent-withdraw, sent-release}
+use Rattle.protocol.specs.State.{Table}
 
--- ---- "Accepted for sending": kinds 1 to 3 are events of the label, kinds 4 to 6 change nothing
-pub accepted-event : (ls : List ℕ) (label : ℕ) {kind : Kind} {message : LabelMessage} → SentKind kind message → acceptedAs ls kind label .1 ≡ afterEvent ls (Accepted message label)
+-- ---- "Accepted for sending": kinds 1 to 3 are events of the label, kinds 4 to 6 and 9 change nothing
+pub accepted-event : (t : Table) (label : ℕ) {kind : Kind} {message : LabelMessage} → SentKind kind message
+    → acceptedAs t kind label .1 ≡ afterEvent (t .words) (Accepted message label)
 unfolding acceptedAs afterEvent
-accepted-event ls label sent-mapping = refl
-accepted-event ls label sent-withdraw = refl
-accepted-event ls label sent-release = refl
+accepted-event t label sent-mapping = refl
+accepted-event t label sent-withdraw = refl
+accepted-event t label sent-release = refl
 
-pub accepted-bare : (ls : List ℕ) (label : ℕ) {kind : Kind} → NeverBare kind → acceptedAs ls kind label ≡ (Acceptance.Taken, ls)
+pub accepted-bare : (t : Table) (label : ℕ) {kind : Kind} → NeverBare kind → acceptedAs t kind label ≡ (Acceptance.Taken, t .words)
 unfolding acceptedAs
-accepted-bare ls label address = refl
-accepted-bare ls label address-withdraw = refl
-accepted-bare ls label resources = refl
+accepted-bare t label address = refl
+accepted-bare t label address-withdraw = refl
+accepted-bare t label resources = refl
+
+pub accepted-stop : (t : Table) (label : ℕ) → acceptedAs t Kind.NoResources label ≡ (Acceptance.Taken, t .words)
+unfolding acceptedAs
+accepted-stop t label = refl
 
 -- ---- "Released by ACK: Withdraw 2 becomes free; Release 5 becomes free; other codes stay."
 module _ (ls : List ℕ) (v : IsValid ls) (label : ℕ) where

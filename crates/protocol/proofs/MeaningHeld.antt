@@ -57,6 +57,9 @@ barred-means q Kind.Release label e = by-release (held-means 3 label q e)
 barred-means q Kind.Address label e = absurd (false≢true e)
 barred-means q Kind.AddressWithdraw label e = absurd (false≢true e)
 barred-means q Kind.ResourcesAvailable label e = absurd (false≢true e)
+barred-means q (Kind.Request id) label e = absurd (false≢true e)
+barred-means q (Kind.Abort id) label e = absurd (false≢true e)
+barred-means q Kind.NoResources label e = absurd (false≢true e)
 barred-means q Kind.NoKind label e = absurd (false≢true e)
 
 -- and back

@@ -21,7 +21,7 @@ use Rattle.protocol.specs.Init.{termsOf, startOf, startAnswer, startStat
 use Rattle.protocol.specs.InitCases.{InitWith, Reconnects, StartCase, unread, another-type, without-parameters, without-ack, without-session, peer-clear, ours-clear, parameters-changed, sequence-error, resumes}
 use Rattle.protocol.specs.MeaningInit.{BothR, BearsTerms, Agreed, BegunFrom, ResumedFrom}
 use Rattle.protocol.specs.Phases.{phaseFits, awaits, proposalOf}
-use Rattle.protocol.specs.State.{State, noNumber, noTable}
+use Rattle.protocol.specs.State.{State, noMarks, noNumber, noTable}
 use Rattle.protocol.specs.Step.{admitted, stepped, whereOpen}
 use Rattle.protocol.proofs.Answered.{init-says}
 use Rattle.protocol.proofs.Effects.{done-is}
@@ -31,7 +31,7 @@ use Rattle.protocol.proofs.Settling.{admitted-does}
 -- ---- the states
 -- "fresh UpFT, kept 1, peer's parameters stored": exactly that, whatever was there
 pub fresh-leaves : (t : Terms) → fresh t
-    ≡ record { released = noNumber; issued = noNumber; secured = noNumber; kept = true; terms = t; table = noTable; queue = [] }
+    ≡ record { released = noNumber; issued = noNumber; secured = noNumber; kept = true; terms = t; marks = noMarks; table = noTable; queue = [] }
 unfolding fresh
 fresh-leaves t = refl
 
@@ -47,6 +47,8 @@ resumed-leaves s t k a = record {
   keepalive = refl;
   maxpdu = refl;
   labels = refl;
+  ids = refl;
+  marks = refl;
   queue = refl;
 }
 

@@ -18,20 +18,20 @@ use Rattle.label_list.specs.Protection.{needsProtection, barsProtection, codePr
 use Rattle.label_list.specs.Rules.{receivedSide}
 use Rattle.label_list.specs.Word.{onSide, within}
 use Rattle.label_list.proofs.Standing.{within-range, within-in}
-use Rattle.label_events.specs.declared.Touched.{Touched}
-use Rattle.label_events.specs.Change.{codeAt}
-use Rattle.label_events.specs.Protect.{protectionOf}
 use Rattle.tlv.specs.declared.Fec.{Fec}
 use Rattle.tlv.specs.declared.Field.{Field}
 use Rattle.tlv.specs.declared.FtField.{FtField}
-use Rattle.label_meaning.specs.Event.{Touches, named, every}
-use Rattle.label_meaning.specs.Protected.{TouchesProtected}
-use Rattle.label_meaning.specs.Valid.{IsValid}
-use Rattle.label_meaning.proofs.Protected.{touched-missing, missing-touches}
+use Rattle.label_events.specs.declared.Touched.{Touched}
+use Rattle.label_events.specs.Change.{codeAt}
+use Rattle.label_events.specs.Protect.{protectionOf}
 use Rattle.message.specs.declared.Kind.{Kind}
 use Rattle.message.specs.declared.Message.{Message}
 use Rattle.message.specs.declared.MessageType.{MessageType}
 use Rattle.message.specs.Kinds.{kindOf}
+use Rattle.label_meaning.specs.Event.{Touches, named, every}
+use Rattle.label_meaning.specs.Protected.{TouchesProtected}
+use Rattle.label_meaning.specs.Valid.{IsValid}
+use Rattle.label_meaning.proofs.Protected.{touched-missing, missing-touches}
 use Rattle.protocol.specs.declared.LabelEffect.{LabelEffect}
 use Rattle.protocol.specs.Labels.{touchedBy, effectOn, labelEffect, isProtected, alwaysProtected, effectProtection, protectionRule}
 use Rattle.protocol.specs.MeaningLabels.{LabelType, is-mapping, is-withdraw, is-release, Touching, names, under-wildcard, NeverBare, address, address-withdraw, resources, Demands, by-kind, by-label, WronglyProtected, Guarded, to-mapping, to-withdraw, to-release}
@@ -82,6 +82,9 @@ bare-kind Kind.Release e = no (cc)
 bare-kind Kind.Address e = address
 bare-kind Kind.AddressWithdraw e = address-withdraw
 bare-kind Kind.ResourcesAvailable e = resources
+bare-kind (Kind.Request id) e = no (cc)
+bare-kind (Kind.Abort id) e = no (cc)
+bare-kind Kind.NoResources e = no (cc)
 bare-kind Kind.NoKind e = no (cc)
 
 kind-bare : {k : Kind} → NeverBare k → alwaysProtected k ≡ true

@@ -58,6 +58,9 @@ module _ (s : State) (g : Message) where
         kept = refl;
         terms = refl;
         labels = refl;
+        ids = refl;
+        stopped = refl;
+        stopping = refl;
         queue = refl;
       })
 
@@ -84,7 +87,7 @@ module _ (s : State) (g : Message) where
     -- and the message alone acts
     pub message-alone : receivedState s g ≡ taken s g
     unfolding receivedState taken acked releasedLabels
-    message-alone = rw (nothing-acked, again)
+    message-alone = rw (nothing-acked, again, law .counted)
 
 -- one without FT ACK acknowledges nothing new
 pub unacked : (s : State) (g : Message) → Lawful s → g .ack ≡ FtField.Absent → ackOn s g ≡ Ack.Releases 0

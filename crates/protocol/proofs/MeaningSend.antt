@@ -55,6 +55,7 @@ module _ (s : State) (u : Progress) (fits : phaseFits (Phase.UpFT u) s ≡ true)
         secured = pick-all (λ (x : State). x .secured ≡ s .secured) b {x = s} {y = numbered s sent} refl refl;
         kept = pick-all (λ (x : State). x .kept ≡ s .kept) b {x = s} {y = numbered s sent} refl refl;
         terms = pick-all (λ (x : State). x .terms ≡ s .terms) b {x = s} {y = numbered s sent} refl refl;
+        marks = pick-all (λ (x : State). x .marks ≡ s .marks) b {x = s} {y = numbered s sent} refl refl;
         table = pick-all (λ (x : State). x .table ≡ s .table) b {x = s} {y = numbered s sent} refl refl;
         queue = pick-all (λ (x : State). x .queue ≡ s .queue) b {x = s} {y = numbered s sent} refl refl;
       }

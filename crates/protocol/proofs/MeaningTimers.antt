@@ -2,7 +2,7 @@
 use Prim.Native.Nat.{ℕ}
 use mathlib.Core.Bool.{Bool, true, false}
 use mathlib.Core.List.{List, map}
-use mathlib.Core.Logic.{_≢_}
+use mathlib.Core.Logic.{_≢_, _⊎_, ⊎-elim}
 use mathlib.Core.Path.{_≡_, refl, sym, ap, _∙_}
 use native.Mathlib.Omega.{arith}
 use lib.Dec.{eqb}
@@ -14,7 +14,7 @@ use Rattle.octets.proofs.Choice.{by-test}
 use Rattle.label_list.specs.declared.SweepRule.the-variants.{AfterBreak}
 use Rattle.label_list.specs.Rules.{codeSwept}
 use Rattle.label_list.specs.Sweep.{wordSwept, sweptOf}
-use Rattle.label_list.specs.Word.{codeOf, wordOf}
+use Rattle.label_list.specs.Word.{codeOf, wordOf, requestWord}
 use Rattle.label_meaning.specs.Valid.{WordInRange, IsValid}
 use Rattle.label_meaning.proofs.Meaning.{valid-means, range-listed}
 use Rattle.protocol.specs.declared.Answer.{Answer}
@@ -24,14 +24,14 @@ use Rattle.protocol.specs.ConnectionFailed.{connectionFailed}
 use Rattle.protocol.specs.Lawful.{Lawful}
 use Rattle.protocol.specs.MeaningTimers.{freed, FailedFrom, TimePassed}
 use Rattle.protocol.specs.Phases.{phaseFits, connected}
-use Rattle.protocol.specs.State.{State, withTable}
+use Rattle.protocol.specs.State.{State, withWords}
 use Rattle.protocol.specs.Step.{unchanged, failedWith, releasedWith, whereOpen}
 use Rattle.protocol.specs.TimePassed.{expired, timePassed}
 use Rattle.protocol.proofs.Settling.{admitted-does}
 
 -- ---- the words
--- a word that is free or in range is freed exactly if its code is 6
-word-freed : (w : ℕ) → (w ≢ 0 → WordInRange w) → wordSwept AfterBreak w ≡ freed w
+-- a word that is free, a Request's or in range is freed exactly if its code is 6
+word-freed : (w : ℕ) → (w ≢ 0 → (w ≡ requestWord) ⊎ WordInRange w) → wordSwept AfterBreak w ≡ freed w
 unfolding wordSwept wordOf codeSwept
 word-freed w range =
     by-test (eqb (codeOf w) 6)
@@ -39,7 +39,10 @@ word-freed w range =
     (λ other. rw other (by-test (eqb (codeOf w) 0) (λ z. rw z (free (eqb-true (codeOf w) 0 z))) (λ z. rw z (omega arith))))
   where
     free : codeOf w ≡ 0 → 0 ≡ w
-    free z = by-test (eqb w 0) (λ e. sym (eqb-true w 0 e)) (λ e. absurd (range-listed (range (eqb-false w 0 e)) z))
+    free z =
+        by-test (eqb w 0)
+        (λ e. sym (eqb-true w 0 e))
+        (λ e. absurd (⊎-elim (λ (r : w ≡ requestWord). omega arith) (λ (r : WordInRange w). range-listed r z) (range (eqb-false w 0 e))))
 
 pub words-freed : (ls : List ℕ) → IsValid ls → sweptOf ls AfterBreak ≡ map freed ls
 unfolding wordSwept wordOf codeSwept
@@ -52,7 +55,7 @@ module _ (s : State) (law : Lawful s) where
   failed-from : FailedFrom s (failedWith Answer.Done s)
   failed-from = record {
     answer = refl;
-    state = ap (λ (ws : List ℕ). withTable s (record { words = ws })) (words-freed (s .table .words) (valid-means (s .table .words) (law .labels)));
+    state = ap (withWords s) (words-freed (s .table .words) (valid-means (s .table .words) (law .labels)));
     failed = λ k. rw k;
     idle = λ k. rw k;
     output = refl;

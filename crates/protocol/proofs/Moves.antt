@@ -64,8 +64,8 @@ module _ (s : State) (ph : Phase) where
   pub submit-moves : (m : List ℕ) → Moves s (submit s ph m .state) 0 [] ⊎ Moves s (submit s ph m .state) 0 (m ∷ [])
   unfolding submit submitted
   submit-moves m =
-      harmless-leaves (λ (t : State). Moves s t 0 [] ⊎ Moves s t 0 (m ∷ [])) (admitted s ph (submitRule s m)) s ph (stepped Answer.Done (submitted s m) ph [])
-      (admitted-harmless s ph (submitRule s m) (submit-harmless s m)) (inl (stays s))
+      harmless-leaves (λ (t : State). Moves s t 0 [] ⊎ Moves s t 0 (m ∷ [])) (admitted s ph (submitRule s ph m)) s ph (stepped Answer.Done (submitted s m) ph [])
+      (admitted-harmless s ph (submitRule s ph m) (submit-harmless s ph m)) (inl (stays s))
       (λ t. inr (record { kept = refl; keepalive = refl; maxpdu = refl; queue = refl }))
 
   pub send-moves : (ask : Bool) (room : ℕ) → Still (sendNext s ph ask room .state)

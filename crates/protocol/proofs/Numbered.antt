@@ -15,29 +15,32 @@ use Rattle.label_events.specs.declared.Reception.{Reception}
 use Rattle.label_events.specs.Accept.{acceptanceNumber}
 use Rattle.label_events.specs.Protect.{protectionNumber}
 use Rattle.label_events.specs.Receive.{receptionNumber}
+use Rattle.message.specs.declared.Kind.{Kind}
 use Rattle.message.specs.declared.Message.{Message}
 use Rattle.message.specs.declared.Submission.{Submission}
 use Rattle.message.specs.Submission.{submissionNumber}
 use Rattle.message_writer.specs.declared.Written.{Written}
 use Rattle.message_writer.specs.Written.{writtenNumber, writtenOf}
 use Rattle.protocol.specs.declared.Answer.{Answer}
+use Rattle.protocol.specs.declared.Phase.{Phase}
 use Rattle.protocol.specs.declared.Terms.{Terms}
 use Rattle.protocol.specs.Answers.{answerNumber}
 use Rattle.protocol.specs.Init.{resumedBy, startAnswer}
 use Rattle.protocol.specs.Receive.{ackRule, receptionRule, protectedRule}
-use Rattle.protocol.specs.State.{State}
+use Rattle.protocol.specs.State.{State, Table}
 use Rattle.protocol.specs.Step.{roomFor}
 use Rattle.protocol.specs.Submit.{acceptanceRule, submissionRule}
+use Rattle.protocol.specs.SubmitCases.{MayAsk}
 
--- 6 and 13; what is taken goes on to the test of the room
-pub acceptance-numbered : (s : State) → (answerNumber (acceptanceRule s Acceptance.NotAllowed) ≡ acceptanceNumber Acceptance.NotAllowed)
-    × (answerNumber (acceptanceRule s Acceptance.NoRoom) ≡ acceptanceNumber Acceptance.NoRoom)
-acceptance-numbered s = (refl, refl)
+-- 6, and 13 where 14 and 15 are passed; what is taken goes on to the test of the room
+pub acceptance-numbered : (s : State) (ph : Phase) (kind : Kind) → (answerNumber (acceptanceRule s ph kind Acceptance.NotAllowed) ≡ acceptanceNumber Acceptance.NotAllowed)
+    × (MayAsk s ph kind → answerNumber (acceptanceRule s ph kind Acceptance.NoRoom) ≡ acceptanceNumber Acceptance.NoRoom)
+acceptance-numbered s ph kind = (refl, λ may. rw (may .going, may .up))
 
 -- 4 and 5; what is accepted goes on to its kind and label
-pub submission-numbered : (s : State) → (answerNumber (submissionRule s Submission.Malformed) ≡ submissionNumber Submission.Malformed)
-    × (answerNumber (submissionRule s Submission.Refused) ≡ submissionNumber Submission.Refused)
-submission-numbered s = (refl, refl)
+pub submission-numbered : (s : State) (ph : Phase) → (answerNumber (submissionRule s ph Submission.Malformed) ≡ submissionNumber Submission.Malformed)
+    × (answerNumber (submissionRule s ph Submission.Refused) ≡ submissionNumber Submission.Refused)
+submission-numbered s ph = (refl, refl)
 
 -- 34, of an Init and of any other message; what is right goes on
 pub ack-numbered : (t : Terms) (a : ℕ) (x : Ack) → answerNumber (startAnswer (resumedBy t a x)) ≡ ackNumber x
@@ -62,6 +65,6 @@ reception-numbered Reception.Taken = refl
 reception-numbered Reception.NoRoom = refl
 
 -- 32 and 33; what is right goes on to the number's turn
-pub protection-numbered : (ls : List ℕ) (s : ℕ) (g : Message) → (answerNumber (protectedRule ls s g Protection.Wrong) ≡ protectionNumber Protection.Wrong)
-    × (answerNumber (protectedRule ls s g Protection.Missing) ≡ protectionNumber Protection.Missing)
-protection-numbered ls s g = (refl, refl)
+pub protection-numbered : (t : Table) (s : ℕ) (g : Message) → (answerNumber (protectedRule t s g Protection.Wrong) ≡ protectionNumber Protection.Wrong)
+    × (answerNumber (protectedRule t s g Protection.Missing) ≡ protectionNumber Protection.Missing)
+protection-numbered t s g = (refl, refl)

@@ -50,8 +50,8 @@ use Rattle.protocol.proofs.Submits.{Accepted, done-accepted}
 module _ (s : State) (ph : Phase) (m : List ℕ) (d : submit s ph m .answer ≡ Answer.Done) where
   pub submit-accepted : Accepted s m
   submit-accepted =
-      let e : admitted s ph (submitRule s m) ≡ Answer.Done = sym (submit-says s ph m) ∙ d in
-      done-accepted s m (done-is (submitRule s m) (admitted-done s ph (submitRule s m) (rw e)))
+      let e : admitted s ph (submitRule s ph m) ≡ Answer.Done = sym (submit-says s ph m) ∙ d in
+      done-accepted s ph m (done-is (submitRule s ph m) (admitted-done s ph (submitRule s ph m) (rw e)))
 
   pub submit-state : submit s ph m .state ≡ submitted s m
   submit-state = rw (submit-does s ph m d)

@@ -5,13 +5,13 @@ use lib.Dec.{eqb}
 use lib.ListN.{take, drop}
 use Rattle.octets.specs.Pick.{pick}
 use Rattle.label_list.specs.declared.LabelMessage.{LabelMessage}
-use Rattle.label_events.specs.Ack.{ackedOf}
 use Rattle.tlv.specs.declared.FtField.{FtField}
+use Rattle.label_events.specs.Ack.{ackedOf}
 use Rattle.message.specs.declared.Kind.{Kind}
 use Rattle.message.specs.Kinds.{kindNumber}
 use Rattle.message.specs.Storable.{kindIn, labelIn}
 use Rattle.message.specs.Submission.{submissionOf}
-use Rattle.protocol.specs.State.{State, withQueue, withReleased, withTable}
+use Rattle.protocol.specs.State.{State, withQueue, withReleased, withWords}
 
 -- the label words after a held message of that kind and label was released:
 -- "Released by ACK: Withdraw 2 becomes free; Release 5 becomes free; other codes stay."
@@ -28,7 +28,7 @@ releasedLabels (m ∷ ms) ls = releasedLabels ms (releasedKind (kindIn (submissi
 -- the state with the oldest k messages released by the acknowledgement of a
 unfoldable pub acked : State → ℕ → ℕ → State
 acked s k a =
-    withQueue (withTable (withReleased s (record { 0 = a })) (record { words = releasedLabels (take k (s .queue)) (s .table .words) })) (drop k (s .queue))
+    withQueue (withWords (withReleased s (record { 0 = a })) (releasedLabels (take k (s .queue)) (s .table .words))) (drop k (s .queue))
 
 -- the number that a message acknowledges: one that bears no FT ACK says nothing new, as the number acknowledged before does
 abbrev pub ackBorne : State → FtField → ℕ

@@ -22,6 +22,8 @@ answerNumber (Answer.BadBlock b) = 10
 answerNumber (Answer.BadField b) = 11
 answerNumber Answer.WrongSize = 12
 answerNumber Answer.NoLabelWord = 13
+answerNumber Answer.RequestsStopped = 14
+answerNumber Answer.RequestOutsideUpFt = 15
 answerNumber Answer.OutOfTurn = 20
 answerNumber Answer.NoWordForMapping = 21
 answerNumber Answer.MalformedReceived = 22
@@ -50,6 +52,8 @@ answerBlock (Answer.BadBlock b) = b
 answerBlock (Answer.BadField b) = b
 answerBlock Answer.WrongSize = 0
 answerBlock Answer.NoLabelWord = 0
+answerBlock Answer.RequestsStopped = 0
+answerBlock Answer.RequestOutsideUpFt = 0
 answerBlock Answer.OutOfTurn = 0
 answerBlock Answer.NoWordForMapping = 0
 answerBlock Answer.MalformedReceived = 0
@@ -62,7 +66,7 @@ answerBlock Answer.AckSequenceError = 0
 answerBlock Answer.ParametersChanged = 0
 answerBlock Answer.StatusFatal = 0
 
--- "Afterwards": 1 to 13 nothing; 20 to 23 as connection failed, ACK unapplied; 30 to 36 released, Idle
+-- "Afterwards": 1 to 13 nothing, and so 02's 14 and 15; 20 to 23 as connection failed, ACK unapplied; 30 to 36 released, Idle
 abbrev pub effectBy : ℕ → Effect
 effectBy n = pick (eqb n 0) Effect.Act (pick (ltb n 20) Effect.Nothing (pick (ltb n 30) Effect.Fail Effect.Release))
 

@@ -15,10 +15,10 @@ use Rattle.protocol.specs.declared.Answer.{Answer}
 use Rattle.protocol.specs.declared.Phase.{Phase}
 use Rattle.protocol.specs.declared.Progress.{Progress}
 use Rattle.protocol.specs.Acked.{releasedLabels}
-use Rattle.protocol.specs.Labels.{labelEffect, isProtected, protectionRule, effectReception}
+use Rattle.protocol.specs.Labels.{answeredAt, labelEffect, isProtected, protectionRule, effectReception}
 use Rattle.protocol.specs.Receive.{ackOn, isFatal, isZero, inTurn}
 use Rattle.protocol.specs.Received.{isInit}
-use Rattle.protocol.specs.State.{State}
+use Rattle.protocol.specs.State.{State, Table, tableOf}
 
 -- the phases in which messages are received
 abbrev pub mayReceive : Phase → Bool
@@ -31,6 +31,10 @@ mayReceive Phase.Failed = false
 -- the label words as an ACK leaves them that releases the oldest k held
 abbrev pub wordsAfter : State → ℕ → List ℕ
 wordsAfter s k = releasedLabels (take k (s .queue)) (s .table .words)
+
+-- with the IDs beside them
+abbrev pub tableAfter : State → ℕ → Table
+tableAfter s k = tableOf (wordsAfter s k) (s .table .ids)
 
 -- 22 and 36 are passed
 pub record Heard (g : Message) : Type 0 where
@@ -56,7 +60,7 @@ pub record TurnRight (s : State) (g : Message) (k : ℕ) : Type 0 where
 -- 21 is passed too: the message is taken
 pub record Takes (s : State) (g : Message) (k : ℕ) : Type 0 where
   pub turn : TurnRight s g k
-  pub room : effectReception (wordsAfter s k) (isProtected (g .protection)) (labelEffect g) ≡ Reception.Taken
+  pub room : effectReception (wordsAfter s k) (answeredAt (tableAfter s k) g) (isProtected (g .protection)) (labelEffect g) ≡ Reception.Taken
 
 pub data Case (s : State) : Phase → Reading → Answer → Type 0 where
   -- "1: wrong phase"
@@ -85,6 +89,6 @@ pub data Case (s : State) : Phase → Reading → Answer → Type 0 where
       → Case s (Phase.UpFT u) (Reading.Whole g) Answer.OutOfTurn
   -- "21: Mapping received that needs a word, none free"
   no-word : {u : Progress} {k : ℕ} {g : Message} → TurnRight s g k
-      → effectReception (wordsAfter s k) (isProtected (g .protection)) (labelEffect g) ≡ Reception.NoRoom
+      → effectReception (wordsAfter s k) (answeredAt (tableAfter s k) g) (isProtected (g .protection)) (labelEffect g) ≡ Reception.NoRoom
       → Case s (Phase.UpFT u) (Reading.Whole g) Answer.NoWordForMapping
   taken : {u : Progress} {k : ℕ} {g : Message} → Takes s g k → Case s (Phase.UpFT u) (Reading.Whole g) Answer.Done

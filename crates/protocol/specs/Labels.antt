@@ -6,18 +6,22 @@ use Rattle.octets.specs.Pick.{pick, both}
 use Rattle.label_list.specs.declared.Found.{Found}
 use Rattle.label_list.specs.declared.LabelMessage.{LabelMessage}
 use Rattle.label_list.specs.declared.Protection.{Protection}
+use Rattle.label_list.specs.Requests.{openAt}
+use Rattle.tlv.specs.declared.Fec.{Fec}
+use Rattle.tlv.specs.declared.Field.{Field}
+use Rattle.tlv.specs.declared.FtField.{FtField}
+use Rattle.tlv.specs.declared.IdField.{IdField}
 use Rattle.label_events.specs.declared.Reception.{Reception}
 use Rattle.label_events.specs.declared.Touched.{Touched}
 use Rattle.label_events.specs.Protect.{protectionOf}
 use Rattle.label_events.specs.Receive.{receivedPlace, receivedOf}
-use Rattle.tlv.specs.declared.Fec.{Fec}
-use Rattle.tlv.specs.declared.Field.{Field}
-use Rattle.tlv.specs.declared.FtField.{FtField}
+use Rattle.label_events.specs.Requests.{endedAt}
 use Rattle.message.specs.declared.Kind.{Kind}
 use Rattle.message.specs.declared.Message.{Message}
 use Rattle.message.specs.declared.MessageType.{MessageType}
 use Rattle.message.specs.Kinds.{kindOf}
 use Rattle.protocol.specs.declared.LabelEffect.{LabelEffect}
+use Rattle.protocol.specs.State.{Table}
 
 -- 01: "With no Label TLV, Withdraw or Release of the wildcard FEC (one element of type 1) acts on every label; of another FEC it is accepted and changes no label here."
 abbrev pub touchedBy : Field → Fec → Touched
@@ -43,6 +47,32 @@ effectOn MessageType.Other t = LabelEffect.Nothing
 unfoldable pub labelEffect : Message → LabelEffect
 labelEffect g = effectOn (g .typename) (touchedBy (g .label) (g .fec))
 
+-- 02: "It ends when .. a Notification (Status) or Mapping (TLV 0x0600, length 4) naming its ID is received": the ID that a message answers
+abbrev pub answeredBy : MessageType → IdField → IdField → IdField
+answeredBy MessageType.Notification status request = status
+answeredBy MessageType.Initialization status request = IdField.Absent
+answeredBy MessageType.KeepAlive status request = IdField.Absent
+answeredBy MessageType.Address status request = IdField.Absent
+answeredBy MessageType.AddressWithdraw status request = IdField.Absent
+answeredBy MessageType.Mapping status request = request
+answeredBy MessageType.Request status request = IdField.Absent
+answeredBy MessageType.Withdraw status request = IdField.Absent
+answeredBy MessageType.Release status request = IdField.Absent
+answeredBy MessageType.Abort status request = IdField.Absent
+answeredBy MessageType.Other status request = IdField.Absent
+
+unfoldable pub answers : Message → IdField
+answers g = answeredBy (g .typename) (g .statusid) (g .requestid)
+
+-- where the open Request of that ID stands
+abbrev pub requestAt : Table → IdField → Found
+requestAt t IdField.Absent = Found.Nowhere
+requestAt t (IdField.Id id) = openAt id (t .words) (t .ids)
+
+-- where the open Request stands that the message answers, and so ends
+unfoldable pub answeredAt : Table → Message → Found
+answeredAt t g = requestAt t (answers g)
+
 -- where the label stands that the message names
 abbrev pub effectPlace : List ℕ → LabelEffect → Found
 effectPlace ls LabelEffect.Nothing = Found.Nowhere
@@ -61,6 +91,9 @@ alwaysProtected Kind.Release = false
 alwaysProtected Kind.Address = true
 alwaysProtected Kind.AddressWithdraw = true
 alwaysProtected Kind.ResourcesAvailable = true
+alwaysProtected (Kind.Request id) = false
+alwaysProtected (Kind.Abort id) = false
+alwaysProtected Kind.NoResources = false
 alwaysProtected Kind.NoKind = false
 
 -- ".. and on a message touching codes 1 to 5 on its own side .. It is wrong (32) on a Mapping or Withdraw that names a label of code 6."
@@ -73,12 +106,12 @@ protectionRule ls g =
     pick (both (not (isProtected (g .protection))) (alwaysProtected (kindOf g))) Protection.Missing
     (effectProtection ls (isProtected (g .protection)) (labelEffect g))
 
--- "21: Mapping received that needs a word, none free"
-abbrev pub effectReception : List ℕ → Bool → LabelEffect → Reception
-effectReception ls protected LabelEffect.Nothing = Reception.Taken
-effectReception ls protected (LabelEffect.Change m t) = receivedOf ls m protected t .0
+-- "21: Mapping received that needs a word, none free"; one that ends the Request at `request` has that one's word
+abbrev pub effectReception : List ℕ → Found → Bool → LabelEffect → Reception
+effectReception ls request protected LabelEffect.Nothing = Reception.Taken
+effectReception ls request protected (LabelEffect.Change m t) = receivedOf ls request m protected t .0
 
 -- what the label words become
-abbrev pub effectLabels : List ℕ → Bool → LabelEffect → List ℕ
-effectLabels ls protected LabelEffect.Nothing = ls
-effectLabels ls protected (LabelEffect.Change m t) = receivedOf ls m protected t .1
+abbrev pub effectLabels : List ℕ → Found → Bool → LabelEffect → List ℕ
+effectLabels ls request protected LabelEffect.Nothing = endedAt request ls
+effectLabels ls request protected (LabelEffect.Change m t) = receivedOf ls request m protected t .1

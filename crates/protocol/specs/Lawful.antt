@@ -7,6 +7,7 @@ use mathlib.Core.Path.{_≡_}
 use lib.ListN.{length, getD}
 use Rattle.ft_number.specs.declared.Steps.the-variants.{Count}
 use Rattle.ft_number.specs.Circle.{stepsOf}
+use Rattle.label_list.specs.Requests.{onceOf, openIds}
 use Rattle.label_list.specs.Valid.{validOf}
 use Rattle.label_list.specs.Word.{wordCount}
 use Rattle.message.specs.Storable.{Storable}
@@ -36,6 +37,11 @@ pub record Lawful (s : State) : Type 0 where
   -- "A label stands once among codes 1-2 and once among 3-6"
   pub words : length (s .table .words) ≡ wordCount
   pub labels : validOf (s .table .words) ≡ true
+  -- 02: "an ID counts only under code 7, where it stands once": each has its width, those that count are all there are, and none stands twice
+  pub ids : length (s .table .ids) ≡ wordCount
+  pub width : (i : ℕ) → getD (s .table .ids) i 0 < 4294967296
+  pub counted : openIds (s .table .words) (s .table .ids) ≡ s .table .ids
+  pub once : onceOf (s .table .words) (s .table .ids) ≡ true
   -- what is held passes Submit's 3, 4 and 5
   pub storable : (i : ℕ) → i < held s → Storable (getD (s .queue) i [])
   -- "With kept 0, bytes 4 to 507 are zero."

@@ -42,3 +42,4 @@ pub mod MeaningTimeout
 pub mod MeaningSubmit
 pub mod MeaningSend
 pub mod MeaningReceive
+pub mod MeaningRequests

@@ -5,6 +5,7 @@ use mathlib.Core.List.{[]}
 use mathlib.Core.Path.{_≡_}
 use lib.ListN.{take, drop}
 use Rattle.ft_number.specs.Timeout.{lesserOf}
+use Rattle.label_list.specs.Requests.{openIds}
 use Rattle.tlv.specs.declared.Parameters.{Parameters}
 use Rattle.tlv.specs.declared.Session.{Session}
 use Rattle.message.specs.declared.Message.{Message}
@@ -62,4 +63,7 @@ pub record ResumedFrom (s : State) (terms : Terms) (k a : ℕ) (t : State) : Typ
   pub keepalive : t .terms .keepalive ≡ s .terms .keepalive
   pub maxpdu : t .terms .maxpdu ≡ s .terms .maxpdu
   pub labels : t .table .words ≡ releasedLabels (take k (s .queue)) (s .table .words)
+  pub ids : t .table .ids ≡ openIds (t .table .words) (s .table .ids)
+  -- "both ends remember this over a break"
+  pub marks : t .marks ≡ s .marks
   pub queue : t .queue ≡ drop k (s .queue)

@@ -6,10 +6,10 @@ use Rattle.ft_number.specs.declared.FtNumber.{FtNumber}
 use Rattle.label_list.specs.declared.LabelMessage.{LabelMessage}
 use Rattle.label_list.specs.declared.Side.{Side}
 use Rattle.label_list.specs.Rules.{receivedSide}
-use Rattle.label_events.specs.Change.{codeAt}
 use Rattle.tlv.specs.declared.Fec.{Fec}
 use Rattle.tlv.specs.declared.Field.{Field}
 use Rattle.tlv.specs.declared.FtField.{FtField}
+use Rattle.label_events.specs.Change.{codeAt}
 use Rattle.message.specs.declared.Kind.{Kind}
 use Rattle.message.specs.declared.Message.{Message}
 use Rattle.message.specs.declared.MessageType.{MessageType}

@@ -5,12 +5,15 @@ use mathlib.Core.Path.{_≡_}
 use lib.ListN.{drop}
 use Rattle.ft_number.specs.declared.FtNumber.{FtNumber}
 use Rattle.ft_number.specs.Circle.{next}
+use Rattle.label_list.specs.Requests.{openIds}
 use Rattle.tlv.specs.declared.FtField.{FtField}
 use Rattle.message.specs.declared.Message.{Message}
+use Rattle.message.specs.Kinds.{kindOf}
 use Rattle.protocol.specs.declared.Answer.{Answer}
+use Rattle.protocol.specs.Accepting.{stopAfter}
 use Rattle.protocol.specs.Acked.{ackBorne}
-use Rattle.protocol.specs.Cases.{wordsAfter}
-use Rattle.protocol.specs.Labels.{labelEffect, isProtected, effectLabels}
+use Rattle.protocol.specs.Cases.{wordsAfter, tableAfter}
+use Rattle.protocol.specs.Labels.{labelEffect, isProtected, effectLabels, answeredAt}
 use Rattle.protocol.specs.Phases.{upWith}
 use Rattle.protocol.specs.Receive.{securedBy, receivedState}
 use Rattle.protocol.specs.State.{State, held}
@@ -31,7 +34,12 @@ pub record AckThenMessage (s : State) (g : Message) (k : ℕ) (t : State) : Type
   pub fewer : held t ≡ held s - k
   pub kept : t .kept ≡ s .kept
   pub terms : t .terms ≡ s .terms
-  pub labels : t .table .words ≡ effectLabels (wordsAfter s k) (isProtected (g .protection)) (labelEffect g)
+  pub labels : t .table .words ≡ effectLabels (wordsAfter s k) (answeredAt (tableAfter s k) g) (isProtected (g .protection)) (labelEffect g)
+  -- the IDs of the Requests that are open still
+  pub ids : t .table .ids ≡ openIds (t .table .words) (tableAfter s k .ids)
+  -- kind 9 stops our Requests, kind 6 lets them go on; what we told the peer stays
+  pub stopped : t .marks .stopped ≡ stopAfter (s .marks .stopped) (kindOf g)
+  pub stopping : t .marks .stopping ≡ s .marks .stopping
   pub queue : t .queue ≡ drop k (s .queue)
 
 -- "a protected one must bear the successor of S, and S moves to it"; every other message leaves S

@@ -33,5 +33,6 @@ pub record NumberedFrom (s : State) (sent : ℕ) : Type 0 where
   pub secured : sentState s sent .secured ≡ s .secured
   pub kept : sentState s sent .kept ≡ s .kept
   pub terms : sentState s sent .terms ≡ s .terms
+  pub marks : sentState s sent .marks ≡ s .marks
   pub table : sentState s sent .table ≡ s .table
   pub queue : sentState s sent .queue ≡ s .queue

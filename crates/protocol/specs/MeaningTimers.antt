@@ -8,7 +8,7 @@ use Rattle.octets.specs.Pick.{pick}
 use Rattle.label_list.specs.Word.{codeOf}
 use Rattle.protocol.specs.declared.Answer.{Answer}
 use Rattle.protocol.specs.declared.Phase.{Phase}
-use Rattle.protocol.specs.State.{State, withTable}
+use Rattle.protocol.specs.State.{State, withWords}
 use Rattle.protocol.specs.Step.{Step, unchanged, releasedWith}
 use Rattle.protocol.specs.TimePassed.{timePassed}
 
@@ -19,7 +19,7 @@ freed w = pick (eqb (codeOf w) 6) 0 w
 -- "Connection failed ..: code 6 words are freed; Failed if kept, else Idle"; Restore "frees code 6 words, as after a break, and answers Failed if kept, else Idle"
 pub record FailedFrom (s : State) (x : Step) : Type 0 where
   pub answer : x .answer ≡ Answer.Done
-  pub state : x .state ≡ withTable s (record { words = map freed (s .table .words) })
+  pub state : x .state ≡ withWords s (map freed (s .table .words))
   pub failed : s .kept ≡ true → x .phase ≡ Phase.Failed
   pub idle : s .kept ≡ false → x .phase ≡ Phase.Idle
   pub output : x .output ≡ []

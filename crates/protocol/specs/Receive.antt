@@ -10,21 +10,23 @@ use Rattle.ft_number.specs.declared.FtNumber.{FtNumber}
 use Rattle.ft_number.specs.Ack.{ackOf}
 use Rattle.ft_number.specs.Circle.{next}
 use Rattle.label_list.specs.declared.Protection.{Protection}
-use Rattle.label_events.specs.declared.Reception.{Reception}
 use Rattle.tlv.specs.declared.Field.{Field}
 use Rattle.tlv.specs.declared.FtField.{FtField}
+use Rattle.label_events.specs.declared.Reception.{Reception}
+use Rattle.message.specs.declared.Kind.{Kind}
 use Rattle.message.specs.declared.Message.{Message}
 use Rattle.message.specs.declared.Reading.{Reading}
-use Rattle.message.specs.Kinds.{fatalOf}
+use Rattle.message.specs.Kinds.{fatalOf, kindOf}
 use Rattle.message.specs.Reading.{readingOf}
 use Rattle.message.specs.Submission.{bearsFt}
 use Rattle.protocol.specs.declared.Answer.{Answer}
 use Rattle.protocol.specs.declared.Phase.{Phase}
+use Rattle.protocol.specs.Accepting.{stopAfter}
 use Rattle.protocol.specs.Acked.{ackBorne, acked}
-use Rattle.protocol.specs.Labels.{effectLabels, effectReception, isProtected, labelEffect, protectionRule}
+use Rattle.protocol.specs.Labels.{effectLabels, effectReception, answeredAt, isProtected, labelEffect, protectionRule}
 use Rattle.protocol.specs.Phases.{upWith, sentOf, isUpFT}
 use Rattle.protocol.specs.Received.{isInit}
-use Rattle.protocol.specs.State.{State, withSecured, withTable}
+use Rattle.protocol.specs.State.{Marks, State, Table, withMarks, withSecured, withWords}
 use Rattle.protocol.specs.Step.{Step, admitted, settle, stepped, unchanged}
 
 -- "36: Status with E set"
@@ -54,15 +56,16 @@ abbrev pub receptionRule : Reception → Answer
 receptionRule Reception.Taken = Answer.Done
 receptionRule Reception.NoRoom = Answer.NoWordForMapping
 
--- "33 and later judge labels as the ACK leaves them": ls are those, s is S
-abbrev pub protectedRule : List ℕ → ℕ → Message → Protection → Answer
-protectedRule ls s g Protection.Missing = Answer.ProtectionMissing
-protectedRule ls s g Protection.Wrong = Answer.ProtectionWrong
-protectedRule ls s g Protection.Right =
-    pick (not (inTurn s (g .protection))) Answer.OutOfTurn (receptionRule (effectReception ls (isProtected (g .protection)) (labelEffect g)))
+-- "33 and later judge labels as the ACK leaves them": t has those, s is S
+abbrev pub protectedRule : Table → ℕ → Message → Protection → Answer
+protectedRule t s g Protection.Missing = Answer.ProtectionMissing
+protectedRule t s g Protection.Wrong = Answer.ProtectionWrong
+protectedRule t s g Protection.Right =
+    pick (not (inTurn s (g .protection))) Answer.OutOfTurn
+    (receptionRule (effectReception (t .words) (answeredAt t g) (isProtected (g .protection)) (labelEffect g)))
 
-unfoldable pub labelsRule : List ℕ → ℕ → Message → Answer
-labelsRule ls s g = protectedRule ls s g (protectionRule ls g)
+unfoldable pub labelsRule : Table → ℕ → Message → Answer
+labelsRule t s g = protectedRule t s g (protectionRule (t .words) g)
 
 abbrev pub readRule : Reading → (Message → Answer) → Answer
 readRule Reading.Malformed rule = Answer.MalformedReceived
@@ -80,7 +83,7 @@ ackCount Ack.SequenceError = 0
 
 -- "34: ACK sequence error"; "33 and later judge labels as the ACK leaves them"
 abbrev pub ackRule : State → Message → Ack → Answer
-ackRule s g (Ack.Releases k) = labelsRule (acked s k (ackBorne s (g .ack)) .table .words) (s .secured .0) g
+ackRule s g (Ack.Releases k) = labelsRule (acked s k (ackBorne s (g .ack)) .table) (s .secured .0) g
 ackRule s g Ack.SequenceError = Answer.AckSequenceError
 
 -- the ACK that the message bears, against R and I
@@ -102,14 +105,18 @@ abbrev pub afterAck : State → Message → State
 afterAck s g = acked s (ackCount (ackOn s g)) (ackBorne s (g .ack))
 
 -- the label words that a message leaves
-abbrev pub messageLabels : List ℕ → Message → List ℕ
-messageLabels ls g = effectLabels ls (isProtected (g .protection)) (labelEffect g)
+abbrev pub messageLabels : Table → Message → List ℕ
+messageLabels t g = effectLabels (t .words) (answeredAt t g) (isProtected (g .protection)) (labelEffect g)
+
+-- 02: "2 if told so": by kind 9, until kind 6
+abbrev pub heardMarks : Marks → Kind → Marks
+heardMarks m kind = record { stopped = stopAfter (m .stopped) kind; stopping = m .stopping }
 
 -- then the message: S moves to the number of a protected one
 unfoldable pub taken : State → Message → State
 taken s g =
-    withTable (withSecured s (securedBy (s .secured) (g .protection)))
-    (record { words = messageLabels (s .table .words) g })
+    withMarks (withWords (withSecured s (securedBy (s .secured) (g .protection))) (messageLabels (s .table) g))
+    (heardMarks (s .marks) (kindOf g))
 
 unfoldable pub receivedState : State → Message → State
 receivedState s g = taken (afterAck s g) g

@@ -5,12 +5,27 @@ use mathlib.Core.Bool.{Bool, true, false}
 use mathlib.Core.List.{List, []}
 use lib.ListN.{length, replicate}
 use Rattle.ft_number.specs.declared.FtNumber.{FtNumber}
+use Rattle.label_list.specs.Requests.{openIds}
 use Rattle.label_list.specs.Word.{wordCount}
 use Rattle.protocol.specs.declared.Terms.{Terms}
 
--- "The labels are lent to the rules as 120 numbers of 32 bits": the label words
+-- "The labels are lent to the rules as 120 numbers of 32 bits": the label words; 02: "its message ID at the same place of a further lent list of 120 numbers"
 pub record Table : Type 0 where
   pub words : List ℕ
+  pub ids : List ℕ
+
+-- 02: "an ID counts only under code 7": 0 stands in every other place
+abbrev pub tableOf : List ℕ → List ℕ → Table
+tableOf words ids = record { words = words; ids = openIds words ids }
+
+-- 02: "That stops new Requests until a numbered 'Label Resources Available' comes; both ends remember this over a break":
+-- the peer has told us so, and we have told the peer so
+pub record Marks : Type 0 where
+  pub stopped : Bool
+  pub stopping : Bool
+
+abbrev pub noMarks : Marks
+noMarks = record { stopped = false; stopping = false }
 
 pub record State : Type 0 where
   -- "Released R, issued I, secured S": the last number that the peer acknowledged, the last that we gave, the last that we took of the peer's
@@ -21,6 +36,7 @@ pub record State : Type 0 where
   pub kept : Bool
   -- the agreed timeout, and the peer's two parameters
   pub terms : Terms
+  pub marks : Marks
   pub table : Table
   -- the messages held, as submitted, the oldest first: "The oldest held bears the number after R; those past I are pended and have none yet."
   pub queue : List (List ℕ)
@@ -38,9 +54,9 @@ noNumber = record { 0 = 0 }
 
 -- "0 is free"
 abbrev pub noTable : Table
-noTable = record { words = replicate wordCount 0 }
+noTable = record { words = replicate wordCount 0; ids = replicate wordCount 0 }
 
--- "Released means block 0 with kept 0": "With kept 0, bytes 4 to 507 are zero."
+-- "Released means block 0 with kept 0": "With kept 0, bytes 4 to 507 are zero."; 02: "forget it when state is released"
 abbrev pub releasedState : State
 releasedState = record {
   released = noNumber;
@@ -48,6 +64,7 @@ releasedState = record {
   secured = noNumber;
   kept = false;
   terms = record { timeout = 0; keepalive = 0; maxpdu = 0 };
+  marks = noMarks;
   table = noTable;
   queue = [];
 }
@@ -60,6 +77,7 @@ withReleased s n = record {
   secured = s .secured;
   kept = s .kept;
   terms = s .terms;
+  marks = s .marks;
   table = s .table;
   queue = s .queue;
 }
@@ -71,6 +89,7 @@ withIssued s n = record {
   secured = s .secured;
   kept = s .kept;
   terms = s .terms;
+  marks = s .marks;
   table = s .table;
   queue = s .queue;
 }
@@ -82,6 +101,7 @@ withSecured s n = record {
   secured = n;
   kept = s .kept;
   terms = s .terms;
+  marks = s .marks;
   table = s .table;
   queue = s .queue;
 }
@@ -94,6 +114,7 @@ keptBy s t = record {
   secured = s .secured;
   kept = true;
   terms = t;
+  marks = s .marks;
   table = s .table;
   queue = s .queue;
 }
@@ -106,6 +127,7 @@ withTimeout s seconds = record {
   secured = s .secured;
   kept = s .kept;
   terms = record { timeout = seconds; keepalive = s .terms .keepalive; maxpdu = s .terms .maxpdu };
+  marks = s .marks;
   table = s .table;
   queue = s .queue;
 }
@@ -117,7 +139,24 @@ withTable s t = record {
   secured = s .secured;
   kept = s .kept;
   terms = s .terms;
+  marks = s .marks;
   table = t;
+  queue = s .queue;
+}
+
+-- the words are others; of the IDs those count still whose words are Requests'
+abbrev pub withWords : State → List ℕ → State
+withWords s words = withTable s (tableOf words (s .table .ids))
+
+abbrev pub withMarks : State → Marks → State
+withMarks s m = record {
+  released = s .released;
+  issued = s .issued;
+  secured = s .secured;
+  kept = s .kept;
+  terms = s .terms;
+  marks = m;
+  table = s .table;
   queue = s .queue;
 }
 
@@ -128,6 +167,7 @@ withQueue s q = record {
   secured = s .secured;
   kept = s .kept;
   terms = s .terms;
+  marks = s .marks;
   table = s .table;
   queue = q;
 }

@@ -12,7 +12,7 @@ use Rattle.protocol.specs.declared.Effect.{Effect}
 use Rattle.protocol.specs.declared.Phase.{Phase}
 use Rattle.protocol.specs.Answers.{effectOf}
 use Rattle.protocol.specs.Phases.{phaseFits, restingPhase}
-use Rattle.protocol.specs.State.{State, releasedState, withTable}
+use Rattle.protocol.specs.State.{State, releasedState, withWords}
 
 -- a call that writes nothing has the empty list as its output
 pub record Step : Type 0 where
@@ -30,7 +30,7 @@ unchanged a s ph = stepped a s ph []
 
 -- "as connection failed": "code 6 words are freed; Failed if kept, else Idle"
 abbrev pub broken : State → State
-broken s = withTable s (record { words = sweptOf (s .table .words) AfterBreak })
+broken s = withWords s (sweptOf (s .table .words) AfterBreak)
 
 abbrev pub failedWith : Answer → State → Step
 failedWith a s = stepped a (broken s) (restingPhase s) []

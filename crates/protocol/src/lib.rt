@@ -36,6 +36,8 @@ pub enum Answer {
     BadField(usize),
     WrongSize,
     NoLabelWord,
+    RequestsStopped,
+    RequestOutsideUpFt,
     OutOfTurn,
     NoWordForMapping,
     MalformedReceived,

@@ -2,7 +2,7 @@
 use Prim.Native.Nat.{ℕ, _≤_}
 use mathlib.Core.Bool.{Bool, true, false, not, false≢true}
 use mathlib.Core.List.{List}
-use mathlib.Core.Path.{_≡_, refl, ap, _∙_}
+use mathlib.Core.Path.{_≡_, refl, ap, _∙_, sym}
 use native.Mathlib.Omega.{arith}
 use lib.ListN.{take}
 use Rattle.octets.specs.Pick.{pick, both}
@@ -10,29 +10,31 @@ use Rattle.octets.proofs.Choice.{by-test, both-true}
 use Rattle.ft_number.specs.declared.Ack.{Ack}
 use Rattle.ft_number.specs.declared.FtNumber.{FtNumber}
 use Rattle.ft_number.specs.Ack.{ackOf}
+use Rattle.label_list.specs.declared.Found.{Found}
 use Rattle.label_list.specs.declared.Protection.{Protection}
+use Rattle.tlv.specs.declared.FtField.{FtField}
 use Rattle.block0.specs.declared.Header.{Header}
 use Rattle.label_events.specs.declared.Reception.{Reception}
-use Rattle.tlv.specs.declared.FtField.{FtField}
 use Rattle.message.specs.declared.Message.{Message}
 use Rattle.message.specs.Kinds.{kindOf}
 use Rattle.message.specs.Submission.{bearsFt}
-use Rattle.image.specs.State.{decode}
+use Rattle.image.specs.State.{decode, storedIds}
 use Rattle.image.specs.Verdict.{IsSound}
 use Rattle.image.proofs.Queue.{queue-length}
 use Rattle.protocol.specs.declared.Answer.{Answer}
 use Rattle.protocol.specs.declared.LabelEffect.{LabelEffect}
 use Rattle.protocol.specs.Acked.{ackBorne, releasedLabels, acked}
 use Rattle.protocol.specs.Answers.{isDone}
-use Rattle.protocol.specs.Labels.{labelEffect, isProtected, protectionRule, effectReception, effectLabels, alwaysProtected}
+use Rattle.protocol.specs.Labels.{labelEffect, isProtected, protectionRule, effectReception, effectLabels, alwaysProtected, answeredAt, answers}
 use Rattle.protocol.specs.Receive.{isFatal, messageRule, plainRule, isZero, inTurn, receptionRule, protectedRule, labelsRule, ackRule, ackOn, ftRule, ackCount, messageLabels, taken, receivedState}
 use Rattle.protocol.specs.Received.{isInit}
-use Rattle.protocol.specs.State.{State}
+use Rattle.protocol.specs.State.{State, Table, tableOf}
 use Rattle.protocol.proofs.Queues.{count-held}
 use Rattle.calls.specs.Freeing.{freesNone}
 use Rattle.calls.specs.State.{stateOfNumbers, stateOf}
 use Rattle.call_meaning.proofs.Putting.{image-window}
-use Rattle.receive.specs.Speed.{touchesNone, labelsStay}
+use Rattle.receive.specs.Speed.{touchesNone, labelsStay, leavesWords, namesNone}
+use Rattle.receive.proofs.Answered.{acked-table}
 
 -- an answer that is not Done tells nothing of the words
 pub never : {P : Type 0} (a : Answer) → isDone a ≡ false → a ≡ Answer.Done → P
@@ -58,31 +60,32 @@ module _ (g : Message) {b f t : Bool} (eb : b ≡ isInit (g .typename)) (nb : b 
   pub plain-done : t ≡ false → Answer.Done ≡ plainRule g
   plain-done u = message-rest g _ eb nb ef nf (rw (← et, u))
 
-module _ (ls : List ℕ) (s : ℕ) (g : Message) {p : Protection} (e : p ≡ protectionRule ls g) where
-  pub labels-protection : {q : Protection} {ws : List ℕ} → isDone (protectedRule ls s g q) ≡ false → p ≡ q
-      → (protectedRule ls s g q ≡ labelsRule ls s g) × (protectedRule ls s g q ≡ Answer.Done → ws ≡ messageLabels ls g)
+module _ (t : Table) (s : ℕ) (g : Message) {p : Protection} (e : p ≡ protectionRule (t .words) g) where
+  pub labels-protection : {q : Protection} {ws : List ℕ} → isDone (protectedRule t s g q) ≡ false → p ≡ q
+      → (protectedRule t s g q ≡ labelsRule t s g) × (protectedRule t s g q ≡ Answer.Done → ws ≡ messageLabels t g)
   unfolding labelsRule
-  labels-protection {q} n t = (rw (← e, t), never (protectedRule ls s g q) n)
+  labels-protection {q} n u = (rw (← e, u), never (protectedRule t s g q) n)
 
   pub labels-turn : {b : Bool} {ws : List ℕ} → p ≡ Protection.Right → b ≡ inTurn s (g .protection) → b ≡ false
-      → (Answer.OutOfTurn ≡ labelsRule ls s g) × (Answer.OutOfTurn ≡ Answer.Done → ws ≡ messageLabels ls g)
+      → (Answer.OutOfTurn ≡ labelsRule t s g) × (Answer.OutOfTurn ≡ Answer.Done → ws ≡ messageLabels t g)
   unfolding labelsRule
-  labels-turn t q n = (rw (← e, t, ← q, n), never Answer.OutOfTurn refl)
+  labels-turn u q n = (rw (← e, u, ← q, n), never Answer.OutOfTurn refl)
 
-  pub labels-reception : {b d : Bool} {f : LabelEffect} {r r′ : Reception} {ws : List ℕ} → p ≡ Protection.Right → b ≡ inTurn s (g .protection) → b ≡ true
-      → d ≡ isProtected (g .protection) → f ≡ labelEffect g → (r ≡ effectReception ls d f) × (ws ≡ effectLabels ls d f) → r ≡ r′
-      → (receptionRule r′ ≡ labelsRule ls s g) × (receptionRule r′ ≡ Answer.Done → ws ≡ messageLabels ls g)
+  pub labels-reception : {b d : Bool} {f : LabelEffect} {request : Found} {r r′ : Reception} {ws : List ℕ} → p ≡ Protection.Right → b ≡ inTurn s (g .protection) → b ≡ true
+      → d ≡ isProtected (g .protection) → f ≡ labelEffect g → request ≡ answeredAt t g
+      → (r ≡ effectReception (t .words) request d f) × (ws ≡ effectLabels (t .words) request d f) → r ≡ r′
+      → (receptionRule r′ ≡ labelsRule t s g) × (receptionRule r′ ≡ Answer.Done → ws ≡ messageLabels t g)
   unfolding labelsRule
-  labels-reception t q n ed ef er u = (rw (← e, t, ← q, n, ← ed, ← ef, ← (er .0), u), λ d. rw (← ed, ← ef) (er .1))
+  labels-reception u q n ed ef ea er v = (rw (← e, u, ← q, n, ← ed, ← ef, ← ea, ← (er .0), v), λ d. rw (← ed, ← ef, ← ea) (er .1))
 
 -- of a message that touches no label the words are not looked at
-labels-unseen : (ls ls′ : List ℕ) (s : ℕ) (g : Message) → touchesNone (labelEffect g) ≡ true → labelsRule ls s g ≡ labelsRule ls′ s g
+labels-unseen : (t t′ : Table) (s : ℕ) (g : Message) → touchesNone (labelEffect g) ≡ true → labelsRule t s g ≡ labelsRule t′ s g
 unfolding labelsRule protectionRule
-labels-unseen ls ls′ s g none = by (labelEffect g) refl
+labels-unseen t t′ s g none = by (labelEffect g) refl
   where
-    by : (f : LabelEffect) → labelEffect g ≡ f → labelsRule ls s g ≡ labelsRule ls′ s g
-    by LabelEffect.Nothing e = by-test (both (not (isProtected (g .protection))) (alwaysProtected (kindOf g))) (λ t. rw t) (λ n. simp (n, e))
-    by (LabelEffect.Change m t) e = absurd (false≢true (rw e at none))
+    by : (f : LabelEffect) → labelEffect g ≡ f → labelsRule t s g ≡ labelsRule t′ s g
+    by LabelEffect.Nothing e = by-test (both (not (isProtected (g .protection))) (alwaysProtected (kindOf g))) (λ y. rw y) (λ n. simp (n, e))
+    by (LabelEffect.Change m x) e = absurd (false≢true (rw e at none))
 
 -- the ACK as it was decided, of the numbers that the image says
 pub borne-read : (im : List ℕ) (f : FtField) {h : Header} → h ≡ decode im .header → ackBorne (stateOfNumbers h) f ≡ ackBorne (stateOf im) f
@@ -113,18 +116,33 @@ module _ (s : State) (g : Message) {x : Ack} (e : x ≡ ackOn s g) where
       × (Answer.AckSequenceError ≡ Answer.Done → labelsStay s (ackCount (ackOn s g)) g ≡ false → ws ≡ receivedState s g .table .words)
   ack-error t = (rw (← e, t), never Answer.AckSequenceError refl)
 
+module _ (im : List ℕ) (g : Message) {x : Ack} (e : x ≡ ackOn (stateOf im) g) where
+  abbrev s : State
+  s = stateOf im
+
+  -- the table that the ACK leaves
+  abbrev left : ℕ → Table
+  left k = acked s k (ackBorne s (g .ack)) .table
+
   pub ack-right : {k : ℕ} {ws ws₂ : List ℕ} {r : Answer} {n : FtNumber} → n ≡ s .secured → x ≡ Ack.Releases k
       → (labelsStay s k g ≡ false → ws ≡ releasedLabels (take k (s .queue)) (s .table .words))
-      → (r ≡ labelsRule ws (n .0) g) × (r ≡ Answer.Done → ws₂ ≡ messageLabels ws g)
+      → (r ≡ labelsRule (tableOf ws (storedIds im)) (n .0) g) × (r ≡ Answer.Done → ws₂ ≡ messageLabels (tableOf ws (storedIds im)) g)
       → (r ≡ ackRule s g (ackOn s g)) × (r ≡ Answer.Done → labelsStay s (ackCount (ackOn s g)) g ≡ false → ws₂ ≡ receivedState s g .table .words)
-  unfolding acked taken receivedState
+  unfolding taken receivedState
   ack-right {k} {ws} {n = n} en t ew er = (
-    rw (← e, t) (er .0 ∙ judged ∙ ap (λ (y : FtNumber). labelsRule (releasedLabels (take k (s .queue)) (s .table .words)) (y .0) g) en),
-    λ d f. er .1 d ∙ ap (λ (l : List ℕ). messageLabels l g) (rw (← e, t) (ew (rw (← e, t) at f))),
+    rw (← e, t) (er .0 ∙ judged ∙ ap (λ (y : FtNumber). labelsRule (left k) (y .0) g) en),
+    λ d f. er .1 d ∙ ap (λ (l : Table). messageLabels l g) (rw (← e, t) (loaded (rw (← e, t) at f))),
   )
     where
-      judged : labelsRule ws (n .0) g ≡ labelsRule (releasedLabels (take k (s .queue)) (s .table .words)) (n .0) g
-      judged = by-test (labelsStay s k g) (λ y. labels-unseen ws _ (n .0) g (both-true (touchesNone (labelEffect g)) (freesNone (take k (s .queue))) y .0)) (λ y. ap (λ (l : List ℕ). labelsRule l (n .0) g) (ew y))
+      -- the words lent are those that the ACK leaves, beside the IDs of block 65
+      loaded : labelsStay s k g ≡ false → tableOf ws (storedIds im) ≡ left k
+      loaded y = ap (λ (l : List ℕ). tableOf l (storedIds im)) (ew y) ∙ sym (acked-table im k (ackBorne s (g .ack)))
+
+      judged : labelsRule (tableOf ws (storedIds im)) (n .0) g ≡ labelsRule (left k) (n .0) g
+      judged =
+          by-test (labelsStay s k g)
+          (λ y. labels-unseen _ _ (n .0) g (both-true (touchesNone (labelEffect g)) (namesNone (answers g)) (both-true (leavesWords g) (freesNone (take k (s .queue))) y .0) .0))
+          (λ y. ap (λ (l : Table). labelsRule l (n .0) g) (loaded y))
 
 -- a test before the ACK refuses
 pub ft-refused : (s : State) (g : Message) {ws : List ℕ} {x : Answer} → isDone x ≡ false → x ≡ ftRule s g

@@ -1,3 +1,4 @@
 pub mod Messages
+pub mod Answered
 pub mod Judged
 pub mod Taken

@@ -9,12 +9,13 @@ use Rattle.octets.specs.Differ.{differ}
 use Rattle.octets.specs.Laid.{laid}
 use Rattle.octets.proofs.Choice.{by-test, both-true}
 use Rattle.octets.proofs.Differ.{differ-self}
+use Rattle.tlv.specs.declared.IdField.{IdField}
 use Rattle.block0.specs.declared.Header.{Header}
-use Rattle.block0.specs.Updates.{headerReleased, headerSecured}
+use Rattle.label_events.specs.Requests.{endedAt}
 use Rattle.message.specs.declared.Message.{Message}
 use Rattle.message.specs.declared.Reading.{Reading}
 use Rattle.message.specs.Reading.{readingOf}
-use Rattle.image.specs.Sizes.{block, slotAt}
+use Rattle.image.specs.Sizes.{block, slotAt, imageSize, requestBlock}
 use Rattle.image.specs.State.{decode, store0}
 use Rattle.image.specs.Verdict.{IsSound}
 use Rattle.image.proofs.Queue.{queue-length}
@@ -22,13 +23,13 @@ use Rattle.image.proofs.Sound.{sound-valid}
 use Rattle.protocol.specs.declared.Answer.{Answer}
 use Rattle.protocol.specs.declared.LabelEffect.{LabelEffect}
 use Rattle.protocol.specs.declared.Phase.{Phase}
-use Rattle.protocol.specs.Acked.{ackBorne, acked}
+use Rattle.protocol.specs.Acked.{acked}
 use Rattle.protocol.specs.Answers.{effectOf, isDone}
 use Rattle.protocol.specs.Cases.{mayReceive}
-use Rattle.protocol.specs.Labels.{labelEffect, isProtected, effectLabels}
+use Rattle.protocol.specs.Labels.{labelEffect, isProtected, effectLabels, answeredAt, answers, requestAt}
 use Rattle.protocol.specs.Phases.{upWith}
-use Rattle.protocol.specs.Receive.{ackOn, ackCount, securedBy, taken, receivedState, takenAs, readRule, ftRule, plainRule, receiveRule, receive}
-use Rattle.protocol.specs.State.{State}
+use Rattle.protocol.specs.Receive.{ackOn, ackCount, taken, receivedState, takenAs, readRule, ftRule, plainRule, receiveRule, receive}
+use Rattle.protocol.specs.State.{State, tableOf}
 use Rattle.protocol.proofs.Cases.{wrong-by}
 use Rattle.protocol.proofs.Effects.{done-is}
 use Rattle.protocol.proofs.Settles.{taken-done}
@@ -40,22 +41,26 @@ use Rattle.calls.specs.Storing.{fewer, headerFor, stored}
 use Rattle.calls.proofs.Called.{call-is}
 use Rattle.calls.proofs.Ends.{settle-other}
 use Rattle.calls.proofs.Freeing.{none-freed}
+use Rattle.calls.proofs.Further.{further-none}
 use Rattle.calls.proofs.Putting.{kept-is, put-same}
 use Rattle.call_meaning.proofs.Calling.{call-refused, call-own, own-done, own-refused}
-use Rattle.receive.specs.Call.{takenFt, receiveOf, receivedSlots, takenOn}
-use Rattle.receive.specs.Speed.{touchesNone, labelsStay}
+use Rattle.receive.specs.Call.{takenFt, receiveOf, receivedSlots, takenOn, headerTaken}
+use Rattle.receive.specs.Speed.{touchesNone, labelsStay, leavesWords, namesNone}
 use Rattle.receive.proofs.Judged.{ack-read, borne-read}
 
 -- where the label words stay they are those that the message leaves
 stay-labels : (s : State) (g : Message) (k : ℕ) → k ≡ ackCount (ackOn s g) → labelsStay s k g ≡ true → s .table .words ≡ receivedState s g .table .words
-unfolding receivedState taken acked
+unfolding receivedState taken acked answeredAt endedAt
 stay-labels s g k ek y =
-    let p = both-true (touchesNone (labelEffect g)) (freesNone (take k (s .queue))) y in
-    rw (← ek, none-freed (take k (s .queue)) (s .table .words) (p .1)) (by (labelEffect g) (p .0))
+    let p = both-true (leavesWords g) (freesNone (take k (s .queue))) y in
+    let q = both-true (touchesNone (labelEffect g)) (namesNone (answers g)) (p .0) in
+    rw (← ek, none-freed (take k (s .queue)) (s .table .words) (p .1)) (by (labelEffect g) (answers g) (q .0) (q .1))
   where
-    by : (f : LabelEffect) → touchesNone f ≡ true → s .table .words ≡ effectLabels (s .table .words) (isProtected (g .protection)) f
-    by LabelEffect.Nothing t = refl
-    by (LabelEffect.Change m t) e = absurd (false≢true e)
+    by : (f : LabelEffect) (j : IdField) → touchesNone f ≡ true → namesNone j ≡ true
+        → s .table .words ≡ effectLabels (s .table .words) (requestAt (tableOf (s .table .words) (s .table .ids)) j) (isProtected (g .protection)) f
+    by LabelEffect.Nothing IdField.Absent t u = refl
+    by LabelEffect.Nothing (IdField.Id id) t u = absurd (false≢true u)
+    by (LabelEffect.Change m x) j t u = absurd (false≢true t)
 
 -- what is said of the header read is said of the image
 pub count-read : (im : List ℕ) (g : Message) {h : Header} {k : ℕ} → h ≡ decode im .header → k ≡ ackCount (ackOn (stateOfNumbers h) g) → k ≡ ackCount (ackOn (stateOf im) g)
@@ -63,7 +68,7 @@ count-read im g eh ek = ek ∙ ap ackCount (ack-read im g eh)
 
 -- what is stored is the state that the message makes
 module _ (im : List ℕ) (sound : IsSound im) (g : Message) {h h′ : Header} {k : ℕ} (eh : h ≡ decode im .header) (ek : k ≡ ackCount (ackOn (stateOf im) g))
-    (eh′ : h′ ≡ headerSecured (headerReleased h (record { 0 = ackBorne (stateOfNumbers h) (g .ack) }) (slotAt (h .first) k) (h .held - k)) (securedBy (h .secured) (g .protection))) where
+    (eh′ : h′ ≡ headerTaken h k g) where
   -- block 0's numbers are those of that state
   numbers : h′ ≡ headerFor (slotAt (decode im .header .first) (ackCount (ackOn (stateOf im) g))) (receivedState (stateOf im) g)
   unfolding receivedState taken acked
@@ -79,12 +84,13 @@ module _ (im : List ℕ) (sound : IsSound im) (g : Message) {h h′ : Header} {k
       → (im′ ≡ stored im (fewer (ackCount (ackOn (stateOf im) g))) (receivedState (stateOf im) g)) × d
   put-stays y e = put (stay-labels (stateOf im) g k ek y) e
 
+-- and block 0 alone
 pub take-is : (im : List ℕ) (sent : ℕ) (g : Message) {im′ : List ℕ} {h : Header} {k n : ℕ} {b : Bool}
-    → h ≡ decode im .header → k ≡ ackCount (ackOn (stateOfNumbers h) g)
+    → length im ≡ imageSize → h ≡ decode im .header → k ≡ ackCount (ackOn (stateOfNumbers h) g)
     → (im′ ≡ stored im (fewer (ackCount (ackOn (stateOf im) g))) (receivedState (stateOf im) g)) × (b ≡ differ (block im 0) (block im′ 0)) → n ≡ sent - k
-    → afterWith (record { answer = Answer.Done; phase = upWith n; written = 0; slot = 0; block0 = b }) im′ [] ≡ takenFt im sent g
+    → afterWith (record { answer = Answer.Done; phase = upWith n; written = 0; slot = 0; block0 = b; further = 0 }) im′ [] ≡ takenFt im sent g
 unfolding laid
-take-is im sent g eh ek e en = rw (e .1, e .0, en, ek, ack-read im g eh)
+take-is im sent g size eh ek e en = rw (e .1, e .0, en, ek, ack-read im g eh, further-none im size _ _)
 
 -- ---- how the answer settles
 module _ (im : List ℕ) (sent : ℕ) (g : Message) {a : Answer} (e : a ≡ ftRule (stateOf im) g) {x : After} where
@@ -98,7 +104,7 @@ module _ (im : List ℕ) (sent : ℕ) (g : Message) {a : Answer} (e : a ≡ ftRu
 -- Done in UpPlain changes nothing
 plain-untouched : (im : List ℕ) → IsSound im → Bytes im → (r : Reading) → takenOn im Phase.UpPlain r ≡ untouched Answer.Done Phase.UpPlain im []
 unfolding laid
-plain-untouched im s byte r = rw (put-same im s byte, differ-self)
+plain-untouched im s byte r = rw (put-same im s byte, differ-self (block im 0), differ-self (block im requestBlock))
 
 pub plain-settled : (im : List ℕ) → IsSound im → Bytes im → (g : Message) {a : Answer} {x : After} → a ≡ plainRule g → x ≡ settleOf a Phase.UpPlain im [] (untouched a Phase.UpPlain im [])
     → x ≡ settleOf (plainRule g) Phase.UpPlain im [] (takenOn im Phase.UpPlain (Reading.Whole g))

@@ -3,9 +3,10 @@ use Prim.Native.Nat.{ℕ}
 use mathlib.Core.Bool.{Bool, true, false}
 use lib.ListN.{take}
 use Rattle.octets.specs.Pick.{both}
+use Rattle.tlv.specs.declared.IdField.{IdField}
 use Rattle.message.specs.declared.Message.{Message}
 use Rattle.protocol.specs.declared.LabelEffect.{LabelEffect}
-use Rattle.protocol.specs.Labels.{labelEffect}
+use Rattle.protocol.specs.Labels.{answers, labelEffect}
 use Rattle.protocol.specs.State.{State}
 use Rattle.calls.specs.Freeing.{freesNone}
 
@@ -13,6 +14,14 @@ abbrev pub touchesNone : LabelEffect → Bool
 touchesNone LabelEffect.Nothing = true
 touchesNone (LabelEffect.Change m t) = false
 
+abbrev pub namesNone : IdField → Bool
+namesNone IdField.Absent = true
+namesNone (IdField.Id id) = false
+
+-- by a message that touches no label and answers no Request: an answer frees a word
+abbrev pub leavesWords : Message → Bool
+leavesWords g = both (touchesNone (labelEffect g)) (namesNone (answers g))
+
 -- by an ACK that releases the oldest k messages held, and then by the message
 abbrev pub labelsStay : State → ℕ → Message → Bool
-labelsStay s k g = both (touchesNone (labelEffect g)) (freesNone (take k (s .queue)))
+labelsStay s k g = both (leavesWords g) (freesNone (take k (s .queue)))

@@ -4,12 +4,15 @@ ghost use mathlib.Core.Bool.{false};
 ghost use mathlib.Core.Path.{_≡_};
 ghost use lib.ListN.{length, take};
 ghost use Rattle.label_list.specs.Word.{wordCount};
-ghost use Rattle.image.specs.State.{decode};
+ghost use Rattle.image.specs.Sizes.{imageSize};
+ghost use Rattle.image.specs.State.{storedIds, decode};
 ghost use Rattle.image.specs.Verdict.{IsSound};
 ghost use Rattle.protocol.specs.Acked.{releasedLabels};
 ghost use Rattle.protocol.specs.Receive.{plainRule, labelsRule, ackOn, ackCount, ackRule, ftRule, messageLabels, receivedState};
+ghost use Rattle.protocol.specs.State.{tableOf};
 ghost use Rattle.calls.specs.State.{stateOf};
 ghost use Rattle.receive.specs.Speed.{labelsStay};
+use crate::answering::answered_place;
 use crate::labels::change_labels;
 use crate::labels::effect_place;
 use crate::labels::judge_protection;
@@ -48,8 +51,9 @@ pub fn judge_plain(g: Message) -> Answer
 }
 
 // 33, 32, 20, 21: a message over the label words as its ACK leaves them. Where the answer is Done, the message has changed them.
-fn judge_labels(words: &mut [u32], secured: FtNumber, g: Message) -> Answer
-    ensures { λ r. ⌜ (r ≡ labelsRule (now (words .entry)) (secured .0) g) × (r ≡ Answer.Done → now (words .exit) ≡ messageLabels (now (words .entry)) g) ⌝ }
+fn judge_labels(image: &[u8], words: &mut [u32], secured: FtNumber, g: Message) -> Answer
+    requires { ⌜ (length (now image) ≡ imageSize) × (length (now words) ≡ wordCount) ⌝ }
+    ensures { λ r. ⌜ (r ≡ labelsRule (tableOf (now (words .entry)) (storedIds (now (image .entry)))) (secured .0) g) × (r ≡ Answer.Done → now (words .exit) ≡ messageLabels (tableOf (now (words .entry)) (storedIds (now (image .entry)))) g) ⌝ }
 {
     let effect = label_effect(g);
     let place = effect_place(words, effect);
@@ -66,7 +70,8 @@ fn judge_labels(words: &mut [u32], secured: FtNumber, g: Message) -> Answer
     if !in_turn(secured, number) {
         return Answer::OutOfTurn;
     }
-    match change_labels(words, place, is_protected(number), effect) {
+    let request = answered_place(image, words, g);
+    match change_labels(words, place, request, is_protected(number), effect) {
         Reception::Taken => Answer::Done,
         Reception::NoRoom => Answer::NoWordForMapping,
     }
@@ -94,7 +99,7 @@ fn judge_ack(image: &[u8], h: Header, g: Message, words: &mut [u32]) -> Answer
         Ack::SequenceError => Answer::AckSequenceError,
         Ack::Releases(k) => {
             load_acked(image, k, g, words);
-            judge_labels(words, h.secured, g)
+            judge_labels(image, words, h.secured, g)
         }
     }
 }

@@ -7,7 +7,8 @@ ghost use Rattle.image.specs.State.{decode};
 ghost use Rattle.image.specs.Verdict.{IsSound};
 ghost use Rattle.protocol.specs.Labels.{touchedBy, effectOn, labelEffect, effectPlace, alwaysProtected, effectProtection, protectionRule, effectReception, effectLabels};
 ghost use Rattle.calls.specs.State.{stateOf};
-ghost use Rattle.receive.specs.Speed.{labelsStay};
+ghost use Rattle.receive.specs.Speed.{leavesWords, labelsStay};
+use crate::answering::answered_id;
 use crate::reading::is_protected;
 use label_events::Reception;
 use label_events::Touched;
@@ -16,6 +17,7 @@ use label_list::LabelMessage;
 use label_list::Protection;
 use message::Fec;
 use message::Field;
+use message::IdField;
 use message::Kind;
 use message::Message;
 use message::MessageType;
@@ -73,15 +75,28 @@ pub fn effect_place(words: &[u32], effect: LabelEffect) -> Found
     }
 }
 
+// Whether a message touches no label and answers no Request.
+fn leaves_words(g: Message) -> bool
+    ensures { λ r. ⌜ r ≡ leavesWords g ⌝ }
+{
+    match label_effect(g) {
+        LabelEffect::Nothing => match answered_id(g) {
+            IdField::Absent => true,
+            IdField::Id(_) => false,
+        },
+        LabelEffect::Change(_, _) => false,
+    }
+}
+
 // Whether an ACK that releases so many messages, and then the message, leave every label word as it is: told without a look at the words.
 pub fn labels_stay(image: &[u8], count: u32, g: Message) -> bool
     requires { ⌜ IsSound (now image) × (count ≤ decode (now image) .header .held) ⌝ }
     ensures { λ r. ⌜ r ≡ labelsStay (stateOf (now (image .entry))) count g ⌝ }
 {
-    match label_effect(g) {
-        LabelEffect::Nothing => calls::frees_none(image, count as usize),
-        LabelEffect::Change(_, _) => false,
+    if !leaves_words(g) {
+        return false;
     }
+    calls::frees_none(image, count as usize)
 }
 
 // Whether a kind is protected whatever the labels are.
@@ -95,6 +110,9 @@ fn always_protected(kind: Kind) -> bool
         Kind::Address => true,
         Kind::AddressWithdraw => true,
         Kind::ResourcesAvailable => true,
+        Kind::Request(_) => false,
+        Kind::Abort(_) => false,
+        Kind::NoResources => false,
         Kind::NoKind => false,
     }
 }
@@ -132,18 +150,23 @@ pub fn judge_protection(words: &[u32], place: Found, g: Message) -> Protection
     judge_effect(words, place, protected, label_effect(g))
 }
 
-// The label words after the message, whose label was found at that place, and whether there was a word for what it lists.
+// The label words after the message, whose label was found at that place and which answers the Request at the place `request`, and whether there was
+// a word for what it lists.
 pub fn change_labels(
     words: &mut [u32],
     place: Found,
+    request: Found,
     protected: bool,
     effect: LabelEffect,
 ) -> Reception
     requires { ⌜ place ≡ effectPlace (now words) effect ⌝ }
-    ensures { λ r. ⌜ (r ≡ effectReception (now (words .entry)) protected effect) × (now (words .exit) ≡ effectLabels (now (words .entry)) protected effect) ⌝ }
+    ensures { λ r. ⌜ (r ≡ effectReception (now (words .entry)) request protected effect) × (now (words .exit) ≡ effectLabels (now (words .entry)) request protected effect) ⌝ }
 {
     match effect {
-        LabelEffect::Nothing => Reception::Taken,
-        LabelEffect::Change(m, t) => label_events::receive(words, place, m, protected, t),
+        LabelEffect::Nothing => {
+            label_events::end_request(words, request);
+            Reception::Taken
+        }
+        LabelEffect::Change(m, t) => label_events::receive(words, place, request, m, protected, t),
     }
 }

@@ -3,18 +3,16 @@ ghost use Prim.Native.Nat.{_-_, _≤_, _<_};
 ghost use mathlib.Core.List.{[]};
 ghost use mathlib.Core.Path.{_≡_};
 ghost use Rattle.octets.specs.Differ.{differ};
-ghost use Rattle.block0.specs.Updates.{headerReleased, headerSecured};
 ghost use Rattle.message.specs.Reading.{readingOf};
-ghost use Rattle.image.specs.Sizes.{block, slotAt};
+ghost use Rattle.image.specs.Sizes.{block};
 ghost use Rattle.image.specs.State.{decode};
 ghost use Rattle.image.specs.Verdict.{IsSound};
-ghost use Rattle.protocol.specs.Acked.{ackBorne};
 ghost use Rattle.protocol.specs.Phases.{upWith};
 ghost use Rattle.protocol.specs.Receive.{ackOn, ackCount, securedBy, receivedState, readRule, ftRule, plainRule};
 ghost use Rattle.calls.specs.Outcomes.{afterWith, settleOf};
 ghost use Rattle.calls.specs.State.{stateOf, stateOfNumbers};
 ghost use Rattle.calls.specs.Storing.{fewer, stored};
-ghost use Rattle.receive.specs.Call.{Taken, takenFt, receiveOf, takenOn};
+ghost use Rattle.receive.specs.Call.{Taken, headerTaken, takenFt, receiveOf, takenOn};
 use crate::judging::judge_ft;
 use crate::judging::judge_plain;
 use crate::labels::labels_stay;
@@ -64,12 +62,13 @@ fn lowered(sent: u32, k: u32) -> u32
 // Block 0's numbers after the ACK and the message.
 fn next_header(h: Header, k: u32, g: Message) -> Header
     requires { ⌜ k ≤ h .held ⌝ }
-    ensures { λ r. ⌜ r ≡ headerSecured (headerReleased h (record { 0 = ackBorne (stateOfNumbers h) (g .ack) }) (slotAt (h .first) k) (h .held - k)) (securedBy (h .secured) (g .protection)) ⌝ }
+    ensures { λ r. ⌜ r ≡ headerTaken h k g ⌝ }
 {
     let ack = g.ack;
     let number = g.protection;
     let mut next = calls::released_header(h, k, ack_borne(h, ack));
     next.secured = secured_by(h.secured, number);
+    next.marks = calls::marks_heard(h.marks, message::kind_of(g));
     next
 }
 
@@ -99,6 +98,7 @@ fn take_ft(image: &mut [u8], sent: u32, g: Message, words: &[u32]) -> Outcome
         written: 0,
         slot: 0,
         block0: changed,
+        further: 0,
     }
 }
 

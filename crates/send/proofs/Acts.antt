@@ -12,9 +12,9 @@ use Rattle.octets.specs.Laid.{laid}
 use Rattle.octets.proofs.Differ.{differ-self}
 use Rattle.ft_number.specs.declared.FtNumber.{FtNumber}
 use Rattle.ft_number.specs.Circle.{after}
+use Rattle.tlv.specs.declared.FtField.{FtField}
 use Rattle.block0.specs.declared.Header.{Header}
 use Rattle.block0.specs.Updates.{headerIssued}
-use Rattle.tlv.specs.declared.FtField.{FtField}
 use Rattle.message.specs.Storable.{shortest, longest, Storable}
 use Rattle.message_writer.specs.declared.Written.{Written}
 use Rattle.message_writer.specs.Forms.{protectedBytes}
@@ -37,10 +37,11 @@ use Rattle.calls.specs.State.{stateOf, stateOfNumbers}
 use Rattle.calls.specs.Storing.{stay, stored}
 use Rattle.calls.proofs.Called.{call-is}
 use Rattle.calls.proofs.Ends.{settle-done}
+use Rattle.calls.proofs.Further.{further-none}
 use Rattle.calls.proofs.Putting.{header-same, put-same}
 use Rattle.call_meaning.proofs.Calling.{own-refused}
 use Rattle.send.specs.Send.{sendOf}
-use Rattle.send.proofs.Judged.{Sendable, judged-refused, sendable-rule}
+use Rattle.send.proofs.Judged.{Sendable, judged-refused, sendable-rule, sendable-sound}
 
 -- ---- the number and the ACK
 pub number-is : (s : State) (sent : ℕ) {n : FtNumber} → n .0 ≡ after (sent + 1) (s .released .0) → n ≡ queueNumber s sent
@@ -118,7 +119,7 @@ module _ (im : List ℕ) (ph : Phase) (ask : Bool) (o : List ℕ) where
 
     pub send-acts : {n : ℕ} {b : Bool} {im′ : List ℕ} → w ≡ Written.Bytes n
         → (b ≡ differ (block im 0) (block im′ 0)) × (im′ ≡ stored im stay (sentState (stateOf im) sent))
-        → afterWith (record { answer = Answer.Done; phase = upWith (sent + 1); written = n; slot = 0; block0 = b }) im′ o′ ≡ sendOf im ph ask o
+        → afterWith (record { answer = Answer.Done; phase = upWith (sent + 1); written = n; slot = 0; block0 = b; further = 0 }) im′ o′ ≡ sendOf im ph ask o
     send-acts {n} {b} {im′} t q =
         let p : (ltb (length o) (length bytes) ≡ false) × ((n ≡ length bytes) × (o′ ≡ laid o 0 bytes)) = long-enough o bytes written t in
-        answered Answer.Done (rw (p .0)) (rw (settle-done, q .0, q .1, p .1 .0, p .1 .1, es))
+        answered Answer.Done (rw (p .0)) (rw (settle-done, further-none im (sendable-sound d .size) _ _, q .0, q .1, p .1 .0, p .1 .1, es))

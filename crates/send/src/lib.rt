@@ -125,6 +125,7 @@ pub fn send_next(image: &mut [u8], phase: Phase, ack: bool, out: &mut [u8]) -> O
             written: n,
             slot: 0,
             block0: issue(image, sent),
+            further: 0,
         },
     }
 }

@@ -8,11 +8,16 @@ use lib.Dec.{ltb}
 use lib.ListN.{length, length-append, take, length-take}
 use borrow.Author.Tests.{le-leb, le-ltb, lt-leb}
 use Rattle.octets.proofs.Choice.{pick-all}
+use Rattle.label_list.specs.Find.{any}
+use Rattle.label_list.specs.Word.{wordCount}
+use Rattle.block0.specs.Layout.{noLabels}
 use Rattle.message.specs.Storable.{Storable}
 use Rattle.message_writer.specs.Forms.{ftTlvs}
 use Rattle.message_writer.proofs.Puts.{length-raised}
 use Rattle.image.specs.Events.{newImage}
+use Rattle.image.specs.State.{storedIds}
 use Rattle.image.proofs.Changes.{new-sound}
+use Rattle.image.proofs.Requests.{no-ids}
 use Rattle.protocol.specs.Calls.{submits, sends, step}
 use Rattle.protocol.specs.Init.{fresh}
 use Rattle.protocol.specs.Judged.{judged, done}
@@ -32,17 +37,18 @@ use Rattle.call_meaning.proofs.Putting.{Puts, lawful-image, put-state}
 use Rattle.call_meaning.proofs.Stands.{puts-stands}
 use Rattle.session.specs.Call.{leaves}
 use Rattle.session.proofs.Refines.{refines, stands}
-use Rattle.session.proofs.Sample.{address, address-taken, terms}
+use Rattle.session.proofs.Sample.{address, address-bytes, address-taken, terms}
 
 -- ---- the session that a first Init leads to
 unfoldable pub begun : List ℕ
 begun = stored newImage empty (fresh terms)
 
 begun-puts : Puts newImage empty (fresh terms)
-unfolding fresh
+unfolding fresh any
 begun-puts = record {
   lawful = lawful-fresh terms (record { timeout = omega arith; keepalive = omega arith; maxpdu = omega arith });
   queue = refl;
+  ids = no-ids noLabels refl wordCount refl (storedIds newImage);
   first = λ f. refl;
 }
 
@@ -80,16 +86,16 @@ module _ {sent n : ℕ} (h : Holding sent n) where
   unfolding judged
   queued room =
       step-does (submits address) s (upWith sent) 0
-      (admitted-is s (upWith sent) (h .stand .fits) (submitRule s address) ∙ address-taken s (h .kept) (rw (h .count) room))
+      (admitted-is s (upWith sent) (h .stand .fits) (submitRule s (upWith sent) address) ∙ address-taken s (upWith sent) (h .kept) (rw (h .count) room))
 
   pub queue-one : n < capacity → Holding sent (n + 1)
   unfolding done submitted
   queue-one room =
-      let e = refines (h .image) (upWith sent) (h .stand) [] (submits address) tt ∙ queued room in
+      let e = refines (h .image) (upWith sent) (h .stand) [] (submits address) address-bytes ∙ queued room in
       let left : stateOf (leaves (submits address) (h .image) (upWith sent) [] .image) ≡ submitted s address = ap (λ (x : Step). x .state) e in
       record {
         image = leaves (submits address) (h .image) (upWith sent) [] .image;
-        stand = rw (ap (λ (x : Step). x .phase) e) at (stands (h .image) (upWith sent) (h .stand) [] (submits address) tt);
+        stand = rw (ap (λ (x : Step). x .phase) e) at (stands (h .image) (upWith sent) (h .stand) [] (submits address) address-bytes);
         kept = ap (λ (t : State). t .kept) left ∙ h .kept;
         count = ap (λ (t : State). held t) left ∙ length-append (s .queue) (address ∷ []) ∙ ap (λ (k : ℕ). k + 1) (h .count);
       }

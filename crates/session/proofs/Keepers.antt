@@ -32,7 +32,7 @@ use Rattle.session.proofs.Fresh.{begun, begun-stands, begun-state, seco
 use Rattle.session.proofs.Queued.{one-more-held}
 use Rattle.session.proofs.Refines.{refines}
 use Rattle.session.proofs.Round.{Alive, alive-none, alive-taken, alive-two, rounded, rounded-stands, rounded-state}
-use Rattle.session.proofs.Sample.{address, address-taken, aliveWith, alive-right, alive-wrong, alive-bytes, terms}
+use Rattle.session.proofs.Sample.{address, address-taken, aliveWith, alive-right, alive-wrong, alive-bytes, terms, address-bytes}
 
 -- ---- what the calls answer to a fresh session
 says : (c : Call) → Proper c (upWith 0) → leaves c begun (upWith 0) [] .outcome .answer ≡ judged c (fresh terms) (upWith 0) 0
@@ -47,7 +47,7 @@ fits = rw begun-state at (begun-stands .fits)
 -- it takes the Address message
 begun-takes : leaves (submits address) begun (upWith 0) [] .outcome .answer ≡ Answer.Done
 unfolding judged fresh
-begun-takes = says (submits address) tt ∙ admitted-is (fresh terms) (upWith 0) fits (submitRule (fresh terms) address) ∙ address-taken (fresh terms) refl (omega arith)
+begun-takes = says (submits address) address-bytes ∙ admitted-is (fresh terms) (upWith 0) fits (submitRule (fresh terms) (upWith 0) address) ∙ address-taken (fresh terms) (upWith 0) refl (omega arith)
 
 -- a KeepAlive by the number that it acknowledges
 alive-says : (n : ℕ) → n < 256 → {a : Answer} → receiveRule (fresh terms) (upWith 0) (readingOf (aliveWith 0 0 0 n)) ≡ a → leaves (receives (aliveWith 0 0 0 n)) begun (upWith 0) [] .outcome .answer ≡ a
@@ -91,7 +91,7 @@ module _ (keeper : Keeper) (meets : Meets keeper) where
   storeless-fails wrong =
       let still : held (stateOf (leaves (submits address) begun (upWith 0) [] .image)) ≡ held (stateOf begun) =
       ap (λ (i : List ℕ). held (stateOf i)) (sym (same-image (submits address) begun (upWith 0) []) ∙ wrong begun (upWith 0) address) in
-      omega (arith, one-more-held begun (upWith 0) begun-stands address [] begun-takes)
+      omega (arith, one-more-held begun (upWith 0) begun-stands address [] address-bytes begun-takes)
 
   nodder-fails : ((im : List ℕ) (sent : ℕ) (ask : Bool) (out : List ℕ) → 1 ≤ sent → keeper (sends ask) im (upWith sent) out .outcome .written ≡ 0) → ⊥
   nodder-fails wrong =
@@ -103,7 +103,7 @@ module _ (keeper : Keeper) (meets : Meets keeper) where
   inventor-fails w =
       w .invented
       (ap (λ (i : List ℕ). held (stateOf i)) (same-image (submits (w .message)) (w .image) (w .phase) [])
-      ∙ one-more-held (w .image) (w .phase) (w .standing) (w .message) [] (sym (same-answer (submits (w .message)) (w .image) (w .phase) []) ∙ w .done))
+      ∙ one-more-held (w .image) (w .phase) (w .standing) (w .message) [] (w .bytes) (sym (same-answer (submits (w .message)) (w .image) (w .phase) []) ∙ w .done))
 
   -- a message taken leaves what the protocol's Receive leaves
   left-is : (w : Taking keeper) → stateLeft w ≡ receivedState (stateBefore w) (w .read)

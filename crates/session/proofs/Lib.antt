@@ -1,6 +1,8 @@
 -- each call is the protocol's step: what its answer leaves, what it keeps, what it stands for
 pub mod Settles
 pub mod Answers
+pub mod Told
+pub mod Ids
 pub mod Puts
 pub mod Begin
 pub mod Lent
@@ -8,7 +10,6 @@ pub mod Refines
 pub mod Room
 pub mod Timeout
 -- what the owner stores
-pub mod Told
 pub mod Queued
 pub mod Writers
 pub mod Medium

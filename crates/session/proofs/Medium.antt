@@ -1,17 +1,12 @@
 -- An owner who stores what the outcome tells has the call's image on the medium; one whose power goes before has there an image
 -- that passes the same checks and stands for the same state as before the call. Assumes nothing.
-use Prim.Native.Nat.{ℕ, zero, suc, _≤_, _<_}
+use Prim.Native.Nat.{ℕ, _<_}
 use mathlib.Core.Bool.{true, false}
 use mathlib.Core.List.{List}
 use mathlib.Core.Path.{_≡_, refl, sym, ap, _∙_}
 use native.Mathlib.Omega.{arith}
-use lib.Dec.{eqb}
 use lib.ListN.{length}
-use borrow.Author.Tests.{eqb-false}
 use Rattle.octets.specs.Bytes.{Bytes}
-use Rattle.octets.proofs.Differ.{differ-false}
-use Rattle.block0.specs.Layout.{slotCount}
-use Rattle.image.specs.Sizes.{block}
 use Rattle.image.proofs.Ranges.{bytes-in-range}
 use Rattle.image.proofs.Sound.{parts-sound, sound-parts}
 use Rattle.protocol.specs.declared.Answer.{Answer}
@@ -19,57 +14,34 @@ use Rattle.protocol.specs.declared.Phase.{Phase}
 use Rattle.protocol.specs.Calls.{Call, restores, step}
 use Rattle.protocol.specs.Judged.{judged}
 use Rattle.protocol.specs.Phases.{phaseFits, restingPhase}
-use Rattle.protocol.specs.Proper.{Proper}
 use Rattle.protocol.specs.Step.{broken, Step}
-use Rattle.calls.specs.Outcomes.{After, stepStored}
+use Rattle.calls.specs.Outcomes.{After}
 use Rattle.calls.specs.State.{stateOf}
 use Rattle.calls.proofs.Settled.{checks-sound}
-use Rattle.calls.proofs.Slots.{slot-alone}
 use Rattle.call_meaning.specs.Medium.{Same, allStored, committed, stores}
 use Rattle.call_meaning.specs.Seen.{seen}
 use Rattle.call_meaning.specs.Standing.{Standing}
-use Rattle.call_meaning.proofs.Slots.{slot-same}
-use Rattle.call_meaning.proofs.Written.{Without, fewer-told, not-slot, not-zeroth, told-within, written-all}
+use Rattle.call_meaning.proofs.Stored.{stored-all, stored-fewer}
 use Rattle.session.specs.Call.{leaves, makesImage}
 use Rattle.session.proofs.Answers.{answer-is}
-use Rattle.session.proofs.Refines.{refines, stands}
+use Rattle.session.proofs.Refines.{refines}
 use Rattle.session.proofs.Settles.{answerOn}
-use Rattle.session.proofs.Told.{block0-told, every, others-kept, slot-not-live}
+use Rattle.session.proofs.Told.{every}
 
 module _ (c : Call) (im : List ℕ) (ph : Phase) (out : List ℕ) (other : makesImage c ≡ false) (st : Standing im ph) where
   abbrev x : After
   x = leaves c im ph out
 
-  low-slot : x .outcome .slot ≤ slotCount
-  low-slot = by (x .outcome .slot) refl
-    where
-      by : (k : ℕ) → x .outcome .slot ≡ k → k ≤ slotCount
-      by zero e = omega arith
-      by (suc j) e = let l = slot-not-live c im ph out other j (e ∙ omega arith) .0 in omega arith
-
-  untold-kept : (k : ℕ) → Without k (stores (x .outcome)) → block (x .image) k ≡ block im k
-  untold-kept zero w =
-      sym (differ-false (block im 0) _ (sym (block0-told c im ph out other) ∙ not-zeroth (eqb (x .outcome .slot) 0) (x .outcome .slot) (x .outcome .block0) w))
-  untold-kept (suc k) w =
-      others-kept c im ph out other (suc k) (omega arith) (not-slot (eqb (x .outcome .slot) 0) (x .outcome .slot) (x .outcome .block0) (suc k) refl (omega arith) w)
-
   -- with all of them stored the medium is the call's image
-  pub all-stored : Proper c ph → allStored im x ≡ x .image
-  all-stored p =
-      written-all im (x .image) (stores (x .outcome)) (st .sound .size) (stands im ph st out c p .sound .size)
-      (told-within (eqb (x .outcome .slot) 0) (x .outcome .slot) (x .outcome .block0) low-slot)
-      untold-kept
+  pub all-stored : allStored im x ≡ x .image
+  all-stored = every c im ph out other (λ (y : After). allStored im y ≡ y .image) (λ a q o. refl) (λ slots y o s f. stored-all im s slots f y o)
 
   -- with fewer "restore gives the state before the call": the same checks are passed, and the state is the same
   pub fewer-same : (n : ℕ) → n < length (stores (x .outcome)) → Same im (committed n im x)
   fewer-same =
       every c im ph out other (λ (y : After). (n : ℕ) → n < length (stores (y .outcome)) → Same im (committed n im y))
       (λ a q o n less. absurd (omega arith))
-      (λ slots y o s f n less.
-      let z = stepStored im slots y o in
-      fewer-told (λ (cut : List ℕ). Same im cut) im (z .image) (eqb (z .outcome .slot) 0) (z .outcome .slot) (z .outcome .block0) n less
-      (record { checks = refl; state = refl })
-      (λ some. rw (slot-alone im (s .size) (y .state) slots f (eqb-false (z .outcome .slot) 0 some)) (slot-same im s slots f)))
+      (λ slots y o s f. stored-fewer im s slots f y o (st .range .ids))
 
   -- ".. code 6 words freed", in the phase without a connection
   pub cut-restores : (n : ℕ) → n < length (stores (x .outcome))

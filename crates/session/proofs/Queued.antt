@@ -5,6 +5,7 @@ use mathlib.Core.List.{List, [], _∷_}
 use mathlib.Core.Path.{_≡_, refl, sym, ap, _∙_}
 use native.Mathlib.Omega.{arith}
 use lib.ListN.{length, length-append}
+use Rattle.octets.specs.Bytes.{Bytes}
 use Rattle.octets.proofs.Differ.{differ-false}
 use Rattle.block0.specs.Layout.{headerOf}
 use Rattle.image.specs.Sizes.{block, blockOf}
@@ -27,12 +28,12 @@ use Rattle.session.proofs.Refines.{refines}
 use Rattle.session.proofs.Settles.{doneOn, settles-on}
 use Rattle.session.proofs.Told.{block0-told}
 
-module _ (im : List ℕ) (ph : Phase) (st : Standing im ph) (m out : List ℕ) (d : leaves (submits m) im ph out .outcome .answer ≡ Answer.Done) where
+module _ (im : List ℕ) (ph : Phase) (st : Standing im ph) (m out : List ℕ) (byte : Bytes m) (d : leaves (submits m) im ph out .outcome .answer ≡ Answer.Done) where
   -- a message queued is one more
   pub one-more-held : held (stateOf (leaves (submits m) im ph out .image)) ≡ held (stateOf im) + 1
   unfolding step
   one-more-held =
-      let e = refines im ph st out (submits m) tt in
+      let e = refines im ph st out (submits m) byte in
       ap (λ (x : Step). held (x .state)) e
       ∙ ap length (submit-queue (stateOf im) ph m (sym (ap (λ (x : Step). x .answer) e) ∙ d))
       ∙ length-append (stateOf im .queue) (m ∷ [])

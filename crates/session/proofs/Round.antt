@@ -10,8 +10,10 @@ use Rattle.ft_number.specs.declared.Ack.{Ack}
 use Rattle.ft_number.specs.declared.Steps.the-variants.{Count}
 use Rattle.ft_number.specs.Ack.{ackOf}
 use Rattle.ft_number.specs.Circle.{stepsOf}
-use Rattle.block0.specs.Layout.{slotCount}
+use Rattle.label_list.specs.Find.{any}
+use Rattle.label_list.specs.Word.{wordCount}
 use Rattle.tlv.specs.declared.FtField.{FtField}
+use Rattle.block0.specs.Layout.{slotCount, noLabels}
 use Rattle.message.specs.declared.Message.{Message}
 use Rattle.message.specs.declared.Reading.{Reading}
 use Rattle.message.specs.Kinds.{kindOf}
@@ -23,6 +25,7 @@ use Rattle.image.specs.State.{decode}
 use Rattle.image.specs.Verdict.{IsSound}
 use Rattle.image.proofs.Changes.{new-sound}
 use Rattle.image.proofs.Queue.{queue-length}
+use Rattle.image.proofs.Requests.{no-ids}
 use Rattle.protocol.specs.declared.Answer.{Answer}
 use Rattle.protocol.specs.Calls.{receives}
 use Rattle.protocol.specs.Init.{fresh}
@@ -38,9 +41,9 @@ use Rattle.protocol.proofs.KeepingStates.{lawful-fresh}
 use Rattle.protocol.proofs.Settles.{step-answer}
 use Rattle.protocol.proofs.Settling.{admitted-is}
 use Rattle.calls.specs.State.{stateOf}
-use Rattle.calls.specs.Storing.{Slots, empty, one-more, stored}
+use Rattle.calls.specs.Storing.{Slots, empty, one-more, stored, same}
 use Rattle.call_meaning.specs.Standing.{Standing}
-use Rattle.call_meaning.proofs.Putting.{Puts, QueueAfter, put-sound, put-state}
+use Rattle.call_meaning.proofs.Putting.{Puts, QueueAfter, put-sound, put-state, idsAfter}
 use Rattle.call_meaning.proofs.Stands.{puts-stands}
 use Rattle.session.specs.Call.{leaves}
 use Rattle.session.proofs.Refines.{refines}
@@ -69,6 +72,10 @@ lawful-round i n q issued few each =
       window = record { steps = n; reaches = issued .reaches; within = issued .within };
       words = law .words;
       labels = law .labels;
+      ids = law .ids;
+      width = law .width;
+      counted = law .counted;
+      once = law .once;
       storable = each;
       idle = λ z. absurd (true≢false z);
     }
@@ -76,14 +83,14 @@ lawful-round i n q issued few each =
 module _ (i n : ℕ) (q : List (List ℕ)) (issued : Issued i n q) (few : length q ≤ capacity) (each : AllStorable q) where
   -- stored over an image that leads there
   puts : (im : List ℕ) (slots : Slots) → QueueAfter im slots q → Puts im slots (round i q)
-  unfolding fresh
-  puts im slots after = record { lawful = lawful-round i n q issued few each; queue = after; first = λ z. absurd (true≢false z) }
+  unfolding fresh any
+  puts im slots after = record { lawful = lawful-round i n q issued few each; queue = after; ids = no-ids noLabels refl wordCount refl (idsAfter im slots); first = λ z. absurd (true≢false z) }
 
 -- one message more
-one-behind : (im : List ℕ) (i : ℕ) (q : List (List ℕ)) → stateOf im ≡ round i q → length q < slotCount → QueueAfter im (one-more address) (q ++ (address ∷ []))
+one-behind : (im : List ℕ) (i : ℕ) (q : List (List ℕ)) → stateOf im ≡ round i q → length q < slotCount → QueueAfter im (one-more address same) (q ++ (address ∷ []))
 one-behind im i q e room =
-    let same : decode im .queue ≡ q = ap (λ (t : State). t .queue) e in
-    (rw same, address-storable, omega (arith, queue-length im, ap length same))
+    let is : decode im .queue ≡ q = ap (λ (t : State). t .queue) e in
+    (rw is, address-storable, omega (arith, queue-length im, ap length is), tt)
 
 none-each : AllStorable []
 none-each i l = absurd (omega arith)
@@ -102,31 +109,31 @@ image₀ = stored newImage empty (round 0xFFFFFFFE [])
 sound₀ : IsSound image₀
 sound₀ = put-sound newImage new-sound empty (round 0xFFFFFFFE []) puts₀
 
-puts₁ : Puts image₀ (one-more address) (round 0xFFFFFFFE (address ∷ []))
+puts₁ : Puts image₀ (one-more address same) (round 0xFFFFFFFE (address ∷ []))
 unfolding stepsOf
 puts₁ =
-    puts 0xFFFFFFFE 0 (address ∷ []) (record { low = omega arith; reaches = refl; within = omega arith }) (omega arith) one-each image₀ (one-more address)
+    puts 0xFFFFFFFE 0 (address ∷ []) (record { low = omega arith; reaches = refl; within = omega arith }) (omega arith) one-each image₀ (one-more address same)
     (one-behind image₀ 0xFFFFFFFE [] (put-state newImage new-sound empty (round 0xFFFFFFFE []) puts₀) (omega arith))
 
 abbrev image₁ : List ℕ
-image₁ = stored image₀ (one-more address) (round 0xFFFFFFFE (address ∷ []))
+image₁ = stored image₀ (one-more address same) (round 0xFFFFFFFE (address ∷ []))
 
 sound₁ : IsSound image₁
-sound₁ = put-sound image₀ sound₀ (one-more address) (round 0xFFFFFFFE (address ∷ [])) puts₁
+sound₁ = put-sound image₀ sound₀ (one-more address same) (round 0xFFFFFFFE (address ∷ [])) puts₁
 
-puts₂ : Puts image₁ (one-more address) (round 1 (address ∷ address ∷ []))
+puts₂ : Puts image₁ (one-more address same) (round 1 (address ∷ address ∷ []))
 unfolding stepsOf
 puts₂ =
     puts 1 2 (address ∷ address ∷ []) (record { low = omega arith; reaches = refl; within = omega arith }) (omega arith)
-    (queued-storable (address ∷ []) address one-each address-storable) image₁ (one-more address)
-    (one-behind image₁ 0xFFFFFFFE (address ∷ []) (put-state image₀ sound₀ (one-more address) (round 0xFFFFFFFE (address ∷ [])) puts₁) (omega arith))
+    (queued-storable (address ∷ []) address one-each address-storable) image₁ (one-more address same)
+    (one-behind image₁ 0xFFFFFFFE (address ∷ []) (put-state image₀ sound₀ (one-more address same) (round 0xFFFFFFFE (address ∷ [])) puts₁) (omega arith))
 
 unfoldable pub rounded : List ℕ
-rounded = stored image₁ (one-more address) (round 1 (address ∷ address ∷ []))
+rounded = stored image₁ (one-more address same) (round 1 (address ∷ address ∷ []))
 
 pub rounded-state : stateOf rounded ≡ round 1 (address ∷ address ∷ [])
 unfolding rounded
-rounded-state = put-state image₁ sound₁ (one-more address) (round 1 (address ∷ address ∷ [])) puts₂
+rounded-state = put-state image₁ sound₁ (one-more address same) (round 1 (address ∷ address ∷ [])) puts₂
 
 pub rounded-stands : Standing rounded (upWith 2)
 unfolding rounded phaseFits fresh issuedCount stepsOf

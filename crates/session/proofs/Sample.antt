@@ -19,6 +19,7 @@ use Rattle.message.specs.Reading.{typeOf, messageOf, placesOf, readingOf}
 use Rattle.message.specs.Storable.{Storable}
 use Rattle.message.specs.Submission.{noLabel, bearsFt, submissionOf}
 use Rattle.protocol.specs.declared.Answer.{Answer}
+use Rattle.protocol.specs.declared.Phase.{Phase}
 use Rattle.protocol.specs.declared.Terms.{Terms}
 use Rattle.protocol.specs.Accepting.{acceptedAs, isBarred}
 use Rattle.protocol.specs.Init.{fresh}
@@ -43,15 +44,6 @@ address-accepted = refl
 pub address-storable : Storable address
 address-storable = record { low = omega arith; short = omega arith; kind = Kind.Address; label = noLabel; accepted = address-accepted }
 
--- while state is kept and there is room it is taken
-pub address-taken : (s : State) → s .kept ≡ true → held s < capacity → submitRule s address ≡ Answer.Done
-unfolding submitRule kindRule isBarred acceptedAs
-address-taken s kept room = rw (kept, address-accepted, lt-leb capacity (held s) room)
-
--- a KeepAlive that acknowledges the number of these four bytes
-abbrev pub aliveWith : ℕ → ℕ → ℕ → ℕ → List ℕ
-aliveWith a b c d = 2 ∷ 1 ∷ 0 ∷ 12 ∷ 0 ∷ 0 ∷ 0 ∷ 1 ∷ 5 ∷ 4 ∷ 0 ∷ 4 ∷ a ∷ b ∷ c ∷ d ∷ []
-
 abbrev Each : List ℕ → Type 0
 Each [] = Unit {0}
 Each (x ∷ xs) = (x < 256) × Each xs
@@ -60,6 +52,19 @@ each-byte : (s : List ℕ) → Each s → Bytes s
 each-byte [] e i = omega arith
 each-byte (x ∷ xs) e zero = e .0
 each-byte (x ∷ xs) e (suc i) = each-byte xs (e .1) i
+
+-- it is bytes
+pub address-bytes : Bytes address
+address-bytes = each-byte address (omega arith, (omega arith, (omega arith, (omega arith, (omega arith, (omega arith, (omega arith, (omega arith, tt))))))))
+
+-- while state is kept and there is room it is taken
+pub address-taken : (s : State) (ph : Phase) → s .kept ≡ true → held s < capacity → submitRule s ph address ≡ Answer.Done
+unfolding submitRule kindRule isBarred acceptedAs
+address-taken s ph kept room = rw (kept, address-accepted, lt-leb capacity (held s) room)
+
+-- a KeepAlive that acknowledges the number of these four bytes
+abbrev pub aliveWith : ℕ → ℕ → ℕ → ℕ → List ℕ
+aliveWith a b c d = 2 ∷ 1 ∷ 0 ∷ 12 ∷ 0 ∷ 0 ∷ 0 ∷ 1 ∷ 5 ∷ 4 ∷ 0 ∷ 4 ∷ a ∷ b ∷ c ∷ d ∷ []
 
 pub alive-bytes : (a b c d : ℕ) → a < 256 → b < 256 → c < 256 → d < 256 → Bytes (aliveWith a b c d)
 alive-bytes a b c d la lb lc ld =

@@ -1,19 +1,33 @@
--- What a call tells its owner: whether block 0 changed, and the slot, which is not live; every other block keeps its bytes. Assumes nothing.
+-- What a call tells its owner: whether block 0 and block 65 changed, and the slot, which is not live; every other block keeps its bytes. Assumes nothing.
 use Prim.Native.Nat.{ℕ, _<_}
 use mathlib.Core.Bool.{Bool, true, false}
 use mathlib.Core.List.{List}
 use mathlib.Core.Path.{_≡_, refl, sym, ap, _∙_}
 use native.Mathlib.Omega.{arith}
-use lib.ListN.{length}
+use lib.ListN.{length, getD}
 use Rattle.octets.specs.Pick.{pick}
 use Rattle.octets.proofs.Choice.{no}
 use Rattle.octets.proofs.Differ.{differ-self}
+use Rattle.label_list.specs.declared.Found.{Found}
+use Rattle.label_list.specs.declared.Found.the-variants.{At, Nowhere}
+use Rattle.label_list.specs.Find.{findOf, isFound}
+use Rattle.label_list.specs.Requests.{openAt}
+use Rattle.label_list.specs.Word.{isFree, requestWord}
 use Rattle.block0.specs.Layout.{slotCount}
+use Rattle.label_events.specs.declared.Plan.{Plan}
+use Rattle.label_events.specs.Accept.{planChange}
+use Rattle.label_events.specs.Change.{takeFree}
+use Rattle.label_events.specs.Requests.{askedPlan}
+use Rattle.message.specs.declared.Kind.{Kind}
 use Rattle.message.specs.declared.Reading.{Reading}
+use Rattle.message.specs.declared.Submission.{Submission}
 use Rattle.message.specs.Reading.{readingOf}
+use Rattle.message.specs.Submission.{submissionOf}
+use Rattle.label_meaning.proofs.Effect.{free-word}
+use Rattle.label_meaning.proofs.Requests.{free-plain}
 use Rattle.image.specs.declared.Verdict.{Verdict}
-use Rattle.image.specs.Sizes.{block, blockOf}
-use Rattle.image.specs.State.{NotLive}
+use Rattle.image.specs.Sizes.{block, blockOf, requestBlock}
+use Rattle.image.specs.State.{NotLive, decode}
 use Rattle.image.specs.Verdict.{IsSound, verdict}
 use Rattle.image.proofs.Queue.{queue-length}
 use Rattle.image.proofs.Sound.{sound-parts}
@@ -35,11 +49,13 @@ use Rattle.protocol.proofs.Submits.{done-accepted}
 use Rattle.calls.specs.Outcomes.{After, checked, failedOn, releasedOn, stepStored, untouched}
 use Rattle.calls.specs.State.{stateOf}
 use Rattle.calls.specs.Storing.{Slots, stay, empty}
-use Rattle.calls.proofs.Slots.{SlotFits, slot-idle, other-blocks}
+use Rattle.calls.proofs.Slots.{SlotFits, slot-idle, other-blocks, IdsFit}
 use Rattle.init.specs.Received.{startSlots}
 use Rattle.receive.specs.Call.{receivedSlots}
+use Rattle.submit.specs.Call.{idsLeft}
+use Rattle.submit.specs.Change.{acceptedChange, idChanged}
 use Rattle.session.specs.Call.{leaves, lent, makesImage, slotsLeft}
-use Rattle.session.specs.Told.{KeepsOthers, TellsBlock0}
+use Rattle.session.specs.Told.{KeepsOthers, TellsBlock0, TellsFurther}
 use Rattle.session.proofs.Settles.{answerOn, doneOn, ends}
 
 -- ---- a message that is put into a slot may be held, and there is room: by a Submit that is done
@@ -61,7 +77,30 @@ passed-fits : (im : List ℕ) (b : Bool) → SlotFits im (pick b empty stay)
 passed-fits im true = tt
 passed-fits im false = tt
 
-slots-fit : (c : Call) (im : List ℕ) (ph : Phase) (room : ℕ) → judged c (stateOf im) ph room ≡ Answer.Done → SlotFits im (slotsLeft c (stateOf im) ph)
+-- an ID is put where the word is free
+ids-fit : (im : List ℕ) (j : Submission) → IdsFit im (idsLeft (stateOf im .table) j)
+unfolding acceptedChange askedPlan
+ids-fit im Submission.Malformed = tt
+ids-fit im Submission.Refused = tt
+ids-fit im (Submission.Accepted Kind.Mapping label) = tt
+ids-fit im (Submission.Accepted Kind.Withdraw label) = tt
+ids-fit im (Submission.Accepted Kind.Release label) = tt
+ids-fit im (Submission.Accepted Kind.Address label) = tt
+ids-fit im (Submission.Accepted Kind.AddressWithdraw label) = tt
+ids-fit im (Submission.Accepted Kind.ResourcesAvailable label) = tt
+ids-fit im (Submission.Accepted (Kind.Request id) label) =
+    by (isFound (openAt id (stateOf im .table .words) (stateOf im .table .ids))) (findOf isFree (stateOf im .table .words)) refl
+  where
+    by : (b : Bool) (f : Found) → findOf isFree (stateOf im .table .words) ≡ f
+        → IdsFit im (idChanged (planChange (pick b Plan.Refused (Plan.Allowed (takeFree f requestWord)))) id)
+    by true f e = tt
+    by false (At i) e = free-plain (getD (decode im .labels) i 0) (free-word (decode im .labels) i (sym e) refl)
+    by false Nowhere e = tt
+ids-fit im (Submission.Accepted (Kind.Abort id) label) = tt
+ids-fit im (Submission.Accepted Kind.NoResources label) = tt
+ids-fit im (Submission.Accepted Kind.NoKind label) = tt
+
+pub slots-fit : (c : Call) (im : List ℕ) (ph : Phase) (room : ℕ) → judged c (stateOf im) ph room ≡ Answer.Done → SlotFits im (slotsLeft c (stateOf im) ph)
 unfolding judged
 slots-fit formats im ph room d = tt
 slots-fit restores im ph room d = tt
@@ -70,8 +109,8 @@ slots-fit (opens id own proposal) im ph room d = tt
 slots-fit (greets m) im ph room d = start-fits im (initStart (stateOf im) ph m)
 slots-fit (passes elapsed) im ph room d = passed-fits im (expired (stateOf im) elapsed)
 slots-fit (submits m) im ph room d =
-    let a = done-accepted (stateOf im) m (done-is (submitRule (stateOf im) m) (admitted-done (stateOf im) ph (submitRule (stateOf im) m) (rw d))) in
-    (a .storable, rw (queue-length im) at (a .room))
+    let a = done-accepted (stateOf im) ph m (done-is (submitRule (stateOf im) ph m) (admitted-done (stateOf im) ph (submitRule (stateOf im) ph m) (rw d))) in
+    (a .storable, rw (queue-length im) at (a .room), ids-fit im (submissionOf m))
 slots-fit (sends ask) im ph room d = tt
 slots-fit (keeps-alive id) im ph room d = tt
 slots-fit (receives m) im ph room d = taken-fits im (stateOf im) ph (readingOf m)
@@ -119,9 +158,13 @@ module _ (c : Call) (im : List ℕ) (ph : Phase) (out : List ℕ) (other : makes
   pub block0-told : TellsBlock0 im (leaves c im ph out)
   block0-told = every (TellsBlock0 im) (λ a q o. sym (differ-self (block im 0))) (λ slots x o s f. refl)
 
-  -- "A call stores at most one slot": every block but that and block 0 keeps its bytes
+  -- so of `further` and block 65
+  pub further-told : TellsFurther im (leaves c im ph out)
+  further-told = every (TellsFurther im) (λ a q o. rw (differ-self (block im requestBlock))) (λ slots x o s f. refl)
+
+  -- "A call stores at most one slot": every block but that, block 65 and block 0 keeps its bytes
   pub others-kept : KeepsOthers im (leaves c im ph out)
-  others-kept = every (KeepsOthers im) (λ a q o k zero slot. refl) (λ slots x o s f. other-blocks im (s .size) (x .state) slots f)
+  others-kept = every (KeepsOthers im) (λ a q o k zero requests slot. refl) (λ slots x o s f k zero requests slot. other-blocks im (s .size) (x .state) slots f k zero requests slot)
 
   -- ".. one that isn't live"
   pub slot-not-live : (j : ℕ) → leaves c im ph out .outcome .slot ≡ blockOf j → (j < slotCount) × NotLive im j

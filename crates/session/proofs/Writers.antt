@@ -11,7 +11,7 @@ use Rattle.ft_number.specs.declared.MessageId.{MessageId}
 use Rattle.ft_number.specs.declared.Proposal.{Proposal}
 use Rattle.message_writer.specs.declared.OwnParameters.{OwnParameters}
 use Rattle.image.specs.declared.Verdict.{Verdict}
-use Rattle.image.specs.Sizes.{block}
+use Rattle.image.specs.Sizes.{block, requestBlock}
 use Rattle.image.specs.Verdict.{verdict}
 use Rattle.image.proofs.Sound.{sound-parts}
 use Rattle.protocol.specs.declared.Answer.{Answer}
@@ -60,12 +60,12 @@ module _ (c : Call) (im : List ℕ) (ph : Phase) (out : List ℕ) (byte : Bytes 
   kept-whole d =
       let sound = sound-parts im (checked-sound (verdict im) (judged c (stateOf im) ph (length out)) (rw other at d)) in
       let whole : stored im stay (stateOf im) ≡ im = put-same im sound byte in
-      rw (other, stays, same, whole) (record { image = refl; slot = refl; block0 = differ-self (block im 0) })
+      rw (other, stays, same, whole) (record { image = refl; slot = refl; block0 = differ-self (block im 0); further = rw (differ-self (block im requestBlock)) })
 
   left-alone : LeftAlone im (leaves c im ph out)
   left-alone =
       ends c im ph out (LeftAlone im)
-      (λ e. record { image = refl; slot = refl; block0 = refl })
+      (λ e. record { image = refl; slot = refl; block0 = refl; further = refl })
       (λ e. absurd (never (answerOn c im ph out) harmless-on .0 e))
       (λ e. absurd (never (answerOn c im ph out) harmless-on .1 e))
       kept-whole

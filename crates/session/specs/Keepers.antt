@@ -36,6 +36,7 @@ pub record InventsHeld (keeper : Keeper) : Type 0 where
   pub phase : Phase
   pub message : List ℕ
   pub standing : Standing image phase
+  pub bytes : Bytes message
   pub done : keeper (submits message) image phase [] .outcome .answer ≡ Answer.Done
   pub invented : held (stateOf (keeper (submits message) image phase [] .image)) ≢ held (stateOf image) + 1
 

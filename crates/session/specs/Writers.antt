@@ -10,3 +10,4 @@ pub record LeftAlone (im : List ℕ) (x : After) : Type 0 where
   pub image : x .image ≡ im
   pub slot : x .outcome .slot ≡ 0
   pub block0 : x .outcome .block0 ≡ false
+  pub further : x .outcome .further ≡ 0

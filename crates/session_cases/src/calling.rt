@@ -21,13 +21,14 @@ pub enum Call {
 }
 
 // The parameters of P2 at place 2, of P1 at the others.
-fn parameters(place: u32) -> OwnParameters {
+fn parameters(place: u32, ondemand: bool) -> OwnParameters {
     if place == 2 {
         return OwnParameters {
             keepalive: 15,
             pdulength: 1500,
             lsr: 0x0a000001,
             space: 0,
+            ondemand: ondemand,
         };
     }
     OwnParameters {
@@ -35,6 +36,7 @@ fn parameters(place: u32) -> OwnParameters {
         pdulength: 4096,
         lsr: 0x0a000002,
         space: 0,
+        ondemand: ondemand,
     }
 }
 
@@ -59,7 +61,7 @@ pub fn make(
         Call::Format => session::format(image),
         Call::Restore => session::restore(image),
         Call::Open => {
-            let own = parameters(n.place);
+            let own = parameters(n.place, n.fourth == 1);
             session::open_session(image, phase, MessageId(1), own, proposal(n.third), out)
         }
         Call::Init => session::init_received(image, phase, msg),

@@ -5,6 +5,8 @@ use crate::script::NONE;
 use crate::show::say;
 use calls::Phase;
 
+const SIZE: u32 = image::IMAGE_SIZE as u32;
+
 // The phase, and how many bytes the last output has.
 pub struct Cabinet {
     pub phase: Phase,
@@ -76,9 +78,9 @@ fn part_of(start: u32, count: u32, len: usize) -> Part
 // How many bytes of the image at a place the calls are lent: at place 0 one too few.
 fn image_size(place: u32) -> u32 {
     if place == 0 {
-        return 33279;
+        return SIZE - 1;
     }
-    33280
+    SIZE
 }
 
 // The image at a place.
@@ -107,12 +109,12 @@ pub fn block_start(place: u32, block: u32) -> u32 {
         return NONE;
     }
     if block == NONE {
-        return place * 33280;
+        return place * SIZE;
     }
-    if block > 64 {
+    if block >= SIZE / 512 {
         return NONE;
     }
-    place * 33280 + block * 512
+    place * SIZE + block * 512
 }
 
 // How many bytes are copied to a place: a block, or the image where no block is given.

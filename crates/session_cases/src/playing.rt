@@ -23,6 +23,7 @@ use crate::script::read_numbers;
 use crate::show::say;
 use crate::show::show_counts;
 use crate::show::show_outcome;
+use crate::show::show_request;
 use crate::words::Deed;
 use crate::words::deed_of;
 
@@ -85,6 +86,15 @@ fn play_counts(images: &[u8], c: Cabinets, place: u32) -> Cabinets {
     c
 }
 
+// Prints the Request at a label word of the image at a place.
+fn play_request(images: &[u8], c: Cabinets, n: Numbers) -> Cabinets {
+    let image = image_part(n.place, images.len());
+    let start = image.start;
+    let end = image.end;
+    show_request(&images[start..end], n.second);
+    c
+}
+
 // A title is a name alone.
 fn end_line(c: Cabinets) -> Cabinets {
     say(b"\n");
@@ -128,6 +138,7 @@ fn play_line(images: &mut [u8], outputs: &mut [u8], c: Cabinets, line: &[u8]) ->
         Deed::Make(call) => play_call(images, outputs, c, call, n, first(&msg, size)),
         Deed::Title => end_line(c),
         Deed::Counts => play_counts(images, c, n.place),
+        Deed::Request => play_request(images, c, n),
         Deed::Copy => copy(images, c, n),
         Deed::Spoil => spoil(images, c, n),
         Deed::Put(phase) => with_cabinet(c, n.place, phase, 0),

@@ -3,8 +3,10 @@ use crate::script::first;
 use calls::Answer;
 use calls::Outcome;
 use calls::Phase;
+use ft_number::MessageId;
 use image_report::Counts;
 use image_report::Report;
+use tlv::IdField;
 
 const STDOUT: i32 = 1;
 
@@ -49,7 +51,7 @@ fn show_phase(phase: Phase) {
 
 // The check of a block: four bytes that stand for all its bytes.
 fn show_check(image: &[u8], block: usize) {
-    if block > 64 {
+    if block > image.len() / 512 {
         return;
     }
     let at = block * 512 + 508;
@@ -61,11 +63,15 @@ fn show_check(image: &[u8], block: usize) {
     hex(&image[at..end]);
 }
 
-// What the owner has to store, each block with its check.
-fn show_stores(image: &[u8], slot: usize, block0: bool) {
+// What the owner has to store, each block with its check: the slot, block 65, block 0.
+fn show_stores(image: &[u8], slot: usize, further: u32, block0: bool) {
     number(b", slot ", slot as u64);
     if slot != 0 {
         show_check(image, slot);
+    }
+    number(b", further ", further as u64);
+    if further != 0 {
+        show_check(image, image::REQUEST_BLOCK);
     }
     if !block0 {
         say(b", block0 false\n");
@@ -93,7 +99,7 @@ pub fn show_outcome(o: Outcome, image: &[u8], out: &[u8]) {
     show_answer(answer);
     show_phase(phase);
     number(b", written ", o.written as u64);
-    show_stores(image, o.slot, o.block0);
+    show_stores(image, o.slot, o.further, o.block0);
     show_output(out, o.written);
 }
 
@@ -104,6 +110,31 @@ fn show_numbers(c: Counts) {
     number(b" held ", c.held as u64);
     number(b" pended ", c.pended as u64);
     number(b" labels ", c.labels as u64);
+}
+
+// The open Request at a label word; none too in an image that is refused, and where there is no such word.
+fn request_at(image: &[u8], place: u32) -> IdField {
+    if image::verdict_number(image::check_image(image)) != 0 {
+        return IdField::Absent;
+    }
+    if label_list::WORD_COUNT <= place as usize {
+        return IdField::Absent;
+    }
+    if image::label_at(image, place as usize) != label_list::REQUEST_WORD {
+        return IdField::Absent;
+    }
+    IdField::Id(MessageId(image::id_at(image, place as usize)))
+}
+
+// Whether a label word is an open Request's, and its ID.
+pub fn show_request(image: &[u8], place: u32) {
+    match request_at(image, place) {
+        IdField::Absent => say(b" open 0 id 0\n"),
+        IdField::Id(id) => {
+            number(b" open 1 id ", id.0 as u64);
+            say(b"\n");
+        }
+    }
 }
 
 // The counts of an image.

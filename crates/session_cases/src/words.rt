@@ -7,13 +7,15 @@ use calls::Waiting;
 
 // What a line asks for.
 pub enum Deed {
-    // Open has the room for its output and the timeout that it proposes, if any; Send the room, and 1 for an ACK; KeepAlive the room;
-    // TimePassed seconds. Init, Submit and Receive have a message.
+    // Open has the room for its output, the timeout that it proposes, if any (no number stands for none), and 1 for labels on demand; Send
+    // the room, and 1 for an ACK; KeepAlive the room; TimePassed seconds. Init, Submit and Receive have a message.
     Make(Call),
     // Prints no more than the name, and has no place.
     Title,
     // Prints the image's counts.
     Counts,
+    // The place of a label word: prints whether it is an open Request's, and the ID.
+    Request,
     // Another place, whose image and phase are copied here; or a block of each, here and there, of which the one becomes the other.
     Copy,
     // An offset, and the byte that is put there.
@@ -26,7 +28,7 @@ pub enum Deed {
 // The deed of a word at a place; `n` is the number that a phase bears.
 pub fn deed_of(word: &[u8], n: u32) -> Deed {
     let words =
-        b"format restore open init submit send receive keepalive failed time title counts copy spoil Idle InitWait UpFT UpPlain Failed";
+        b"format restore open init submit send receive keepalive failed time title counts request copy spoil Idle InitWait UpFT UpPlain Failed";
     match place_in(words, word) {
         0 => Deed::Make(Call::Format),
         1 => Deed::Make(Call::Restore),
@@ -40,15 +42,16 @@ pub fn deed_of(word: &[u8], n: u32) -> Deed {
         9 => Deed::Make(Call::TimePassed),
         10 => Deed::Title,
         11 => Deed::Counts,
-        12 => Deed::Copy,
-        13 => Deed::Spoil,
-        14 => Deed::Put(Phase::Idle),
-        15 => Deed::Put(Phase::InitWait(Waiting {
+        12 => Deed::Request,
+        13 => Deed::Copy,
+        14 => Deed::Spoil,
+        15 => Deed::Put(Phase::Idle),
+        16 => Deed::Put(Phase::InitWait(Waiting {
             timeout: (n % 65536) as u16,
         })),
-        16 => Deed::Put(Phase::UpFT(Progress { sent: n })),
-        17 => Deed::Put(Phase::UpPlain),
-        18 => Deed::Put(Phase::Failed),
+        17 => Deed::Put(Phase::UpFT(Progress { sent: n })),
+        18 => Deed::Put(Phase::UpPlain),
+        19 => Deed::Put(Phase::Failed),
         _ => Deed::Unknown,
     }
 }

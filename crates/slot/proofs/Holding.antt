@@ -17,7 +17,7 @@ use Rattle.tlv.specs.Tlv.{largestLabel}
 use Rattle.message.specs.declared.Kind.{Kind}
 use Rattle.message.specs.declared.Submission.{Submission}
 use Rattle.message.specs.declared.Submission.the-variants.{Malformed, Refused, Accepted}
-use Rattle.message.specs.Kinds.{kindNumber}
+use Rattle.message.specs.Kinds.{kindNumber, lastKind}
 use Rattle.message.specs.Storable.{shortest, longest, bears, Storable, kindIn, labelIn}
 use Rattle.message.specs.Submission.{noLabel, submissionOf}
 use Rattle.message.proofs.Laws.{accepted, whole-label}
@@ -63,7 +63,7 @@ slot-holds b ok =
     let p₁ = both-true (leb 8 (slotLength b)) _ ok in
     let p₂ = both-true (leb (slotLength b) 480) _ (p₁ .1) in
     let p₃ = both-true (leb 1 (slotKind b)) _ (p₂ .1) in
-    let p₄ = both-true (leb (slotKind b) 6) _ (p₃ .1) in
+    let p₄ = both-true (leb (slotKind b) lastKind) _ (p₃ .1) in
     let p₅ = both-true (eqb (beAt 1 b 3) 0) _ (p₄ .1) in
     let p₆ = both-true (allZero (slotPadding b)) _ (p₅ .1) in
     borne b (submissionOf (slotMessage b)) refl (p₆ .1)
@@ -111,7 +111,7 @@ module _ (m : List ℕ) (s : Storable m) where
   unfolding n
   some = accepted m (s .kind) (s .label) (s .accepted) .labelled .some
 
-  kinds : n ≤ 6
+  kinds : n ≤ lastKind
   unfolding n
   kinds = accepted m (s .kind) (s .label) (s .accepted) .labelled .kinds
 

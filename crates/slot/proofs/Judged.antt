@@ -13,7 +13,7 @@ use Rattle.block.specs.Zeros.{allZero}
 use Rattle.message.specs.declared.Kind.{Kind}
 use Rattle.message.specs.declared.Submission.{Submission}
 use Rattle.message.specs.declared.Submission.the-variants.{Accepted}
-use Rattle.message.specs.Kinds.{kindNumber}
+use Rattle.message.specs.Kinds.{kindNumber, lastKind}
 use Rattle.message.specs.Storable.{shortest, longest, bears}
 use Rattle.message.specs.Submission.{submissionOf}
 use Rattle.slot.specs.declared.SlotVerdict.the-variants.{Good, BadCheck, BadFields}
@@ -68,14 +68,14 @@ module _ (b : List ℕ) (end : ℕ) (p : Padded b end) {k : ℕ} (ek : k ≡ slo
   no-kind h = simp (le-leb _ _ (p .low), le-leb _ _ (p .high), ← ek, lt-leb 1 k h)
 
   module _ (some : 1 ≤ k) where
-    pub high-kind : 6 < k → false ≡ slotOk b
+    pub high-kind : lastKind < k → false ≡ slotOk b
     unfolding slotOk
-    high-kind h = simp (le-leb _ _ (p .low), le-leb _ _ (p .high), ← ek, le-leb 1 k some, lt-leb k 6 h)
+    high-kind h = simp (le-leb _ _ (p .low), le-leb _ _ (p .high), ← ek, le-leb 1 k some, lt-leb k lastKind h)
 
-    module _ (kinds : k ≤ 6) {z : ℕ} (ez : z ≡ beAt 1 b 3) where
+    module _ (kinds : k ≤ lastKind) {z : ℕ} (ez : z ≡ beAt 1 b 3) where
       pub spare-set : (z ≡ 0 → ⊥) → false ≡ slotOk b
       unfolding slotOk
-      spare-set h = simp (le-leb _ _ (p .low), le-leb _ _ (p .high), ← ek, le-leb 1 k some, le-leb k 6 kinds, ← ez, ne-eqb z 0 h)
+      spare-set h = simp (le-leb _ _ (p .low), le-leb _ _ (p .high), ← ek, le-leb 1 k some, le-leb k lastKind kinds, ← ez, ne-eqb z 0 h)
 
       pub message-judged : z ≡ 0 → {l : ℕ} → l ≡ slotLabel b → {j : Submission} → j ≡ submissionOf (part b messageAt end)
           → {r : Bool} → r ≡ bears j k l → r ≡ slotOk b
@@ -84,7 +84,7 @@ module _ (b : List ℕ) (end : ℕ) (p : Padded b end) {k : ℕ} (ek : k ≡ slo
           let e : part b messageAt end ≡ part b messageAt (messageAt + slotLength b) = ap (part b messageAt) (p .ends) in
           er
           ∙ sym
-          (simp (le-leb _ _ (p .low), le-leb _ _ (p .high), ← ek, le-leb 1 k some, le-leb k 6 kinds, ← ez, eq-eqb z 0 zero, p .zeros, ← e, ← ej, ← el))
+          (simp (le-leb _ _ (p .low), le-leb _ _ (p .high), ← ek, le-leb 1 k some, le-leb k lastKind kinds, ← ez, eq-eqb z 0 zero, p .zeros, ← e, ← ej, ← el))
 
 -- ---- the check first
 module _ (b : List ℕ) {t : Bool} (et : t ≡ sound b) where

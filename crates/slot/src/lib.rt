@@ -26,6 +26,9 @@ pub const SHORTEST: usize = 8;
 
 pub const LONGEST: usize = 480;
 
+// The highest number of a kind.
+const LAST_KIND: u8 = 9;
+
 // Where the message stands, and the bytes from there to the check.
 const MESSAGE_AT: usize = 8;
 
@@ -98,7 +101,7 @@ fn message_is_right(block: &[u8], end: usize) -> bool
     if kind < 1 {
         return false;
     }
-    if kind > 6 {
+    if kind > LAST_KIND {
         return false;
     }
     if octets::get_u8(block, 3) != 0 {
@@ -122,7 +125,7 @@ fn judge_wrong(block: &[u8]) -> SlotVerdict
     SlotVerdict::BadCheck
 }
 
-// The slot's check, and then its fields: length 8 to 480, kind 1 to 6, byte 3 zero, padding zero, and a message that passes Submit's 4 and 5
+// The slot's check, and then its fields: length 8 to 480, kind 1 to 9, byte 3 zero, padding zero, and a message that passes Submit's 4 and 5
 // with the slot's own kind and label. Zeros behind the message are looked at once, for both.
 pub fn judge_slot(block: &[u8]) -> SlotVerdict
     requires { ⌜ length (now block) ≡ blockSize ⌝ }

@@ -26,7 +26,7 @@ module _ (z : Pair) (medium : List ℕ) (st : Standing medium (z .world .a .phas
   pub restart-leaves : Bytes medium → broken (stateOf medium) ≡ stateOf medium → restarted z medium .own .medium ≡ medium
   unfolding done
   restart-leaves byte still =
-      all-stored restores medium (z .world .a .phase) [] refl st tt
+      all-stored restores medium (z .world .a .phase) [] refl st
       ∙ ap (λ (x : After). x .image) (leaves-stored restores medium (z .world .a .phase) [] refl passes)
       ∙ ap (stored medium stay) still
       ∙ put-same medium (st .sound) byte

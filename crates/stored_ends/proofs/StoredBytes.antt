@@ -2,7 +2,7 @@
 use Prim.Native.Nat.{ℕ, _-_, _*_}
 use mathlib.Core.List.{List, [], _∷_, _++_}
 use native.Mathlib.Omega.{arith}
-use lib.ListN.{drop, getD, length, replicate}
+use lib.ListN.{drop, getD, length, replicate, set}
 use Rattle.octets.specs.Be.{bytes}
 use Rattle.octets.specs.Bytes.{Bytes}
 use Rattle.octets.proofs.Fill.{zeros-at}
@@ -10,16 +10,18 @@ use Rattle.block.specs.Check.{blockSize, checkAt, checkOf, sealed}
 use Rattle.block.specs.Run.{spelled, wordBytes}
 use Rattle.label_list.specs.Word.{wordCount}
 use Rattle.block0.specs.declared.Header.{Header}
-use Rattle.block0.specs.Layout.{block0, values, widths}
+use Rattle.block0.specs.Layout.{block0, values, widths, releasedHeader, noLabels}
 use Rattle.message.specs.declared.Submission.{Submission}
 use Rattle.message.specs.Storable.{kindIn, labelIn}
 use Rattle.message.specs.Submission.{submissionOf}
+use Rattle.request_ids.specs.Layout.{idBlock, idsEnd, noIds}
 use Rattle.slot.specs.Held.{slotFor}
 use Rattle.slot.specs.Layout.{headWidths, messageAt, slotBlock}
-use Rattle.image.specs.Sizes.{blockOf, slotAt}
-use Rattle.image.specs.State.{decode, store0, storeSlot}
+use Rattle.image.specs.Events.{newImage}
+use Rattle.image.specs.Sizes.{blockOf, slotAt, requestBlock, imageSize, withBlock}
+use Rattle.image.specs.State.{decode, store0, storeSlot, storeId, storedIds}
 use Rattle.protocol.specs.State.{State}
-use Rattle.calls.specs.Storing.{Slots, empty, fewer, headerFor, nextSlot, one-more, stay, stored}
+use Rattle.calls.specs.Storing.{Slots, empty, fewer, headerFor, nextSlot, one-more, stay, stored, Ids, same, put, putIds}
 use Rattle.two_ends.proofs.Octets.{append-each, laid-each, number-octets}
 
 -- ---- numbers one after the other, and zeros
@@ -61,16 +63,37 @@ bytes-storeSlot im k m byte letters =
     let j : Submission = submissionOf m in
     laid-each im (blockOf k * blockSize) (slotBlock m (kindIn j) (labelIn j)) byte (bytes-slot m (kindIn j) (labelIn j) letters)
 
+bytes-ids : (ids : List ℕ) → Bytes (idBlock ids)
+unfolding idBlock wordBytes
+bytes-ids ids =
+    bytes-sealed (spelled (replicate wordCount 4) ids ++ replicate (checkAt - idsEnd) 0)
+    (append-each (spelled (replicate wordCount 4) ids) (replicate (checkAt - idsEnd) 0) (bytes-spelled (replicate wordCount 4) ids) (bytes-zeros (checkAt - idsEnd)))
+
+-- a new image
+pub bytes-new : Bytes newImage
+unfolding newImage
+bytes-new =
+    bytes-store0 (withBlock (replicate imageSize 0) requestBlock (idBlock noIds)) releasedHeader noLabels
+    (laid-each (replicate imageSize 0) (requestBlock * blockSize) (idBlock noIds) (bytes-zeros imageSize) (bytes-ids noIds))
+
+bytes-put : (im : List ℕ) (ids : Ids) → Bytes im → Bytes (putIds im ids)
+unfolding storeId
+bytes-put im same byte = byte
+bytes-put im (put place id) byte =
+    let xs : List ℕ = set (storedIds im) place (id .0) in
+    laid-each im (requestBlock * blockSize) (idBlock xs) byte (bytes-ids xs)
+
 abbrev pub SlotBytes : Slots → Type 0
 SlotBytes stay = Unit {0}
 SlotBytes empty = Unit {0}
-SlotBytes (one-more m) = Bytes m
+SlotBytes (one-more m ids) = Bytes m
 SlotBytes (fewer k) = Unit {0}
 
 pub bytes-stored : (im : List ℕ) (slots : Slots) (s : State) → Bytes im → SlotBytes slots → Bytes (stored im slots s)
 bytes-stored im stay s byte letters = bytes-store0 im (headerFor (decode im .header .first) s) (s .table .words) byte
 bytes-stored im empty s byte letters = bytes-store0 im (headerFor 0 s) (s .table .words) byte
-bytes-stored im (one-more m) s byte letters =
+bytes-stored im (one-more m ids) s byte letters =
     let k : ℕ = nextSlot (decode im .header) in
-    bytes-store0 (storeSlot im k m) (headerFor (decode im .header .first) s) (s .table .words) (bytes-storeSlot im k m byte letters)
+    bytes-store0 (putIds (storeSlot im k m) ids) (headerFor (decode im .header .first) s) (s .table .words)
+    (bytes-put (storeSlot im k m) ids (bytes-storeSlot im k m byte letters))
 bytes-stored im (fewer k) s byte letters = bytes-store0 im (headerFor (slotAt (decode im .header .first) k) s) (s .table .words) byte

@@ -109,7 +109,7 @@ module _ (c : Call) (other : makesImage c ≡ false) (im : List ℕ) (ph : Phase
   synced-called medium m e s q = record {
     stand = rw q (stands im ph st out c p);
     state = s;
-    medium = ap (λ (l : List ℕ). allStored l (leaves c im ph out)) m ∙ all-stored c im ph out other st p;
+    medium = ap (λ (l : List ℕ). allStored l (leaves c im ph out)) m ∙ all-stored c im ph out other st;
     timed = rw q called-timed;
   }
 

@@ -91,12 +91,12 @@ module _ (w : World) (own peer : Cabinet) (s : Synced (w .a) own) (r : Synced (w
       let b = synced-replaced u e ab ba (synced-called c other im ph out (s .stand) p (s .timed) o (own .medium) (s .medium) e st q) there in
       record { own = b .0; peer = b .1 }
 
-  submits-tracks : (m out : List ℕ) → Tracks (made z (submits m) out) (act w (submits m))
+  submits-tracks : (m out : List ℕ) → Bytes m → Tracks (made z (submits m) out) (act w (submits m))
   unfolding step
-  submits-tracks m out = record {
-    world = ap (offered w m) (ruled-a (Calls.submits m) [] tt (λ (t : State). submit t ph m) refl);
+  submits-tracks m out byte = record {
+    world = ap (offered w m) (ruled-a (Calls.submits m) [] byte (λ (t : State). submit t ph m) refl);
     both =
-        pair-after (Calls.submits m) [] refl tt tt w
+        pair-after (Calls.submits m) [] refl byte tt w
         (called (w .a) (seen (leaves (Calls.submits m) im ph [])) (counts (w .a) (seen (leaves (Calls.submits m) im ph [])) (accepts m (w .a .history)))) (w .ab) (w .ba) refl refl refl;
   }
 
@@ -223,7 +223,7 @@ module _ (w : World) (own peer : Cabinet) (s : Synced (w .a) own) (r : Synced (w
 
 module _ (w : World) (own peer : Cabinet) (s : Synced (w .a) own) (r : Synced (w .b) peer) where
   pub made-tracks : (v : Event) (out : List ℕ) → ProperEvent v → Lent v out → Arrives (w .ba) → Tracks (made (record { world = w; own = own; peer = peer }) v out) (act w v)
-  made-tracks (submits m) out p l o = submits-tracks w own peer s r m out
+  made-tracks (submits m) out p l o = submits-tracks w own peer s r m out p
   made-tracks (sends ask room) out p l o = sends-tracks w own peer s r ask room out l
   made-tracks (keepalives id room) out p l o = keepalives-tracks w own peer s r id room out l
   made-tracks (opens id q t room) out p l o = opens-tracks w own peer s r id q t out (p .1) room l

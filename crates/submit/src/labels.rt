@@ -2,14 +2,19 @@
 ghost use Prim.Native.Nat.{_<_};
 ghost use mathlib.Core.List.{[]};
 ghost use mathlib.Core.Path.{_≡_};
-ghost use lib.ListN.{getD};
+ghost use lib.ListN.{getD, length};
+ghost use Rattle.label_events.specs.Accept.{acceptedBy, acceptedOf, planChange, planOf};
+ghost use Rattle.label_events.specs.Requests.{abortedPlan, askedPlan};
 ghost use Rattle.message.specs.Storable.{bears};
 ghost use Rattle.message.specs.Submission.{submissionOf};
+ghost use Rattle.image.specs.Sizes.{imageSize};
 ghost use Rattle.image.specs.State.{decode};
 ghost use Rattle.image.specs.Verdict.{IsSound};
 ghost use Rattle.protocol.specs.Accepting.{isBarred, acceptedAs};
 ghost use Rattle.protocol.specs.Held.{isHeld};
+ghost use Rattle.calls.specs.State.{stateOf};
 ghost use Rattle.submit.specs.Change.{acceptedChange};
+use ft_number::MessageId;
 use label_events::Acceptance;
 use label_events::Accepted;
 use label_events::Change;
@@ -55,11 +60,48 @@ pub fn is_barred(image: &[u8], kind: Kind, label: u32) -> bool
         Kind::Address => false,
         Kind::AddressWithdraw => false,
         Kind::ResourcesAvailable => false,
+        Kind::Request(_) => false,
+        Kind::Abort(_) => false,
+        Kind::NoResources => false,
         Kind::NoKind => false,
     }
 }
 
-// The answer to a message that names no label: no word is another.
+// Accepts a message of a label for sending; what it makes of the label words is told, and nothing is stored.
+fn accept_label(image: &[u8], message: LabelMessage, label: u32) -> Accepted
+    requires { ⌜ length (now image) ≡ imageSize ⌝ }
+    ensures { λ r. ⌜ (r .acceptance ≡ acceptedOf (decode (now (image .entry)) .labels) message label .0) × (r .change ≡ planChange (planOf (decode (now (image .entry)) .labels) message label)) ⌝ }
+{
+    let mut words = [0u32; label_list::WORD_COUNT];
+    image::labels_of(image, &mut words);
+    label_events::accept(&mut words, message, label)
+}
+
+// The same of a Request. The IDs of block 65 are read for Requests and Aborts alone; those that do not count are not found.
+fn accept_request(image: &[u8], id: MessageId) -> Accepted
+    requires { ⌜ length (now image) ≡ imageSize ⌝ }
+    ensures { λ r. ⌜ (r .acceptance ≡ acceptedBy (decode (now (image .entry)) .labels) (askedPlan (decode (now (image .entry)) .labels) (decode (now (image .entry)) .ids) id) .0) × (r .change ≡ planChange (askedPlan (decode (now (image .entry)) .labels) (decode (now (image .entry)) .ids) id)) ⌝ }
+{
+    let mut words = [0u32; label_list::WORD_COUNT];
+    let mut ids = [0u32; label_list::WORD_COUNT];
+    image::labels_of(image, &mut words);
+    image::ids_of(image, &mut ids);
+    label_events::ask(&mut words, &mut ids, id)
+}
+
+// And of an Abort.
+fn accept_abort(image: &[u8], id: MessageId) -> Accepted
+    requires { ⌜ length (now image) ≡ imageSize ⌝ }
+    ensures { λ r. ⌜ (r .acceptance ≡ acceptedBy (decode (now (image .entry)) .labels) (abortedPlan (decode (now (image .entry)) .labels) (decode (now (image .entry)) .ids) id) .0) × (r .change ≡ planChange (abortedPlan (decode (now (image .entry)) .labels) (decode (now (image .entry)) .ids) id)) ⌝ }
+{
+    let mut words = [0u32; label_list::WORD_COUNT];
+    let mut ids = [0u32; label_list::WORD_COUNT];
+    image::labels_of(image, &mut words);
+    image::ids_of(image, &mut ids);
+    label_events::abort(&mut words, &ids, id)
+}
+
+// The answer to a message that names neither label nor Request: no word is another.
 fn without_label(acceptance: Acceptance) -> Accepted
     ensures { λ r. ⌜ (r .acceptance ≡ acceptance) × (r .change ≡ Change.Keep) ⌝ }
 {
@@ -69,17 +111,21 @@ fn without_label(acceptance: Acceptance) -> Accepted
     }
 }
 
-// Accepts a message of that kind and label for sending; a refusal leaves the words as they were.
-pub fn accept_as(words: &mut [u32], kind: Kind, label: u32) -> Accepted
-    ensures { λ r. ⌜ (r .acceptance ≡ acceptedAs (now (words .entry)) kind label .0) × (r .change ≡ acceptedChange (now (words .entry)) kind label) × (now (words .exit) ≡ acceptedAs (now (words .entry)) kind label .1) ⌝ }
+// Accepts a message of that kind and label for sending.
+pub fn accept_as(image: &[u8], kind: Kind, label: u32) -> Accepted
+    requires { ⌜ length (now image) ≡ imageSize ⌝ }
+    ensures { λ r. ⌜ (r .acceptance ≡ acceptedAs (stateOf (now (image .entry)) .table) kind label .0) × (r .change ≡ acceptedChange (stateOf (now (image .entry)) .table) kind label) ⌝ }
 {
     match kind {
-        Kind::Mapping => label_events::accept(words, LabelMessage::Mapping, label),
-        Kind::Withdraw => label_events::accept(words, LabelMessage::Withdraw, label),
-        Kind::Release => label_events::accept(words, LabelMessage::Release, label),
+        Kind::Mapping => accept_label(image, LabelMessage::Mapping, label),
+        Kind::Withdraw => accept_label(image, LabelMessage::Withdraw, label),
+        Kind::Release => accept_label(image, LabelMessage::Release, label),
         Kind::Address => without_label(Acceptance::Taken),
         Kind::AddressWithdraw => without_label(Acceptance::Taken),
         Kind::ResourcesAvailable => without_label(Acceptance::Taken),
+        Kind::Request(id) => accept_request(image, id),
+        Kind::Abort(id) => accept_abort(image, id),
+        Kind::NoResources => without_label(Acceptance::Taken),
         Kind::NoKind => without_label(Acceptance::NotAllowed),
     }
 }

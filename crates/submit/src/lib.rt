@@ -6,6 +6,7 @@ ghost use lib.ListN.{length};
 ghost use Rattle.message.specs.declared.Submission.the-variants.{Accepted};
 ghost use Rattle.message.specs.Storable.{shortest, longest};
 ghost use Rattle.message.specs.Submission.{submissionOf};
+ghost use Rattle.image.specs.State.{decode};
 ghost use Rattle.image.specs.Verdict.{IsSound};
 ghost use Rattle.protocol.specs.Submit.{kindRule};
 ghost use Rattle.calls.specs.Outcomes.{afterWith, settleOf};
@@ -14,47 +15,29 @@ ghost use Rattle.submit.specs.Call.{queued, submitOf};
 use calls::Answer;
 use calls::Outcome;
 use calls::Phase;
-use label_events::Acceptance;
 use message::Kind;
 use message::Submission;
 
+mod judging;
 mod labels;
 mod storing;
 
-// A message that passes 3, 4 and 5, with its kind and label: 6, 13 and 7 are asked, and it is queued.
+// A message that passes 3, 4 and 5, with its kind and label: 6, 14, 15, 13 and 7 are asked, and it is queued.
 fn submit_accepted(image: &mut [u8], phase: Phase, msg: &[u8], kind: Kind, label: u32) -> Outcome
-    requires { ⌜ IsSound (now image) × (shortest ≤ length (now msg)) × (length (now msg) ≤ longest) × (submissionOf (now msg) ≡ Accepted kind label) ⌝ }
-    ensures { λ r. ⌜ afterWith r (now (image .exit)) [] ≡ settleOf (kindRule (stateOf (now (image .entry))) kind label) phase (now (image .entry)) [] (queued (now (image .entry)) phase (now (msg .entry))) ⌝ }
+    requires { ⌜ IsSound (now image) × (decode (now image) .header .kept ≡ 1) × (shortest ≤ length (now msg)) × (length (now msg) ≤ longest) × (submissionOf (now msg) ≡ Accepted kind label) ⌝ }
+    ensures { λ r. ⌜ afterWith r (now (image .exit)) [] ≡ settleOf (kindRule (stateOf (now (image .entry))) phase kind label) phase (now (image .entry)) [] (queued (now (image .entry)) phase (now (msg .entry))) ⌝ }
 {
     if labels::is_barred(image, kind, label) {
         return calls::refuse(Answer::LabelNotAllowed, phase);
     }
-    let mut words = [0u32; label_list::WORD_COUNT];
-    image::labels_of(image, &mut words);
-    let accepted = labels::accept_as(&mut words, kind, label);
+    let accepted = labels::accept_as(image, kind, label);
     let acceptance = accepted.acceptance;
     let change = accepted.change;
-    match acceptance {
-        Acceptance::Taken => {}
-        Acceptance::NotAllowed => {
-            return calls::refuse(Answer::LabelNotAllowed, phase);
-        }
-        Acceptance::NoRoom => {
-            return calls::refuse(Answer::NoLabelWord, phase);
-        }
+    let answer = judging::judge(image, phase, kind, acceptance);
+    if !calls::is_done(answer) {
+        return calls::refuse(answer, phase);
     }
-    if image::header_of(image).held as usize >= image::SLOT_COUNT {
-        return calls::refuse(Answer::StoreFull, phase);
-    }
-    let slot = storing::store_message(image, msg, kind, label, change);
-    // The count of held messages is another, so block 0 changed.
-    Outcome {
-        answer: Answer::Done,
-        phase: phase,
-        written: 0,
-        slot: slot,
-        block0: true,
-    }
+    storing::queue_message(image, phase, msg, kind, label, change)
 }
 
 // Submits a message: 12, 1, 3, 4, 5, then what its kind and label say. A refusal changes nothing.

@@ -11,6 +11,7 @@ use Rattle.octets.specs.Pick.{pick}
 use Rattle.octets.proofs.Choice.{pick-all}
 use Rattle.octets.proofs.Differ.{differ-self}
 use Rattle.block0.specs.declared.Header.{Header}
+use Rattle.image.specs.Sizes.{block, requestBlock}
 use Rattle.image.specs.State.{decode}
 use Rattle.image.specs.Verdict.{IsSound}
 use Rattle.protocol.specs.declared.Answer.{Answer}
@@ -98,7 +99,7 @@ module _ (im : List ℕ) (ph : Phase) (elapsed : ℕ) where
 
     pub too-early : IsSound im → Bytes im → {x : Outcome} → t ≡ false → x ≡ refusal Answer.Done ph → afterWith x im [] ≡ passedOn
     unfolding laid
-    too-early s byte e p = rw (read e, put-same im s byte, differ-self, p)
+    too-early s byte e p = rw (read e, put-same im s byte, differ-self (block im 0), differ-self (block im requestBlock), p)
 
     pub late : {x : After} → t ≡ true → x ≡ releasedOn Answer.Done im [] → x ≡ passedOn
     unfolding releasedOn

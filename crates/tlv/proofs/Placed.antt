@@ -8,7 +8,7 @@ use Rattle.octets.proofs.Choice.{by-test, no}
 use Rattle.tlv.specs.declared.Found.{Found}
 use Rattle.tlv.specs.declared.walk.Tlv.{Tlv}
 use Rattle.tlv.specs.Split.{IsListed}
-use Rattle.tlv.specs.Tlv.{fecType, labelType, statusType, parametersType, sessionType, protectionType, ackType, tlvOf}
+use Rattle.tlv.specs.Tlv.{fecType, labelType, statusType, parametersType, sessionType, protectionType, ackType, requestIdType, tlvOf}
 use Rattle.tlv.specs.Walk.{placeOf, placedOf}
 use Rattle.tlv.proofs.Places.{Each, each-placed}
 
@@ -21,6 +21,7 @@ numberOf Tlv.Parameters = parametersType
 numberOf Tlv.Session = sessionType
 numberOf Tlv.Protection = protectionType
 numberOf Tlv.Ack = ackType
+numberOf Tlv.RequestId = requestIdType
 numberOf Tlv.Other = 0
 
 number-tlv : (tlv : Tlv) → tlvOf (numberOf tlv) ≡ tlv
@@ -32,6 +33,7 @@ number-tlv Tlv.Parameters = refl
 number-tlv Tlv.Session = refl
 number-tlv Tlv.Protection = refl
 number-tlv Tlv.Ack = refl
+number-tlv Tlv.RequestId = refl
 number-tlv Tlv.Other = refl
 
 -- two TLVs are the same, or they are not
@@ -50,6 +52,7 @@ each-at P f e Tlv.Parameters l = e .parameters
 each-at P f e Tlv.Session l = e .session
 each-at P f e Tlv.Protection l = e .protection
 each-at P f e Tlv.Ack l = e .ack
+each-at P f e Tlv.RequestId l = e .requestid
 each-at P f e Tlv.Other l = absurd (l refl)
 
 pub each-of : (P : Tlv → ℕ → Type 0) (f : Found) → ((tlv : Tlv) → IsListed tlv → P tlv (placeOf f tlv)) → Each P f
@@ -61,6 +64,7 @@ each-of P f p = record {
   session = p Tlv.Session (λ e. no cc);
   protection = p Tlv.Protection (λ e. no cc);
   ack = p Tlv.Ack (λ e. no cc);
+  requestid = p Tlv.RequestId (λ e. no cc);
 }
 
 -- the TLV that was placed has the place
@@ -72,6 +76,7 @@ placed-here f Tlv.Parameters at l = refl
 placed-here f Tlv.Session at l = refl
 placed-here f Tlv.Protection at l = refl
 placed-here f Tlv.Ack at l = refl
+placed-here f Tlv.RequestId at l = refl
 placed-here f Tlv.Other at l = absurd (l refl)
 
 -- and no other was touched

@@ -50,22 +50,25 @@ pub record Each (P : Tlv → ℕ → Type 0) (f : Found) : Type 0 where
   pub session : P Tlv.Session (f .session)
   pub protection : P Tlv.Protection (f .protection)
   pub ack : P Tlv.Ack (f .ack)
+  pub requestid : P Tlv.RequestId (f .requestid)
 
 pub each-placed : (P : Tlv → ℕ → Type 0) (f : Found) (tlv : Tlv) (at : ℕ) → Each P f → P tlv at → Each P (placedOf f tlv at)
 each-placed P f Tlv.Fec at e p =
-    record { fec = p; label = e .label; status = e .status; parameters = e .parameters; session = e .session; protection = e .protection; ack = e .ack }
+    record { fec = p; label = e .label; status = e .status; parameters = e .parameters; session = e .session; protection = e .protection; ack = e .ack; requestid = e .requestid }
 each-placed P f Tlv.Label at e p =
-    record { fec = e .fec; label = p; status = e .status; parameters = e .parameters; session = e .session; protection = e .protection; ack = e .ack }
+    record { fec = e .fec; label = p; status = e .status; parameters = e .parameters; session = e .session; protection = e .protection; ack = e .ack; requestid = e .requestid }
 each-placed P f Tlv.Status at e p =
-    record { fec = e .fec; label = e .label; status = p; parameters = e .parameters; session = e .session; protection = e .protection; ack = e .ack }
+    record { fec = e .fec; label = e .label; status = p; parameters = e .parameters; session = e .session; protection = e .protection; ack = e .ack; requestid = e .requestid }
 each-placed P f Tlv.Parameters at e p =
-    record { fec = e .fec; label = e .label; status = e .status; parameters = p; session = e .session; protection = e .protection; ack = e .ack }
+    record { fec = e .fec; label = e .label; status = e .status; parameters = p; session = e .session; protection = e .protection; ack = e .ack; requestid = e .requestid }
 each-placed P f Tlv.Session at e p =
-    record { fec = e .fec; label = e .label; status = e .status; parameters = e .parameters; session = p; protection = e .protection; ack = e .ack }
+    record { fec = e .fec; label = e .label; status = e .status; parameters = e .parameters; session = p; protection = e .protection; ack = e .ack; requestid = e .requestid }
 each-placed P f Tlv.Protection at e p =
-    record { fec = e .fec; label = e .label; status = e .status; parameters = e .parameters; session = e .session; protection = p; ack = e .ack }
+    record { fec = e .fec; label = e .label; status = e .status; parameters = e .parameters; session = e .session; protection = p; ack = e .ack; requestid = e .requestid }
 each-placed P f Tlv.Ack at e p =
-    record { fec = e .fec; label = e .label; status = e .status; parameters = e .parameters; session = e .session; protection = e .protection; ack = p }
+    record { fec = e .fec; label = e .label; status = e .status; parameters = e .parameters; session = e .session; protection = e .protection; ack = p; requestid = e .requestid }
+each-placed P f Tlv.RequestId at e p =
+    record { fec = e .fec; label = e .label; status = e .status; parameters = e .parameters; session = e .session; protection = e .protection; ack = e .ack; requestid = p }
 each-placed P f Tlv.Other at e p = e
 
 -- what every turn keeps from a place on, the walk keeps
@@ -147,6 +150,7 @@ none-lies m = record {
   session = λ z. absurd (z refl);
   protection = λ z. absurd (z refl);
   ack = λ z. absurd (z refl);
+  requestid = λ z. absurd (z refl);
 }
 
 -- every TLV that was found stands at its place
@@ -171,10 +175,11 @@ places m f e =
       head = whole-tlvs m f e .head;
       fec = lies-whole m Tlv.Fec (f .fec) (l .fec);
       label = lies-within m Tlv.Label (f .label) 4 (l .label) (λ k z. omega (arith, eqb-true k 4 z));
-      status = lies-within m Tlv.Status (f .status) 4 (l .status) (λ k z. omega (arith, eqb-true k 10 z));
+      status = lies-within m Tlv.Status (f .status) 10 (l .status) (λ k z. omega (arith, eqb-true k 10 z));
       parameters = lies-within m Tlv.Parameters (f .parameters) 14 (l .parameters) (λ k z. omega (arith, eqb-true k 14 z));
       parametersvalue = lies-whole m Tlv.Parameters (f .parameters) (l .parameters);
       session = lies-within m Tlv.Session (f .session) 4 (l .session) (λ k z. omega (arith, eqb-true k 4 z));
       protection = lies-within m Tlv.Protection (f .protection) 4 (l .protection) (λ k z. omega (arith, eqb-true k 4 z));
       ack = lies-within m Tlv.Ack (f .ack) 4 (l .ack) (λ k z. omega (arith, eqb-true k 4 z));
+      requestid = lies-within m Tlv.RequestId (f .requestid) 4 (l .requestid) (λ k z. omega (arith, eqb-true k 4 z));
     }

@@ -88,6 +88,7 @@ none-placed Tlv.Parameters = refl
 none-placed Tlv.Session = refl
 none-placed Tlv.Protection = refl
 none-placed Tlv.Ack = refl
+none-placed Tlv.RequestId = refl
 none-placed Tlv.Other = refl
 
 -- the places that a message's TLVs have
@@ -97,8 +98,8 @@ placesIn tlvs = foundIn noneFound headSize tlvs
 -- places that are equal each are equal
 same-places : (f g : Found) → Each (λ tlv place. place ≡ placeOf g tlv) f → f ≡ g
 same-places f g e =
-    let same : f ≡ record { fec = g .fec; label = g .label; status = g .status; parameters = g .parameters; session = g .session; protection = g .protection; ack = g .ack } =
-    rw (← e .fec, ← e .label, ← e .status, ← e .parameters, ← e .session, ← e .protection, ← e .ack) refl in
+    let same : f ≡ record { fec = g .fec; label = g .label; status = g .status; parameters = g .parameters; session = g .session; protection = g .protection; ack = g .ack; requestid = g .requestid } =
+    rw (← e .fec, ← e .label, ← e .status, ← e .parameters, ← e .session, ← e .protection, ← e .ack, ← e .requestid) refl in
     same
 
 -- the bytes behind a message's head are its TLVs
@@ -116,6 +117,7 @@ placed-each m tlvs f h = record {
   session = h .session;
   protection = h .protection;
   ack = h .ack;
+  requestid = h .requestid;
 }
 
 module _ (m : List ℕ) where
@@ -140,6 +142,7 @@ module _ (m : List ℕ) where
         session = stands .session;
         protection = stands .protection;
         ack = stands .ack;
+        requestid = stands .requestid;
       })
 
   -- and all that there is: a head and whole TLVs are taken, with the places where they stand

@@ -14,14 +14,16 @@ use Rattle.octets.proofs.Be.{beAt-lt}
 use Rattle.octets.proofs.Bytes.{beAt-drop}
 use Rattle.octets.proofs.Choice.{cleared}
 use Rattle.ft_number.specs.declared.FtNumber.{FtNumber}
+use Rattle.ft_number.specs.declared.MessageId.{MessageId}
 use Rattle.tlv.specs.declared.Field.{Field}
 use Rattle.tlv.specs.declared.FtField.{FtField}
+use Rattle.tlv.specs.declared.IdField.{IdField}
 use Rattle.tlv.specs.declared.Parameters.{Parameters}
 use Rattle.tlv.specs.declared.Part.{Part}
 use Rattle.tlv.specs.declared.Session.{Session}
 use Rattle.tlv.specs.declared.walk.Tlv.{Tlv}
 use Rattle.tlv.specs.Tlv.{largestLabel}
-use Rattle.tlv.specs.Value.{Within, partAt, fieldAt, numberAt, parametersAt, sessionAt, topBit}
+use Rattle.tlv.specs.Value.{Within, partAt, fieldAt, numberAt, idAt, parametersAt, sessionAt, topBit}
 use Rattle.tlv.proofs.Places.{Lies}
 
 -- the value's part lies within the message
@@ -54,6 +56,13 @@ module _ (m : List ℕ) (byte : Bytes m) (place : ℕ) where
       let p = cleared (eqb place 0) FtField.Absent (FtField.Number (record { 0 = beAt 4 m (place + 4) })) (FtField.Number a) (λ z. cc) e in
       let n : beAt 4 m (place + 4) ≡ a .0 = cc (p .1) in
       rw (← n) (beAt-lt 4 m (place + 4) byte)
+
+  pub id-width : (n : ℕ) (id : MessageId) → idAt m place n ≡ IdField.Id id → id .0 < 4294967296
+  unfolding idAt
+  id-width n id e =
+      let p = cleared (eqb place 0) IdField.Absent (IdField.Id (record { 0 = beAt 4 m (place + 4 + n) })) (IdField.Id id) (λ z. cc) e in
+      let k : beAt 4 m (place + 4 + n) ≡ id .0 = cc (p .1) in
+      rw (← k) (beAt-lt 4 m (place + 4 + n) byte)
 
   pub parameters-width : (ka mp : ℕ) → parametersAt m place ≡ Parameters.Given ka mp → (ka < 65536) × (mp < 65536)
   unfolding parametersAt

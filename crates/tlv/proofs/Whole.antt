@@ -34,6 +34,7 @@ label-append Tlv.Parameters n ts us fits h = refl
 label-append Tlv.Session n ts us fits h = refl
 label-append Tlv.Protection n ts us fits h = refl
 label-append Tlv.Ack n ts us fits h = refl
+label-append Tlv.RequestId n ts us fits h = refl
 label-append Tlv.Other n ts us fits h = refl
 
 -- a turn takes a whole TLV that has no place yet, and gives it the place where it stands

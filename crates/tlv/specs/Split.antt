@@ -65,3 +65,4 @@ pub record HasTlvs (m : List ℕ) (tlvs : List (List ℕ)) (found : Found) : Typ
   pub session : PlaceIs headSize tlvs Tlv.Session (found .session)
   pub protection : PlaceIs headSize tlvs Tlv.Protection (found .protection)
   pub ack : PlaceIs headSize tlvs Tlv.Ack (found .ack)
+  pub requestid : PlaceIs headSize tlvs Tlv.RequestId (found .requestid)

@@ -1,6 +1,7 @@
 -- The listed TLVs: their numbers, the lengths of their values, and the largest label.
 -- 01: "TLV: U, F, 14-bit type (2), length (2), value. TLVs: FEC 0x0100, Generic Label 0x0200 (length 4), Status 0x0300 (10, ..),
 -- Common Session Parameters 0x0500 (14), FT Session 0x0503 (4: ..), FT Protection 0x0203 (4), FT ACK 0x0504 (4). The last three are the FT TLVs."
+-- 02: "TLV 0x0600, length 4": RFC 3036's Label Request Message ID.
 use Prim.Native.Nat.{ℕ, _+_, _%_}
 use mathlib.Core.Bool.{Bool, true}
 use mathlib.Core.List.{List, [], _∷_}
@@ -30,6 +31,9 @@ protectionType = 0x0203
 abbrev pub ackType : ℕ
 ackType = 0x0504
 
+abbrev pub requestIdType : ℕ
+requestIdType = 0x0600
+
 abbrev pub listed : List (ℕ × Tlv)
 listed =
     (fecType, Tlv.Fec)
@@ -39,6 +43,7 @@ listed =
     ∷ (sessionType, Tlv.Session)
     ∷ (protectionType, Tlv.Protection)
     ∷ (ackType, Tlv.Ack)
+    ∷ (requestIdType, Tlv.RequestId)
     ∷ []
 
 -- the TLV of a number, U and F masked off
@@ -64,6 +69,9 @@ protectionLength = 4
 abbrev pub ackLength : ℕ
 ackLength = 4
 
+abbrev pub requestIdLength : ℕ
+requestIdLength = 4
+
 -- a value of n bytes has the TLV's length; FEC and TLVs that are not listed have any
 abbrev pub lengthFits : Tlv → ℕ → Bool
 lengthFits Tlv.Fec n = true
@@ -73,6 +81,7 @@ lengthFits Tlv.Parameters n = eqb n parametersLength
 lengthFits Tlv.Session n = eqb n sessionLength
 lengthFits Tlv.Protection n = eqb n protectionLength
 lengthFits Tlv.Ack n = eqb n ackLength
+lengthFits Tlv.RequestId n = eqb n requestIdLength
 lengthFits Tlv.Other n = true
 
 -- "14-bit type": the numbers below this one; U and F are the two bits above
@@ -98,4 +107,5 @@ labelValue Tlv.Parameters ts = 0
 labelValue Tlv.Session ts = 0
 labelValue Tlv.Protection ts = 0
 labelValue Tlv.Ack ts = 0
+labelValue Tlv.RequestId ts = 0
 labelValue Tlv.Other ts = 0

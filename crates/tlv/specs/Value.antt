@@ -11,27 +11,29 @@ use Rattle.tlv.specs.declared.Fec.{Fec}
 use Rattle.tlv.specs.declared.Field.{Field}
 use Rattle.tlv.specs.declared.Found.{Found}
 use Rattle.tlv.specs.declared.FtField.{FtField}
+use Rattle.tlv.specs.declared.IdField.{IdField}
 use Rattle.tlv.specs.declared.Parameters.{Parameters}
 use Rattle.tlv.specs.declared.Part.{Part}
 use Rattle.tlv.specs.declared.Session.{Session}
-use Rattle.tlv.specs.Tlv.{labelLength, parametersLength, sessionLength, protectionLength, ackLength}
+use Rattle.tlv.specs.Tlv.{labelLength, statusLength, parametersLength, sessionLength, protectionLength, ackLength, requestIdLength}
 use Rattle.tlv.specs.Walk.{headSize}
 
 -- n bytes of the value lie within the message
 abbrev pub Within : List ℕ → ℕ → ℕ → Type 0
 Within m place n = (place ≡ 0 → ⊥) → place + 4 + n ≤ length m
 
--- the TLVs that were found lie within the message, each with its length; of Status the first 4 bytes are read
+-- the TLVs that were found lie within the message, each with its length
 pub record Places (m : List ℕ) (f : Found) : Type 0 where
   pub head : headSize ≤ length m
   pub fec : Within m (f .fec) (beAt 2 m (f .fec + 2))
   pub label : Within m (f .label) labelLength
-  pub status : Within m (f .status) 4
+  pub status : Within m (f .status) statusLength
   pub parameters : Within m (f .parameters) parametersLength
   pub parametersvalue : Within m (f .parameters) (beAt 2 m (f .parameters + 2))
   pub session : Within m (f .session) sessionLength
   pub protection : Within m (f .protection) protectionLength
   pub ack : Within m (f .ack) ackLength
+  pub requestid : Within m (f .requestid) requestIdLength
 
 -- the value's part of the message
 unfoldable pub partAt : List ℕ → ℕ → Part
@@ -50,6 +52,10 @@ fieldAt m place = pick (eqb place 0) Field.Absent (Field.Value (beAt 4 m (place 
 -- an FT number
 unfoldable pub numberAt : List ℕ → ℕ → FtField
 numberAt m place = pick (eqb place 0) FtField.Absent (FtField.Number (record { 0 = beAt 4 m (place + 4) }))
+
+-- a message ID, n bytes into the value: of Label Request Message ID the whole; in Status it stands behind the code, RFC 3036: "code (4), message ID (4), message type (2)"
+unfoldable pub idAt : List ℕ → ℕ → ℕ → IdField
+idAt m place n = pick (eqb place 0) IdField.Absent (IdField.Id (record { 0 = beAt 4 m (place + 4 + n) }))
 
 -- 01: "of the peer's parameters only these are read": KeepAlive time, maximum PDU length; before them stands the protocol version (2),
 -- between them the A and D bits (1) and PVLim (1)

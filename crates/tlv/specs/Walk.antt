@@ -15,7 +15,7 @@ use Rattle.tlv.specs.declared.walk.Walk.{Walk}
 use Rattle.tlv.specs.Tlv.{lengthFits, headOf, sizeOf, labelValue, largestLabel}
 
 abbrev pub noneFound : Found
-noneFound = record { fec = 0; label = 0; status = 0; parameters = 0; session = 0; protection = 0; ack = 0 }
+noneFound = record { fec = 0; label = 0; status = 0; parameters = 0; session = 0; protection = 0; ack = 0; requestid = 0 }
 
 -- the place where a TLV was found; 0 where it was not, and for a TLV that is not listed
 abbrev pub placeOf : Found → Tlv → ℕ
@@ -26,24 +26,27 @@ placeOf f Tlv.Parameters = f .parameters
 placeOf f Tlv.Session = f .session
 placeOf f Tlv.Protection = f .protection
 placeOf f Tlv.Ack = f .ack
+placeOf f Tlv.RequestId = f .requestid
 placeOf f Tlv.Other = 0
 
 -- the places with that of one TLV more; a TLV that is not listed has none
 abbrev pub placedOf : Found → Tlv → ℕ → Found
 placedOf f Tlv.Fec at =
-    record { fec = at; label = f .label; status = f .status; parameters = f .parameters; session = f .session; protection = f .protection; ack = f .ack }
+    record { fec = at; label = f .label; status = f .status; parameters = f .parameters; session = f .session; protection = f .protection; ack = f .ack; requestid = f .requestid }
 placedOf f Tlv.Label at =
-    record { fec = f .fec; label = at; status = f .status; parameters = f .parameters; session = f .session; protection = f .protection; ack = f .ack }
+    record { fec = f .fec; label = at; status = f .status; parameters = f .parameters; session = f .session; protection = f .protection; ack = f .ack; requestid = f .requestid }
 placedOf f Tlv.Status at =
-    record { fec = f .fec; label = f .label; status = at; parameters = f .parameters; session = f .session; protection = f .protection; ack = f .ack }
+    record { fec = f .fec; label = f .label; status = at; parameters = f .parameters; session = f .session; protection = f .protection; ack = f .ack; requestid = f .requestid }
 placedOf f Tlv.Parameters at =
-    record { fec = f .fec; label = f .label; status = f .status; parameters = at; session = f .session; protection = f .protection; ack = f .ack }
+    record { fec = f .fec; label = f .label; status = f .status; parameters = at; session = f .session; protection = f .protection; ack = f .ack; requestid = f .requestid }
 placedOf f Tlv.Session at =
-    record { fec = f .fec; label = f .label; status = f .status; parameters = f .parameters; session = at; protection = f .protection; ack = f .ack }
+    record { fec = f .fec; label = f .label; status = f .status; parameters = f .parameters; session = at; protection = f .protection; ack = f .ack; requestid = f .requestid }
 placedOf f Tlv.Protection at =
-    record { fec = f .fec; label = f .label; status = f .status; parameters = f .parameters; session = f .session; protection = at; ack = f .ack }
+    record { fec = f .fec; label = f .label; status = f .status; parameters = f .parameters; session = f .session; protection = at; ack = f .ack; requestid = f .requestid }
 placedOf f Tlv.Ack at =
-    record { fec = f .fec; label = f .label; status = f .status; parameters = f .parameters; session = f .session; protection = f .protection; ack = at }
+    record { fec = f .fec; label = f .label; status = f .status; parameters = f .parameters; session = f .session; protection = f .protection; ack = at; requestid = f .requestid }
+placedOf f Tlv.RequestId at =
+    record { fec = f .fec; label = f .label; status = f .status; parameters = f .parameters; session = f .session; protection = f .protection; ack = f .ack; requestid = at }
 placedOf f Tlv.Other at = f
 
 -- the fault of a test that does not hold; where it holds, the rest decides

@@ -1,5 +1,6 @@
 // The TLVs of one message: where each listed one stands, or that they are malformed, and what they say.
 use ft_number::FtNumber;
+use ft_number::MessageId;
 
 pub mod walk; // walk.rt: the walk over a message's TLVs
 pub mod value; // value.rt: what the TLVs that were found say
@@ -13,6 +14,7 @@ pub struct Found {
     pub session: usize,
     pub protection: usize,
     pub ack: usize,
+    pub requestid: usize,
 }
 
 // A part of the message's bytes, from start up to end; 0 and 0 where there is none.
@@ -38,6 +40,12 @@ pub enum Field {
 pub enum FtField {
     Absent,
     Number(FtNumber),
+}
+
+// The ID of another message that a message may name: of Label Request Message ID, of Status.
+pub enum IdField {
+    Absent,
+    Id(MessageId),
 }
 
 // The Common Session Parameters: the two that are read.

@@ -2,14 +2,16 @@
 ghost use Prim.Native.Nat.{_+_};
 ghost use mathlib.Core.Path.{_≡_};
 ghost use Rattle.octets.specs.Be.{beAt};
-ghost use Rattle.tlv.specs.Value.{Within, partAt, fecAt, fieldAt, numberAt, parametersAt, sessionAt};
+ghost use Rattle.tlv.specs.Value.{Within, partAt, fecAt, fieldAt, numberAt, idAt, parametersAt, sessionAt};
 use crate::Fec;
 use crate::Field;
 use crate::FtField;
+use crate::IdField;
 use crate::Parameters;
 use crate::Part;
 use crate::Session;
 use ft_number::FtNumber;
+use ft_number::MessageId;
 
 // The value's part of the message; from 0 to 0 where the TLV does not stand.
 pub fn part_at(m: &[u8], place: usize) -> Part
@@ -63,6 +65,17 @@ pub fn number_at(m: &[u8], place: usize) -> FtField
         return FtField::Absent;
     }
     FtField::Number(FtNumber(octets::get_u32(m, place + 4)))
+}
+
+// The message ID that lies n bytes into the value, or absent.
+pub fn id_at(m: &[u8], place: usize, n: usize) -> IdField
+    requires { ⌜ Within (now m) place (n + 4) ⌝ }
+    ensures { λ r. ⌜ r ≡ idAt (now (m .entry)) place n ⌝ }
+{
+    if place == 0 {
+        return IdField::Absent;
+    }
+    IdField::Id(MessageId(octets::get_u32(m, place + 4 + n)))
 }
 
 // The KeepAlive time and the maximum PDU length, or absent.

@@ -16,6 +16,7 @@ pub enum Tlv {
     Session,
     Protection,
     Ack,
+    RequestId,
     Other,
 }
 
@@ -43,6 +44,7 @@ fn length_fits(tlv: Tlv, n: usize) -> bool
         Tlv::Session => n == 4,
         Tlv::Protection => n == 4,
         Tlv::Ack => n == 4,
+        Tlv::RequestId => n == 4,
         Tlv::Other => true,
     }
 }
@@ -58,6 +60,7 @@ fn place_of(found: Found, tlv: Tlv) -> usize
         Tlv::Session => found.session,
         Tlv::Protection => found.protection,
         Tlv::Ack => found.ack,
+        Tlv::RequestId => found.requestid,
         Tlv::Other => 0,
     }
 }
@@ -74,6 +77,7 @@ fn placed(found: Found, tlv: Tlv, at: usize) -> Found
         Tlv::Session => g.session = at,
         Tlv::Protection => g.protection = at,
         Tlv::Ack => g.ack = at,
+        Tlv::RequestId => g.requestid = at,
         Tlv::Other => {}
     }
     g
@@ -92,6 +96,7 @@ fn label_in(s: &[u8], tlv: Tlv, n: usize, at: usize) -> u32
         Tlv::Session => 0,
         Tlv::Protection => 0,
         Tlv::Ack => 0,
+        Tlv::RequestId => 0,
         Tlv::Other => 0,
     }
 }
@@ -126,6 +131,7 @@ fn noted_by(found: Found, s: &[u8], number: u16, n: usize, at: usize) -> Walk
         0x0503 => noted(found, s, Tlv::Session, n, at),
         0x0203 => noted(found, s, Tlv::Protection, n, at),
         0x0504 => noted(found, s, Tlv::Ack, n, at),
+        0x0600 => noted(found, s, Tlv::RequestId, n, at),
         _ => noted(found, s, Tlv::Other, n, at),
     }
 }
@@ -164,6 +170,7 @@ fn walk_tlvs(s: &[u8]) -> Walk
         session: 0,
         protection: 0,
         ack: 0,
+        requestid: 0,
     };
     let mut at: usize = 8;
     let answer = 'walk: loop {

@@ -15,9 +15,9 @@ use Rattle.label_list.specs.declared.SweepRule.the-variants.{AfterBreak}
 use Rattle.label_list.specs.Sweep.{sweptOf}
 use Rattle.label_list.specs.Valid.{validOf}
 use Rattle.label_events.specs.Change.{codeAt}
-use Rattle.label_meaning.specs.Event.{Acked, Broken, afterEvent, Moves, withdraw-acked, release-acked, bare-lost}
 use Rattle.message.specs.Storable.{kindIn, labelIn}
 use Rattle.message.specs.Submission.{submissionOf}
+use Rattle.label_meaning.specs.Event.{Acked, Broken, afterEvent, Moves, withdraw-acked, release-acked, bare-lost}
 use Rattle.protocol.specs.Acked.{releasedKind, releasedLabels}
 use Rattle.protocol.proofs.Words.{released-valid}
 use Rattle.two_ends.specs.Agree.{codeAfter, IsGiven, IsUsed, Agree}

@@ -4,26 +4,24 @@ use mathlib.Core.Bool.{true, false, true≢false}
 use mathlib.Core.List.{List, [], _∷_, _++_}
 use mathlib.Core.Logic.{_⊎_, inl, inr, ⊎-elim}
 use mathlib.Core.Path.{_≡_, refl, sym, ap, _∙_}
-use native.Mathlib.Omega.{arith}
 use borrow.Author.Tests.{eq-eqb}
-use Rattle.octets.proofs.Choice.{by-test}
+use Rattle.octets.proofs.Choice.{no, by-test}
 use Rattle.label_list.specs.declared.LabelMessage.{LabelMessage}
 use Rattle.label_list.specs.declared.LabelMessage.the-variants.{Mapping, Withdraw, Release}
 use Rattle.label_list.specs.declared.Side.{Side}
 use Rattle.label_list.specs.declared.Side.the-variants.{Given, Used}
 use Rattle.label_list.specs.Valid.{validOf}
 use Rattle.label_events.specs.Change.{codeAt}
-use Rattle.label_meaning.specs.Event.{LabelEvent, Accepted, afterEvent, Moves, given, withdrawn, released, returned}
-use Rattle.label_meaning.proofs.Meaning.{valid-means}
-use Rattle.label_meaning.proofs.Moved.{every-move}
 use Rattle.message.specs.declared.Kind.{Kind}
 use Rattle.message.specs.declared.Submission.{Submission}
 use Rattle.message.specs.Storable.{bears}
 use Rattle.message.specs.Submission.{submissionOf}
-use Rattle.protocol.specs.Accepting.{acceptedAs}
+use Rattle.label_meaning.specs.Event.{LabelEvent, Accepted, afterEvent, Moves, given, withdrawn, released, returned}
+use Rattle.label_meaning.proofs.Meaning.{valid-means}
+use Rattle.label_meaning.proofs.Moved.{every-move}
 use Rattle.protocol.specs.Held.{isHeld}
-use Rattle.protocol.specs.Submit.{acceptedLabels}
 use Rattle.two_ends.specs.Agree.{codeAfter, Agree}
+use Rattle.two_ends.proofs.Accepting.{AcceptedWords, mapping-accepted, withdraw-accepted, release-accepted, codes-kept}
 use Rattle.two_ends.proofs.Codes.{fit, mapping-used, used-codeBy, fit-after, after-snoc}
 use Rattle.two_ends.proofs.Owed.{held-more, held-last}
 use Rattle.two_ends.proofs.Sixless.{NoSix}
@@ -57,17 +55,12 @@ module _ (giver user : List ℕ) (out back : List (List ℕ)) (a : Agree giver u
       (given-move move))
       (moved giver v (Accepted message k) Given l)
 
-  pub accept-giver : (m : List ℕ) → validOf giver ≡ true → NoSix user → (j : Submission) → submissionOf m ≡ j → Agree (acceptedLabels giver j) user (out ++ (m ∷ [])) back
-  unfolding acceptedAs afterEvent
-  accept-giver m v six Submission.Malformed e = more-agree m
-  accept-giver m v six Submission.Refused e = more-agree m
-  accept-giver m v six (Submission.Accepted Kind.Mapping k) e = given-agree m v six Mapping k (λ l p q. e ∙ ap (λ (x : ℕ). Submission.Accepted Kind.Mapping x) q)
-  accept-giver m v six (Submission.Accepted Kind.Withdraw k) e = given-agree m v six Withdraw k (λ l p q. let no : _≡_ {A = ℕ} 0 1 = cc in absurd (omega arith))
-  accept-giver m v six (Submission.Accepted Kind.Release k) e = given-agree m v six Release k (λ l p q. let no : _≡_ {A = ℕ} 0 1 = cc in absurd (omega arith))
-  accept-giver m v six (Submission.Accepted Kind.Address k) e = more-agree m
-  accept-giver m v six (Submission.Accepted Kind.AddressWithdraw k) e = more-agree m
-  accept-giver m v six (Submission.Accepted Kind.ResourcesAvailable k) e = more-agree m
-  accept-giver m v six (Submission.Accepted Kind.NoKind k) e = more-agree m
+  pub accept-giver : (m : List ℕ) → validOf giver ≡ true → NoSix user → {j : Submission} {after : List ℕ} → submissionOf m ≡ j → AcceptedWords giver j after
+      → Agree after user (out ++ (m ∷ [])) back
+  accept-giver m v six e (mapping-accepted {k}) = given-agree m v six Mapping k (λ l p q. e ∙ ap (λ (x : ℕ). Submission.Accepted Kind.Mapping x) q)
+  accept-giver m v six e (withdraw-accepted {k}) = given-agree m v six Withdraw k (λ l p q. no cc)
+  accept-giver m v six e (release-accepted {k}) = given-agree m v six Release k (λ l p q. no cc)
+  accept-giver m v six e (codes-kept same) = λ l may g none. more-agree m l may (rw (same Given l) at g) none
 
 -- ---- the user accepts a message
 not-held : (l : ℕ) (q r : List (List ℕ)) → isHeld 3 l (q ++ r) ≡ false → isHeld 3 l q ≡ false
@@ -92,14 +85,8 @@ module _ (giver user : List ℕ) (out back : List (List ℕ)) (a : Agree giver u
       absurd (true≢false (sym (held-last 3 l back m (is l (p .0) (p .1))) ∙ none)))
       (moved user v (Accepted message k) Used l)
 
-  pub accept-user : (m : List ℕ) → validOf user ≡ true → (j : Submission) → submissionOf m ≡ j → Agree giver (acceptedLabels user j) out (back ++ (m ∷ []))
-  unfolding acceptedAs afterEvent
-  accept-user m v Submission.Malformed e = same-agree m
-  accept-user m v Submission.Refused e = same-agree m
-  accept-user m v (Submission.Accepted Kind.Mapping k) e = used-agree m v Mapping k (λ l p q. let no : _≡_ {A = ℕ} 0 1 = cc in absurd (omega arith))
-  accept-user m v (Submission.Accepted Kind.Withdraw k) e = used-agree m v Withdraw k (λ l p q. let no : _≡_ {A = ℕ} 0 1 = cc in absurd (omega arith))
-  accept-user m v (Submission.Accepted Kind.Release k) e = used-agree m v Release k (λ l p q. rw e (eq-eqb k l q))
-  accept-user m v (Submission.Accepted Kind.Address k) e = same-agree m
-  accept-user m v (Submission.Accepted Kind.AddressWithdraw k) e = same-agree m
-  accept-user m v (Submission.Accepted Kind.ResourcesAvailable k) e = same-agree m
-  accept-user m v (Submission.Accepted Kind.NoKind k) e = same-agree m
+  pub accept-user : (m : List ℕ) → validOf user ≡ true → {j : Submission} {after : List ℕ} → submissionOf m ≡ j → AcceptedWords user j after → Agree giver after out (back ++ (m ∷ []))
+  accept-user m v e (mapping-accepted {k}) = used-agree m v Mapping k (λ l p q. no cc)
+  accept-user m v e (withdraw-accepted {k}) = used-agree m v Withdraw k (λ l p q. no cc)
+  accept-user m v e (release-accepted {k}) = used-agree m v Release k (λ l p q. rw e (eq-eqb k l q))
+  accept-user m v e (codes-kept same) = λ l may g none. rw (same Used l) (same-agree m l may g none)

@@ -29,12 +29,13 @@ use Rattle.two_ends.specs.World.{End, Lasts, World, swap}
 use Rattle.two_ends.proofs.Arriving.{alive-done, alive-read, carried-fair, carried-read, f, g₁, g₂}
 use Rattle.two_ends.proofs.Begun.{at-start}
 use Rattle.two_ends.proofs.Greeted.{first-begins}
-use Rattle.two_ends.proofs.Hearing.{Labelled}
+use Rattle.two_ends.proofs.Hearing.{Between}
 use Rattle.two_ends.proofs.Invariant.{Good}
 use Rattle.two_ends.proofs.Judging.{Fair, fair-done, fair-fatal, fair-full, fair-missing, fair-wrong}
-use Rattle.two_ends.proofs.Labelled.{Lists, lists, swap-lists}
+use Rattle.two_ends.proofs.Labels.{Labels, labels-persist}
 use Rattle.two_ends.proofs.Oldest.{Oldests, by-oldest}
 use Rattle.two_ends.proofs.Packets.{again, alive, bytesOf, carried}
+use Rattle.two_ends.proofs.Persisted.{Persisted, persisted, swap-persists}
 use Rattle.two_ends.proofs.Receiving.{judged, rule-answers}
 use Rattle.two_ends.proofs.Resuming.{again-begins, again-start}
 use Rattle.two_ends.proofs.Sixless.{protected-right}
@@ -60,7 +61,7 @@ fair-comes right (wrong {k = k} a e) fair-wrong = no (cc (sym (right k) ∙ e))
 -- ---- whichever message is the oldest
 module _ (b : End) (ab : List (List ℕ)) where
   abbrev Answered : End → List ℕ → List (List ℕ) → Type 0
-  Answered e m rest = Labelled e b → Comes (answerTo e m)
+  Answered e m rest = Between Labels e b → Comes (answerTo e m)
 
   each : Oldests Answered b ab
   each = record {
@@ -82,7 +83,7 @@ module _ (b : End) (ab : List (List ℕ)) where
         (fair-comes (rightly now g n (l .own) refl) (judged now sent (bytesOf (carried m n ack)) g read) (carried-fair now sent h m n ack i));
   }
 
-pub good-comes : (w : World) → Good w → Lists w → Lasts w → AllCome w
+pub good-comes : (w : World) → Good w → Persisted Labels w → Lasts w → AllCome w
 good-comes w g l k m rest on line =
     by-oldest (Answered (w .b) (w .ab)) (w .b) (w .ab) (each (w .b) (w .ab)) (w .a) m rest on (rw line at (g k)) (l k)
 
@@ -92,5 +93,5 @@ pub only-these-come : (x y : Opener) → Fit x → Fit y → Afresh x y → (vs 
 only-these-come x y fx fy f vs p k =
     let w = run (start x y) vs in
     let g = at-run (start x y) vs p (at-start x y fx fy f) in
-    let l = lists x y fx fy f vs p in
-    (good-comes w g l k, good-comes (swap w) (at-swap w g) (swap-lists w l) k)
+    let l = persisted labels-persist x y fx fy f vs p in
+    (good-comes w g l k, good-comes (swap w) (at-swap w g) (swap-persists labels-persist w l) k)

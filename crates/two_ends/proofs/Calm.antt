@@ -35,12 +35,13 @@ use Rattle.two_ends.proofs.Acts.{by-delivery, hearer}
 use Rattle.two_ends.proofs.Answering.{rightly}
 use Rattle.two_ends.proofs.Arriving.{alive-done, alive-read, carried-another, carried-fair, carried-read, g₁, g₂}
 use Rattle.two_ends.proofs.Greeted.{first-begins}
-use Rattle.two_ends.proofs.Hearing.{Labelled}
+use Rattle.two_ends.proofs.Hearing.{Between}
 use Rattle.two_ends.proofs.Invariant.{Good, Inv, Leads}
 use Rattle.two_ends.proofs.Judging.{Fair, fair-done, fair-fatal, fair-full, fair-missing, fair-wrong}
-use Rattle.two_ends.proofs.Labelled.{Lists}
+use Rattle.two_ends.proofs.Labels.{Labels}
 use Rattle.two_ends.proofs.Oldest.{Oldests, by-oldest}
 use Rattle.two_ends.proofs.Packets.{Packet, again, alive, bytesOf, carried, first}
+use Rattle.two_ends.proofs.Persisted.{Persisted}
 use Rattle.two_ends.proofs.Receiving.{judged, rule-answers}
 use Rattle.two_ends.proofs.Resuming.{again-begins, again-start}
 use Rattle.two_ends.proofs.Saying.{All, Says, all-drop}
@@ -67,7 +68,7 @@ calm-low no-word l = omega arith
 -- ---- whichever message is the oldest; its sender's owner has o
 module _ (o : OwnParameters) (b : End) (ab : List (List ℕ)) where
   abbrev Calmly : End → List ℕ → List (List ℕ) → Type 0
-  Calmly e m rest = Labelled e b → Says o m → Knows o e → Calm (answerTo e m) × Knows o (hearer e m)
+  Calmly e m rest = Between Labels e b → Says o m → Knows o e → Calm (answerTo e m) × Knows o (hearer e m)
 
   module _ (now : State) (t : ℕ) (h : History) (id : MessageId) (p : OwnParameters) (seconds : ℕ) {qs : List Packet} {ba : List (List ℕ)} {pa : List Packet} where
     first-calm : (ack : FtField) → Leads (now .kept) ack → Inv (ended now (waitingFor t) true false h) b ab ba pa (first id p seconds ack ∷ qs)
@@ -115,7 +116,7 @@ module _ (o : OwnParameters) (b : End) (ab : List (List ℕ)) where
   }
 
 -- ---- at the end a
-module _ (oa ob : OwnParameters) (w : World) (g : Good w) (l : Lists w) (k : Lasts w) (s : Steadies oa ob w) where
+module _ (oa ob : OwnParameters) (w : World) (g : Good w) (l : Persisted Labels w) (k : Lasts w) (s : Steadies oa ob w) where
   heard : (m : List ℕ) (rest : List (List ℕ)) → w .a .joined ≡ true → w .ba ≡ m ∷ rest → Calm (answerTo (w .a) m) × Knows ob (hearer (w .a) m)
   heard m rest on line =
       by-oldest (Calmly ob (w .b) (w .ab)) (w .b) (w .ab) (each ob (w .b) (w .ab)) (w .a) m rest on (rw line at (g k)) (l k)

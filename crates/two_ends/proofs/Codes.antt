@@ -14,10 +14,10 @@ use Rattle.label_list.specs.Rules.{codeReceived}
 use Rattle.label_list.specs.Word.{onSide}
 use Rattle.label_list.proofs.Standing.{within-range}
 use Rattle.label_events.specs.Change.{codeAt}
-use Rattle.label_meaning.proofs.Step.{code-proper}
 use Rattle.message.specs.declared.Kind.{Kind}
 use Rattle.message.specs.declared.Submission.{Submission}
 use Rattle.message.specs.Submission.{submissionOf}
+use Rattle.label_meaning.proofs.Step.{code-proper}
 use Rattle.two_ends.specs.Agree.{codeBy, codeAfter, IsUsed}
 use Rattle.two_ends.proofs.Sixless.{NoSix}
 
@@ -74,27 +74,25 @@ unfolding codeReceived
 withdraw-used u = ⊎-elim (λ (e : _ ≡ 3). rw e (inr refl)) (λ (e : _ ≡ 4). rw e (inr refl)) u
 
 -- ---- one message
-pub fit-codeBy : (l c : ℕ) (j : Submission) → Fit c → Fit (codeBy l c j)
-fit-codeBy l c Submission.Malformed f = f
-fit-codeBy l c Submission.Refused f = f
-fit-codeBy l c (Submission.Accepted Kind.Mapping k) f = pick-all Fit (eqb k l) (fit-used (mapping-used f)) f
-fit-codeBy l c (Submission.Accepted Kind.Withdraw k) f = pick-all Fit (eqb k l) (withdraw-fit f) f
-fit-codeBy l c (Submission.Accepted Kind.Release k) f = f
-fit-codeBy l c (Submission.Accepted Kind.Address k) f = f
-fit-codeBy l c (Submission.Accepted Kind.AddressWithdraw k) f = f
-fit-codeBy l c (Submission.Accepted Kind.ResourcesAvailable k) f = f
-fit-codeBy l c (Submission.Accepted Kind.NoKind k) f = f
+by-code : (P : ℕ → Type 0) (l c : ℕ) (j : Submission) → P c → P (codeReceived Mapping true c) → P (codeReceived Withdraw true c) → P (codeBy l c j)
+by-code P l c Submission.Malformed p mapped withdrawn = p
+by-code P l c Submission.Refused p mapped withdrawn = p
+by-code P l c (Submission.Accepted Kind.Mapping k) p mapped withdrawn = pick-all P (eqb k l) mapped p
+by-code P l c (Submission.Accepted Kind.Withdraw k) p mapped withdrawn = pick-all P (eqb k l) withdrawn p
+by-code P l c (Submission.Accepted Kind.Release k) p mapped withdrawn = p
+by-code P l c (Submission.Accepted Kind.Address k) p mapped withdrawn = p
+by-code P l c (Submission.Accepted Kind.AddressWithdraw k) p mapped withdrawn = p
+by-code P l c (Submission.Accepted Kind.ResourcesAvailable k) p mapped withdrawn = p
+by-code P l c (Submission.Accepted (Kind.Request id) k) p mapped withdrawn = p
+by-code P l c (Submission.Accepted (Kind.Abort id) k) p mapped withdrawn = p
+by-code P l c (Submission.Accepted Kind.NoResources k) p mapped withdrawn = p
+by-code P l c (Submission.Accepted Kind.NoKind k) p mapped withdrawn = p
+
+fit-codeBy : (l c : ℕ) (j : Submission) → Fit c → Fit (codeBy l c j)
+fit-codeBy l c j f = by-code Fit l c j f (fit-used (mapping-used f)) (withdraw-fit f)
 
 pub used-codeBy : (l c : ℕ) (j : Submission) → IsUsed c → IsUsed (codeBy l c j)
-used-codeBy l c Submission.Malformed u = u
-used-codeBy l c Submission.Refused u = u
-used-codeBy l c (Submission.Accepted Kind.Mapping k) u = pick-all IsUsed (eqb k l) (mapping-used (fit-used u)) u
-used-codeBy l c (Submission.Accepted Kind.Withdraw k) u = pick-all IsUsed (eqb k l) (withdraw-used u) u
-used-codeBy l c (Submission.Accepted Kind.Release k) u = u
-used-codeBy l c (Submission.Accepted Kind.Address k) u = u
-used-codeBy l c (Submission.Accepted Kind.AddressWithdraw k) u = u
-used-codeBy l c (Submission.Accepted Kind.ResourcesAvailable k) u = u
-used-codeBy l c (Submission.Accepted Kind.NoKind k) u = u
+used-codeBy l c j u = by-code IsUsed l c j u (mapping-used (fit-used u)) (withdraw-used u)
 
 -- ---- all of them
 pub fit-after : (l c : ℕ) (ms : List (List ℕ)) → Fit c → Fit (codeAfter l c ms)
@@ -116,6 +114,9 @@ five-zero-by l (Submission.Accepted Kind.Release k) = inl (refl, refl)
 five-zero-by l (Submission.Accepted Kind.Address k) = inl (refl, refl)
 five-zero-by l (Submission.Accepted Kind.AddressWithdraw k) = inl (refl, refl)
 five-zero-by l (Submission.Accepted Kind.ResourcesAvailable k) = inl (refl, refl)
+five-zero-by l (Submission.Accepted (Kind.Request id) k) = inl (refl, refl)
+five-zero-by l (Submission.Accepted (Kind.Abort id) k) = inl (refl, refl)
+five-zero-by l (Submission.Accepted Kind.NoResources k) = inl (refl, refl)
 five-zero-by l (Submission.Accepted Kind.NoKind k) = inl (refl, refl)
 
 pub five-zero : (l : ℕ) (ms : List (List ℕ)) → IsUsed (codeAfter l 5 ms) → IsUsed (codeAfter l 0 ms)

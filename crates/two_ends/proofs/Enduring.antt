@@ -19,9 +19,9 @@ use Rattle.two_ends.specs.World.{End, Lasts, World, swap}
 use Rattle.two_ends.proofs.Begun.{at-start, fine}
 use Rattle.two_ends.proofs.Calm.{all-calm, calm-low, delivers-steady}
 use Rattle.two_ends.proofs.Invariant.{Good}
-use Rattle.two_ends.proofs.Labelled.{Lists, lists, step-lists, swap-lists}
-use Rattle.two_ends.proofs.Labels.{labels-none}
+use Rattle.two_ends.proofs.Labels.{Labels, labels-persist}
 use Rattle.two_ends.proofs.Monotone.{step-lasted}
+use Rattle.two_ends.proofs.Persisted.{Persisted, persisted, step-persists, swap-persists}
 use Rattle.two_ends.proofs.Saying.{init-says}
 use Rattle.two_ends.proofs.Staying.{step-stays}
 use Rattle.two_ends.proofs.Steady.{Knows, Steadies, alive-steady, broken-steady, open-steady, plain-steady, send-steady, submit-steady}
@@ -29,7 +29,7 @@ use Rattle.two_ends.proofs.Theorem.{at-run, at-step}
 use Rattle.two_ends.proofs.Worlds.{at-swap}
 
 -- ---- every event
-module _ (oa ob : OwnParameters) (w : World) (g : Good w) (l : Lists w) (k : Lasts w) (s : Steadies oa ob w) where
+module _ (oa ob : OwnParameters) (w : World) (g : Good w) (l : Persisted Labels w) (k : Lasts w) (s : Steadies oa ob w) where
   abbrev now : State
   now = w .a .state
 
@@ -63,30 +63,30 @@ module _ (oa ob : OwnParameters) (w : World) (g : Good w) (l : Lists w) (k : Las
 swap-steady : (oa ob : OwnParameters) (w : World) → Steadies oa ob w → Steadies ob oa (swap w)
 swap-steady oa ob w s = record { a = s .b; b = s .a; ab = s .ba; ba = s .ab }
 
-module _ (oa ob : OwnParameters) (w : World) (g : Good w) (l : Lists w) (k : Lasts w) (s : Steadies oa ob w) where
+module _ (oa ob : OwnParameters) (w : World) (g : Good w) (l : Persisted Labels w) (k : Lasts w) (s : Steadies oa ob w) where
   step-steady : (at : Bool) (v : Event) → ProperEvent v → SteadilyAt oa ob w at v → Steadies oa ob (eventAt w at v)
   step-steady true v p q = act-steady oa ob w g l k s v p q
   step-steady false v p q =
-      swap-steady ob oa (act (swap w) v) (act-steady ob oa (swap w) (at-swap w g) (swap-lists w l) k (swap-steady oa ob w s) v p q)
+      swap-steady ob oa (act (swap w) v) (act-steady ob oa (swap w) (at-swap w g) (swap-persists labels-persist w l) k (swap-steady oa ob w s) v p q)
 
   at-never : (at : Bool) (v : Event) → SteadilyAt oa ob w at v → ReleasingAt w at v → ⊥
   at-never true v q r = releases-never oa ob w g l k s v q r
-  at-never false v q r = releases-never ob oa (swap w) (at-swap w g) (swap-lists w l) k (swap-steady oa ob w s) v q r
+  at-never false v q r = releases-never ob oa (swap w) (at-swap w g) (swap-persists labels-persist w l) k (swap-steady oa ob w s) v q r
 
 -- ---- over a run
 module _ (oa ob : OwnParameters) where
   -- as long as the run lasts, the world is as steady owners leave it
-  run-steady : (w : World) (vs : List (Bool × Event)) → Good w → Lists w → (Lasts w → Steadies oa ob w) → AllProperEvents vs → AllSteady oa ob w vs
+  run-steady : (w : World) (vs : List (Bool × Event)) → Good w → Persisted Labels w → (Lasts w → Steadies oa ob w) → AllProperEvents vs → AllSteady oa ob w vs
       → Lasts (run w vs) → Steadies oa ob (run w vs)
   run-steady w [] g l s p q k = s k
   run-steady w (v ∷ vs) g l s p q k =
-      run-steady (eventAt w (v .0) (v .1)) vs (at-step w (v .0) (v .1) (p .0) g) (step-lists w (v .0) (v .1) g l)
+      run-steady (eventAt w (v .0) (v .1)) vs (at-step w (v .0) (v .1) (p .0) g) (step-persists labels-persist w (v .0) (v .1) g l)
       (λ t. let old = step-lasted w (v .0) (v .1) t in step-steady oa ob w g l old (s old) (v .0) (v .1) (p .0) (q .0)) (p .1) (q .1) k
 
-  run-endures : (w : World) (vs : List (Bool × Event)) → Good w → Lists w → Stays w → Steadies oa ob w → AllProperEvents vs → AllSteady oa ob w vs → Stays (run w vs)
+  run-endures : (w : World) (vs : List (Bool × Event)) → Good w → Persisted Labels w → Stays w → Steadies oa ob w → AllProperEvents vs → AllSteady oa ob w vs → Stays (run w vs)
   run-endures w [] g l s t p q = s
   run-endures w (v ∷ vs) g l s t p q =
-      run-endures (eventAt w (v .0) (v .1)) vs (at-step w (v .0) (v .1) (p .0) g) (step-lists w (v .0) (v .1) g l)
+      run-endures (eventAt w (v .0) (v .1)) vs (at-step w (v .0) (v .1) (p .0) g) (step-persists labels-persist w (v .0) (v .1) g l)
       (step-stays w (v .0) (v .1) g s (at-never oa ob w g l (s .lasts) t (v .0) (v .1) (q .0)))
       (step-steady oa ob w g l (s .lasts) t (v .0) (v .1) (p .0) (q .0)) (p .1) (q .1)
 
@@ -109,17 +109,17 @@ module _ (x y : Opener) (fx : Fit x) (fy : Fit y) (f : Afresh x y) (us : List (B
   good : Good here
   good = at-run (start x y) us pu (at-start x y fx fy f)
 
-  listed : Lists here
-  listed = lists x y fx fy f us pu
+  listed : Persisted Labels here
+  listed = persisted labels-persist x y fx fy f us pu
 
   steady : Lasts here → Steadies (x .parameters) (y .parameters) here
-  steady k = run-steady (x .parameters) (y .parameters) (start x y) us (at-start x y fx fy f) (λ t. labels-none) (λ t. start-steady x y fx fy) pu qu k
+  steady k = run-steady (x .parameters) (y .parameters) (start x y) us (at-start x y fx fy f) (λ t. labels-persist .none) (λ t. start-steady x y fx fy) pu qu k
 
   -- whatever is delivered is answered 0 or 21
   pub answers-calm : Lasts here → AllCalm here × AllCalm (swap here)
   answers-calm k = (
     all-calm (x .parameters) (y .parameters) here good listed k (steady k),
-    all-calm (y .parameters) (x .parameters) (swap here) (at-swap here good) (swap-lists here listed) k (swap-steady (x .parameters) (y .parameters) here (steady k)),
+    all-calm (y .parameters) (x .parameters) (swap here) (at-swap here good) (swap-persists labels-persist here listed) k (swap-steady (x .parameters) (y .parameters) here (steady k)),
   )
 
   -- and once both ends have begun, neither ever releases its state

@@ -10,6 +10,8 @@ use borrow.Author.Tests.{eqb-true, eq-eqb}
 use Rattle.octets.specs.Pick.{pick}
 use Rattle.octets.proofs.Choice.{by-test, pick-all}
 use Rattle.ft_number.specs.declared.FtNumber.{FtNumber}
+use Rattle.ft_number.specs.declared.MessageId.{MessageId}
+use Rattle.label_list.specs.declared.Found.{Found}
 use Rattle.label_list.specs.declared.LabelMessage.{LabelMessage}
 use Rattle.label_list.specs.declared.LabelMessage.the-variants.{Mapping, Withdraw, Release}
 use Rattle.label_list.specs.declared.Side.the-variants.{Given, Used}
@@ -17,29 +19,34 @@ use Rattle.label_list.specs.Rules.{receivedSide, codeReceived}
 use Rattle.label_list.specs.Valid.{validOf}
 use Rattle.label_list.specs.Word.{listable}
 use Rattle.label_list.proofs.Standing.{within-range}
-use Rattle.label_events.specs.declared.Change.{Change}
-use Rattle.label_events.specs.declared.Reception.{Reception}
-use Rattle.label_events.specs.declared.Touched.{Touched}
-use Rattle.label_events.specs.Change.{codeAt, changeOf, changed}
-use Rattle.label_events.specs.Receive.{receivedChange, receptionOf, receivedOf}
 use Rattle.tlv.specs.declared.Fec.{Fec}
 use Rattle.tlv.specs.declared.Field.{Field}
 use Rattle.tlv.specs.declared.FtField.{FtField}
+use Rattle.tlv.specs.declared.IdField.{IdField}
+use Rattle.label_events.specs.declared.Change.{Change}
+use Rattle.label_events.specs.declared.Reception.{Reception}
+use Rattle.label_events.specs.declared.Touched.{Touched}
+use Rattle.label_events.specs.Change.{codeAt, changed, changeWith}
+use Rattle.label_events.specs.Receive.{receivedChange, receptionOf, receivedOf, receivedWith}
+use Rattle.label_events.specs.Requests.{endedAt, roomAt}
+use Rattle.label_events.proofs.Ended.{ended-code}
+use Rattle.message.specs.declared.Kind.{Kind}
+use Rattle.message.specs.declared.Message.{Message}
+use Rattle.message.specs.declared.MessageType.{MessageType}
+use Rattle.message.specs.declared.Submission.{Submission}
+use Rattle.message.specs.Kinds.{kindOf, kindNumber, fatalOf, statusCode, resourcesAvailable, notificationKind, kindFor, noResources, abortKind}
+use Rattle.message.specs.Storable.{bears}
+use Rattle.message.specs.Submission.{submissionOf}
+use Rattle.message.proofs.Laws.{accepted}
 use Rattle.label_meaning.specs.Event.{Received, afterEvent, Moves, named, given-back, withdrawn-back}
 use Rattle.label_meaning.specs.View.{Effect}
 use Rattle.label_meaning.proofs.Effect.{change-effect}
 use Rattle.label_meaning.proofs.Life.{move-happens}
 use Rattle.label_meaning.proofs.Meaning.{valid-means}
 use Rattle.label_meaning.proofs.Proper.{received-proper}
-use Rattle.label_meaning.proofs.Step.{code-proper, received-outcome}
+use Rattle.label_meaning.proofs.Step.{code-proper, received-outcome, room-is-free}
+use Rattle.label_meaning.proofs.Unlisted.{ended-stays}
 use Rattle.label_meaning.proofs.View.{code-is, is-code}
-use Rattle.message.specs.declared.Kind.{Kind}
-use Rattle.message.specs.declared.MessageType.{MessageType}
-use Rattle.message.specs.declared.Submission.{Submission}
-use Rattle.message.specs.Kinds.{kindOf, kindNumber, fatalOf, statusCode, resourcesAvailable, notificationKind, kindFor}
-use Rattle.message.specs.Storable.{bears}
-use Rattle.message.specs.Submission.{submissionOf}
-use Rattle.message.proofs.Laws.{accepted}
 use Rattle.message_writer.proofs.RoundTrip.{sent-kind}
 use Rattle.protocol.specs.declared.LabelEffect.{LabelEffect}
 use Rattle.protocol.specs.Held.{isHeld}
@@ -71,25 +78,30 @@ unfolding notificationKind
 notified Field.Absent l = none-says
 notified (Field.Value v) l =
     pick-all (λ (k : Kind). Says k l LabelEffect.Nothing) (fatalOf v) none-says
-    (pick-all (λ (k : Kind). Says k l LabelEffect.Nothing) (eqb (statusCode v) resourcesAvailable) (says-nothing (λ n c. refl) (λ n. refl)) none-says)
+    (pick-all (λ (k : Kind). Says k l LabelEffect.Nothing) (eqb (statusCode v) resourcesAvailable) (says-nothing (λ n c. refl) (λ n. refl))
+    (pick-all (λ (k : Kind). Says k l LabelEffect.Nothing) (eqb (statusCode v) noResources) (says-nothing (λ n c. refl) (λ n. refl)) none-says))
 
-says-by : (type : MessageType) (status label : Field) (fec : Fec) (l : ℕ) → (kindNumber (kindFor type status) ≤ 3 → label ≡ Field.Value l)
-    → Says (kindFor type status) l (effectOn type (touchedBy label fec))
-says-by MessageType.Notification status label fec l e = notified status l
-says-by MessageType.Initialization status label fec l e = none-says
-says-by MessageType.KeepAlive status label fec l e = none-says
-says-by MessageType.Address status label fec l e = says-nothing (λ n c. refl) (λ n. refl)
-says-by MessageType.AddressWithdraw status label fec l e = says-nothing (λ n c. refl) (λ n. refl)
-says-by MessageType.Mapping status label fec l e = rw (e (omega arith)) says-mapping
-says-by MessageType.Request status label fec l e = none-says
-says-by MessageType.Withdraw status label fec l e = rw (e (omega arith)) says-withdraw
-says-by MessageType.Release status label fec l e = rw (e (omega arith)) says-release
-says-by MessageType.Abort status label fec l e = none-says
-says-by MessageType.Other status label fec l e = none-says
+abort-says : (requestid : IdField) (l : ℕ) → Says (abortKind requestid) l LabelEffect.Nothing
+abort-says IdField.Absent l = none-says
+abort-says (IdField.Id id) l = says-nothing (λ n c. refl) (λ n. refl)
 
-pub says : (type : MessageType) (status label : Field) (fec : Fec) (k : Kind) (l : ℕ) → kindFor type status ≡ k → (kindNumber k ≤ 3 → label ≡ Field.Value l)
-    → Says k l (effectOn type (touchedBy label fec))
-says type status label fec k l e named-l = rw (sym e) (says-by type status label fec l (λ low. named-l (rw (sym e) low)))
+says-by : (type : MessageType) (status label : Field) (id : MessageId) (requestid : IdField) (fec : Fec) (l : ℕ)
+    → (kindNumber (kindFor type status id requestid) ≤ 3 → label ≡ Field.Value l) → Says (kindFor type status id requestid) l (effectOn type (touchedBy label fec))
+says-by MessageType.Notification status label id requestid fec l e = notified status l
+says-by MessageType.Initialization status label id requestid fec l e = none-says
+says-by MessageType.KeepAlive status label id requestid fec l e = none-says
+says-by MessageType.Address status label id requestid fec l e = says-nothing (λ n c. refl) (λ n. refl)
+says-by MessageType.AddressWithdraw status label id requestid fec l e = says-nothing (λ n c. refl) (λ n. refl)
+says-by MessageType.Mapping status label id requestid fec l e = rw (e (omega arith)) says-mapping
+says-by MessageType.Request status label id requestid fec l e = says-nothing (λ n c. refl) (λ n. refl)
+says-by MessageType.Withdraw status label id requestid fec l e = rw (e (omega arith)) says-withdraw
+says-by MessageType.Release status label id requestid fec l e = rw (e (omega arith)) says-release
+says-by MessageType.Abort status label id requestid fec l e = abort-says requestid l
+says-by MessageType.Other status label id requestid fec l e = none-says
+
+pub says : (g : Message) (k : Kind) (l : ℕ) → kindOf g ≡ k → (kindNumber k ≤ 3 → g .label ≡ Field.Value l) → Says k l (labelEffect g)
+unfolding kindOf labelEffect
+says g k l e named-l = rw (sym e) (says-by (g .typename) (g .status) (g .label) (g .id) (g .requestid) (g .fec) l (λ low. named-l (rw (sym e) low)))
 
 -- ---- the code of a label at its user after a message that names one
 taken-room : (x : Change) → receptionOf x ≡ Reception.Taken → x ≢ Change.NoRoom
@@ -97,31 +109,38 @@ taken-room Change.Keep e q = let no : _≡_ {A = ℕ} 0 1 = cc in omega arith
 taken-room (Change.Put i w) e q = let no : _≡_ {A = ℕ} 0 1 = cc in omega arith
 taken-room Change.NoRoom e q = let no : _≡_ {A = ℕ} 0 1 = cc in omega arith
 
-module _ (ls : List ℕ) (v : validOf ls ≡ true) (m : LabelMessage) (l : ℕ) (may : listable l ≡ true) where
+module _ (ls : List ℕ) (v : validOf ls ≡ true) (r : Found) (m : LabelMessage) (l : ℕ) (may : listable l ≡ true) where
   abbrev code : ℕ
   code = codeAt ls (receivedSide m) l
 
-  code-here : receivedOf ls m true (Touched.Label l) .0 ≡ Reception.Taken → codeAt (receivedOf ls m true (Touched.Label l) .1) (receivedSide m) l ≡ codeReceived m true code
-  unfolding receivedOf receivedChange
+  -- the words once the Request has ended that the message answers, and the label's code by them
+  abbrev mid : List ℕ
+  mid = endedAt r ls
+
+  abbrev next : ℕ
+  next = codeReceived m true (codeAt mid (receivedSide m) l)
+
+  code-here : receivedOf ls r m true (Touched.Label l) .0 ≡ Reception.Taken → codeAt (receivedOf ls r m true (Touched.Label l) .1) (receivedSide m) l ≡ codeReceived m true code
+  unfolding receivedWith receivedChange
   code-here room =
       let range : (16 ≤ l) × (l ≤ 1048575) = within-range 16 1048575 l may in
-      let free : changeOf ls (receivedSide m) l (codeReceived m true code) ≢ Change.NoRoom = taken-room _ (rw may at room) in
-      let x : Effect ls (changed ls (changeOf ls (receivedSide m) l (codeReceived m true code))) (receivedSide m) l (codeReceived m true code) =
-      change-effect ls (valid-means ls v) (receivedSide m) l (codeReceived m true code) (range .0) (omega arith)
-      (received-proper m true code (code-proper ls (receivedSide m) l)) free in
-      rw may (is-code _ (receivedSide m) l (x .valid) (x .there))
+      let free : changeWith mid (roomAt r ls) (receivedSide m) l next ≢ Change.NoRoom = taken-room _ (rw may at room) in
+      let x : Effect mid (changed mid (changeWith mid (roomAt r ls) (receivedSide m) l next)) (receivedSide m) l next =
+      change-effect mid (ended-stays ls (valid-means ls v) r .valid) (receivedSide m) l next (range .0) (omega arith)
+      (received-proper m true (codeAt mid (receivedSide m) l) (code-proper mid (receivedSide m) l)) (roomAt r ls) (room-is-free r ls) free in
+      rw (may, ← (ended-code ls (receivedSide m) l r)) (is-code _ (receivedSide m) l (x .valid) (x .there))
 
-  code-there : (k : ℕ) → eqb k l ≡ false → codeAt (receivedOf ls m true (Touched.Label k) .1) (receivedSide m) l ≡ code
+  code-there : (k : ℕ) → eqb k l ≡ false → codeAt (receivedOf ls r m true (Touched.Label k) .1) (receivedSide m) l ≡ code
   code-there k other =
       ⊎-elim
-      (λ (same : receivedOf ls m true (Touched.Label k) .1 ≡ ls). rw same)
-      (λ (x : Effect ls (receivedOf ls m true (Touched.Label k) .1) (receivedSide m) k (codeReceived m true (codeAt ls (receivedSide m) k))).
+      (λ (same : receivedOf ls r m true (Touched.Label k) .1 ≡ mid). rw same (ended-code ls (receivedSide m) l r))
+      (λ (x : Effect ls (receivedOf ls r m true (Touched.Label k) .1) (receivedSide m) k (codeReceived m true (codeAt ls (receivedSide m) k))).
       is-code _ (receivedSide m) l (x .valid)
       (x .elsewhere (receivedSide m) l code (λ p. true≢false (sym (eq-eqb k l (sym (p .1))) ∙ other)) (code-is ls (receivedSide m) l)))
-      (received-outcome ls (valid-means ls v) m true k)
+      (received-outcome ls (valid-means ls v) r m true k)
 
-  code-received : (k : ℕ) → receivedOf ls m true (Touched.Label k) .0 ≡ Reception.Taken
-      → codeAt (receivedOf ls m true (Touched.Label k) .1) (receivedSide m) l ≡ pick (eqb k l) (codeReceived m true code) code
+  code-received : (k : ℕ) → receivedOf ls r m true (Touched.Label k) .0 ≡ Reception.Taken
+      → codeAt (receivedOf ls r m true (Touched.Label k) .1) (receivedSide m) l ≡ pick (eqb k l) (codeReceived m true code) code
   code-received k room =
       by-test
       (eqb k l)
@@ -129,28 +148,28 @@ module _ (ls : List ℕ) (v : validOf ls ≡ true) (m : LabelMessage) (l : ℕ) 
       (λ f. rw f (code-there k f))
 
 -- ---- a Release moves no label at its user, and frees one that is given
-release-used : {l c d k : ℕ} → Moves (Received Release true (Touched.Label k)) Used l c d → c ≡ d
+release-used : {l c d k : ℕ} {r : Found} → Moves (Received r Release true (Touched.Label k)) Used l c d → c ≡ d
 release-used = elim [ ]
 
-given-received : {m : LabelMessage} {t : Touched} {l c d : ℕ} → Moves (Received m true t) Given l c d → d ≡ 0
+given-received : {m : LabelMessage} {t : Touched} {l c d : ℕ} {r : Found} → Moves (Received r m true t) Given l c d → d ≡ 0
 given-received (given-back t) = refl
 given-received (withdrawn-back t) = refl
 
-module _ (giver user : List ℕ) (out back : List (List ℕ)) (m : List ℕ) where
+module _ (giver user : List ℕ) (out back : List (List ℕ)) (m : List ℕ) (r : Found) where
   -- what was given before, and is not given back by the message
   still : Agree giver user out (m ∷ back) → (l : ℕ) → listable l ≡ true → IsGiven (codeAt giver Given l) → isHeld 3 l back ≡ false → bears (submissionOf m) 3 l ≡ false
       → IsUsed (codeAfter l (codeAt user Used l) out)
   unfolding isHeld
   still a l may g none others = a l may g (rw others none)
 
-  kept-given : (e : LabelMessage) (t : Touched) → validOf giver ≡ true → (l : ℕ) → IsGiven (codeAt (afterEvent giver (Received e true t)) Given l) → IsGiven (codeAt giver Given l)
+  kept-given : (e : LabelMessage) (t : Touched) → validOf giver ≡ true → (l : ℕ) → IsGiven (codeAt (afterEvent giver (Received r e true t)) Given l) → IsGiven (codeAt giver Given l)
   kept-given e t v l g =
       ⊎-elim
-      (λ (same : codeAt (afterEvent giver (Received e true t)) Given l ≡ codeAt giver Given l). rw same at g)
-      (λ (move : Moves (Received e true t) Given l (codeAt giver Given l) (codeAt (afterEvent giver (Received e true t)) Given l)). none-given (given-received move) g)
-      (moved giver v (Received e true t) Given l)
+      (λ (same : codeAt (afterEvent giver (Received r e true t)) Given l ≡ codeAt giver Given l). rw same at g)
+      (λ (move : Moves (Received r e true t) Given l (codeAt giver Given l) (codeAt (afterEvent giver (Received r e true t)) Given l)). none-given (given-received move) g)
+      (moved giver v (Received r e true t) Given l)
 
-  freed : validOf giver ≡ true → (l : ℕ) → IsGiven (codeAt giver Given l) → codeAt (afterEvent giver (Received Release true (Touched.Label l))) Given l ≡ 0
+  freed : validOf giver ≡ true → (l : ℕ) → IsGiven (codeAt giver Given l) → codeAt (afterEvent giver (Received r Release true (Touched.Label l))) Given l ≡ 0
   freed v l g =
       ⊎-elim
       (λ (one : codeAt giver Given l ≡ 1). move-happens giver (valid-means giver v) (given-back named) (λ z. omega arith) one)
@@ -159,7 +178,7 @@ module _ (giver user : List ℕ) (out back : List (List ℕ)) (m : List ℕ) whe
 
   -- the giver takes it
   pub take-giver : Agree giver user out (m ∷ back) → validOf giver ≡ true → (k : Kind) (n : ℕ) (e : LabelEffect) → submissionOf m ≡ Submission.Accepted k n → Says k n e
-      → Agree (effectLabels giver true e) user out back
+      → Agree (effectLabels giver r true e) user out back
   unfolding afterEvent
   take-giver a v k n e is says-mapping l may g none = still a l may (kept-given Mapping (Touched.Label n) v l g) none (rw is)
   take-giver a v k n e is says-withdraw l may g none = still a l may (kept-given Withdraw (Touched.Label n) v l g) none (rw is)
@@ -169,34 +188,33 @@ module _ (giver user : List ℕ) (out back : List (List ℕ)) (m : List ℕ) whe
       (eqb n l)
       (λ t. let same : n ≡ l = eqb-true n l t in none-given (freed v l before) (rw same at g))
       (λ f. still a l may before none (rw (is, f)))
-  take-giver a v k n e is (says-nothing stays others) l may g none = still a l may g none (rw is (others l))
+  take-giver a v k n e is (says-nothing stays others) l may g none = still a l may (rw (ended-code giver Given l r) at g) none (rw is (others l))
 
 -- the user takes it
-code-taken : (user : List ℕ) → validOf user ≡ true → (k : Kind) (n : ℕ) (e : LabelEffect) → Says k n e → effectReception user true e ≡ Reception.Taken → (l : ℕ) → listable l ≡ true
-    → codeAt (effectLabels user true e) Used l ≡ codeBy l (codeAt user Used l) (Submission.Accepted k n)
+code-taken : (user : List ℕ) → validOf user ≡ true → (r : Found) (k : Kind) (n : ℕ) (e : LabelEffect) → Says k n e → effectReception user r true e ≡ Reception.Taken → (l : ℕ)
+    → listable l ≡ true → codeAt (effectLabels user r true e) Used l ≡ codeBy l (codeAt user Used l) (Submission.Accepted k n)
 unfolding afterEvent receivedSide
-code-taken user v k n e says-mapping room l may = code-received user v Mapping l may n room
-code-taken user v k n e says-withdraw room l may = code-received user v Withdraw l may n room
-code-taken user v k n e says-release room l may =
+code-taken user v r k n e says-mapping room l may = code-received user v r Mapping l may n room
+code-taken user v r k n e says-withdraw room l may = code-received user v r Withdraw l may n room
+code-taken user v r k n e says-release room l may =
     ⊎-elim
-    (λ (same : codeAt (afterEvent user (Received Release true (Touched.Label n))) Used l ≡ codeAt user Used l). same)
-    (λ (move : Moves (Received Release true (Touched.Label n)) Used l (codeAt user Used l) (codeAt (afterEvent user (Received Release true (Touched.Label n))) Used l)). sym (release-used move))
-    (moved user v (Received Release true (Touched.Label n)) Used l)
-code-taken user v k n e (says-nothing stays others) room l may = sym (stays l (codeAt user Used l))
+    (λ (same : codeAt (afterEvent user (Received r Release true (Touched.Label n))) Used l ≡ codeAt user Used l). same)
+    (λ (move : Moves (Received r Release true (Touched.Label n)) Used l (codeAt user Used l) (codeAt (afterEvent user (Received r Release true (Touched.Label n))) Used l)).
+    sym (release-used move))
+    (moved user v (Received r Release true (Touched.Label n)) Used l)
+code-taken user v r k n e (says-nothing stays others) room l may = ended-code user Used l r ∙ sym (stays l (codeAt user Used l))
 
-pub take-user : (giver user : List ℕ) (out back : List (List ℕ)) (m : List ℕ) → Agree giver user (m ∷ out) back → validOf user ≡ true → (k : Kind) (n : ℕ) (e : LabelEffect)
-    → submissionOf m ≡ Submission.Accepted k n → Says k n e → effectReception user true e ≡ Reception.Taken → Agree giver (effectLabels user true e) out back
-take-user giver user out back m a v k n e is s room l may g none = rw (code-taken user v k n e s room l may) (rw is at (a l may g none))
+pub take-user : (giver user : List ℕ) (out back : List (List ℕ)) (m : List ℕ) (r : Found) → Agree giver user (m ∷ out) back → validOf user ≡ true → (k : Kind) (n : ℕ) (e : LabelEffect)
+    → submissionOf m ≡ Submission.Accepted k n → Says k n e → effectReception user r true e ≡ Reception.Taken → Agree giver (effectLabels user r true e) out back
+take-user giver user out back m r a v k n e is s room l may g none = rw (code-taken user v r k n e s room l may) (rw is at (a l may g none))
 
 -- ---- a message on a line says its kind and label to its reader
 module _ (now : State) (sent : ℕ) (h : History) (m : List ℕ) (n : FtNumber) (ack : FtField) {b : End} {ab ba : List (List ℕ)} {pa qs : List Packet}
     (i : Inv (ended now (upWith sent) true true h) b ab ba pa (carried m n ack ∷ qs)) where
   pub carried-says : Says (f now sent h m n ack i .0 .storable .kind) (f now sent h m n ack i .0 .storable .label) (labelEffect (g₂ now sent h m n ack i))
-  unfolding labelEffect kindOf
   carried-says =
       let stored = f now sent h m n ack i .0 .storable in
-      let g = g₂ now sent h m n ack i in
       let k = stored .kind in
       let l = stored .label in
       let e = stored .accepted in
-      says (g .typename) (g .status) (g .label) (g .fec) k l (sent-kind m k l e n ack (short now sent h m n ack i)) (accepted m k l e .labelled .label)
+      says (g₂ now sent h m n ack i) k l (sent-kind m k l e n ack (short now sent h m n ack i)) (accepted m k l e .labelled .label)

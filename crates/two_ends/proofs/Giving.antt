@@ -12,7 +12,8 @@ use Rattle.two_ends.specs.Start.{Afresh, Fit, Opener, start}
 use Rattle.two_ends.specs.World.{End, Lasts, noHistory}
 use Rattle.two_ends.proofs.Arriving.{f}
 use Rattle.two_ends.proofs.Invariant.{sideOf}
-use Rattle.two_ends.proofs.Labelled.{lists}
+use Rattle.two_ends.proofs.Labels.{labels-persist}
+use Rattle.two_ends.proofs.Persisted.{persisted}
 use Rattle.two_ends.proofs.Sharing.{Shared, cancel}
 use Rattle.two_ends.proofs.Theorem.{nothing-lost}
 
@@ -42,7 +43,7 @@ pub given-used : (x y : Opener) → Fit x → Fit y → Afresh x y → (vs : Lis
     → InUse (run (start x y) vs .a) (run (start x y) vs .b) × InUse (run (start x y) vs .b) (run (start x y) vs .a)
 given-used x y fx fy f vs p k ga gb na nb =
     let d = nothing-lost x y fx fy f vs p k in
-    let l = lists x y fx fy f vs p k in
+    let l = persisted labels-persist x y fx fy f vs p k in
     let all = all-secured (d .there) ga na in
     let back = all-secured (d .back) gb nb in
     let a = run (start x y) vs .a in

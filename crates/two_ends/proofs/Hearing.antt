@@ -1,4 +1,4 @@
--- What the oldest message of a line leaves of the labels. Assumes nothing.
+-- What the oldest message of a line leaves of what persists between the two ends. Assumes nothing.
 use Prim.Native.Nat.{ℕ}
 use mathlib.Core.Bool.{false, true}
 use mathlib.Core.List.{List, [], _∷_, map}
@@ -7,12 +7,16 @@ use mathlib.Core.Path.{_≡_, refl, sym, _∙_, ap}
 use Rattle.ft_number.specs.declared.FtNumber.{FtNumber}
 use Rattle.ft_number.specs.declared.MessageId.{MessageId}
 use Rattle.tlv.specs.declared.FtField.{FtField}
+use Rattle.label_events.specs.Requests.{endedAt}
+use Rattle.message.specs.Kinds.{kindOf}
 use Rattle.message_writer.specs.declared.OwnParameters.{OwnParameters}
+use Rattle.message_writer.proofs.RoundTrip.{sent-kind}
 use Rattle.protocol.specs.declared.Answer.{Answer}
 use Rattle.protocol.specs.declared.Phase.{Phase}
 use Rattle.protocol.specs.declared.Start.{Start}
 use Rattle.protocol.specs.Acked.{ackBorne, acked}
 use Rattle.protocol.specs.Init.{fresh, initStart, resumed}
+use Rattle.protocol.specs.Labels.{answeredAt, answers}
 use Rattle.protocol.specs.Phases.{waitingFor, upWith}
 use Rattle.protocol.specs.Receive.{taken, ackOn, receivedState}
 use Rattle.protocol.specs.State.{State}
@@ -21,17 +25,17 @@ use Rattle.protocol.proofs.Begins.{changed}
 use Rattle.two_ends.specs.Calls.{keeps}
 use Rattle.two_ends.specs.World.{End, History}
 use Rattle.two_ends.proofs.Acts.{hearer}
-use Rattle.two_ends.proofs.Arriving.{alive-read, carried-read, g₁, g₂, plain, f, secures}
+use Rattle.two_ends.proofs.Arriving.{alive-read, carried-read, g₁, g₂, plain, f, secures, short}
 use Rattle.two_ends.proofs.Delivering.{let-go}
 use Rattle.two_ends.proofs.Freeing.{half-ack}
 use Rattle.two_ends.proofs.Getting.{carried-says}
 use Rattle.two_ends.proofs.Greeted.{first-begins, fresh-start}
 use Rattle.two_ends.proofs.Invariant.{sideOf, Inv, Leads}
 use Rattle.two_ends.proofs.Judging.{has-room}
-use Rattle.two_ends.proofs.Labels.{Labels, labels-same, labels-acked, labels-taken}
 use Rattle.two_ends.proofs.Leaving.{taking}
 use Rattle.two_ends.proofs.Oldest.{Oldests}
 use Rattle.two_ends.proofs.Packets.{Packet, again, alive, bytesOf, carried, first}
+use Rattle.two_ends.proofs.Persisting.{Persists}
 use Rattle.two_ends.proofs.Receiving.{judged}
 use Rattle.two_ends.proofs.Resting.{released-ends}
 use Rattle.two_ends.proofs.Resuming.{again-begins, again-start}
@@ -40,12 +44,12 @@ use Rattle.two_ends.proofs.Takes.{arrives}
 use Rattle.two_ends.proofs.Worlds.{ended}
 
 -- the two ends of a world; an end that has not come to its fresh UpFT counts as released
-abbrev pub Labelled : End → End → Type 0
-Labelled a b = Labels (sideOf a .state) (a .history) (sideOf b .state) (b .history)
+abbrev pub Between : (State → History → State → History → Type 0) → End → End → Type 0
+Between R a b = R (sideOf a .state) (a .history) (sideOf b .state) (b .history)
 
-module _ (b : End) (ab : List (List ℕ)) where
+module _ {R : State → History → State → History → Type 0} (c : Persists R) (b : End) (ab : List (List ℕ)) where
   abbrev pub Heard : End → List ℕ → List (List ℕ) → Type 0
-  Heard e m rest = Labelled e b → keeps (hearer e m) ≡ true → Labelled (hearer e m) b
+  Heard e m rest = Between R e b → keeps (hearer e m) ≡ true → Between R (hearer e m) b
 
   module _ (now : State) (t : ℕ) (h : History) (id : MessageId) (p : OwnParameters) (seconds : ℕ) {qs : List Packet} {ba : List (List ℕ)} {pa : List Packet} where
     hears-first : (ack : FtField) → Leads (now .kept) ack → Inv (ended now (waitingFor t) true false h) b ab ba pa (first id p seconds ack ∷ qs)
@@ -54,7 +58,7 @@ module _ (b : End) (ab : List (List ℕ)) where
     hears-first ack lead i l k =
         let fine = i .back .fines .0 in
         let ts = terms now t id p seconds in
-        rw (fresh-start now t h id p seconds ack fine lead, first-begins now t h id p seconds ack fine lead) (labels-same l (fresh ts) refl refl)
+        rw (fresh-start now t h id p seconds ack fine lead, first-begins now t h id p seconds ack fine lead) (c .same l (fresh ts) refl refl refl)
 
     hears-again : (a : FtNumber) → Inv (ended now (waitingFor t) true true h) b ab ba pa (again id p seconds a ∷ qs)
         → Heard (ended now (waitingFor t) true true h) (bytesOf (again id p seconds a)) (map bytesOf qs)
@@ -67,7 +71,7 @@ module _ (b : End) (ab : List (List ℕ)) where
         (λ (e : initStart now (waitingFor t) m ≡ Start.Resumed ts (st .0) a).
         let s : State = resumed now ts (st .0) (a .0) in
         rw (again-begins now t h id p seconds a i (st .0) e, let-go now (stepped Answer.Done s (upWith 0) []) (st .0) (st .1 .few) refl)
-        (labels-same (labels-acked l (st .0) (a .0)) s refl refl))
+        (c .same (c .freed l (st .0) (a .0)) s refl refl refl))
         (λ (e : initStart now (waitingFor t) m ≡ Start.Refused Answer.ParametersChanged).
         released-ends Phase.Idle true true h refl (ap (λ (z : Step). z .state .kept) (sym (changed now t m e)) ∙ k))
         (st .2)
@@ -75,14 +79,14 @@ module _ (b : End) (ab : List (List ℕ)) where
   module _ (now : State) (sent : ℕ) (h : History) {qs : List Packet} {ba : List (List ℕ)} {pa : List Packet} where
     hears-alive : (id : MessageId) (n : FtNumber) → Inv (ended now (upWith sent) true true h) b ab ba pa (alive id n ∷ qs)
         → Heard (ended now (upWith sent) true true h) (bytesOf (alive id n)) (map bytesOf qs)
-    unfolding receivedState taken ackOn acked
+    unfolding receivedState taken ackOn acked answeredAt answers endedAt kindOf
     hears-alive id n i l =
         let free = half-ack (i .out .half) in
         let acks = free .1 .right in
         let g = g₁ now sent h id n in
         let read = alive-read now sent h id n i in
-        taking now sent h l (bytesOf (alive id n)) g read (free .0) acks (free .1 .few) [] (rw read)
-        (λ e. labels-same (labels-acked l (free .0) (n .0)) (receivedState now g) (rw (acks, plain now sent h id n (free .0) acks .effect)) (rw acks))
+        taking c now sent h l (bytesOf (alive id n)) g read (free .0) acks (free .1 .few) [] (rw read)
+        (λ e. c .same (c .freed l (free .0) (n .0)) (receivedState now g) (rw (acks, plain now sent h id n (free .0) acks .effect)) refl (rw acks))
 
     hears-carried : (m : List ℕ) (n : FtNumber) (ack : FtField) → Inv (ended now (upWith sent) true true h) b ab ba pa (carried m n ack ∷ qs)
         → Heard (ended now (upWith sent) true true h) (bytesOf (carried m n ack)) (map bytesOf qs)
@@ -93,9 +97,17 @@ module _ (b : End) (ab : List (List ℕ)) where
         let g = g₂ now sent h m n ack i in
         let read = carried-read now sent h m n ack i in
         let stored = f now sent h m n ack i .0 .storable in
-        taking now sent h l (bytesOf (carried m n ack)) g read (free .0) acks (free .1 .few) (m ∷ []) (secures now sent h m n ack i)
-        (λ e. rw acks (labels-taken l g refl m (stored .kind) (stored .label) (stored .accepted) (carried-says now sent h m n ack i) (free .0) (ackBorne now ack)
-        (has-room (free .0) acks (rw e at (judged now sent (bytesOf (carried m n ack)) g read)))))
+        taking c now sent h l (bytesOf (carried m n ack)) g read (free .0) acks (free .1 .few) (m ∷ []) (secures now sent h m n ack i)
+        (λ e. rw acks (c .carried l (free .0) (ackBorne now ack) g m
+        (record {
+          kind = stored .kind;
+          label = stored .label;
+          accepted = stored .accepted;
+          protected = refl;
+          read = sent-kind m (stored .kind) (stored .label) (stored .accepted) n ack (short now sent h m n ack i);
+          effect = carried-says now sent h m n ack i;
+          room = has-room (free .0) acks (rw e at (judged now sent (bytesOf (carried m n ack)) g read));
+        })))
 
   pub hears : Oldests Heard b ab
   hears = record {

@@ -7,19 +7,21 @@ use native.Mathlib.Omega.{arith}
 use borrow.Author.Tests.{eq-eqb, ne-eqb}
 use Rattle.ft_number.specs.declared.Ack.{Ack}
 use Rattle.ft_number.specs.declared.FtNumber.{FtNumber}
+use Rattle.ft_number.specs.declared.MessageId.{MessageId}
 use Rattle.ft_number.specs.Circle.{next}
 use Rattle.label_list.specs.declared.Protection.{Protection}
-use Rattle.label_events.specs.declared.Reception.{Reception}
 use Rattle.tlv.specs.declared.Field.{Field}
 use Rattle.tlv.specs.declared.FtField.{FtField}
+use Rattle.tlv.specs.declared.IdField.{IdField}
+use Rattle.label_events.specs.declared.Reception.{Reception}
 use Rattle.message.specs.declared.Message.{Message}
 use Rattle.message.specs.declared.MessageType.{MessageType}
 use Rattle.message.specs.declared.Reading.{Reading}
 use Rattle.message.specs.Kinds.{kindNumber, kindFor, kindOf}
 use Rattle.protocol.specs.declared.Answer.{Answer}
 use Rattle.protocol.specs.declared.LabelEffect.{LabelEffect}
-use Rattle.protocol.specs.Cases.{wordsAfter, Case, wrong-phase, an-init, fatal, zero-number, wrong-ack, missing, wrong, out-of-turn, no-word, taken}
-use Rattle.protocol.specs.Labels.{labelEffect, isProtected, protectionRule, effectReception}
+use Rattle.protocol.specs.Cases.{wordsAfter, Case, wrong-phase, an-init, fatal, zero-number, wrong-ack, missing, wrong, out-of-turn, no-word, taken, tableAfter}
+use Rattle.protocol.specs.Labels.{labelEffect, isProtected, protectionRule, effectReception, answeredAt}
 use Rattle.protocol.specs.Phases.{upWith}
 use Rattle.protocol.specs.Receive.{ackOn, isFatal, isZero, inTurn}
 use Rattle.protocol.specs.Received.{isInit}
@@ -81,32 +83,32 @@ plain-done {s = s} j p (missing {k = k} a e) = let q : Protection.Right ≡ Prot
 plain-done {s = s} j p (wrong {k = k} a e) = let q : Protection.Right ≡ Protection.Wrong = sym (p .free (wordsAfter s k)) ∙ e in let z : _≡_ {A = ℕ} 0 1 = cc in absurd (omega arith)
 plain-done {s = s} j p (out-of-turn a e) = let f : inTurn (s .secured .0) FtField.Absent ≡ false = rw (p .bare) at e in never f
 plain-done {s = s} {g = g} j p (no-word {k = k} t e) =
-    let f : effectReception (wordsAfter s k) (isProtected (g .protection)) LabelEffect.Nothing ≡ Reception.NoRoom = rw (p .effect) at e in
+    let f : effectReception (wordsAfter s k) (answeredAt (tableAfter s k) g) (isProtected (g .protection)) LabelEffect.Nothing ≡ Reception.NoRoom = rw (p .effect) at e in
     let z : _≡_ {A = ℕ} 0 1 = cc in
     absurd (omega arith)
 plain-done j p (taken t) = refl
 
 -- ---- a message of a kind is no Init
-init-else : (type : MessageType) (status : Field) → 1 ≤ kindNumber (kindFor type status) → isInit type ≡ false
-init-else MessageType.Notification status l = refl
-init-else MessageType.Initialization status l = absurd (omega arith)
-init-else MessageType.KeepAlive status l = refl
-init-else MessageType.Address status l = refl
-init-else MessageType.AddressWithdraw status l = refl
-init-else MessageType.Mapping status l = refl
-init-else MessageType.Request status l = refl
-init-else MessageType.Withdraw status l = refl
-init-else MessageType.Release status l = refl
-init-else MessageType.Abort status l = refl
-init-else MessageType.Other status l = refl
+init-else : (type : MessageType) (status : Field) (id : MessageId) (requestid : IdField) → 1 ≤ kindNumber (kindFor type status id requestid) → isInit type ≡ false
+init-else MessageType.Notification status id requestid l = refl
+init-else MessageType.Initialization status id requestid l = absurd (omega arith)
+init-else MessageType.KeepAlive status id requestid l = refl
+init-else MessageType.Address status id requestid l = refl
+init-else MessageType.AddressWithdraw status id requestid l = refl
+init-else MessageType.Mapping status id requestid l = refl
+init-else MessageType.Request status id requestid l = refl
+init-else MessageType.Withdraw status id requestid l = refl
+init-else MessageType.Release status id requestid l = refl
+init-else MessageType.Abort status id requestid l = refl
+init-else MessageType.Other status id requestid l = refl
 
 pub not-init : (g : Message) → 1 ≤ kindNumber (kindOf g) → isInit (g .typename) ≡ false
 unfolding kindOf
-not-init g l = init-else (g .typename) (g .status) l
+not-init g l = init-else (g .typename) (g .status) (g .id) (g .requestid) l
 
 -- ---- a message that is taken has room
 pub has-room : {s : State} {sent : ℕ} {g : Message} (j : ℕ) → ackOn s g ≡ Ack.Releases j → Case s (upWith sent) (Reading.Whole g) Answer.Done
-    → effectReception (wordsAfter s j) (isProtected (g .protection)) (labelEffect g) ≡ Reception.Taken
+    → effectReception (wordsAfter s j) (answeredAt (tableAfter s j) g) (isProtected (g .protection)) (labelEffect g) ≡ Reception.Taken
 has-room {s} {g = g} j acks (taken {k = k} t) =
     let one : Ack.Releases k ≡ Ack.Releases j = sym (t .turn .protection .ack .acks) ∙ acks in
     let same : k ≡ j = cc in

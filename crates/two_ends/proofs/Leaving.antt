@@ -1,4 +1,4 @@
--- What a call at an end that has begun leaves of the labels, as long as the state is kept. Assumes nothing.
+-- What a call at an end that has begun leaves of what persists, as long as the state is kept. Assumes nothing.
 use Prim.Native.Nat.{ℕ, _≤_}
 use mathlib.Core.Bool.{Bool, false, true, true≢false}
 use mathlib.Core.List.{_++_, List, []}
@@ -36,17 +36,17 @@ use Rattle.protocol.proofs.Settling.{admitted-done}
 use Rattle.two_ends.specs.Calls.{accepts, letGo, securing, takes}
 use Rattle.two_ends.specs.World.{History}
 use Rattle.two_ends.proofs.Delivering.{let-go}
-use Rattle.two_ends.proofs.Labels.{Labels, labels-broken, labels-same, labels-submitted}
+use Rattle.two_ends.proofs.Persisting.{Persists}
 
 never : {P : Type 0} → false ≡ true → P
 never e = absurd (true≢false (sym e))
 
-module _ (now : State) (ph : Phase) (h : History) {t : State} {k : History} (l : Labels now h t k) where
+module _ {R : State → History → State → History → Type 0} (c : Persists R) (now : State) (ph : Phase) (h : History) {t : State} {k : History} (l : R now h t k) where
   abbrev Leaves : State → Type 0
-  Leaves s = s .kept ≡ true → Labels s h t k
+  Leaves s = s .kept ≡ true → R s h t k
 
   settled : (a : Answer) (d : Step) → (isDone a ≡ true → Leaves (d .state)) → Leaves (settle a now ph d .state)
-  settled a d does = settle-leaves Leaves a now ph d (λ e. l) (λ e. labels-broken l) never does
+  settled a d does = settle-leaves Leaves a now ph d (λ e. l) (λ e. c .ended l) never does
 
   written : (may : Bool) (next : Phase) (bytes : List ℕ) (room : ℕ) → Leaves (writer now ph may next bytes room .state)
   unfolding writer
@@ -62,11 +62,11 @@ module _ (now : State) (ph : Phase) (h : History) {t : State} {k : History} (l :
 
   pub send-leaves : (ask : Bool) (room : ℕ) → Leaves (sendNext now ph ask room .state)
   unfolding sendNext sentState numbered
-  send-leaves ask room = settled _ _ (λ d. pick-all Leaves (ltb (sentOf ph) (issuedCount now)) (λ e. l) (λ e. labels-same l (withIssued now (queueNumber now (sentOf ph))) refl refl))
+  send-leaves ask room = settled _ _ (λ d. pick-all Leaves (ltb (sentOf ph) (issuedCount now)) (λ e. l) (λ e. c .same l (withIssued now (queueNumber now (sentOf ph))) refl refl refl))
 
   pub notice-leaves : Leaves (connectionFailed now ph .state)
   unfolding connectionFailed
-  notice-leaves = settled _ _ (λ d e. labels-broken l)
+  notice-leaves = settled _ _ (λ d e. c .ended l)
 
   pub time-leaves : (elapsed : ℕ) → Leaves (timePassed now ph elapsed .state)
   unfolding timePassed
@@ -74,17 +74,17 @@ module _ (now : State) (ph : Phase) (h : History) {t : State} {k : History} (l :
 
   -- ---- a call that counts in the history where it is done
   abbrev Counts : (Step → History) → Step → Type 0
-  Counts f x = x .state .kept ≡ true → Labels (x .state) (pick (isDone (x .answer)) (f x) h) t k
+  Counts f x = x .state .kept ≡ true → R (x .state) (pick (isDone (x .answer)) (f x) h) t k
 
   counted : (f : Step → History) (a : Answer) (d : Step) → (isDone a ≡ true → Counts f d) → Counts f (settle a now ph d)
-  counted f a d does = settle-cases (Counts f) a now ph d (λ n e. rw n l) (λ n e. rw n (labels-broken l)) (λ n r e. never e) does
+  counted f a d does = settle-cases (Counts f) a now ph d (λ n e. rw n l) (λ n e. rw n (c .ended l)) (λ n r e. never e) does
 
   pub submit-leaves : (m : List ℕ) (o : List (List ℕ)) → h .accepted ≡ k .secured ++ o → Counts (λ x. accepts m h) (submit now ph m)
   unfolding submit
-  submit-leaves m o e = counted (λ x. accepts m h) _ _ (λ d kept. labels-submitted l m o e)
+  submit-leaves m o e = counted (λ x. accepts m h) _ _ (λ d kept. c .accepted l m o e)
 
 -- ---- a message is delivered in UpFT
-module _ (now : State) (sent : ℕ) (h : History) {t : State} {k : History} (l : Labels now h t k) where
+module _ {R : State → History → State → History → Type 0} (c : Persists R) (now : State) (sent : ℕ) (h : History) {t : State} {k : History} (l : R now h t k) where
   abbrev up : Phase
   up = upWith sent
 
@@ -93,7 +93,7 @@ module _ (now : State) (sent : ℕ) (h : History) {t : State} {k : History} (l :
   heard m x = takes (letGo now x) (securing m) h
 
   abbrev Takes : List ℕ → Type 0
-  Takes m = Counts now up h l (heard m) (receive now up m)
+  Takes m = Counts c now up h l (heard m) (receive now up m)
 
   abbrev does : Message → Step
   does g = stepped Answer.Done (receivedState now g) (receivedPhase now sent g) []
@@ -109,8 +109,8 @@ module _ (now : State) (sent : ℕ) (h : History) {t : State} {k : History} (l :
     unfolding receivedState taken acked
     gone = let-go now (does g) j few (rw acks)
 
-    pub taking : (ftRule now g ≡ Answer.Done → Labels (receivedState now g) (takes (take j (now .queue)) got h) t k) → Takes m
+    pub taking : (ftRule now g ≡ Answer.Done → R (receivedState now g) (takes (take j (now .queue)) got h) t k) → Takes m
     taking right =
         rw is
-        (counted now up h l (heard m) (admitted now up (ftRule now g)) (does g) (λ t kept.
+        (counted c now up h l (heard m) (admitted now up (ftRule now g)) (does g) (λ t kept.
         rw (gone, secures) (right (done-is (ftRule now g) (admitted-done now up (ftRule now g) t)))))

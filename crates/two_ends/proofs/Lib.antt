@@ -40,6 +40,7 @@ pub mod Theorem
 pub mod Staying
 pub mod Monotone
 -- the labels, a layer over it: no code 6, what is owed for them, and what is given and in use
+pub mod Accepting
 pub mod Sixless
 pub mod Owed
 pub mod Paid
@@ -49,10 +50,14 @@ pub mod Agreeing
 pub mod Acking
 pub mod Getting
 pub mod Sharing
+-- what persists between the two ends, over every change of one and over every run; the labels do
+pub mod Persisting
 pub mod Labels
 pub mod Leaving
 pub mod Hearing
-pub mod Labelled
+pub mod Persisted
+-- so do the marks of Requests stopped
+pub mod Stopping
 -- with both: the answers that come, and what holds of labels over a run
 pub mod Answering
 pub mod Listing

@@ -9,7 +9,8 @@ use Rattle.two_ends.specs.Start.{Afresh, Fit, Opener, start}
 use Rattle.two_ends.specs.World.{End, Lasts}
 use Rattle.two_ends.proofs.Arriving.{f}
 use Rattle.two_ends.proofs.Invariant.{sideOf}
-use Rattle.two_ends.proofs.Labelled.{lists}
+use Rattle.two_ends.proofs.Labels.{labels-persist}
+use Rattle.two_ends.proofs.Persisted.{persisted}
 use Rattle.two_ends.proofs.Tidy.{Tidy}
 
 listed : (e : End) → Tidy (e .state) → Listed e
@@ -28,6 +29,6 @@ counts e g t = rw g at t
 pub labels-last : (x y : Opener) → Fit x → Fit y → Afresh x y → (vs : List (Bool × Event)) → AllProperEvents vs → Lasts (run (start x y) vs)
     → (run (start x y) vs .a .begun ≡ true → Listed (run (start x y) vs .a)) × (run (start x y) vs .b .begun ≡ true → Listed (run (start x y) vs .b))
 labels-last x y fx fy f vs p k =
-    let l = lists x y fx fy f vs p k in
+    let l = persisted labels-persist x y fx fy f vs p k in
     let w = run (start x y) vs in
     (λ g. listed (w .a) (counts (w .a) g (l .own)), λ g. listed (w .b) (counts (w .b) g (l .peer)))

@@ -12,7 +12,7 @@ use Rattle.tlv.specs.declared.FtField.{FtField}
 use Rattle.tlv.specs.Tlv.{parametersType, sessionType, protectionType, ackType}
 use Rattle.message.specs.Reading.{initializationType, keepaliveType}
 use Rattle.message_writer.specs.declared.OwnParameters.{OwnParameters}
-use Rattle.message_writer.specs.Forms.{tlvBytes, messageBytes, ackTlv, parametersTlv, sessionValue, unknownBit, initBytes, keepaliveBytes, raisedTo, raised, ftTlvs, protectedBytes}
+use Rattle.message_writer.specs.Forms.{tlvBytes, messageBytes, ackTlv, parametersTlv, modeByte, sessionValue, unknownBit, initBytes, keepaliveBytes, raisedTo, raised, ftTlvs, protectedBytes}
 
 pub record Octets (s : List ℕ) : Type 0 where
   pub each : Bytes s
@@ -65,7 +65,7 @@ message-octets number id {tlvs} a = joins (joins (number-octets 2 number) (joins
 parameters-octets : (p : OwnParameters) → Octets (parametersTlv p)
 parameters-octets p =
     joins (number-octets 2 parametersType) (joins (number-octets 2 14) (joins (number-octets 2 1) (joins (number-octets 2 (p .keepalive))
-    (joins (number-octets 1 0) (joins (number-octets 1 0) (joins (number-octets 2 (p .pdulength)) (joins (number-octets 4 (p .lsr)) (number-octets 2 (p .space)))))))))
+    (joins (number-octets 1 (modeByte (p .ondemand))) (joins (number-octets 1 0) (joins (number-octets 2 (p .pdulength)) (joins (number-octets 4 (p .lsr)) (number-octets 2 (p .space)))))))))
 
 pub init-octets : (id : MessageId) (p : OwnParameters) (seconds : ℕ) (ack : FtField) → Octets (initBytes id p seconds ack)
 init-octets id p seconds ack =

@@ -2,33 +2,33 @@
 use Prim.Native.Nat.{ℕ}
 use mathlib.Core.Bool.{Bool, true, false, true≢false}
 use mathlib.Core.List.{List, [], _∷_, _++_}
-use mathlib.Core.Logic.{_⊎_, inl, inr, ⊎-elim}
+use mathlib.Core.Logic.{_⊎_, inl, inr, ⊎-elim, _≢_}
 use mathlib.Core.Path.{_≡_, refl, sym, _∙_}
 use native.Mathlib.Omega.{arith}
 use borrow.Author.Tests.{eq-eqb}
 use Rattle.octets.specs.Pick.{pick}
-use Rattle.octets.proofs.Choice.{pick-all}
+use Rattle.octets.proofs.Choice.{no, pick-all}
+use Rattle.label_list.specs.declared.Found.{Found}
 use Rattle.label_list.specs.declared.LabelMessage.{LabelMessage}
 use Rattle.label_list.specs.declared.LabelMessage.the-variants.{Mapping, Withdraw, Release}
 use Rattle.label_list.specs.declared.SweepRule.the-variants.{AfterBreak}
 use Rattle.label_list.specs.Sweep.{sweptOf}
 use Rattle.label_list.specs.Valid.{validOf}
 use Rattle.label_events.specs.Change.{codeAt}
-use Rattle.label_meaning.specs.Event.{LabelEvent, Accepted, Received, Broken, afterEvent, Moves, given, withdrawn, released, returned, withdraw-acked, release-acked, taken, taken-again, taken-bare, asked-back, bare-withdrawn, given-back, withdrawn-back, bare-lost}
-use Rattle.label_meaning.proofs.Meaning.{valid-means}
-use Rattle.label_meaning.proofs.Moved.{every-move}
 use Rattle.message.specs.declared.Kind.{Kind}
 use Rattle.message.specs.declared.Submission.{Submission}
 use Rattle.message.specs.Kinds.{kindNumber}
 use Rattle.message.specs.Storable.{bears}
 use Rattle.message.specs.Submission.{submissionOf}
+use Rattle.label_meaning.specs.Event.{LabelEvent, Accepted, Received, Broken, afterEvent, Moves, given, withdrawn, released, returned, withdraw-acked, release-acked, taken, taken-again, taken-bare, asked-back, bare-withdrawn, given-back, withdrawn-back, bare-lost, Ended}
+use Rattle.label_meaning.proofs.Meaning.{valid-means}
+use Rattle.label_meaning.proofs.Moved.{every-move}
 use Rattle.protocol.specs.declared.LabelEffect.{LabelEffect}
-use Rattle.protocol.specs.Accepting.{acceptedAs}
 use Rattle.protocol.specs.Held.{isHeld}
 use Rattle.protocol.specs.Labels.{effectLabels}
 use Rattle.protocol.specs.State.{noTable}
-use Rattle.protocol.specs.Submit.{acceptedLabels}
 use Rattle.two_ends.specs.Labels.{Due, withdrawal, release, dueSide, dueCode, dueMessage, dueKind, Owed}
+use Rattle.two_ends.proofs.Accepting.{AcceptedWords, mapping-accepted, withdraw-accepted, release-accepted, codes-kept}
 use Rattle.two_ends.proofs.Sixless.{none-code}
 
 -- ---- what is held
@@ -77,22 +77,23 @@ due-step ls v e due l z =
     (every-move ls (valid-means ls v) e (dueSide due) l)
 
 -- ---- a connection ends, a message is received
-pub broken-owed : (ls : List ℕ) (q : List (List ℕ)) → validOf ls ≡ true → Owed ls q → Owed (sweptOf ls AfterBreak) q
-unfolding afterEvent
-broken-owed ls q v o due l z =
-    ⊎-elim
-    (λ (same : codeAt ls (dueSide due) l ≡ dueCode due). o due l same)
-    (λ (e : Broken ≡ Accepted (dueMessage due) l). let no : _≡_ {A = ℕ} 0 1 = cc in absurd (omega arith))
-    (due-step ls v Broken due l z)
+module _ (ls : List ℕ) (q : List (List ℕ)) (v : validOf ls ≡ true) (o : Owed ls q) where
+  -- any event but a message accepted
+  else-owed : (e : LabelEvent) → ((m : LabelMessage) (l : ℕ) → e ≢ Accepted m l) → Owed (afterEvent ls e) q
+  else-owed e other due l z =
+      ⊎-elim
+      (λ (same : codeAt ls (dueSide due) l ≡ dueCode due). o due l same)
+      (λ (is : e ≡ Accepted (dueMessage due) l). absurd (other (dueMessage due) l is))
+      (due-step ls v e due l z)
 
-pub received-owed : (ls : List ℕ) (q : List (List ℕ)) (p : Bool) (e : LabelEffect) → validOf ls ≡ true → Owed ls q → Owed (effectLabels ls p e) q
-unfolding afterEvent
-received-owed ls q p LabelEffect.Nothing v o = o
-received-owed ls q p (LabelEffect.Change m t) v o = λ due l z.
-    ⊎-elim
-    (λ (same : codeAt ls (dueSide due) l ≡ dueCode due). o due l same)
-    (λ (e : Received m p t ≡ Accepted (dueMessage due) l). let no : _≡_ {A = ℕ} 0 1 = cc in absurd (omega arith))
-    (due-step ls v (Received m p t) due l z)
+  pub broken-owed : Owed (sweptOf ls AfterBreak) q
+  unfolding afterEvent
+  broken-owed = else-owed Broken (λ m l e. no cc)
+
+  pub received-owed : (request : Found) (p : Bool) (e : LabelEffect) → Owed (effectLabels ls request p e) q
+  unfolding afterEvent
+  received-owed request p LabelEffect.Nothing = else-owed (Ended request) (λ m l e. no cc)
+  received-owed request p (LabelEffect.Change message t) = else-owed (Received request message p t) (λ m l e. no cc)
 
 -- ---- a message is accepted: it is the newest held
 accept-by : (ls : List ℕ) (q : List (List ℕ)) (m : List ℕ) → validOf ls ≡ true → Owed ls q → (message : LabelMessage) (label : ℕ)
@@ -106,33 +107,25 @@ accept-by ls q m v o message label is due l z =
     held-last (dueKind due) l q m (rw at at (is due same)))
     (due-step ls v (Accepted message label) due l z)
 
-more-owed : (ls : List ℕ) (q : List (List ℕ)) (m : List ℕ) → Owed ls q → Owed ls (q ++ (m ∷ []))
-more-owed ls q m o due l z = held-more (dueKind due) l q (m ∷ []) (o due l z)
-
 -- a message that bears the kind of what is due
 bears-due : (kind : Kind) (label : ℕ) (due : Due) → kindNumber kind ≡ dueKind due → bears (Submission.Accepted kind label) (dueKind due) label ≡ true
 bears-due kind label due e = rw (eq-eqb (kindNumber kind) (dueKind due) e) (eq-eqb label label refl)
 
 wrong-due : {P : Type 0} (due : Due) → Mapping ≡ dueMessage due → P
-wrong-due withdrawal e = let no : _≡_ {A = ℕ} 0 1 = cc in absurd (omega arith)
-wrong-due release e = let no : _≡_ {A = ℕ} 0 1 = cc in absurd (omega arith)
+wrong-due withdrawal e = no cc
+wrong-due release e = no cc
 
 withdraw-due : (due : Due) → Withdraw ≡ dueMessage due → 2 ≡ dueKind due
 withdraw-due withdrawal e = refl
-withdraw-due release e = let no : _≡_ {A = ℕ} 0 1 = cc in absurd (omega arith)
+withdraw-due release e = no cc
 
 release-due : (due : Due) → Release ≡ dueMessage due → 3 ≡ dueKind due
-release-due withdrawal e = let no : _≡_ {A = ℕ} 0 1 = cc in absurd (omega arith)
+release-due withdrawal e = no cc
 release-due release e = refl
 
-pub accepted-owed : (ls : List ℕ) (q : List (List ℕ)) (m : List ℕ) → validOf ls ≡ true → Owed ls q → (j : Submission) → submissionOf m ≡ j → Owed (acceptedLabels ls j) (q ++ (m ∷ []))
-unfolding acceptedAs afterEvent
-accepted-owed ls q m v o Submission.Malformed e = more-owed ls q m o
-accepted-owed ls q m v o Submission.Refused e = more-owed ls q m o
-accepted-owed ls q m v o (Submission.Accepted Kind.Mapping label) e = accept-by ls q m v o Mapping label (λ due f. wrong-due due f)
-accepted-owed ls q m v o (Submission.Accepted Kind.Withdraw label) e = accept-by ls q m v o Withdraw label (λ due f. rw e (bears-due Kind.Withdraw label due (withdraw-due due f)))
-accepted-owed ls q m v o (Submission.Accepted Kind.Release label) e = accept-by ls q m v o Release label (λ due f. rw e (bears-due Kind.Release label due (release-due due f)))
-accepted-owed ls q m v o (Submission.Accepted Kind.Address label) e = more-owed ls q m o
-accepted-owed ls q m v o (Submission.Accepted Kind.AddressWithdraw label) e = more-owed ls q m o
-accepted-owed ls q m v o (Submission.Accepted Kind.ResourcesAvailable label) e = more-owed ls q m o
-accepted-owed ls q m v o (Submission.Accepted Kind.NoKind label) e = more-owed ls q m o
+pub accepted-owed : (ls : List ℕ) (q : List (List ℕ)) (m : List ℕ) → validOf ls ≡ true → Owed ls q → {j : Submission} {after : List ℕ} → submissionOf m ≡ j → AcceptedWords ls j after
+    → Owed after (q ++ (m ∷ []))
+accepted-owed ls q m v o e (mapping-accepted {k}) = accept-by ls q m v o Mapping k (λ due f. wrong-due due f)
+accepted-owed ls q m v o e (withdraw-accepted {k}) = accept-by ls q m v o Withdraw k (λ due f. rw e (bears-due Kind.Withdraw k due (withdraw-due due f)))
+accepted-owed ls q m v o e (release-accepted {k}) = accept-by ls q m v o Release k (λ due f. rw e (bears-due Kind.Release k due (release-due due f)))
+accepted-owed ls q m v o e (codes-kept same) = λ due l z. held-more (dueKind due) l q (m ∷ []) (o due l (sym (same (dueSide due) l) ∙ z))

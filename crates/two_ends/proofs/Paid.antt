@@ -3,23 +3,23 @@ use Prim.Native.Nat.{ℕ, zero, suc}
 use mathlib.Core.Bool.{true, false, true≢false}
 use mathlib.Core.List.{List, [], _∷_}
 use mathlib.Core.Logic.{⊎-elim, _≢_}
-use mathlib.Core.Path.{_≡_, refl, sym}
+use mathlib.Core.Path.{_≡_, refl, sym, _∙_}
 use native.Mathlib.Omega.{arith}
+use lib.Dec.{eqb}
 use lib.ListN.{take, drop}
-use borrow.Author.Tests.{eqb-true, ne-eqb}
-use Rattle.octets.proofs.Choice.{by-test}
+use borrow.Author.Tests.{eqb-true, eqb-false}
+use Rattle.octets.proofs.Choice.{by-test, both-true}
 use Rattle.label_list.specs.declared.LabelMessage.{LabelMessage}
 use Rattle.label_list.specs.declared.LabelMessage.the-variants.{Withdraw, Release}
 use Rattle.label_list.specs.Valid.{validOf}
 use Rattle.label_events.specs.Change.{codeAt}
-use Rattle.label_meaning.specs.Event.{Accepted, Acked, afterEvent, withdraw-acked, release-acked}
-use Rattle.label_meaning.proofs.Life.{move-happens}
-use Rattle.label_meaning.proofs.Meaning.{valid-means}
-use Rattle.message.specs.declared.Kind.{Kind}
 use Rattle.message.specs.declared.Submission.{Submission}
 use Rattle.message.specs.Kinds.{kindNumber}
 use Rattle.message.specs.Storable.{bears, kindIn, labelIn}
 use Rattle.message.specs.Submission.{submissionOf}
+use Rattle.label_meaning.specs.Event.{Accepted, Acked, afterEvent, withdraw-acked, release-acked}
+use Rattle.label_meaning.proofs.Life.{move-happens}
+use Rattle.label_meaning.proofs.Meaning.{valid-means}
 use Rattle.protocol.specs.Acked.{releasedKind, releasedLabels}
 use Rattle.protocol.specs.Held.{isHeld}
 use Rattle.protocol.proofs.Words.{released-valid}
@@ -53,29 +53,39 @@ module _ (ls : List ℕ) (m : List ℕ) (q : List (List ℕ)) (v : validOf ls �
   keep n due l z = held-tail (dueKind due) l m q (n due l) (o due l z)
 
 -- ---- the oldest is let go, whatever it is
-other-due : (kind : Kind) (label : ℕ) → kindNumber kind ≢ 2 → kindNumber kind ≢ 3 → (due : Due) (l : ℕ) → bears (Submission.Accepted kind label) (dueKind due) l ≡ false
-other-due kind label two three withdrawal l = rw (ne-eqb (kindNumber kind) 2 two)
-other-due kind label two three release l = rw (ne-eqb (kindNumber kind) 3 three)
+bears-parts : (j : Submission) (kind l : ℕ) → bears j kind l ≡ true → (kindIn j ≡ kind) × (labelIn j ≡ l)
+bears-parts Submission.Malformed kind l e = absurd (true≢false (sym e))
+bears-parts Submission.Refused kind l e = absurd (true≢false (sym e))
+bears-parts (Submission.Accepted k n) kind l e =
+    let p = both-true (eqb (kindNumber k) kind) (eqb n l) e in
+    (eqb-true (kindNumber k) kind (p .0), eqb-true n l (p .1))
 
-withdraw-pays : (label : ℕ) (due : Due) (l : ℕ) → bears (Submission.Accepted Kind.Withdraw label) (dueKind due) l ≡ true → (Withdraw ≡ dueMessage due) × (label ≡ l)
-withdraw-pays label withdrawal l e = (refl, eqb-true label l e)
-withdraw-pays label release l e = absurd (true≢false (sym e))
+withdraw-pays : (due : Due) → 2 ≡ dueKind due → Withdraw ≡ dueMessage due
+withdraw-pays withdrawal e = refl
+withdraw-pays release e = absurd (omega arith)
 
-release-pays : (label : ℕ) (due : Due) (l : ℕ) → bears (Submission.Accepted Kind.Release label) (dueKind due) l ≡ true → (Release ≡ dueMessage due) × (label ≡ l)
-release-pays label withdrawal l e = absurd (true≢false (sym e))
-release-pays label release l e = (refl, eqb-true label l e)
+release-pays : (due : Due) → 3 ≡ dueKind due → Release ≡ dueMessage due
+release-pays withdrawal e = absurd (omega arith)
+release-pays release e = refl
 
-one-owed : (ls : List ℕ) (m : List ℕ) (q : List (List ℕ)) → validOf ls ≡ true → Owed ls (m ∷ q) → (j : Submission) → submissionOf m ≡ j → Owed (releasedKind (kindIn j) (labelIn j) ls) q
+other-due : (kind : ℕ) → kind ≢ 2 → kind ≢ 3 → (due : Due) → kind ≢ dueKind due
+other-due kind two three withdrawal = two
+other-due kind two three release = three
+
+one-owed : (ls : List ℕ) (m : List ℕ) (q : List (List ℕ)) → validOf ls ≡ true → Owed ls (m ∷ q) → Owed (releasedKind (kindIn (submissionOf m)) (labelIn (submissionOf m)) ls) q
 unfolding releasedKind afterEvent
-one-owed ls m q v o Submission.Malformed e = keep ls m q v o (λ due l. rw e)
-one-owed ls m q v o Submission.Refused e = keep ls m q v o (λ due l. rw e)
-one-owed ls m q v o (Submission.Accepted Kind.Mapping label) e = keep ls m q v o (λ due l. rw e (other-due Kind.Mapping label (λ z. omega arith) (λ z. omega arith) due l))
-one-owed ls m q v o (Submission.Accepted Kind.Withdraw label) e = pay ls m q v o Withdraw label (λ due l t. withdraw-pays label due l (rw e at t))
-one-owed ls m q v o (Submission.Accepted Kind.Release label) e = pay ls m q v o Release label (λ due l t. release-pays label due l (rw e at t))
-one-owed ls m q v o (Submission.Accepted Kind.Address label) e = keep ls m q v o (λ due l. rw e (other-due Kind.Address label (λ z. omega arith) (λ z. omega arith) due l))
-one-owed ls m q v o (Submission.Accepted Kind.AddressWithdraw label) e = keep ls m q v o (λ due l. rw e (other-due Kind.AddressWithdraw label (λ z. omega arith) (λ z. omega arith) due l))
-one-owed ls m q v o (Submission.Accepted Kind.ResourcesAvailable label) e = keep ls m q v o (λ due l. rw e (other-due Kind.ResourcesAvailable label (λ z. omega arith) (λ z. omega arith) due l))
-one-owed ls m q v o (Submission.Accepted Kind.NoKind label) e = keep ls m q v o (λ due l. rw e (other-due Kind.NoKind label (λ z. omega arith) (λ z. omega arith) due l))
+one-owed ls m q v o =
+    let j = submissionOf m in
+    let kind = kindIn j in
+    by-test
+    (eqb kind 2)
+    (λ two. rw two (pay ls m q v o Withdraw (labelIn j) (λ due l t. let p = bears-parts j (dueKind due) l t in (withdraw-pays due (sym (eqb-true kind 2 two) ∙ p .0), p .1))))
+    (λ two. rw two
+    (by-test
+    (eqb kind 3)
+    (λ three. rw three (pay ls m q v o Release (labelIn j) (λ due l t. let p = bears-parts j (dueKind due) l t in (release-pays due (sym (eqb-true kind 3 three) ∙ p .0), p .1))))
+    (λ three. rw three (keep ls m q v o (λ due l.
+    by-test (bears j (dueKind due) l) (λ t. absurd (other-due kind (eqb-false kind 2 two) (eqb-false kind 3 three) due (bears-parts j (dueKind due) l t .0))) (λ n. n))))))
 
 -- the oldest k are let go
 pub released-owed : (k : ℕ) (ls : List ℕ) (q : List (List ℕ)) → validOf ls ≡ true → Owed ls q → Owed (releasedLabels (take k q) ls) (drop k q)
@@ -84,4 +94,4 @@ released-owed zero ls q v o = o
 released-owed (suc k) ls [] v o = o
 released-owed (suc k) ls (m ∷ q) v o =
     let j = submissionOf m in
-    released-owed k (releasedKind (kindIn j) (labelIn j) ls) q (released-valid (m ∷ []) ls v) (one-owed ls m q v o j refl)
+    released-owed k (releasedKind (kindIn j) (labelIn j) ls) q (released-valid (m ∷ []) ls v) (one-owed ls m q v o)

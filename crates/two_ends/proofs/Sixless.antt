@@ -9,6 +9,7 @@ use lib.Dec.{eqb}
 use lib.ListN.{getD, replicate}
 use borrow.Author.Tests.{eqb-true}
 use Rattle.octets.proofs.Choice.{by-test}
+use Rattle.label_list.specs.declared.Found.{Found}
 use Rattle.label_list.specs.declared.LabelMessage.{LabelMessage}
 use Rattle.label_list.specs.declared.LabelMessage.the-variants.{Mapping, Withdraw, Release}
 use Rattle.label_list.specs.declared.Protection.{Protection}
@@ -24,19 +25,19 @@ use Rattle.label_list.proofs.Standing.{free-stands}
 use Rattle.label_events.specs.declared.Touched.{Touched}
 use Rattle.label_events.specs.Change.{codeAt}
 use Rattle.label_events.specs.Protect.{protectionOf}
-use Rattle.label_meaning.specs.Event.{LabelEvent, Accepted, Acked, Received, Broken, afterEvent, Moves, released, returned, release-acked, taken, taken-again, taken-bare, asked-back, bare-withdrawn, bare-lost}
+use Rattle.message.specs.declared.Submission.{Submission}
+use Rattle.label_meaning.specs.Event.{LabelEvent, Accepted, Acked, Received, Broken, afterEvent, Moves, released, returned, release-acked, taken, taken-again, taken-bare, asked-back, bare-withdrawn, bare-lost, Ended, Asked}
 use Rattle.label_meaning.specs.View.{absent}
 use Rattle.label_meaning.proofs.Meaning.{valid-means}
 use Rattle.label_meaning.proofs.Moved.{every-move}
 use Rattle.label_meaning.proofs.Step.{step-valid}
 use Rattle.label_meaning.proofs.View.{is-code}
-use Rattle.message.specs.declared.Submission.{Submission}
 use Rattle.protocol.specs.declared.LabelEffect.{LabelEffect}
 use Rattle.protocol.specs.Acked.{releasedLabels}
 use Rattle.protocol.specs.Labels.{effectProtection, effectLabels}
 use Rattle.protocol.specs.State.{noTable}
-use Rattle.protocol.specs.Submit.{acceptedLabels}
-use Rattle.protocol.proofs.Words.{none-valid, accepted-keeps, released-keeps}
+use Rattle.protocol.proofs.Words.{none-valid, released-keeps}
+use Rattle.two_ends.proofs.Accepting.{AcceptedWords, mapping-accepted, withdraw-accepted, release-accepted, codes-kept}
 
 abbrev pub NoSix : List ℕ → Type 0
 NoSix ls = (l : ℕ) → codeAt ls Used l ≡ 6 → ⊥
@@ -45,8 +46,10 @@ NoSix ls = (l : ℕ) → codeAt ls Used l ≡ 6 → ⊥
 abbrev Guarded : LabelEvent → Type 0
 Guarded (Accepted m l) = Unit {0}
 Guarded (Acked m l) = Unit {0}
-Guarded (Received m true t) = Unit {0}
-Guarded (Received m false t) = ⊥
+Guarded (Received r m true t) = Unit {0}
+Guarded (Received r m false t) = ⊥
+Guarded Asked = Unit {0}
+Guarded (Ended r) = Unit {0}
 Guarded Broken = Unit {0}
 
 -- none of them leads to code 6
@@ -88,8 +91,11 @@ unfolding afterEvent
 broken-sixless ls v n = step-sixless ls v n Broken tt
 
 -- ---- a message is accepted
-pub accepted-sixless : (ls : List ℕ) → validOf ls ≡ true → NoSix ls → (j : Submission) → NoSix (acceptedLabels ls j)
-accepted-sixless ls v n j = accepted-keeps NoSix ls n (λ m l. step-sixless ls v n (Accepted m l) tt) j
+pub accepted-sixless : (ls : List ℕ) → validOf ls ≡ true → NoSix ls → {j : Submission} {after : List ℕ} → AcceptedWords ls j after → NoSix after
+accepted-sixless ls v n (mapping-accepted {k}) = step-sixless ls v n (Accepted Mapping k) tt
+accepted-sixless ls v n (withdraw-accepted {k}) = step-sixless ls v n (Accepted Withdraw k) tt
+accepted-sixless ls v n (release-accepted {k}) = step-sixless ls v n (Accepted Release k) tt
+accepted-sixless ls v n (codes-kept same) = λ l six. n l (sym (same Used l) ∙ six)
 
 -- ---- messages are released
 pub released-sixless : (ms : List (List ℕ)) (ls : List ℕ) → validOf ls ≡ true → NoSix ls → NoSix (releasedLabels ms ls)
@@ -98,10 +104,10 @@ released-sixless ms ls v n =
     (λ ws p m l. (step-valid ws (Acked m l) (p .0), step-sixless ws (p .0) (p .1) (Acked m l) tt)) ms ls (v, n) .1
 
 -- ---- a protected message is received
-pub received-sixless : (ls : List ℕ) (e : LabelEffect) → validOf ls ≡ true → NoSix ls → NoSix (effectLabels ls true e)
+pub received-sixless : (ls : List ℕ) (request : Found) (e : LabelEffect) → validOf ls ≡ true → NoSix ls → NoSix (effectLabels ls request true e)
 unfolding afterEvent
-received-sixless ls LabelEffect.Nothing v n = n
-received-sixless ls (LabelEffect.Change m t) v n = step-sixless ls v n (Received m true t) tt
+received-sixless ls request LabelEffect.Nothing v n = step-sixless ls v n (Ended request) tt
+received-sixless ls request (LabelEffect.Change m t) v n = step-sixless ls v n (Received request m true t) tt
 
 -- then protection is not wrong
 bars-none : (m : LabelMessage) (ls : List ℕ) (l : ℕ) → NoSix ls → barsProtection m (codeAt ls (receivedSide m) l) ≡ false

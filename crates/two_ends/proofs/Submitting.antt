@@ -84,12 +84,12 @@ at-submits w m bytes g =
     let now = w .a .state in
     let ph = w .a .phase in
     let x = submit now ph m in
-    let a = admitted now ph (submitRule now m) in
+    let a = admitted now ph (submitRule now ph m) in
     let d = stepped Answer.Done (submitted now m) ph [] in
     at-replaced w (called (w .a) x (counts (w .a) x (accepts m (w .a .history)))) (w .ab) (w .ba) (λ kp k.
     let s = g kp in
     by-test (isDone a)
     (λ t.
     rw (settle-does a now ph d t, both-same (w .a .begun))
-    (accepted now ph m (done-accepted now m (done-is (submitRule now m) (admitted-done now ph (submitRule now m) t))) bytes (w .a .joined) (w .a .history) (w .a .begun) s))
-    (λ n. quietly-counts (w .a) x (refused-quiet (submitRule now m) now ph d (submit-harmless now m) n) s (accepts m (w .a .history))))
+    (accepted now ph m (done-accepted now ph m (done-is (submitRule now ph m) (admitted-done now ph (submitRule now ph m) t))) bytes (w .a .joined) (w .a .history) (w .a .begun) s))
+    (λ n. quietly-counts (w .a) x (refused-quiet (submitRule now ph m) now ph d (submit-harmless now ph m) n) s (accepts m (w .a .history))))

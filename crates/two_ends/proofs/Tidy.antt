@@ -8,13 +8,14 @@ use Rattle.label_list.specs.Valid.{validOf}
 use Rattle.message.specs.declared.Message.{Message}
 use Rattle.message.specs.Submission.{submissionOf}
 use Rattle.protocol.specs.Acked.{acked}
-use Rattle.protocol.specs.Labels.{labelEffect, isProtected}
+use Rattle.protocol.specs.Labels.{labelEffect, isProtected, answeredAt}
 use Rattle.protocol.specs.Receive.{taken}
 use Rattle.protocol.specs.State.{State, releasedState}
 use Rattle.protocol.specs.Step.{broken}
 use Rattle.protocol.specs.Submit.{submitted}
 use Rattle.protocol.proofs.Words.{released-valid, accepted-valid, broken-valid, none-valid, received-valid}
 use Rattle.two_ends.specs.Labels.{Owed}
+use Rattle.two_ends.proofs.Accepting.{accepted-words}
 use Rattle.two_ends.proofs.Owed.{none-owed, broken-owed, accepted-owed, received-owed}
 use Rattle.two_ends.proofs.Paid.{released-owed}
 use Rattle.two_ends.proofs.Sixless.{NoSix, none-sixless, broken-sixless, accepted-sixless, released-sixless, received-sixless}
@@ -39,9 +40,9 @@ module _ (s : State) (t : Tidy s) where
   pub tidy-submitted : (m : List ℕ) → Tidy (submitted s m)
   unfolding submitted
   tidy-submitted m = record {
-    valid = accepted-valid (s .table .words) (t .valid) (submissionOf m);
-    sixless = accepted-sixless (s .table .words) (t .valid) (t .sixless) (submissionOf m);
-    owed = accepted-owed (s .table .words) (s .queue) m (t .valid) (t .owed) (submissionOf m) refl;
+    valid = accepted-valid (s .table) (t .valid) (submissionOf m);
+    sixless = accepted-sixless (s .table .words) (t .valid) (t .sixless) (accepted-words (s .table) (t .valid) (submissionOf m));
+    owed = accepted-owed (s .table .words) (s .queue) m (t .valid) (t .owed) refl (accepted-words (s .table) (t .valid) (submissionOf m));
   }
 
   -- the oldest k are let go
@@ -57,9 +58,10 @@ module _ (s : State) (t : Tidy s) where
   pub tidy-taken : (g : Message) → isProtected (g .protection) ≡ true → Tidy (taken s g)
   unfolding taken
   tidy-taken g p =
+      let request = answeredAt (s .table) g in
       rw p
       (record {
-        valid = received-valid (s .table .words) (t .valid) true (labelEffect g);
-        sixless = received-sixless (s .table .words) (labelEffect g) (t .valid) (t .sixless);
-        owed = received-owed (s .table .words) (s .queue) true (labelEffect g) (t .valid) (t .owed);
+        valid = received-valid (s .table .words) (t .valid) request true (labelEffect g);
+        sixless = received-sixless (s .table .words) request (labelEffect g) (t .valid) (t .sixless);
+        owed = received-owed (s .table .words) (s .queue) (t .valid) (t .owed) request true (labelEffect g);
       })

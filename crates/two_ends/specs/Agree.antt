@@ -27,6 +27,9 @@ codeBy l c (Submission.Accepted Kind.Release k) = c
 codeBy l c (Submission.Accepted Kind.Address k) = c
 codeBy l c (Submission.Accepted Kind.AddressWithdraw k) = c
 codeBy l c (Submission.Accepted Kind.ResourcesAvailable k) = c
+codeBy l c (Submission.Accepted (Kind.Request id) k) = c
+codeBy l c (Submission.Accepted (Kind.Abort id) k) = c
+codeBy l c (Submission.Accepted Kind.NoResources k) = c
 codeBy l c (Submission.Accepted Kind.NoKind k) = c
 
 -- and after all of these

@@ -8,3 +8,4 @@ pub mod Staying
 pub mod Labels
 pub mod Steady
 pub mod Agree
+pub mod Stops

@@ -11,12 +11,11 @@ use borrow.Author.Tests.{ltb-true}
 use Rattle.octets.specs.Bytes.{Bytes}
 use Rattle.octets.specs.Pick.{both}
 use Rattle.octets.proofs.Choice.{both-true}
-use Rattle.octets.proofs.Fill.{zeros-at}
 use Rattle.block.specs.Check.{blockSize}
 use Rattle.ft_number.specs.declared.Proposal.{Proposal}
-use Rattle.block0.specs.Layout.{noLabels, releasedHeader, slotCount}
+use Rattle.block0.specs.Layout.{slotCount}
 use Rattle.image.specs.Events.{newImage}
-use Rattle.image.specs.Sizes.{block, blockOf, imageSize}
+use Rattle.image.specs.Sizes.{block, blockOf}
 use Rattle.image.specs.State.{decode}
 use Rattle.image.proofs.Changes.{in-range-released, new-decodes, new-slot, new-sound}
 use Rattle.image.proofs.Queue.{queue-length}
@@ -45,7 +44,7 @@ use Rattle.stored_ends.specs.Pair.{Pair}
 use Rattle.stored_ends.specs.Start.{Sound, begins, openerOf}
 use Rattle.stored_ends.proofs.Follows.{arrives}
 use Rattle.stored_ends.proofs.Stored.{first-stored, leaves-stored, slot-named}
-use Rattle.stored_ends.proofs.StoredBytes.{bytes-store0, bytes-stored}
+use Rattle.stored_ends.proofs.StoredBytes.{bytes-stored, bytes-new}
 use Rattle.stored_ends.proofs.Theorem.{begins-both, fit}
 use Rattle.stored_ends.proofs.Tracks.{Both, Tracks}
 use Rattle.stored_ends.proofs.Uncut.{uncut-is}
@@ -131,17 +130,13 @@ up-first = first-stored (Calls.greets init) newImage ph₀ [] refl greeted (begu
 pub up-slot : (j : ℕ) → j < slotCount → block (up .own .image) (blockOf j) ≡ replicate blockSize 0
 up-slot j low =
     let none : leaves (Calls.greets init) newImage ph₀ [] .outcome .slot ≡ 0 = slot-named (Calls.greets init) newImage ph₀ [] refl greeted ∙ ap (slotNamed newImage) emptied in
-    others-kept (Calls.greets init) newImage ph₀ [] refl (blockOf j) (omega arith) (rw none (omega arith)) ∙ new-slot j low
+    others-kept (Calls.greets init) newImage ph₀ [] refl (blockOf j) (omega arith) (omega arith) (rw none (omega arith)) ∙ new-slot j low
 
 -- all of it is bytes
-new-bytes : Bytes newImage
-unfolding newImage
-new-bytes = bytes-store0 (replicate imageSize 0) releasedHeader noLabels (λ i. rw (zeros-at imageSize i) (omega arith))
-
 pub up-bytes : Bytes (up .own .image)
 up-bytes =
     rw (leaves-stored (Calls.greets init) newImage ph₀ [] refl greeted, emptied)
-    (bytes-stored newImage empty (done (Calls.greets init) (stateOf newImage) ph₀ .state) new-bytes tt)
+    (bytes-stored newImage empty (done (Calls.greets init) (stateOf newImage) ph₀ .state) bytes-new tt)
 
 -- as many are held as the rules say
 pub held-is : {z : Pair} {w : World} → Tracks z w → decode (z .own .image) .header .held ≡ held (w .a .state)

@@ -19,10 +19,11 @@ use Rattle.protocol.specs.Judged.{done}
 use Rattle.protocol.specs.State.{State}
 use Rattle.protocol.specs.Step.{broken}
 use Rattle.calls.specs.State.{stateOf}
-use Rattle.calls.specs.Storing.{one-more, nextSlot}
+use Rattle.calls.specs.Storing.{nextSlot}
 use Rattle.two_ends.specs.Runs.{act, restarts, submits}
 use Rattle.two_ends.specs.World.{World}
 use Rattle.call_meaning.specs.Medium.{committed}
+use Rattle.submit.specs.Call.{submittedSlots}
 use Rattle.session.specs.Call.{leaves}
 use Rattle.session.proofs.Queued.{slot-stored}
 use Rattle.session.proofs.Told.{others-kept}
@@ -49,10 +50,10 @@ seven-tracks = media-track (offer true 7 ∷ []) (small-bytes (address 7) refl, 
 
 takes-seven : left (submits (address 7)) (up .world) (up .own) [] .outcome .answer ≡ Answer.Done
 unfolding everything
-takes-seven = submit-answers up-tracks (address 7)
+takes-seven = submit-answers up-tracks (address 7) (small-bytes (address 7) refl)
 
 seven-first : decode (seven .own .image) .header .first ≡ 0
-seven-first = first-stored (Calls.submits (address 7)) (up .own .image) (up .world .a .phase) [] refl takes-seven (up-tracks .both .own .stand) tt ∙ up-first
+seven-first = first-stored (Calls.submits (address 7)) (up .own .image) (up .world .a .phase) [] refl takes-seven (up-tracks .both .own .stand) (small-bytes (address 7) refl) ∙ up-first
 
 seven-held : decode (seven .own .image) .header .held ≡ 1
 unfolding everything
@@ -77,9 +78,9 @@ seven-next : block (seven .own .image) (blockOf 1) ≡ replicate blockSize 0
 unfolding everything
 seven-next =
     let at : leaves (Calls.submits (address 7)) (up .own .image) (up .world .a .phase) [] .outcome .slot ≡ blockOf (nextSlot (decode (up .own .image) .header)) =
-    slot-stored (up .own .image) (up .world .a .phase) (up-tracks .both .own .stand) (address 7) [] takes-seven in
+    slot-stored (up .own .image) (up .world .a .phase) (up-tracks .both .own .stand) (address 7) [] (small-bytes (address 7) refl) takes-seven in
     let none : decode (up .own .image) .header .held ≡ 0 = held-is up-tracks in
-    others-kept (Calls.submits (address 7)) (up .own .image) (up .world .a .phase) [] refl (blockOf 1) (omega arith) (rw (at, up-first, none) (omega arith))
+    others-kept (Calls.submits (address 7)) (up .own .image) (up .world .a .phase) [] refl (blockOf 1) (omega arith) (omega arith) (rw (at, up-first, none) (omega arith))
     ∙ up-slot 1 (omega arith)
 
 -- ---- the medium of a, with 7 accepted
@@ -99,7 +100,7 @@ medium-next = rw (on-medium, seven-next)
 medium-bytes : Bytes medium
 medium-bytes =
     rw (on-medium, leaves-stored (Calls.submits (address 7)) (up .own .image) (up .world .a .phase) [] refl takes-seven)
-    (bytes-stored (up .own .image) (one-more (address 7)) (done (Calls.submits (address 7)) (stateOf (up .own .image)) (up .world .a .phase) .state) up-bytes
+    (bytes-stored (up .own .image) (submittedSlots (stateOf (up .own .image) .table) (address 7)) (done (Calls.submits (address 7)) (stateOf (up .own .image)) (up .world .a .phase) .state) up-bytes
     (small-bytes (address 7) refl))
 
 -- no label word is to be freed
@@ -116,14 +117,14 @@ still =
 free-slot : nextSlot (decode medium .header) ≡ 1
 free-slot = rw (on-medium, seven-first, seven-held)
 
--- ---- 8 would be accepted; the power goes between its two stores
+-- ---- 8 would be accepted; the power goes after its first store
 takes-eight : left (submits (address 8)) (seven .world) (seven .own) [] .outcome .answer ≡ Answer.Done
 unfolding everything
-takes-eight = submit-answers seven-tracks (address 8)
+takes-eight = submit-answers seven-tracks (address 8) (small-bytes (address 8) refl)
 
 -- block 0 is the one before, and so is every block but the slot's; the state read is the one before
 pub cut-leaves : CutInSubmit seven (address 8)
-cut-leaves = cut-in-submit seven (seven-tracks .both) (address 8) takes-eight
+cut-leaves = cut-in-submit seven (seven-tracks .both) (address 8) (small-bytes (address 8) refl) takes-eight
 
 abbrev cutMedium : List ℕ
 cutMedium = atCut seven (address 8)
@@ -134,7 +135,7 @@ cut-bytes =
     let k : ℕ = nextSlot (decode (seven .own .image) .header) in
     let stored : cutMedium ≡ storeSlot (seven .own .image) k (address 8) =
     ap (λ (im : List ℕ). committed 1 im (left (submits (address 8)) (seven .world) (seven .own) [])) on-medium
-    ∙ slot-committed (seven .own .image) (seven .world .a .phase) (s .stand) (address 8) takes-eight in
+    ∙ slot-committed (seven .own .image) (seven .world .a .phase) (s .stand) (address 8) (small-bytes (address 8) refl) takes-eight in
     rw stored (bytes-storeSlot (seven .own .image) k (address 8) (rw on-medium at medium-bytes) (small-bytes (address 8) refl))
 
 -- a slot keeps its message where its block is kept
@@ -148,7 +149,7 @@ ends-restarted z t = ap ending (sym (on-media z (t .both)) ∙ t .world) ∙ res
 
 cut-tracks : Tracks (restarted seven cutMedium) restart
 cut-tracks =
-    let t = rw (cut-leaves .restarts) at (cut-restarts seven (seven-tracks .both) (address 8) takes-eight) in
+    let t = rw (cut-leaves .restarts) at (cut-restarts seven (seven-tracks .both) (address 8) (small-bytes (address 8) refl) takes-eight) in
     record { world = t .world ∙ ap (λ (u : World). act u restarts) (seven-tracks .world); both = t .both }
 
 restart-tracks : Tracks restartAt restart
@@ -161,7 +162,7 @@ on-medium-is z p o q r = λ i. record { ending = p i; zeroth = o i; first = q i;
 
 -- ---- power comes back: the medium stays as it was at the cut
 cut-stays : restarted seven cutMedium .own .medium ≡ cutMedium
-cut-stays = restart-leaves seven cutMedium (cut-stands seven (seven-tracks .both) (address 8) takes-eight) cut-bytes (unswept (cut-leaves .alone .state) still)
+cut-stays = restart-leaves seven cutMedium (cut-stands seven (seven-tracks .both) (address 8) (small-bytes (address 8) refl) takes-eight) cut-bytes (unswept (cut-leaves .alone .state) still)
 
 -- THE POWER CUT
 pub cut-is : onMedium cutAt ≡ cut-ends

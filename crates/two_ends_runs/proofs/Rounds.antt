@@ -11,10 +11,13 @@ use Rattle.ft_number.specs.declared.Steps.the-variants.{Count}
 use Rattle.ft_number.specs.Ack.{ackOf}
 use Rattle.ft_number.specs.Circle.{after, circle, next, stepsOf}
 use Rattle.ft_number.proofs.Circle.{after-is, after-none, after-suc, steps-after}
+use Rattle.label_list.specs.Counting.{counting}
+use Rattle.label_list.specs.Word.{isRequest}
 use Rattle.tlv.specs.declared.FtField.{FtField}
 use Rattle.tlv.specs.declared.Parameters.{Parameters}
 use Rattle.tlv.specs.declared.Session.{Session}
 use Rattle.tlv.specs.Walk.{noneFound}
+use Rattle.label_events.specs.Requests.{endedAt}
 use Rattle.message.specs.declared.Kind.{Kind}
 use Rattle.message.specs.declared.Message.{Message}
 use Rattle.message.specs.declared.MessageType.{MessageType}
@@ -30,11 +33,11 @@ use Rattle.message_writer.proofs.Kept.{protected-payload}
 use Rattle.message_writer.proofs.Own.{keepalive-reads}
 use Rattle.message_writer.proofs.Protected.{protected-reads}
 use Rattle.protocol.specs.declared.Answer.{Answer}
-use Rattle.protocol.specs.Accepting.{acceptedAs, isBarred}
+use Rattle.protocol.specs.Accepting.{acceptedAs, isBarred, idsAccepted}
 use Rattle.protocol.specs.Acked.{acked, releasedKind, releasedLabels}
 use Rattle.protocol.specs.Answers.{effectOf}
 use Rattle.protocol.specs.KeepAlive.{keepalive}
-use Rattle.protocol.specs.Labels.{labelEffect, protectionRule}
+use Rattle.protocol.specs.Labels.{labelEffect, protectionRule, answers, answeredAt}
 use Rattle.protocol.specs.Phases.{issuedCount, phaseFits, upWith}
 use Rattle.protocol.specs.Receive.{ackOn, ftRule, labelsRule, messageRule, receivedState, taken, receive}
 use Rattle.protocol.specs.Send.{ackAsked, queueNumber, numbered, sendBytes, sendNext, sendRule, sentState}
@@ -103,7 +106,7 @@ module _ (x : ℕ) (low : x ≤ circle) where
 
   -- ---- a accepts 7, and sends it
   submits-it : submit (keptWith x 0) (upWith 0) (address 7) ≡ stepped Answer.Done (sender x x (address 7 ∷ [])) (upWith 0) []
-  unfolding submit settle admitted phaseFits issuedCount effectOf submitRule kindRule isBarred acceptedAs submitted
+  unfolding submit settle admitted phaseFits issuedCount effectOf submitRule kindRule isBarred acceptedAs idsAccepted submitted counting isRequest
   submits-it = rw (steps-none, plain-submits)
 
   abbrev carried : List ℕ
@@ -127,7 +130,7 @@ module _ (x : ℕ) (low : x ≤ circle) where
       protected-payload (address 7) plain (number y) (FtField.Number (number 0)) plain-reads (record { session = refl; protection = refl; ack = refl }) (omega arith) (omega arith)
 
   takes-it : receive (keptWith 0 x) (upWith 0) carried ≡ stepped Answer.Done (keptWith 0 y) (upWith 0) []
-  unfolding receive settle admitted phaseFits issuedCount effectOf ftRule messageRule labelsRule protectionRule labelEffect kindOf ackOn ackOf stepsOf receivedState taken acked releasedLabels
+  unfolding receive settle admitted phaseFits issuedCount effectOf ftRule messageRule labelsRule protectionRule labelEffect kindOf ackOn ackOf stepsOf receivedState taken acked releasedLabels answers answeredAt endedAt counting isRequest
   takes-it = rw (carried-reads, ne-eqb y 0 (omega arith), eq-eqb y y refl)
 
   -- ---- b acknowledges it, and a lets it go
@@ -142,7 +145,7 @@ module _ (x : ℕ) (low : x ≤ circle) where
   alive-reads = keepalive-reads id (FtField.Number (number y)) (omega arith) (omega arith)
 
   lets-go : receive (sender x y (address 7 ∷ [])) (upWith 1) alive ≡ stepped Answer.Done (keptWith y 0) (upWith 0) []
-  unfolding receive settle admitted phaseFits issuedCount effectOf ftRule messageRule labelsRule protectionRule labelEffect kindOf ackOn ackOf receivedState taken acked releasedLabels releasedKind
+  unfolding receive settle admitted phaseFits issuedCount effectOf ftRule messageRule labelsRule protectionRule labelEffect kindOf ackOn ackOf receivedState taken acked releasedLabels releasedKind answers answeredAt endedAt counting isRequest
   lets-go = rw (alive-reads, steps-one, plain-submits)
 
   -- ---- the round, event by event
@@ -174,8 +177,8 @@ module _ (x : ℕ) (low : x ≤ circle) where
     secures : eventAt w₂ false delivers ≡ w₃
     secures = rw (takes-it, carried-reads, carried-payload)
 
-    answers : eventAt w₃ false (keepalives id room) ≡ w₄
-    answers = ap (λ (z : Step). swap (wrote (swap w₃) z)) says-it
+    acknowledges : eventAt w₃ false (keepalives id room) ≡ w₄
+    acknowledges = ap (λ (z : Step). swap (wrote (swap w₃) z)) says-it
 
     releases : eventAt w₄ true delivers ≡ quietAt y more
     releases = rw (lets-go, alive-reads)
@@ -185,7 +188,7 @@ module _ (x : ℕ) (low : x ≤ circle) where
         ap (λ (w : World). run w (send true ∷ deliver false ∷ reply false ∷ deliver true ∷ [])) accepts
         ∙ ap (λ (w : World). run w (deliver false ∷ reply false ∷ deliver true ∷ [])) writes
         ∙ ap (λ (w : World). run w (reply false ∷ deliver true ∷ [])) secures
-        ∙ ap (λ (w : World). run w (deliver true ∷ [])) answers
+        ∙ ap (λ (w : World). run w (deliver true ∷ [])) acknowledges
         ∙ releases
 
 -- ---- so many of them, from two new cabinets

@@ -1,11 +1,11 @@
 -- The cabinets and the messages of the sample runs.
 use Prim.Native.Nat.{ℕ, zero, suc}
-use mathlib.Core.Bool.{Bool, true}
+use mathlib.Core.Bool.{Bool, true, false}
 use mathlib.Core.List.{List, [], _∷_}
 use Rattle.ft_number.specs.declared.MessageId.{MessageId}
 use Rattle.ft_number.specs.declared.Proposal.{Proposal}
 use Rattle.message_writer.specs.declared.OwnParameters.{OwnParameters}
-use Rattle.protocol.specs.State.{State, noTable}
+use Rattle.protocol.specs.State.{State, noTable, noMarks}
 use Rattle.two_ends.specs.Runs.{Event, submits, sends, keepalives, opens, delivers}
 use Rattle.two_ends.specs.Start.{Opener}
 
@@ -34,7 +34,7 @@ abbrev pub id : MessageId
 id = record { 0 = 1 }
 
 abbrev pub parameters : OwnParameters
-parameters = record { keepalive = 15; pdulength = 4096; lsr = 1; space = 0 }
+parameters = record { keepalive = 15; pdulength = 4096; lsr = 1; space = 0; ondemand = false }
 
 -- a cabinet that opens with that state
 abbrev pub openerWith : State → Opener
@@ -48,6 +48,7 @@ keptWith issued secured = record {
   secured = record { 0 = secured };
   kept = true;
   terms = record { timeout = 5; keepalive = 15; maxpdu = 4096 };
+  marks = noMarks;
   table = noTable;
   queue = [];
 }

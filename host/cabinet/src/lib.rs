@@ -6,9 +6,15 @@
 #![forbid(unsafe_code)]
 
 /// The size of a stored image.
-pub const IMAGE_SIZE: usize = 65 * BLOCK_SIZE;
-/// The size of each of its 65 blocks.
+pub const IMAGE_SIZE: usize = BLOCKS * BLOCK_SIZE;
+/// The size of each of its blocks.
 pub const BLOCK_SIZE: usize = 512;
+/// Block 0, 64 slots, and the block of the open Requests' message IDs.
+pub const BLOCKS: usize = 66;
+/// The block of the open Requests' message IDs, by its number.
+pub const REQUEST_BLOCK: usize = 65;
+/// The size of an image that a release without Requests stored: it lacks the last block.
+pub const IMAGE_SIZE_WITHOUT_REQUESTS: usize = REQUEST_BLOCK * BLOCK_SIZE;
 
 /// The phases by their numbers.
 pub mod phase {
@@ -35,6 +41,13 @@ pub struct Outcome {
     pub length: u32,
     pub slot: u32,
     pub block0: u32,
+    /// The blocks after the slots whose bytes changed, a bit each; see [`further`].
+    pub further: u32,
+}
+
+/// The bits of [`Outcome::further`].
+pub mod further {
+    pub const REQUESTS: u32 = 1;
 }
 
 /// What the owner gives to [`Cabinet::open`]: our parameters, and a proposed timeout where it has one.
@@ -46,6 +59,8 @@ pub struct Opening {
     pub receiver_lsr: u32,
     pub receiver_space: u16,
     pub proposal: Option<u16>,
+    /// Bit A: labels are asked for before they are offered.
+    pub on_demand: bool,
 }
 
 /// A whole PDU judged: answer 0 or 4, and the number of its messages.
@@ -72,6 +87,7 @@ pub mod has {
     pub const FT_SESSION: u32 = 16;
     pub const FT_PROTECTION: u32 = 32;
     pub const FT_ACK: u32 = 64;
+    pub const REQUEST_ID: u32 = 128;
     pub const FT: u32 = FT_SESSION | FT_PROTECTION | FT_ACK;
 }
 
@@ -93,6 +109,22 @@ pub struct Message {
     pub timeout: u32,
     pub keepalive_time: u32,
     pub max_pdu_length: u32,
+    pub request_id: u32,
+    pub status_id: u32,
+}
+
+/// The Request that a label word stands for: open 1 and its message ID, or 0 and 0.
+#[derive(Clone, Copy, Debug, Default, PartialEq, Eq)]
+pub struct Request {
+    pub open: u32,
+    pub id: u32,
+}
+
+/// A stored image of an earlier size made one of this size: answer 0 and the blocks made, or 12 and none.
+#[derive(Clone, Copy, Debug, Default, PartialEq, Eq)]
+pub struct Extended {
+    pub answer: u32,
+    pub further: u32,
 }
 
 /// The signed distance of two FT numbers: answer 0, or 2 and no steps.
@@ -124,4 +156,6 @@ pub trait Cabinet {
     fn lesser_timeout(&self, a: u32, b: u32) -> u32;
     fn block_check(&self, block: &[u8]) -> u32;
     fn label(&self, image: &[u8], place: u32) -> u32;
+    fn request_at(&self, image: &[u8], place: u32) -> Request;
+    fn extend(&self, image: &mut [u8], stored_len: usize) -> Extended;
 }

@@ -19,6 +19,7 @@ pub struct ldp_ft_outcome {
     pub length: u32,
     pub slot: u32,
     pub block0: u32,
+    pub further: u32,
 }
 
 /// A whole PDU judged.
@@ -54,6 +55,22 @@ pub struct ldp_ft_message {
     pub timeout: u32,
     pub keepalive_time: u32,
     pub max_pdu_length: u32,
+    pub request_id: u32,
+    pub status_id: u32,
+}
+
+/// The Request that a label word stands for.
+#[repr(C)]
+pub struct ldp_ft_request {
+    pub open: u32,
+    pub id: u32,
+}
+
+/// An image of an earlier size made one of this size.
+#[repr(C)]
+pub struct ldp_ft_extended {
+    pub answer: u32,
+    pub further: u32,
 }
 
 /// The signed distance of two FT numbers.
@@ -77,6 +94,7 @@ extern "C" {
         receiver_space: u16,
         proposal_given: bool,
         proposal: u16,
+        on_demand: bool,
         out: *mut u8,
         out_len: usize,
     ) -> ldp_ft_outcome;
@@ -127,4 +145,6 @@ extern "C" {
     pub fn ldp_ft_lesser_timeout(a: u32, b: u32) -> u32;
     pub fn ldp_ft_block_check(block: *const u8, block_len: usize) -> u32;
     pub fn ldp_ft_label(image: *const u8, image_len: usize, place: u32) -> u32;
+    pub fn ldp_ft_request_at(image: *const u8, image_len: usize, place: u32) -> ldp_ft_request;
+    pub fn ldp_ft_extend(image: *mut u8, image_len: usize, stored_len: usize) -> ldp_ft_extended;
 }

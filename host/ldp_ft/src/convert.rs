@@ -1,7 +1,7 @@
 //! Results as C has them and as Rust has them, both ways, field by field.
 
 use crate::abi::*;
-use cabinet::{Distance, Message, Outcome, Part, Pdu, Session};
+use cabinet::{Distance, Extended, Message, Outcome, Part, Pdu, Request, Session};
 
 /// Conversions between two structs with the same fields.
 macro_rules! same_fields {
@@ -24,6 +24,8 @@ same_fields!(Session, ldp_ft_session: phase, value);
 same_fields!(Pdu, ldp_ft_pdu: answer, count);
 same_fields!(Part, ldp_ft_part: answer, start, end);
 same_fields!(Distance, ldp_ft_distance_result: answer, steps);
+same_fields!(Request, ldp_ft_request: open, id);
+same_fields!(Extended, ldp_ft_extended: answer, further);
 
 impl From<ldp_ft_outcome> for Outcome {
     fn from(c: ldp_ft_outcome) -> Self {
@@ -34,6 +36,7 @@ impl From<ldp_ft_outcome> for Outcome {
             length: c.length,
             slot: c.slot,
             block0: c.block0,
+            further: c.further,
         }
     }
 }
@@ -47,6 +50,7 @@ impl From<Outcome> for ldp_ft_outcome {
             length: rust.length,
             slot: rust.slot,
             block0: rust.block0,
+            further: rust.further,
         }
     }
 }
@@ -69,6 +73,8 @@ impl From<ldp_ft_message> for Message {
             timeout: c.timeout,
             keepalive_time: c.keepalive_time,
             max_pdu_length: c.max_pdu_length,
+            request_id: c.request_id,
+            status_id: c.status_id,
         }
     }
 }
@@ -91,6 +97,8 @@ impl From<Message> for ldp_ft_message {
             timeout: rust.timeout,
             keepalive_time: rust.keepalive_time,
             max_pdu_length: rust.max_pdu_length,
+            request_id: rust.request_id,
+            status_id: rust.status_id,
         }
     }
 }

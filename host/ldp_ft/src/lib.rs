@@ -4,7 +4,7 @@ pub mod abi;
 mod convert;
 
 use abi::*;
-use cabinet::{Cabinet, Distance, Message, Opening, Outcome, Part, Pdu, Session};
+use cabinet::{Cabinet, Distance, Extended, Message, Opening, Outcome, Part, Pdu, Request, Session};
 use core::ptr::{null, null_mut};
 
 /// The library. Every function of the boundary takes every input, keeps nothing and touches only the slices it is
@@ -56,6 +56,7 @@ impl Cabinet for Library {
                 opening.receiver_space,
                 opening.proposal.is_some(),
                 opening.proposal.unwrap_or(0),
+                opening.on_demand,
                 start_mut(out),
                 out.len(),
             )
@@ -140,5 +141,15 @@ impl Cabinet for Library {
     fn label(&self, image: &[u8], place: u32) -> u32 {
         // SAFETY: a whole slice, only read.
         unsafe { ldp_ft_label(start(image), image.len(), place) }
+    }
+
+    fn request_at(&self, image: &[u8], place: u32) -> Request {
+        // SAFETY: as for `label`.
+        unsafe { ldp_ft_request_at(start(image), image.len(), place) }.into()
+    }
+
+    fn extend(&self, image: &mut [u8], stored_len: usize) -> Extended {
+        // SAFETY: as for `format`; `stored_len` may be any number.
+        unsafe { ldp_ft_extend(start_mut(image), image.len(), stored_len) }.into()
     }
 }

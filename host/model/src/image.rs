@@ -1,9 +1,10 @@
-//! The stored image: the layout of block 0 and of the slots, and the checks that restore and every other call make.
+//! The stored image: the layout of its blocks, and the checks that restore and every other call make.
 
 use crate::check::{self, COVERED};
+use crate::message::{self, kinds};
 use crate::octets::{all_zero, be16, be32, put16, put32};
-use crate::{labels, message, number};
-use cabinet::{BLOCK_SIZE, IMAGE_SIZE};
+use crate::{labels, number, requests};
+use cabinet::{further, BLOCK_SIZE, IMAGE_SIZE, REQUEST_BLOCK};
 
 pub const SLOTS: usize = 64;
 pub const SHORTEST: usize = 8;
@@ -19,10 +20,19 @@ mod at {
     pub const HELD: usize = 18;
     pub const TIMEOUT: usize = 20;
     pub const KEPT: usize = 22;
-    pub const ZERO: usize = 23;
+    pub const MARKS: usize = 23;
     pub const KEEPALIVE_TIME: usize = 24;
     pub const MAX_PDU_LENGTH: usize = 26;
     pub const LABELS: usize = 28;
+}
+
+/// Marks that stay over a break.
+pub mod marks {
+    /// The peer has told us that it has no labels: no new Requests.
+    pub const STOPPED: u8 = 2;
+    /// We have told the peer so.
+    pub const STOPPING: u8 = 4;
+    pub const ALL: u8 = STOPPED | STOPPING;
 }
 
 /// Places in a slot.
@@ -33,6 +43,9 @@ mod slot_at {
     pub const LABEL: usize = 4;
     pub const MESSAGE: usize = 8;
 }
+
+/// The bytes of the Requests' IDs in their block.
+const IDS: usize = 4 * labels::PLACES;
 
 /// An answer that changes nothing, with the block it names.
 #[derive(Clone, Copy, Debug)]
@@ -56,6 +69,7 @@ pub struct Head {
     pub held: usize,
     pub timeout: u16,
     pub kept: bool,
+    pub stopped: bool,
     pub keepalive_time: u16,
     pub max_pdu_length: u16,
     /// The steps from released to issued: how many of the held have a number.
@@ -72,6 +86,7 @@ impl Head {
             held: usize::from(be16(block, at::HELD)),
             timeout: be16(block, at::TIMEOUT),
             kept: block[at::KEPT] == 1,
+            stopped: block[at::MARKS] & marks::STOPPED != 0,
             keepalive_time: be16(block, at::KEEPALIVE_TIME),
             max_pdu_length: be16(block, at::MAX_PDU_LENGTH),
             numbered,
@@ -84,7 +99,7 @@ impl Head {
     }
 }
 
-/// All of restore's checks: size, block 0, its fields, then each live slot in ring order.
+/// All of restore's checks: size, block 0, its fields, each live slot in ring order, then the Requests' IDs.
 pub fn examine(image: &[u8]) -> Result<Head, Refusal> {
     let image: &[u8; IMAGE_SIZE] = image.try_into().map_err(|_| Refusal::of(12))?;
     let block = &image[..BLOCK_SIZE];
@@ -97,12 +112,14 @@ pub fn examine(image: &[u8]) -> Result<Head, Refusal> {
         let number = head.block_of(after);
         judge_slot(slot(image, number)).map_err(|answer| Refusal { answer, block: number as u32 })?;
     }
+    judge_requests(slot(image, REQUEST_BLOCK), list(block))
+        .map_err(|answer| Refusal { answer, block: REQUEST_BLOCK as u32 })?;
     Ok(head)
 }
 
 /// The steps from released to issued, where every field of block 0 is in its range.
 fn judge_fields(block: &[u8]) -> Option<u32> {
-    if be32(block, 0) != VERSION || block[at::KEPT] > 1 || block[at::ZERO] != 0 {
+    if be32(block, 0) != VERSION || block[at::KEPT] > 1 || block[at::MARKS] & !marks::ALL != 0 {
         return None;
     }
     if block[at::KEPT] == 0 {
@@ -126,6 +143,20 @@ fn judge_slot(slot: &[u8]) -> Result<(), u32> {
         return Err(10);
     }
     if padded && slot[slot_at::ZERO] == 0 && message_fits(slot, &slot[slot_at::MESSAGE..end]) {
+        Ok(())
+    } else {
+        Err(11)
+    }
+}
+
+/// Answers 10 or 11 for a block of Requests' IDs whose check or fields are wrong.
+fn judge_requests(block: &[u8], list: &[u8]) -> Result<(), u32> {
+    let padded = all_zero(&block[IDS..COVERED]);
+    let summed = if padded { IDS } else { COVERED };
+    if check::stored(block) != check::sums(&block[..summed]) {
+        return Err(10);
+    }
+    if padded && requests::stand_once(list, &block[..IDS]) {
         Ok(())
     } else {
         Err(11)
@@ -172,9 +203,40 @@ pub fn write_slot(image: &mut [u8], block: usize, msg: &[u8], kind: u32, label: 
     check::store(slot, sums);
 }
 
+/// The bytes of the Requests' IDs.
+pub fn ids(image: &[u8]) -> &[u8] {
+    &slot(image, REQUEST_BLOCK)[..IDS]
+}
+
+/// Puts a Request's ID beside its word; tells the block where its bytes change.
+pub fn write_id(image: &mut [u8], place: usize, id: u32) -> u32 {
+    if labels::word(ids(image), place) == id {
+        return 0;
+    }
+    let block = &mut image[REQUEST_BLOCK * BLOCK_SIZE..][..BLOCK_SIZE];
+    labels::set_word(block, place, id);
+    let sums = check::sums(&block[..IDS]);
+    check::store(block, sums);
+    further::REQUESTS
+}
+
+/// Makes a new block of Requests' IDs: zeros with their check.
+pub fn write_no_ids(image: &mut [u8; IMAGE_SIZE]) -> u32 {
+    let block = &mut image[REQUEST_BLOCK * BLOCK_SIZE..][..BLOCK_SIZE];
+    block.fill(0);
+    check::store(block, check::sums(&[]));
+    further::REQUESTS
+}
+
 /// The bytes of the label list in block 0.
 pub fn list(block: &[u8]) -> &[u8] {
     &block[at::LABELS..COVERED]
+}
+
+/// The label word at a place of an image that passes the checks; none where there is no such place.
+pub fn word_at(image: &[u8], place: u32) -> Option<u32> {
+    examine(image).ok().filter(|_| (place as usize) < labels::PLACES)?;
+    Some(labels::word(list(slot(image, 0)), place as usize))
 }
 
 /// Block 0 while it is rewritten: a copy that goes back as a whole, or not at all.
@@ -228,6 +290,15 @@ impl Draft {
         put16(&mut self.0, at::HELD, held as u16);
     }
 
+    /// A message tells whether there are labels to be had: the mark stands from one that says no until one that says yes.
+    pub fn mark_resources(&mut self, kind: u32, mark: u8) {
+        match kind {
+            kinds::NO_RESOURCES => self.0[at::MARKS] |= mark,
+            kinds::RESOURCES_AVAILABLE => self.0[at::MARKS] &= !mark,
+            _ => {}
+        }
+    }
+
     /// Lets go of the oldest held through the number acknowledged, which stands so many steps after the released one.
     pub fn let_go(&mut self, image: &[u8], head: &Head, ack: u32, steps: usize) {
         for after in 0..steps {
@@ -251,8 +322,9 @@ impl Draft {
     }
 }
 
-/// Writes a new image: kept 0, and 64 slots of zeros.
+/// Writes a new image: kept 0, 64 slots of zeros, and no IDs.
 pub fn format(image: &mut [u8; IMAGE_SIZE]) {
     image.fill(0);
+    write_no_ids(image);
     Draft::released().store(image);
 }

@@ -1,6 +1,7 @@
 //! The label list: 120 words of label + 1,048,576 x code in block 0, read and rewritten word by word.
 //!
 //! Codes: 1 given, 2 withdrawing (our side); 3 using, 4 asked back, 5 releasing, 6 using without protection (theirs).
+//! Code 7 is an open Request: it has no label and stands on no side.
 
 use crate::message::kinds;
 use crate::octets::{all_zero, be32, put32};
@@ -14,6 +15,9 @@ pub const USING: u32 = 3;
 pub const ASKED_BACK: u32 = 4;
 pub const RELEASING: u32 = 5;
 pub const UNPROTECTED: u32 = 6;
+
+/// The word of an open Request: code 7, and 0 for a label.
+pub const REQUEST: u32 = 7 << CODE_SHIFT;
 
 const CODE_SHIFT: u32 = 20;
 const LABEL_MASK: u32 = (1 << CODE_SHIFT) - 1;
@@ -35,11 +39,12 @@ fn compose(label: u32, code: u32) -> u32 {
     label | code << CODE_SHIFT
 }
 
-fn side_of(code: u32) -> Side {
-    if code <= WITHDRAWING {
-        Side::Ours
-    } else {
-        Side::Theirs
+/// The side of a label with this code; none for a word that lists no label.
+fn side_of(code: u32) -> Option<Side> {
+    match code {
+        GIVEN..=WITHDRAWING => Some(Side::Ours),
+        USING..=UNPROTECTED => Some(Side::Theirs),
+        _ => None,
     }
 }
 
@@ -48,45 +53,69 @@ pub fn word(list: &[u8], place: usize) -> u32 {
     be32(list, place * 4)
 }
 
-fn words(list: &[u8]) -> impl Iterator<Item = u32> + '_ {
+pub fn set_word(list: &mut [u8], place: usize, word: u32) {
+    put32(list, place * 4, word);
+}
+
+/// The first word that is free.
+pub fn first_free(list: &[u8]) -> Option<usize> {
+    words(list).position(|word| word == 0)
+}
+
+/// The numbers of a list, a word of four bytes each.
+pub fn words(list: &[u8]) -> impl Iterator<Item = u32> + '_ {
     list.chunks_exact(4).map(|bytes| be32(bytes, 0))
 }
 
-/// True where each word is free or has a code 1 to 6 with a listed label, and no label stands twice on a side.
+/// True where each word is free, an open Request, or a listed label with a code 1 to 6, and no label stands twice on a
+/// side.
 pub fn is_sound(list: &[u8]) -> bool {
     if all_zero(list) {
         return true;
     }
-    let mut seen = Seen([0; Seen::PLACES]);
+    let mut seen = Seen::default();
     for word in words(list) {
-        if word == 0 {
+        if word == 0 || word == REQUEST {
             continue;
         }
         let (label, code) = (word & LABEL_MASK, word >> CODE_SHIFT);
-        let side = side_of(code) as u32;
-        if code == 0 || code > UNPROTECTED || !is_listed(label) || !seen.add(label | side << CODE_SHIFT) {
+        let Some(side) = side_of(code) else { return false };
+        if !is_listed(label) || !seen.add(label | (side as u32) << CODE_SHIFT) {
             return false;
         }
     }
     true
 }
 
-/// The labels met so far with their sides: a table with open addressing, never more than half full.
-struct Seen([u32; Seen::PLACES]);
+/// The keys met so far, at most one for each word: a table with open addressing, never more than half full.
+pub struct Seen {
+    keys: [u32; Seen::PLACES],
+    /// Zero marks a free place of the table, so it is met here.
+    zero: bool,
+}
+
+impl Default for Seen {
+    fn default() -> Self {
+        Seen { keys: [0; Seen::PLACES], zero: false }
+    }
+}
 
 impl Seen {
     const PLACES: usize = 256;
 
-    /// Adds a nonzero key; false where it is there already.
-    fn add(&mut self, key: u32) -> bool {
+    /// Adds a key; false where it is there already.
+    pub fn add(&mut self, key: u32) -> bool {
+        if key == 0 {
+            return !core::mem::replace(&mut self.zero, true);
+        }
         let mut at = (key.wrapping_mul(0x9E37_79B1) >> 24) as usize;
-        while self.0[at] != 0 {
-            if self.0[at] == key {
+        while self.keys[at] != 0 {
+            if self.keys[at] == key {
                 return false;
             }
             at = (at + 1) % Seen::PLACES;
         }
-        self.0[at] = key;
+        self.keys[at] = key;
         true
     }
 }
@@ -109,11 +138,20 @@ impl Entry {
             let code = word >> CODE_SHIFT;
             if word == 0 {
                 free = free.or(Some(place));
-            } else if word & LABEL_MASK == label && side_of(code) == side {
+            } else if word & LABEL_MASK == label && side_of(code) == Some(side) {
                 return Entry { label, code, place: Some(place) };
             }
         }
         Entry { label, code: 0, place: free }
+    }
+
+    /// The entry with a word that is kept for the label, where it has none of its own.
+    pub fn or_in(self, kept: Option<usize>) -> Self {
+        if self.code == 0 {
+            Entry { place: kept.or(self.place), ..self }
+        } else {
+            self
+        }
     }
 
     /// True where the label is absent and no word is free for it.
@@ -124,7 +162,7 @@ impl Entry {
     /// Gives the label a code; false where there is no word for it.
     pub fn set(&self, list: &mut [u8], code: u32) -> bool {
         if let Some(place) = self.place {
-            put32(list, place * 4, compose(self.label, code));
+            set_word(list, place, compose(self.label, code));
         }
         self.place.is_some()
     }
@@ -132,7 +170,7 @@ impl Entry {
     /// Frees the label's word, if it has one.
     pub fn free(&self, list: &mut [u8]) {
         if let Some(place) = self.place {
-            put32(list, place * 4, 0);
+            set_word(list, place, 0);
         }
     }
 }
@@ -165,7 +203,7 @@ fn free(list: &mut [u8], label: u32, code: u32) {
     let wanted = compose(label, code);
     let place = words(list).position(|word| word == wanted);
     if let Some(place) = place {
-        put32(list, place * 4, 0);
+        set_word(list, place, 0);
     }
 }
 

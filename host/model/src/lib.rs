@@ -13,10 +13,11 @@ mod number;
 mod octets;
 mod pdu;
 mod receive;
+mod requests;
 mod session;
 mod write;
 
-use cabinet::{Cabinet, Distance, Message, Opening, Outcome, Part, Pdu, Session};
+use cabinet::{Cabinet, Distance, Extended, Message, Opening, Outcome, Part, Pdu, Request, Session};
 
 /// True where the model was compiled with no vector instructions.
 pub const WITHOUT_VECTORS: bool = cfg!(without_vectors);
@@ -95,7 +96,17 @@ impl Cabinet for Model {
     }
 
     fn label(&self, image: &[u8], place: u32) -> u32 {
-        let list = image::examine(image).ok().map(|_| image::list(image::slot(image, 0)));
-        list.filter(|_| (place as usize) < labels::PLACES).map_or(u32::MAX, |list| labels::word(list, place as usize))
+        image::word_at(image, place).unwrap_or(u32::MAX)
+    }
+
+    fn request_at(&self, image: &[u8], place: u32) -> Request {
+        match image::word_at(image, place) {
+            Some(labels::REQUEST) => Request { open: 1, id: labels::word(image::ids(image), place as usize) },
+            _ => Request { open: 0, id: 0 },
+        }
+    }
+
+    fn extend(&self, image: &mut [u8], stored_len: usize) -> Extended {
+        session::extend(image, stored_len)
     }
 }

@@ -11,8 +11,10 @@ pub mod types {
     pub const ADDRESS: u32 = 0x0300;
     pub const ADDRESS_WITHDRAW: u32 = 0x0301;
     pub const MAPPING: u32 = 0x0400;
+    pub const REQUEST: u32 = 0x0401;
     pub const WITHDRAW: u32 = 0x0402;
     pub const RELEASE: u32 = 0x0403;
+    pub const ABORT: u32 = 0x0404;
 }
 
 /// TLV types, U and F masked off.
@@ -24,6 +26,7 @@ pub mod tlvs {
     pub const PARAMETERS: u16 = 0x0500;
     pub const FT_SESSION: u16 = 0x0503;
     pub const FT_ACK: u16 = 0x0504;
+    pub const REQUEST_ID: u16 = 0x0600;
 }
 
 /// Kinds of message that are kept for sending.
@@ -34,11 +37,15 @@ pub mod kinds {
     pub const ADDRESS: u32 = 4;
     pub const ADDRESS_WITHDRAW: u32 = 5;
     pub const RESOURCES_AVAILABLE: u32 = 6;
+    pub const REQUEST: u32 = 7;
+    pub const ABORT: u32 = 8;
+    pub const NO_RESOURCES: u32 = 9;
 }
 
 const LARGEST_LABEL: u32 = 0xF_FFFF;
 const STATUS_E: u32 = 0x8000_0000;
 const STATUS_CODE: u32 = 0x3FFF_FFFF;
+const NO_LABEL_RESOURCES: u32 = 0x0000_000E;
 const LABEL_RESOURCES_AVAILABLE: u32 = 0x0000_000F;
 /// Type, length and message ID.
 const HEAD: usize = 8;
@@ -73,7 +80,10 @@ fn take_tlv(message: &mut Message, msg: &[u8], at: usize) -> Option<usize> {
         tlvs::LABEL => {
             message.label = number(message, has::LABEL, value).filter(|label| *label <= LARGEST_LABEL)?;
         }
-        tlvs::STATUS => message.status = be32(listed(message, has::STATUS, value, 10)?, 0),
+        tlvs::STATUS => {
+            let status = listed(message, has::STATUS, value, 10)?;
+            (message.status, message.status_id) = (be32(status, 0), be32(status, 4));
+        }
         tlvs::PARAMETERS => {
             let parameters = listed(message, has::PARAMETERS, value, 14)?;
             message.keepalive_time = u32::from(be16(parameters, 2));
@@ -85,6 +95,7 @@ fn take_tlv(message: &mut Message, msg: &[u8], at: usize) -> Option<usize> {
         }
         tlvs::FT_PROTECTION => message.number = number(message, has::FT_PROTECTION, value)?,
         tlvs::FT_ACK => message.ack = number(message, has::FT_ACK, value)?,
+        tlvs::REQUEST_ID => message.request_id = number(message, has::REQUEST_ID, value)?,
         _ => {}
     }
     Some(end)
@@ -111,13 +122,20 @@ fn kind(message: &Message) -> u32 {
         types::RELEASE => kinds::RELEASE,
         types::ADDRESS => kinds::ADDRESS,
         types::ADDRESS_WITHDRAW => kinds::ADDRESS_WITHDRAW,
-        types::NOTIFICATION if is_resources_available(message) => kinds::RESOURCES_AVAILABLE,
+        types::REQUEST => kinds::REQUEST,
+        types::ABORT => kinds::ABORT,
+        types::NOTIFICATION if !is_fatal(message) => notification_kind(message),
         _ => 0,
     }
 }
 
-fn is_resources_available(message: &Message) -> bool {
-    message.has & has::STATUS != 0 && !is_fatal(message) && message.status & STATUS_CODE == LABEL_RESOURCES_AVAILABLE
+/// The kind of a Notification whose E bit is not set; without a Status TLV its code is 0.
+fn notification_kind(message: &Message) -> u32 {
+    match message.status & STATUS_CODE {
+        NO_LABEL_RESOURCES => kinds::NO_RESOURCES,
+        LABEL_RESOURCES_AVAILABLE => kinds::RESOURCES_AVAILABLE,
+        _ => 0,
+    }
 }
 
 /// True where the message has a Status TLV with its E bit set.
@@ -125,11 +143,12 @@ pub fn is_fatal(message: &Message) -> bool {
     message.status & STATUS_E != 0
 }
 
-/// Mapping needs FEC and label, Withdraw and Release need FEC.
+/// Mapping needs FEC and label, Abort FEC and Request's ID, Withdraw, Release and Request FEC.
 fn bears_what_it_must(message: &Message) -> bool {
     let needed = match message.kind {
         kinds::MAPPING => has::FEC | has::LABEL,
-        kinds::WITHDRAW | kinds::RELEASE => has::FEC,
+        kinds::ABORT => has::FEC | has::REQUEST_ID,
+        kinds::WITHDRAW | kinds::RELEASE | kinds::REQUEST => has::FEC,
         _ => 0,
     };
     message.has & needed == needed
@@ -140,11 +159,21 @@ pub fn kind_names_label(kind: u32) -> bool {
     matches!(kind, kinds::MAPPING | kinds::WITHDRAW | kinds::RELEASE)
 }
 
-/// True where a sound message may be queued: one of the six kinds, no FT TLV, a label where its kind names one.
+/// True where a sound message may be queued: one of the nine kinds, no FT TLV, a label where its kind names one.
 pub fn may_be_queued(message: &Message) -> bool {
     message.kind != 0
         && message.has & has::FT == 0
         && (!kind_names_label(message.kind) || message.has & has::LABEL != 0)
+}
+
+/// The message ID of the Request that a received message answers: a Mapping names it, or a Notification in its Status.
+pub fn answered(message: &Message) -> Option<u32> {
+    let (bit, id) = match message.message_type {
+        types::MAPPING => (has::REQUEST_ID, message.request_id),
+        types::NOTIFICATION => (has::STATUS, message.status_id),
+        _ => return None,
+    };
+    (message.has & bit != 0).then_some(id)
 }
 
 /// The label that a slot shows for a message: its own for the kinds that name one, else 0xFFFFFFFF.

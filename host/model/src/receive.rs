@@ -1,10 +1,10 @@
 //! Receive: the ACK acts first, then the message, judged by the labels as the ACK leaves them.
 
-use crate::image::{Draft, Head, Refusal};
+use crate::image::{self, marks, Draft, Head, Refusal};
 use crate::labels::{self, Entry};
 use crate::message::{self, kinds, types};
-use crate::number;
 use crate::session::{apply_ack, break_off, enter, release_state, session_in};
+use crate::{number, requests};
 use cabinet::{has, phase, Message, Outcome, Session};
 
 pub fn receive(image: &mut [u8], session: Session, msg: &[u8]) -> Result<Outcome, Refusal> {
@@ -84,11 +84,20 @@ fn accept(draft: &mut Draft, image: &[u8], head: &Head, read: &Message, msg: &[u
     if protected {
         draft.set_secured(read.number);
     }
-    if take_labels(draft.list_mut(), read.kind, &target, protected) {
+    draft.mark_resources(read.kind, marks::STOPPED);
+    let ended = end_request(draft.list_mut(), image, read);
+    if take_labels(draft.list_mut(), read.kind, target, ended, protected) {
         Ok(released)
     } else {
         Err(21)
     }
+}
+
+/// Frees the word of the Request that the message answers, and gives its place.
+fn end_request(list: &mut [u8], image: &[u8], read: &Message) -> Option<usize> {
+    let place = requests::find(list, image::ids(image), message::answered(read)?)?;
+    labels::set_word(list, place, 0);
+    Some(place)
 }
 
 /// Answer 33: the message touches something that is protected.
@@ -113,13 +122,16 @@ fn forbids_protection(kind: u32, target: &Target) -> bool {
     }
 }
 
-/// The label list after the message; false where a Mapping needs a word and none is free.
-fn take_labels(list: &mut [u8], kind: u32, target: &Target, protected: bool) -> bool {
+/// The label list after the message; false where a Mapping needs a word and none is free. A Mapping that has ended a
+/// Request takes that one's word.
+fn take_labels(list: &mut [u8], kind: u32, target: Target, ended: Option<usize>, protected: bool) -> bool {
     match (kind, target) {
-        (kinds::MAPPING, Target::Named(entry)) => return labels::mapping_received(list, entry, protected),
-        (kinds::WITHDRAW, Target::Named(entry)) => labels::withdraw_received(list, entry),
+        (kinds::MAPPING, Target::Named(entry)) => {
+            return labels::mapping_received(list, &entry.or_in(ended), protected)
+        }
+        (kinds::WITHDRAW, Target::Named(entry)) => labels::withdraw_received(list, &entry),
         (kinds::WITHDRAW, Target::All) => labels::withdraw_all_received(list),
-        (kinds::RELEASE, Target::Named(entry)) => labels::release_received(list, entry),
+        (kinds::RELEASE, Target::Named(entry)) => labels::release_received(list, &entry),
         (kinds::RELEASE, Target::All) => labels::release_all_received(list),
         _ => {}
     }

@@ -1,10 +1,12 @@
 //! The session's calls but receive: each examines the image, judges the phase, and stores block 0 last.
 
-use crate::image::{self, Draft, Head, Refusal};
+use crate::image::{self, marks, Draft, Head, Refusal};
 use crate::labels::{self, Entry};
 use crate::message::{self, kinds, types};
-use crate::{number, write};
-use cabinet::{has, phase, Message, Opening, Outcome, Session, IMAGE_SIZE};
+use crate::{number, requests, write};
+use cabinet::{
+    further, has, phase, Extended, Message, Opening, Outcome, Session, IMAGE_SIZE, IMAGE_SIZE_WITHOUT_REQUESTS,
+};
 
 const DEFAULT_PROPOSAL: u16 = 30;
 
@@ -74,9 +76,19 @@ pub fn format(image: &mut [u8]) -> Outcome {
     match <&mut [u8; IMAGE_SIZE]>::try_from(image) {
         Ok(image) => {
             image::format(image);
-            Outcome { block0: 1, ..Outcome::default() }
+            Outcome { block0: 1, further: further::REQUESTS, ..Outcome::default() }
         }
         Err(_) => Refusal::of(12).outcome(Session::default()),
+    }
+}
+
+/// Makes the blocks that a stored image of an earlier size lacks; looks at no other byte.
+pub fn extend(image: &mut [u8], stored_len: usize) -> Extended {
+    match <&mut [u8; IMAGE_SIZE]>::try_from(image) {
+        Ok(image) if stored_len == IMAGE_SIZE_WITHOUT_REQUESTS => {
+            Extended { answer: 0, further: image::write_no_ids(image) }
+        }
+        _ => Extended { answer: 12, further: 0 },
     }
 }
 
@@ -163,36 +175,75 @@ pub fn submit(image: &mut [u8], session: Session, msg: &[u8]) -> Result<Outcome,
     if !message::may_be_queued(&read) {
         return Err(Refusal::of(5));
     }
-    let entry = judge_submission(image, &head, &read)?;
+    let change = judge_submission(image, &head, session.phase, &read)?;
     let mut draft = Draft::of(image);
-    if let Some(entry) = entry {
-        labels::accepted(draft.list_mut(), read.kind, &entry);
+    match &change {
+        Change::None => {}
+        Change::Label(entry) => labels::accepted(draft.list_mut(), read.kind, entry),
+        Change::Ask(place) => labels::set_word(draft.list_mut(), *place, labels::REQUEST),
+        Change::Abort(place) => labels::set_word(draft.list_mut(), *place, 0),
     }
+    draft.mark_resources(read.kind, marks::STOPPING);
     draft.set_held(head.held + 1);
     let block = head.block_of(head.held);
     image::write_slot(image, block, msg, read.kind, message::slot_label(&read));
+    let further = match change {
+        Change::Ask(place) => image::write_id(image, place, read.message_id),
+        _ => 0,
+    };
     let block0 = draft.store(image);
-    Ok(Outcome { slot: block as u32, block0, ..done(session) })
+    Ok(Outcome { slot: block as u32, block0, further, ..done(session) })
 }
 
-/// Answers 6, 13 and 7 of a message that may be queued; the entry of the label that it names.
-fn judge_submission(image: &[u8], head: &Head, read: &Message) -> Result<Option<Entry>, Refusal> {
-    let entry = message::kind_names_label(read.kind).then(|| {
-        let list = image::list(image::slot(image, 0));
-        Entry::find(list, read.label, labels::side_sending(read.kind))
-    });
-    if let Some(entry) = &entry {
-        if !labels::may_send(read.kind, entry) || is_held(image, head, read) {
-            return Err(Refusal::of(6));
-        }
-        if entry.is_without_word() {
-            return Err(Refusal::of(13));
-        }
-    }
+/// What a message that is accepted makes of the label words.
+enum Change {
+    None,
+    Label(Entry),
+    /// The word at a place becomes an open Request.
+    Ask(usize),
+    /// The open Request at a place ends.
+    Abort(usize),
+}
+
+/// Answers 6, 14, 15, 13 and 7 of a message that may be queued; what it makes of the label words.
+fn judge_submission(image: &[u8], head: &Head, phase: u32, read: &Message) -> Result<Change, Refusal> {
+    let list = image::list(image::slot(image, 0));
+    let change = match read.kind {
+        kinds::MAPPING | kinds::WITHDRAW | kinds::RELEASE => Change::Label(judge_label(image, head, read, list)?),
+        kinds::REQUEST => Change::Ask(judge_request(image, head, phase, read, list)?),
+        kinds::ABORT => Change::Abort(requests::find(list, image::ids(image), read.request_id).ok_or(Refusal::of(6))?),
+        _ => Change::None,
+    };
     if head.held == image::SLOTS {
         return Err(Refusal::of(7));
     }
+    Ok(change)
+}
+
+/// Answers 6 and 13 of a message about a label; the label's entry.
+fn judge_label(image: &[u8], head: &Head, read: &Message, list: &[u8]) -> Result<Entry, Refusal> {
+    let entry = Entry::find(list, read.label, labels::side_sending(read.kind));
+    if !labels::may_send(read.kind, &entry) || is_held(image, head, read) {
+        return Err(Refusal::of(6));
+    }
+    if entry.is_without_word() {
+        return Err(Refusal::of(13));
+    }
     Ok(entry)
+}
+
+/// Answers 6, 14, 15 and 13 of a Request; the place of its word.
+fn judge_request(image: &[u8], head: &Head, phase: u32, read: &Message, list: &[u8]) -> Result<usize, Refusal> {
+    if requests::find(list, image::ids(image), read.message_id).is_some() {
+        return Err(Refusal::of(6));
+    }
+    if head.stopped {
+        return Err(Refusal::of(14));
+    }
+    if phase != phase::UP_FT {
+        return Err(Refusal::of(15));
+    }
+    labels::first_free(list).ok_or(Refusal::of(13))
 }
 
 /// True where a Withdraw or Release of the same kind and label is still held.

@@ -8,6 +8,8 @@ const PROTOCOL_VERSION: u16 = 1;
 /// U set and F clear; the peer may ignore the TLV.
 const U_BIT: u16 = 0x8000;
 const RECONNECT: u16 = 0x8000;
+/// Bit A of the parameters, above D and PVLim.
+const ON_DEMAND: u16 = 0x8000;
 
 pub const FT_TLV: usize = 8;
 pub const KEEPALIVE: usize = 8;
@@ -21,7 +23,7 @@ pub fn init(out: &mut [u8], opening: &Opening, proposal: u16, ack: Option<u32>) 
     put16(out, 10, 14);
     put16(out, 12, PROTOCOL_VERSION);
     put16(out, 14, opening.keepalive_time);
-    put16(out, 16, 0);
+    put16(out, 16, if opening.on_demand { ON_DEMAND } else { 0 });
     put16(out, 18, opening.max_pdu_length);
     put32(out, 20, opening.receiver_lsr);
     put16(out, 24, opening.receiver_space);

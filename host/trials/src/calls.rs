@@ -1,7 +1,9 @@
 //! One call with all its inputs, made on any cabinet with guarded buffers, and all that can be seen of it afterwards.
 
 use crate::guarded::Guarded;
-use cabinet::{Cabinet, Distance, Message, Opening, Outcome, Part, Pdu, Session};
+use cabinet::{
+    further, Cabinet, Distance, Extended, Message, Opening, Outcome, Part, Pdu, Request, Session, REQUEST_BLOCK,
+};
 
 /// The byte that fills output before a call.
 const UNWRITTEN: u8 = 0x5A;
@@ -27,6 +29,8 @@ pub enum Call {
     LesserTimeout { a: u32, b: u32 },
     BlockCheck { block: Vec<u8> },
     Label { place: u32 },
+    RequestAt { place: u32 },
+    Extend { stored_len: usize },
 }
 
 impl Call {
@@ -50,6 +54,8 @@ impl Call {
             Call::LesserTimeout { .. } => "lesser_timeout",
             Call::BlockCheck { .. } => "block_check",
             Call::Label { .. } => "label",
+            Call::RequestAt { .. } => "request_at",
+            Call::Extend { .. } => "extend",
         }
     }
 
@@ -84,10 +90,12 @@ pub enum Returned {
     Distance(Distance),
     Number(u32),
     NumberOrRefused(u32),
+    Request(Request),
+    Extended(Extended),
 }
 
 impl Returned {
-    /// The answer; for the calls that return a bare number 0, or 1 where that number says "refused".
+    /// The answer; for the calls that return a bare number 0, or 1 where that number says "refused"; 1 for no Request.
     pub fn answer(&self) -> u32 {
         match self {
             Returned::Outcome(outcome) => outcome.answer,
@@ -97,6 +105,8 @@ impl Returned {
             Returned::Distance(distance) => distance.answer,
             Returned::Number(_) => 0,
             Returned::NumberOrRefused(number) => u32::from(*number == u32::MAX),
+            Returned::Request(request) => u32::from(request.open != 1),
+            Returned::Extended(extended) => extended.answer,
         }
     }
 }
@@ -142,6 +152,8 @@ pub fn invoke(cabinet: &dyn Cabinet, call: &Call, image: &mut [u8], input: &[u8]
         Call::LesserTimeout { a, b } => Returned::Number(cabinet.lesser_timeout(a, b)),
         Call::BlockCheck { .. } => Returned::NumberOrRefused(cabinet.block_check(input)),
         Call::Label { place } => Returned::NumberOrRefused(cabinet.label(image, place)),
+        Call::RequestAt { place } => Returned::Request(cabinet.request_at(image, place)),
+        Call::Extend { stored_len } => Returned::Extended(cabinet.extend(image, stored_len)),
     }
 }
 
@@ -156,6 +168,7 @@ pub fn misconduct(before: &[u8], call: &Call, seen: &Observed) -> Option<&'stati
     }
     let outcome = match seen.returned {
         Returned::Outcome(outcome) => outcome,
+        Returned::Extended(extended) => Outcome { further: extended.further, ..Outcome::default() },
         _ => Outcome::default(),
     };
     let written = outcome.length as usize;
@@ -163,20 +176,24 @@ pub fn misconduct(before: &[u8], call: &Call, seen: &Observed) -> Option<&'stati
         return Some("output was written past its length");
     }
     let formatted = matches!(call, Call::Format) && outcome.answer == 0;
-    if !formatted && changed_unnamed(before, seen.image.content(), &outcome) {
-        return Some("block0 or slot does not tell what changed");
+    let extended = matches!(call, Call::Extend { .. });
+    if !formatted && changed_unnamed(before, seen.image.content(), &outcome, extended) {
+        return Some("block0, further or slot does not tell what changed");
     }
     None
 }
 
-fn changed_unnamed(before: &[u8], after: &[u8], outcome: &Outcome) -> bool {
+/// Slots and what an extension makes are named whether or not their bytes were the same.
+fn changed_unnamed(before: &[u8], after: &[u8], outcome: &Outcome, extended: bool) -> bool {
     let blocks = before.chunks(512).zip(after.chunks(512));
     blocks.enumerate().any(|(number, (before, after))| {
         let changed = before != after;
-        if number == 0 {
-            changed != (outcome.block0 == 1)
-        } else {
-            changed && number as u32 != outcome.slot
+        let further = outcome.further == further::REQUESTS;
+        match number {
+            0 => changed != (outcome.block0 == 1),
+            REQUEST_BLOCK if extended => changed && !further,
+            REQUEST_BLOCK => changed != further,
+            _ => changed && number as u32 != outcome.slot,
         }
     })
 }

@@ -3,7 +3,8 @@
 use std::collections::BTreeMap;
 use std::fmt;
 
-/// Every call with every answer it can give. Of the calls that return a bare number 1 stands for "refused".
+/// Every call with every answer it can give. Of the calls that return a bare number 1 stands for "refused", of
+/// request_at for "no Request".
 pub const ANSWERS: &[(&str, &[u32])] = &[
     ("format", &[0, 12]),
     ("restore", &[0, 10, 11, 12]),
@@ -11,7 +12,7 @@ pub const ANSWERS: &[(&str, &[u32])] = &[
     ("init_received", &[0, 1, 10, 11, 12, 22, 23, 34, 35]),
     ("connection_failed", &[0, 1, 10, 11, 12]),
     ("time_passed", &[0, 1, 10, 11, 12]),
-    ("submit", &[0, 1, 3, 4, 5, 6, 7, 10, 11, 12, 13]),
+    ("submit", &[0, 1, 3, 4, 5, 6, 7, 10, 11, 12, 13, 14, 15]),
     ("send_next", &[0, 1, 8, 9, 10, 11, 12]),
     ("keepalive", &[0, 1, 9, 10, 11, 12]),
     ("receive", &[0, 1, 10, 11, 12, 20, 21, 22, 30, 31, 32, 33, 34, 36]),
@@ -23,6 +24,8 @@ pub const ANSWERS: &[(&str, &[u32])] = &[
     ("lesser_timeout", &[0]),
     ("block_check", &[0, 1]),
     ("label", &[0, 1]),
+    ("request_at", &[0, 1]),
+    ("extend", &[0, 12]),
 ];
 
 /// How often each answer of each call came.

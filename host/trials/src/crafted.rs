@@ -2,10 +2,13 @@
 
 use crate::calls::{Call, Returned};
 use crate::differential::Run;
-use crate::generate::damage::{apply, FieldFault, ADDRESS_FAULTS, IDLE_FAULTS, KEPT_FAULTS, MAPPING_FAULTS};
-use crate::stored::{check, seal, word, Queued, Stored, NO_LABEL};
-use crate::wire::{prefix, types, Message};
-use cabinet::{phase, Opening, Session};
+use crate::generate::damage::{
+    apply, FieldFault, ABORT_FAULTS, ADDRESS_FAULTS, IDLE_FAULTS, ID_FAULTS, KEPT_FAULTS, MAPPING_FAULTS,
+    NO_RESOURCES_FAULTS, ZERO_FAULTS,
+};
+use crate::stored::{check, seal, word, Queued, Stored, NO_LABEL, REQUEST, STOPPED, STOPPING};
+use crate::wire::{prefix, types, Message, NO_RESOURCES};
+use cabinet::{phase, Opening, Session, REQUEST_BLOCK};
 
 /// An image and how it is refused.
 pub struct Crafted {
@@ -37,6 +40,32 @@ pub fn two_held() -> Stored {
     stored
 }
 
+/// A kept state with four open Requests, that holds an Abort and then 'No label resources'; IDs of Requests that are over
+/// are beside them, one of them equal to an open one's.
+pub fn asking() -> Stored {
+    let abort = Message::new(types::ABORT, 8).fec(&prefix(1)).request_id(4).bytes();
+    let no_resources = Message::new(types::NOTIFICATION, 9).status_of(NO_RESOURCES, 77).bytes();
+    let mut stored = Stored {
+        kept: true,
+        marks: STOPPED | STOPPING,
+        queue: [(8, abort), (9, no_resources)].map(|(kind, bytes)| Queued { kind, label: NO_LABEL, bytes }).to_vec(),
+        ..Stored::idle()
+    };
+    for (place, id) in [(0, 5), (1, 0), (2, u32::MAX), (119, 6)] {
+        (stored.labels[place], stored.ids[place]) = (REQUEST, id);
+    }
+    stored.labels[60] = word(16, 1);
+    (stored.ids[60], stored.ids[61]) = (5, 5);
+    stored
+}
+
+/// Sound states that are near to being refused.
+pub fn sound() -> Vec<Stored> {
+    let marked = [0, STOPPED, STOPPING, STOPPED | STOPPING].map(|marks| Stored { marks, ..two_held() });
+    let left_over = Stored { ids: [7; 120], ..Stored::idle() };
+    marked.into_iter().chain([asking(), Stored::idle(), left_over]).collect()
+}
+
 /// Every call that examines an image, with inputs that a sound image would take.
 pub fn calls_on_images(kept: bool) -> Vec<Call> {
     let at = |when_kept, otherwise| Session { phase: if kept { when_kept } else { otherwise }, value: 0 };
@@ -56,6 +85,7 @@ pub fn calls_on_images(kept: bool) -> Vec<Call> {
         Call::Keepalive { session: up, message_id: 1, room: 16 },
         Call::Receive { session: up, msg: address },
         Call::Label { place: 0 },
+        Call::RequestAt { place: 0 },
     ]
 }
 
@@ -67,6 +97,13 @@ pub fn images() -> Vec<Crafted> {
     all.extend(with_field_faults(&Stored::idle(), 0, IDLE_FAULTS));
     all.extend(with_field_faults(&stored, stored.block_of(0), MAPPING_FAULTS));
     all.extend(with_field_faults(&stored, stored.block_of(1), ADDRESS_FAULTS));
+    all.extend(with_field_faults(&asking(), asking().block_of(0), ABORT_FAULTS));
+    all.extend(with_field_faults(&asking(), asking().block_of(1), NO_RESOURCES_FAULTS));
+    all.extend(with_field_faults(&asking(), REQUEST_BLOCK, ID_FAULTS));
+    all.extend(
+        [asking(), Stored::idle()].iter().flat_map(|stored| with_field_faults(stored, REQUEST_BLOCK, ZERO_FAULTS)),
+    );
+    all.extend(with_other_marks());
     all.extend(with_the_other_zero());
     all.extend(with_several_faults());
     all.extend(of_wrong_sizes());
@@ -80,6 +117,20 @@ fn with_field_faults(stored: &Stored, block: usize, faults: &[FieldFault]) -> Ve
         Crafted { why: fault.name.to_string(), image, kept: stored.kept, answer: 11, block: block as u32 }
     };
     faults.iter().map(crafted).collect()
+}
+
+/// Byte 23 with every value that it may not have.
+fn with_other_marks() -> Vec<Crafted> {
+    let crafted = |stored: &Stored, marks: u8| Crafted {
+        why: format!("byte 23 {marks}, kept {}", stored.kept),
+        image: Stored { marks, ..stored.clone() }.image(0xD1),
+        kept: stored.kept,
+        answer: 11,
+        block: 0,
+    };
+    let is_known = |marks: u8| marks & !(STOPPED | STOPPING) == 0;
+    let kept = (0..=u8::MAX).filter(|marks| !is_known(*marks)).map(|marks| crafted(&two_held(), marks));
+    kept.chain((1..=u8::MAX).map(|marks| crafted(&Stored::idle(), marks))).collect()
 }
 
 /// Blocks whose sum A or B is 0, by a fitting secured number, with 65,535 stored in its place.
@@ -98,7 +149,8 @@ fn with_the_other_zero() -> Vec<Crafted> {
     [508, 510].into_iter().filter_map(with_zero_at).collect()
 }
 
-/// Two bad slots, a bad field before a bad block, a bad block 0 before all: the first in order is named.
+/// Bad IDs after a bad slot, two bad slots, a bad field before a bad block, a bad block 0 before all: the first in order
+/// is named.
 fn with_several_faults() -> Vec<Crafted> {
     let stored = two_held();
     let (first, second) = (stored.block_of(0), stored.block_of(1));
@@ -110,9 +162,12 @@ fn with_several_faults() -> Vec<Crafted> {
         block: block as u32,
     };
     let mut image = stored.image(0xD1);
-    image[first * 512 + 2] = 9;
+    image[REQUEST_BLOCK * 512 + 507] = 1;
+    let mut all = vec![crafted("bad IDs and bad zeros", &image, 10, REQUEST_BLOCK)];
     image[second * 512] ^= 1;
-    let mut all = vec![crafted("two bad slots", &image, 10, first)];
+    all.push(crafted("a bad slot before bad IDs", &image, 10, second));
+    image[first * 512 + 2] = 9;
+    all.push(crafted("two bad slots", &image, 10, first));
     seal(&mut image, first);
     all.push(crafted("a bad field before a bad block", &image, 11, first));
     image[22] = 2;
@@ -125,7 +180,7 @@ fn with_several_faults() -> Vec<Crafted> {
 }
 
 fn of_wrong_sizes() -> Vec<Crafted> {
-    let sizes = [0, 1, 511, 512, 33_279, 33_281, 66_560];
+    let sizes = [0, 1, 511, 512, 33_280, 33_791, 33_793, 34_816, 67_584];
     let crafted = |size: usize| {
         let mut image = two_held().image(0xD1);
         image.resize(size, 0);

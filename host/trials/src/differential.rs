@@ -87,7 +87,8 @@ impl<'a> Run<'a> {
         for _ in 0..self.random.between(1, 6) {
             let call = calls::on_image(&mut self.random, &stored);
             let seen = self.call(&image, &call)?;
-            let may_be_unsound = matches!(call, Call::Label { .. }) || (10..=12).contains(&seen.returned.answer());
+            let looks_only = matches!(call, Call::Label { .. } | Call::RequestAt { .. } | Call::Extend { .. });
+            let may_be_unsound = looks_only || (10..=12).contains(&seen.returned.answer());
             if may_be_unsound {
                 return Ok(());
             }

@@ -1,10 +1,15 @@
 //! Stored images as the trials write and read them: plain records laid out and read back by the paper's words.
 
-use cabinet::{BLOCK_SIZE, IMAGE_SIZE};
+use cabinet::{BLOCK_SIZE, IMAGE_SIZE, REQUEST_BLOCK};
 
 pub const SLOTS: usize = 64;
 pub const PLACES: usize = 120;
 pub const NO_LABEL: u32 = u32::MAX;
+/// The word of an open Request: code 7, label part 0.
+pub const REQUEST: u32 = 7 << 20;
+/// Byte 23: the peer has told us that it has no labels to give, and we have told the peer.
+pub const STOPPED: u8 = 2;
+pub const STOPPING: u8 = 4;
 
 /// A message in the send store, with the kind and label that its slot shows.
 #[derive(Clone, Debug, PartialEq, Eq)]
@@ -23,9 +28,12 @@ pub struct Stored {
     pub first: u16,
     pub timeout: u16,
     pub kept: bool,
+    pub marks: u8,
     pub keepalive_time: u16,
     pub max_pdu_length: u16,
     pub labels: [u32; PLACES],
+    /// The message IDs beside the words; one counts only where its word is an open Request's.
+    pub ids: [u32; PLACES],
     pub queue: Vec<Queued>,
 }
 
@@ -39,9 +47,11 @@ impl Stored {
             first: 0,
             timeout: 0,
             kept: false,
+            marks: 0,
             keepalive_time: 0,
             max_pdu_length: 0,
             labels: [0; PLACES],
+            ids: [0; PLACES],
             queue: Vec::new(),
         }
     }
@@ -59,16 +69,43 @@ impl Stored {
         block[18..20].copy_from_slice(&(self.queue.len() as u16).to_be_bytes());
         block[20..22].copy_from_slice(&self.timeout.to_be_bytes());
         block[22] = self.kept.into();
+        block[23] = self.marks;
         block[24..26].copy_from_slice(&self.keepalive_time.to_be_bytes());
         block[26..28].copy_from_slice(&self.max_pdu_length.to_be_bytes());
-        for (place, word) in self.labels.iter().enumerate() {
-            block[28 + 4 * place..][..4].copy_from_slice(&word.to_be_bytes());
-        }
+        put_words(&mut block[28..508], &self.labels);
         for (after, queued) in self.queue.iter().enumerate() {
             write_slot(&mut image, self.block_of(after), queued);
         }
+        let block = &mut image[REQUEST_BLOCK * BLOCK_SIZE..];
+        block.fill(0);
+        put_words(block, &self.ids);
+        seal(&mut image, REQUEST_BLOCK);
         seal(&mut image, 0);
         image
+    }
+
+    /// The IDs of the open Requests.
+    pub fn open_requests(&self) -> Vec<u32> {
+        let beside = self.labels.iter().zip(self.ids);
+        beside.filter(|(word, _)| **word == REQUEST).map(|(_, id)| id).collect()
+    }
+
+    /// The state that the record stands for: IDs that do not count are 0.
+    pub fn state(mut self) -> Self {
+        for (id, word) in self.ids.iter_mut().zip(self.labels) {
+            if word != REQUEST {
+                *id = 0;
+            }
+        }
+        self
+    }
+
+    /// Frees the labels that are used without protection, as a break does.
+    pub fn after_break(mut self) -> Self {
+        for word in self.labels.iter_mut().filter(|word| **word >> 20 == 6) {
+            *word = 0;
+        }
+        self
     }
 
     /// The block of the message that stands so many after the oldest held.
@@ -85,9 +122,11 @@ impl Stored {
             first: u16_at(image, 16),
             timeout: u16_at(image, 20),
             kept: image[22] == 1,
+            marks: image[23],
             keepalive_time: u16_at(image, 24),
             max_pdu_length: u16_at(image, 26),
             labels: std::array::from_fn(|place| u32_at(image, 28 + 4 * place)),
+            ids: std::array::from_fn(|place| u32_at(image, REQUEST_BLOCK * BLOCK_SIZE + 4 * place)),
             queue: Vec::new(),
         };
         let held = usize::from(u16_at(image, 18));
@@ -102,6 +141,12 @@ pub fn u16_at(bytes: &[u8], at: usize) -> u16 {
 
 pub fn u32_at(bytes: &[u8], at: usize) -> u32 {
     u32::from_be_bytes([bytes[at], bytes[at + 1], bytes[at + 2], bytes[at + 3]])
+}
+
+fn put_words(bytes: &mut [u8], words: &[u32]) {
+    for (bytes, word) in bytes.chunks_exact_mut(4).zip(words) {
+        bytes.copy_from_slice(&word.to_be_bytes());
+    }
 }
 
 fn write_slot(image: &mut [u8], block: usize, queued: &Queued) {

@@ -24,10 +24,12 @@ pub mod tlvs {
     pub const PARAMETERS: u16 = 0x0500;
     pub const FT_SESSION: u16 = 0x0503;
     pub const FT_ACK: u16 = 0x0504;
+    pub const REQUEST_ID: u16 = 0x0600;
     /// A type that no paper lists.
     pub const UNLISTED: u16 = 0x3E01;
 }
 
+pub const NO_RESOURCES: u32 = 0x0000_000E;
 pub const RESOURCES_AVAILABLE: u32 = 0x0000_000F;
 
 /// The FEC TLV's value that means every FEC.
@@ -66,9 +68,19 @@ impl Message {
     }
 
     pub fn status(self, status: u32) -> Self {
+        self.status_of(status, 0)
+    }
+
+    /// A Status that names a message.
+    pub fn status_of(self, status: u32, message_id: u32) -> Self {
         let mut value = status.to_be_bytes().to_vec();
-        value.extend([0; 6]);
+        value.extend(message_id.to_be_bytes());
+        value.extend([0; 2]);
         self.tlv(tlvs::STATUS, &value)
+    }
+
+    pub fn request_id(self, message_id: u32) -> Self {
+        self.tlv(tlvs::REQUEST_ID, &message_id.to_be_bytes())
     }
 
     pub fn parameters(self, keepalive_time: u16, max_pdu_length: u16) -> Self {
@@ -133,32 +145,80 @@ pub fn pdu(lsr: u32, messages: &[Vec<u8>]) -> Vec<u8> {
     bytes
 }
 
-/// A message without its FT TLVs, its length lowered; the message is one that lengths add up in.
+/// The TLVs of a message in which lengths add up, each whole, with its type.
+fn parts(msg: &[u8]) -> impl Iterator<Item = (u16, &[u8])> {
+    let mut at = 8;
+    std::iter::from_fn(move || {
+        let head = msg.get(at..at + 4)?;
+        let end = at + 4 + usize::from(u16::from_be_bytes([head[2], head[3]]));
+        let whole = msg.get(at..end)?;
+        at = end;
+        Some((u16::from_be_bytes([head[0], head[1]]) & 0x3FFF, whole))
+    })
+}
+
+/// The number so many bytes into the value of a message's TLV, if it has one of that type.
+fn number_in(msg: &[u8], tlv_type: u16, at: usize) -> Option<u32> {
+    let (_, whole) = parts(msg).find(|(found, _)| *found == tlv_type)?;
+    whole.get(4 + at..8 + at)?.try_into().ok().map(u32::from_be_bytes)
+}
+
+/// A message without its FT TLVs, its length lowered.
 pub fn without_ft(msg: &[u8]) -> Vec<u8> {
     let mut plain = msg[..8].to_vec();
-    let mut at = 8;
-    while at + 4 <= msg.len() {
-        let tlv_type = u16::from_be_bytes([msg[at], msg[at + 1]]) & 0x3FFF;
-        let end = at + 4 + usize::from(u16::from_be_bytes([msg[at + 2], msg[at + 3]]));
+    for (tlv_type, whole) in parts(msg) {
         if ![tlvs::FT_SESSION, tlvs::FT_PROTECTION, tlvs::FT_ACK].contains(&tlv_type) {
-            plain.extend(&msg[at..end]);
+            plain.extend(whole);
         }
-        at = end;
     }
     let length = (plain.len() - 4) as u16;
     plain[2..4].copy_from_slice(&length.to_be_bytes());
     plain
 }
 
-/// The number in a message's FT Protection TLV, if it has one.
+pub fn message_type(msg: &[u8]) -> u16 {
+    u16::from_be_bytes([msg[0], msg[1]])
+}
+
+pub fn message_id(msg: &[u8]) -> u32 {
+    u32::from_be_bytes([msg[4], msg[5], msg[6], msg[7]])
+}
+
+/// The number in a message's FT Protection TLV.
 pub fn protection_number(msg: &[u8]) -> Option<u32> {
-    let mut at = 8;
-    while at + 4 <= msg.len() {
-        let tlv_type = u16::from_be_bytes([msg[at], msg[at + 1]]) & 0x3FFF;
-        if tlv_type == tlvs::FT_PROTECTION {
-            return msg.get(at + 4..at + 8)?.try_into().ok().map(u32::from_be_bytes);
-        }
-        at += 4 + usize::from(u16::from_be_bytes([msg[at + 2], msg[at + 3]]));
+    number_in(msg, tlvs::FT_PROTECTION, 0)
+}
+
+/// The label that a message names.
+pub fn label(msg: &[u8]) -> Option<u32> {
+    number_in(msg, tlvs::LABEL, 0)
+}
+
+/// The value of a message's FEC TLV.
+pub fn fec(msg: &[u8]) -> Option<&[u8]> {
+    parts(msg).find(|(tlv_type, _)| *tlv_type == tlvs::FEC).map(|(_, whole)| &whole[4..])
+}
+
+/// The Request that a Mapping or an Abort names.
+pub fn request_id(msg: &[u8]) -> Option<u32> {
+    number_in(msg, tlvs::REQUEST_ID, 0)
+}
+
+/// The Request that a message answers: a Mapping names it, or a Notification in its Status.
+pub fn answered(msg: &[u8]) -> Option<u32> {
+    match message_type(msg) {
+        types::MAPPING => request_id(msg),
+        types::NOTIFICATION => status_id(msg),
+        _ => None,
     }
-    None
+}
+
+/// The code in a message's Status.
+pub fn status(msg: &[u8]) -> Option<u32> {
+    number_in(msg, tlvs::STATUS, 0)
+}
+
+/// The message that a Status names.
+pub fn status_id(msg: &[u8]) -> Option<u32> {
+    number_in(msg, tlvs::STATUS, 4)
 }

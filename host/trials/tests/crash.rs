@@ -1,11 +1,12 @@
 //! Crash trials in the gate: at least 10,000 power cuts, with the third demand asserted after every step.
 
 use model::Model;
-use trials::crash::{run, Cut, Tally, CUTS};
+use trials::crash::{run, run_asking, Cut, Tally, CUTS};
 use trials::under_test::UnderTest;
 
 const SEED: u64 = 0xCAB;
 const CUTS_IN_GATE: u64 = 24_000;
+const CUTS_BEFORE_BLOCK_0: u64 = 10_000;
 
 #[test]
 fn nothing_is_lost_and_nothing_comes_twice_over_power_cuts() {
@@ -25,6 +26,19 @@ fn nothing_is_lost_and_nothing_comes_twice_over_power_cuts() {
             assert!(tally.cuts_in(call, cut) >= 100, "{call} cut at {cut:?}");
         }
     }
+}
+
+/// 02, ticket 2: "stored in block 65 (then zeros) before block 0 .. so a cut leaves the state before".
+#[test]
+fn a_cut_between_block_65_and_block_0_leaves_the_state_before() {
+    let mut tally = Tally::default();
+    run_asking([&UnderTest, &UnderTest], SEED + 2, CUTS_BEFORE_BLOCK_0, &mut tally).unwrap();
+    println!("{tally}");
+    assert!(tally.cuts_in("submit", Cut::BeforeBlock0) >= 10_000, "cuts between block 65 and block 0");
+    for (ends, count) in [("aborted", tally.aborted), ("answered", tally.answered), ("stopped", tally.stopped)] {
+        assert!(count >= 500, "{count} Requests {ends}");
+    }
+    assert_eq!(tally.worlds, tally.drained, "each world ends with everything arrived");
 }
 
 #[test]

@@ -1,6 +1,6 @@
 //! The library against the model, byte for byte, over generated calls and over every field of an image wrong in turn.
 
-use cabinet::Cabinet;
+use cabinet::{Cabinet, IMAGE_SIZE, REQUEST_BLOCK};
 use model::Model;
 use trials::calls::{Call, Returned};
 use trials::crafted::{self, calls_on_images, two_held};
@@ -32,7 +32,7 @@ fn every_call_refuses_every_crafted_image_in_its_way() {
 
 #[test]
 fn a_sound_image_is_refused_by_no_call() {
-    for stored in [two_held(), Stored::idle()] {
+    for stored in crafted::sound() {
         let image = stored.image(0xD1);
         let mut run = Run::new(&Model, &UnderTest, SEED);
         for call in calls_on_images(stored.kept) {
@@ -42,24 +42,41 @@ fn a_sound_image_is_refused_by_no_call() {
     }
 }
 
+/// Restore's answer and the block that it names.
+fn restored(run: &mut Run, image: &[u8]) -> (u32, u32) {
+    let Returned::Outcome(outcome) = run.call(image, &Call::Restore).unwrap().returned else {
+        panic!("restore returns an outcome")
+    };
+    (outcome.answer, outcome.block)
+}
+
 #[test]
 fn every_bit_of_a_live_block_is_checked_and_no_bit_of_a_dead_one() {
     let stored = two_held();
     let sound = stored.image(0xD1);
-    for block in [0, stored.block_of(0), stored.block_of(1)] {
+    for block in [0, stored.block_of(0), stored.block_of(1), REQUEST_BLOCK] {
         for bit in (0..512 * 8).step_by(29) {
             let mut image = sound.clone();
             image[block * 512 + bit / 8] ^= 1 << (bit % 8);
             let mut run = Run::new(&Model, &UnderTest, bit as u64);
-            let seen = run.call(&image, &Call::Restore).unwrap();
-            let Returned::Outcome(outcome) = seen.returned else { panic!("restore returns an outcome") };
-            assert_eq!((outcome.answer, outcome.block), (10, block as u32), "bit {bit} of block {block}");
+            assert_eq!(restored(&mut run, &image), (10, block as u32), "bit {bit} of block {block}");
         }
     }
     let mut image = sound;
     image[2 * 512..64 * 512].fill(0x77);
     let mut run = Run::new(&Model, &UnderTest, SEED);
     assert_eq!(run.call(&image, &Call::Restore).unwrap().returned.answer(), 0);
+}
+
+/// With kept 0 too the block of the IDs is looked at: its check, and the zeros after the IDs.
+#[test]
+fn every_bit_of_the_ids_is_checked_where_nothing_is_kept() {
+    for bit in (0..512 * 8).step_by(29) {
+        let mut image = Stored::idle().image(0xD1);
+        image[REQUEST_BLOCK * 512 + bit / 8] ^= 1 << (bit % 8);
+        let mut run = Run::new(&Model, &UnderTest, bit as u64);
+        assert_eq!(restored(&mut run, &image), (10, REQUEST_BLOCK as u32), "bit {bit}");
+    }
 }
 
 #[test]
@@ -94,7 +111,7 @@ fn the_check_agrees_with_the_paper_word_by_word() {
 #[test]
 fn a_new_image_is_the_same_from_any_bytes() {
     let mut run = Run::new(&Model, &UnderTest, SEED);
-    let junk = run.random.bytes(33_280);
+    let junk = run.random.bytes(IMAGE_SIZE);
     let seen = run.call(&junk, &Call::Format).unwrap();
     assert_eq!(seen.image.content(), Stored::idle().image(0));
     assert_eq!(UnderTest.restore(&mut seen.image.content().to_vec()).answer, 0);

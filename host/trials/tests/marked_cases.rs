@@ -1,10 +1,10 @@
 //! The paper's marked cases and its examples to run, on the library and on the model.
 
-use cabinet::{phase, Cabinet, Opening, Session, IMAGE_SIZE};
+use cabinet::{further, has, phase, Cabinet, Opening, Session, IMAGE_SIZE, IMAGE_SIZE_WITHOUT_REQUESTS};
 use model::Model;
 use trials::stored::{word, Queued, Stored};
 use trials::under_test::UnderTest;
-use trials::wire::{prefix, types, Message, RESOURCES_AVAILABLE};
+use trials::wire::{prefix, tlvs, types, Message, NO_RESOURCES, RESOURCES_AVAILABLE};
 
 fn both() -> [&'static dyn Cabinet; 2] {
     [&UnderTest, &Model]
@@ -161,7 +161,8 @@ fn a_fresh_session_from_a_new_image() {
     for cabinet in both() {
         let mut image = vec![0xFF; IMAGE_SIZE];
         let mut out = [0; 64];
-        assert_eq!(cabinet.format(&mut image).block0, 1);
+        let formatted = cabinet.format(&mut image);
+        assert_eq!((formatted.block0, formatted.further, formatted.slot), (1, further::REQUESTS, 0));
         let opened = cabinet.open(&mut image, Session::default(), &Opening::default(), &mut out);
         assert_eq!((opened.answer, opened.length, opened.session.value), (0, 34, 30));
         let init = Message::new(types::INITIALIZATION, 1).parameters(30, 4096).ft_session(true, 0).ack(8).bytes();
@@ -176,12 +177,83 @@ fn a_fresh_session_from_a_new_image() {
 }
 
 #[test]
-fn resources_available_is_kind_6_where_e_is_clear() {
+fn the_two_notifications_are_kinds_6_and_9_where_e_is_clear() {
     for cabinet in both() {
         let kind = |status| cabinet.message_read(&Message::new(types::NOTIFICATION, 1).status(status).bytes()).kind;
-        assert_eq!(kind(RESOURCES_AVAILABLE), 6);
-        assert_eq!(kind(RESOURCES_AVAILABLE | 0x4000_0000), 6);
-        assert_eq!(kind(RESOURCES_AVAILABLE | 0x8000_0000), 0);
-        assert_eq!(kind(0x0E), 0);
+        for (status, expected) in [(RESOURCES_AVAILABLE, 6), (NO_RESOURCES, 9)] {
+            assert_eq!(kind(status), expected);
+            assert_eq!(kind(status | 0x4000_0000), expected);
+            assert_eq!(kind(status | 0x8000_0000), 0);
+        }
+        assert_eq!(kind(0x0D), 0);
+        assert_eq!(cabinet.message_read(&Message::new(types::NOTIFICATION, 1).bytes()).kind, 0);
+    }
+}
+
+/// 02: "malformed also Request and Abort without FEC, Abort without 0x0600"; a listed TLV is judged in every message.
+#[test]
+fn requests_and_aborts_are_read() {
+    for cabinet in both() {
+        let read = |message: Message| cabinet.message_read(&message.bytes());
+        let request = || Message::new(types::REQUEST, 9).fec(&prefix(1));
+        let abort = || Message::new(types::ABORT, 9).fec(&prefix(1));
+        let asked = read(request());
+        assert_eq!((asked.answer, asked.kind, asked.message_id, asked.has), (0, 7, 9, has::FEC));
+        let aborted = read(abort().request_id(0xFFFF_FFFF));
+        assert_eq!((aborted.answer, aborted.kind, aborted.request_id), (0, 8, 0xFFFF_FFFF));
+        assert_eq!(aborted.has, has::FEC | has::REQUEST_ID);
+        let named = read(Message::new(types::NOTIFICATION, 9).status_of(0x0D, 77));
+        assert_eq!((named.status, named.status_id, named.request_id), (0x0D, 77, 0));
+        let bare = |message_type| Message::new(message_type, 9);
+        for malformed in [
+            bare(types::REQUEST),
+            bare(types::ABORT).request_id(1),
+            abort(),
+            abort().request_id(1).request_id(1),
+            request().tlv(tlvs::REQUEST_ID, &[0; 3]),
+            bare(types::KEEPALIVE).tlv(tlvs::REQUEST_ID, &[0; 5]),
+        ] {
+            assert_eq!(read(malformed.clone()).answer, 22, "{malformed:?}");
+        }
+    }
+}
+
+/// Bit A is the top bit of the parameters' fifth byte, as this Open says.
+#[test]
+fn on_demand_is_bit_a_of_our_init() {
+    for cabinet in both() {
+        let mut image = holding(0, 0, 0).image(0);
+        let before = image.clone();
+        for (on_demand, byte) in [(true, 0x80), (false, 0)] {
+            let mut out = [0; 64];
+            let opening = Opening { keepalive_time: 30, max_pdu_length: 4096, on_demand, ..Opening::default() };
+            assert_eq!(cabinet.open(&mut image, FAILED, &opening, &mut out).length, 42);
+            assert_eq!(out[8..20], [5, 0, 0, 14, 0, 1, 0, 30, byte, 0, 0x10, 0]);
+        }
+        assert_eq!(image, before);
+    }
+}
+
+/// 02: an image that an earlier release stored, with a sealed zero block behind it, stands for the same state.
+#[test]
+fn an_image_of_65_blocks_is_extended() {
+    for cabinet in both() {
+        let stored = holding(3, 7, 9);
+        let earlier = stored.image(0xD1)[..IMAGE_SIZE_WITHOUT_REQUESTS].to_vec();
+        let mut image = earlier.clone();
+        image.resize(IMAGE_SIZE, 0x77);
+        let junk = image.clone();
+        for (length, stored_len) in [(IMAGE_SIZE, IMAGE_SIZE), (IMAGE_SIZE, 33_279), (33_280, 33_280), (0, 0)] {
+            let refused = cabinet.extend(&mut image[..length], stored_len);
+            assert_eq!((refused.answer, refused.further), (12, 0));
+            assert_eq!(image, junk);
+        }
+        let extended = cabinet.extend(&mut image, IMAGE_SIZE_WITHOUT_REQUESTS);
+        assert_eq!((extended.answer, extended.further), (0, further::REQUESTS));
+        assert_eq!(image[..IMAGE_SIZE_WITHOUT_REQUESTS], earlier);
+        assert_eq!(image[IMAGE_SIZE_WITHOUT_REQUESTS..IMAGE_SIZE - 4], [0; 508]);
+        assert_eq!(image[IMAGE_SIZE - 4..], [0, 1, 0, 0xFE]);
+        assert_eq!(cabinet.restore(&mut image).answer, 0);
+        assert_eq!(Stored::read(&image), stored);
     }
 }

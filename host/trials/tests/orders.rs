@@ -2,7 +2,7 @@
 
 use cabinet::{phase, Cabinet, Opening, Session};
 use model::Model;
-use trials::stored::{word, Queued, Stored};
+use trials::stored::{word, Queued, Stored, REQUEST, STOPPED, STOPPING};
 use trials::under_test::UnderTest;
 use trials::wire::{prefix, types, Message};
 
@@ -101,15 +101,20 @@ fn full_ring(codes: &[u32]) -> Stored {
     Stored { queue: vec![address; 64], ..listing(codes) }
 }
 
+fn assert_submitted(stored: &Stored, phase: u32, message: Message, answer: u32) {
+    for cabinet in both() {
+        let mut image = stored.image(0);
+        let outcome = cabinet.submit(&mut image, in_phase(phase), &message.bytes());
+        assert_eq!(outcome.answer, answer, "{message:?}");
+        if answer != 0 {
+            assert_eq!(image, stored.image(0), "{message:?}");
+        }
+    }
+}
+
 #[test]
 fn submit() {
     let full = full_ring(&[2; 120]);
-    let assert_submitted = |stored: &Stored, phase: u32, message: Message, answer: u32| {
-        for cabinet in both() {
-            let outcome = cabinet.submit(&mut stored.image(0), in_phase(phase), &message.bytes());
-            assert_eq!(outcome.answer, answer, "{message:?}");
-        }
-    };
     assert_submitted(&full, phase::IDLE, mapping(1 << 20).padded_to(481), 1);
     assert_submitted(&full, phase::FAILED, mapping(1 << 20).padded_to(481), 3);
     assert_submitted(&full, phase::FAILED, mapping(1 << 20).ack(1), 4);
@@ -121,7 +126,76 @@ fn submit() {
     assert_submitted(&full_ring(&[]), phase::FAILED, mapping(16), 7);
     assert_submitted(&listing(&[1]), phase::FAILED, Message::new(types::MAPPING, 1).label(16), 4);
     assert_submitted(&listing(&[1]), phase::FAILED, Message::new(types::WITHDRAW, 1).fec(&prefix(1)), 5);
-    assert_submitted(&listing(&[1]), phase::FAILED, Message::new(types::REQUEST, 1).fec(&prefix(1)), 5);
+}
+
+/// Open Requests with IDs from 0 on, in the first words.
+fn asking(stored: Stored, open: usize) -> Stored {
+    let mut stored = stored;
+    for place in 0..open {
+        (stored.labels[place], stored.ids[place]) = (REQUEST, place as u32);
+    }
+    stored
+}
+
+/// 02: "14, Requests stopped, after 6; 15, a Request outside UpFT, after 14; 13 also for a Request".
+#[test]
+fn submit_of_a_request() {
+    let request = |id| Message::new(types::REQUEST, id).fec(&prefix(1));
+    let stopped = |stored| Stored { marks: STOPPED | STOPPING, ..stored };
+    let full = stopped(asking(full_ring(&[]), 120));
+    assert_submitted(&full, phase::IDLE, request(5).padded_to(481), 1);
+    assert_submitted(&full, phase::FAILED, request(5).padded_to(481), 3);
+    assert_submitted(&full, phase::FAILED, Message::new(types::REQUEST, 5), 4);
+    assert_submitted(&full, phase::FAILED, request(5).ack(1), 5);
+    assert_submitted(&full, phase::FAILED, request(5), 6);
+    assert_submitted(&full, phase::FAILED, request(0), 6);
+    assert_submitted(&full, phase::FAILED, request(500), 14);
+    assert_submitted(&full, phase::UP_FT, request(500), 14);
+    let full = Stored { marks: STOPPING, ..full };
+    for phase in [phase::INIT_WAIT, phase::FAILED] {
+        assert_submitted(&full, phase, request(500), 15);
+        assert_submitted(&full, phase, request(5), 6);
+    }
+    assert_submitted(&full, phase::UP_FT, request(500), 13);
+    assert_submitted(&asking(full_ring(&[]), 119), phase::UP_FT, request(500), 7);
+    assert_submitted(&asking(listing(&[]), 119), phase::UP_FT, request(500), 0);
+}
+
+/// 02: "6 also for .. an Abort of none"; 14 and 15 are for Requests alone.
+#[test]
+fn submit_of_an_abort() {
+    let abort = |id| Message::new(types::ABORT, 5).fec(&prefix(1)).request_id(id);
+    let full = Stored { marks: STOPPED, ..asking(full_ring(&[]), 120) };
+    assert_submitted(&full, phase::FAILED, Message::new(types::ABORT, 5).fec(&prefix(1)), 4);
+    assert_submitted(&full, phase::FAILED, Message::new(types::ABORT, 5).request_id(1), 4);
+    assert_submitted(&full, phase::FAILED, abort(1).protection(1), 5);
+    assert_submitted(&full, phase::FAILED, abort(120), 6);
+    assert_submitted(&full, phase::FAILED, abort(119), 7);
+    let open = Stored { marks: STOPPED, ..asking(listing(&[]), 2) };
+    for phase in [phase::INIT_WAIT, phase::UP_FT, phase::FAILED] {
+        assert_submitted(&open, phase, abort(0), 0);
+        assert_submitted(&open, phase, abort(2), 6);
+    }
+    // The ID of a Request that is over does not count.
+    let mut over = asking(listing(&[]), 2);
+    over.labels[1] = 0;
+    assert_submitted(&over, phase::FAILED, abort(1), 6);
+    over.labels[1] = word(700, 3);
+    assert_submitted(&over, phase::FAILED, abort(1), 6);
+}
+
+/// A message that is turned away ends no Request, and the ACK that comes with it ends none either.
+#[test]
+fn a_refused_answer_ends_no_request() {
+    let stored = asking(listing(&[]), 3);
+    for cabinet in both() {
+        for (answer, message) in [(20, mapping(16).request_id(1).protection(99)), (22, mapping(1 << 20).request_id(1))]
+        {
+            let mut image = stored.image(0);
+            assert_eq!(cabinet.receive(&mut image, in_phase(phase::UP_FT), &message.bytes()).answer, answer);
+            assert_eq!(Stored::read(&image), stored);
+        }
+    }
 }
 
 #[test]

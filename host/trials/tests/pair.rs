@@ -11,7 +11,7 @@ fn pair(options: &[&str]) -> String {
 }
 
 fn assert_accounts(text: &str) {
-    assert_eq!(text.matches("\n  yes ").count(), 14, "{text}");
+    assert_eq!(text.matches("\n  yes ").count(), 18, "{text}");
     assert!(!text.contains("\n  NO "), "{text}");
 }
 
@@ -20,6 +20,29 @@ fn a_quiet_pair() {
     let text = pair(&["--labels", "12", "--cut-every", "0", "--kill-every", "0"]);
     assert_accounts(&text);
     assert!(text.contains("\n0 cuts, 0 kills"));
+}
+
+/// What a pair on demand says; one that is killed may die before it says what it has just done.
+fn assert_asked(text: &str) {
+    for what in ["Request 10000", "Abort for Request 10003", "'No label resources' for", "'Label resources available'"]
+    {
+        assert!(text.contains(what), "{what}\n{text}");
+    }
+}
+
+#[test]
+fn a_quiet_pair_on_demand() {
+    let text = pair(&["--labels", "12", "--cut-every", "0", "--kill-every", "0", "--on-demand"]);
+    assert_accounts(&text);
+    assert_asked(&text);
+    assert!(text.contains("refused with 14"), "{text}");
+}
+
+#[test]
+fn a_pair_on_demand_that_is_cut_and_killed_all_the_time() {
+    let text = pair(&["--labels", "25", "--cut-every", "3", "--kill-every", "5", "--on-demand"]);
+    assert_accounts(&text);
+    assert_asked(&text);
 }
 
 #[test]

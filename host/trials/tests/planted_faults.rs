@@ -27,7 +27,9 @@ fn the_differential_run_finds_planted_faults() {
 
 #[test]
 fn the_crafted_images_find_planted_faults() {
-    for fault in [CRAFTED_ONLY, Fault::SkipsPadding, Fault::NamesNoBlock] {
+    let faults =
+        [CRAFTED_ONLY, Fault::SkipsPadding, Fault::NamesNoBlock, Fault::SkipsIdsOfIdle, Fault::SkipsZerosAfterIds];
+    for fault in faults {
         let tested = Planted(fault);
         let mut run = Run::new(&Model, &tested, SEED);
         let found = crafted::images().iter().find_map(|image| crafted::check_refused(&mut run, image).err());
@@ -49,6 +51,12 @@ fn the_crash_trials_find_planted_faults() {
         Fault::ZeroAckIsAll,
         Fault::FreesOnWithdraw,
         Fault::ZeroTimeoutIsNoWait,
+        Fault::HidesFurther,
+        Fault::LeavesIds,
+        Fault::WipesIds,
+        Fault::AckEndsRequest,
+        Fault::BreakEndsRequests,
+        Fault::BreakForgetsMarks,
     ];
     for fault in faults {
         let tested = Planted(fault);

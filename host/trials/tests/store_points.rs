@@ -1,8 +1,9 @@
-//! What a call asks to be stored: at most one slot that is not live, then block 0, and each only where it must be.
+//! What a call asks to be stored: at most one slot that is not live, then block 65, then block 0, and each only where it
+//! must be.
 
-use cabinet::{phase, Cabinet, Session};
+use cabinet::{further, phase, Cabinet, Session, REQUEST_BLOCK};
 use model::Model;
-use trials::stored::{word, Stored};
+use trials::stored::{word, Stored, REQUEST, STOPPED};
 use trials::under_test::UnderTest;
 use trials::wire::{prefix, types, Message};
 
@@ -39,17 +40,86 @@ fn with_only_the_slot_stored_restore_gives_the_state_before_the_call() {
     }
 }
 
+const UP: Session = Session { phase: phase::UP_FT, value: 0 };
+
+fn request(id: u32) -> Vec<u8> {
+    Message::new(types::REQUEST, id).fec(&prefix(1)).bytes()
+}
+
+/// A kept state whose second word is an open Request's, with the ID of one that is over beside the third.
+fn asking() -> Stored {
+    let mut stored = kept();
+    (stored.labels[1], stored.ids[1], stored.ids[2]) = (REQUEST, 40, 41);
+    stored
+}
+
+/// 02: an ID "stays when its word is freed, so a cut leaves the state before".
+#[test]
+fn with_slot_and_block_65_stored_restore_gives_the_state_before_the_call() {
+    for cabinet in both() {
+        let before = asking().image(0xEE);
+        let mut image = before.clone();
+        let outcome = cabinet.submit(&mut image, UP, &request(42));
+        assert_eq!((outcome.answer, outcome.slot, outcome.further, outcome.block0), (0, 64, further::REQUESTS, 1));
+        let after = Stored::read(&image);
+        assert_eq!((after.labels[2], after.ids[2]), (REQUEST, 42));
+        image[..512].copy_from_slice(&before[..512]);
+        assert_eq!(cabinet.restore(&mut image).answer, 0);
+        assert_eq!(Stored::read(&image).state(), asking().after_break().state());
+        assert_eq!([1, 2].map(|place| cabinet.request_at(&image, place).open), [1, 0]);
+    }
+}
+
+/// Only Submit of a Request writes block 65: an ID stays when its Request ends, by Abort, by answer or with the state.
+#[test]
+fn block_65_is_named_only_where_its_bytes_change() {
+    let abort = Message::new(types::ABORT, 1).fec(&prefix(1)).request_id(40).bytes();
+    let answer = Message::new(types::MAPPING, 1).fec(&prefix(1)).label(16).request_id(40).protection(1).bytes();
+    let refusal = Message::new(types::NOTIFICATION, 1).status_of(0x0D, 40).bytes();
+    for cabinet in both() {
+        let same = |stored: &Stored, call: &dyn Fn(&mut [u8]) -> cabinet::Outcome| {
+            let mut image = stored.image(0xEE);
+            let block = image[REQUEST_BLOCK * 512..].to_vec();
+            let outcome = call(&mut image);
+            assert_eq!((outcome.answer, outcome.further, outcome.block0), (0, 0, 1));
+            assert_eq!(image[REQUEST_BLOCK * 512..], block);
+        };
+        same(&asking(), &|image| cabinet.submit(image, UP, &request(41)));
+        same(&asking(), &|image| cabinet.submit(image, UP, &abort));
+        same(&asking(), &|image| cabinet.receive(image, UP, &answer));
+        same(&asking(), &|image| cabinet.receive(image, UP, &refusal));
+        same(&asking(), &|image| cabinet.time_passed(image, FAILED, 5));
+        same(&asking(), &|image| cabinet.restore(image));
+    }
+}
+
+/// Both marks and open Requests are in block 0: a release and a fresh start forget them, and leave the IDs' bytes.
+#[test]
+fn a_release_forgets_requests_and_marks_and_leaves_block_65() {
+    let init = Message::new(types::INITIALIZATION, 1).parameters(30, 4096).ft_session(false, 5).bytes();
+    let stopped = || Stored { marks: STOPPED, ..asking() };
+    for cabinet in both() {
+        let mut image = stopped().image(0xEE);
+        let waiting = Session { phase: phase::INIT_WAIT, value: 5 };
+        let fresh = cabinet.init_received(&mut image, waiting, &init);
+        assert_eq!((fresh.answer, fresh.session, fresh.further), (0, UP, 0));
+        let after = Stored::read(&image);
+        assert_eq!((after.marks, after.open_requests().len(), after.ids), (0, 0, stopped().ids));
+        assert_eq!(cabinet.submit(&mut image, UP, &request(40)).answer, 0);
+    }
+}
+
 #[test]
 fn a_slot_that_gets_the_same_bytes_again_is_named() {
     for cabinet in both() {
         let before = kept().image(0xEE);
         let mut image = before.clone();
         cabinet.submit(&mut image, FAILED, &mapping());
-        let slot = image[64 * 512..].to_vec();
+        let slot = image[64 * 512..65 * 512].to_vec();
         image[..512].copy_from_slice(&before[..512]);
         let again = cabinet.submit(&mut image, FAILED, &mapping());
         assert_eq!((again.slot, again.block0), (64, 1));
-        assert_eq!(image[64 * 512..], slot);
+        assert_eq!(image[64 * 512..65 * 512], slot);
     }
 }
 
@@ -73,11 +143,10 @@ fn a_number_is_stored_when_it_is_given_and_not_again() {
     for cabinet in both() {
         let mut image = kept().image(0xEE);
         cabinet.submit(&mut image, FAILED, &mapping());
-        let up = Session { phase: phase::UP_FT, value: 0 };
         let mut out = [0; 500];
-        let first = cabinet.send_next(&mut image, up, false, &mut out);
+        let first = cabinet.send_next(&mut image, UP, false, &mut out);
         assert_eq!((first.answer, first.slot, first.block0, first.session.value), (0, 0, 1, 1));
-        let again = cabinet.send_next(&mut image, up, false, &mut out);
+        let again = cabinet.send_next(&mut image, UP, false, &mut out);
         assert_eq!((again.answer, again.slot, again.block0, again.session.value), (0, 0, 0, 1));
     }
 }

@@ -11,8 +11,6 @@ block0-is-valid-spec =
     (λ c κs. search needs)
     (λ c. search (needs, judged))
     (λ c κs. search needs)
-    (λ c. search (needs, judged))
-    (λ c κs. search needs)
     (λ c κs. search needs)
     (λ c. search (needs, judged))
     (λ c. omega arith)

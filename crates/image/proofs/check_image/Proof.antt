@@ -17,5 +17,13 @@ check-image-spec =
     (λ c κs. search needs)
     (λ c κs. search needs)
     (λ c κs. search needs)
+    (λ c. search needs)
+    (λ c κs. search needs)
+    (λ c. search needs)
+    (λ c. search needs)
+    (λ c. search needs)
+    (λ c. search (needs, verdicts))
+    (λ c. search (needs, verdicts))
+    (λ c. search (needs, verdicts))
     (λ c. search (needs, verdicts)) in
     tie.close answers

@@ -14,6 +14,8 @@ judge-submission-spec =
     (λ c κs. search needs)
     (λ c κs. search needs)
     (λ c. search (needs, judgements))
+    (λ c κs. search (needs, judgements))
+    (λ c κs. search (needs, judgements))
     (λ c κs. search needs)
     (λ c κs. search needs)
     (λ c. search (needs, judgements))

@@ -8,6 +8,7 @@ kind-for-spec =
     (λ c. search needs) (λ c. search needs) (λ c. search needs) (λ c. search needs)
     (λ c. search needs) (λ c. search needs) (λ c. search needs) (λ c. search needs)
     (λ c. search needs) (λ c. search needs) (λ c. search needs) (λ c. search needs)
+    (λ c. search needs)
     (λ c. rw (c .before .enum-told .given .1) (c .notification-kind .ensures))
     (λ c. rw (c .enum-told2 .given .1))
     (λ c. rw (c .enum-told3 .given .1))
@@ -17,6 +18,6 @@ kind-for-spec =
     (λ c. rw (c .enum-told7 .given .1))
     (λ c. rw (c .enum-told8 .given .1))
     (λ c. rw (c .enum-told9 .given .1))
-    (λ c. rw (c .enum-told10 .given .1))
+    (λ c. rw (c .before .enum-told10 .given .1) (c .abort-kind .ensures))
     (λ c. rw (c .enum-told11 .given .1)) in
     tie.close answers

@@ -7,5 +7,6 @@ pub notification-kind-spec : {M : Type 1} → statement M
 notification-kind-spec =
     let answers = tie.spec
     (λ c. search (needs, kinds)) (λ c. search (needs, kinds)) (λ c. search (needs, kinds)) (λ c. search (needs, kinds))
-    (λ c. search (needs, kinds)) (λ c. search (needs, kinds)) (λ c. search (needs, kinds)) (λ c. search (needs, kinds)) in
+    (λ c. search (needs, kinds)) (λ c. search (needs, kinds)) (λ c. search (needs, kinds)) (λ c. search (needs, kinds))
+    (λ c. search (needs, kinds)) in
     tie.close answers

@@ -2,7 +2,8 @@
 
 use super::end::End;
 use super::owner::Habits;
-use crate::stored::{steps_after, u32_at, Stored, SLOTS};
+use super::requests::tell_none;
+use crate::stored::{steps_after, u32_at, Stored, SLOTS, STOPPED, STOPPING};
 
 /// What both ends have in their stores.
 pub struct Stores([Stored; 2]);
@@ -29,6 +30,7 @@ impl Stores {
         for (sender, receiver) in [(0, 1), (1, 0)] {
             check_direction(&ends[sender], &self.0[sender], &ends[receiver], &self.0[receiver])
                 .map_err(|what| format!("from end {sender} to end {receiver}: {what}"))?;
+            check_requests(&ends[sender], &self.0[sender]).map_err(|what| format!("at end {sender}: {what}"))?;
             if !habits.releases {
                 check_withdrawing(&self.0[sender])?;
             }
@@ -59,6 +61,23 @@ fn check_direction(sender: &End, sent: &Stored, receiver: &End, received: &Store
     require(let_go <= secured.len(), "let go is not an opening part of secured")?;
     let rest = accepted[let_go..].iter().eq(held.iter().map(|queued| &queued.bytes));
     require(rest, "the store does not hold exactly the rest")
+}
+
+/// A Request is open from its acceptance until its Abort is accepted or an answer secured; whether Requests are stopped
+/// is what the last message about it said, each way.
+fn check_requests(end: &End, stored: &Stored) -> Result<(), String> {
+    let mut open = stored.open_requests();
+    open.sort_unstable();
+    require(open.iter().eq(&end.open), "the open Requests are not those accepted and not ended")?;
+    let marked = |mark| stored.marks & mark != 0;
+    require(marked(STOPPED) == tell_none(&end.secured), "stopped is not what the peer told")?;
+    require(marked(STOPPING) == tell_none(&end.accepted), "stopping is not what we told the peer")
+}
+
+/// After a cut before block 0 the state is the one before the call, with labels used without protection freed.
+pub fn check_undone(before: &[u8], after: &[u8]) -> Result<(), String> {
+    let same = Stored::read(after).state() == Stored::read(before).after_break().state();
+    require(same, "a call cut before block 0 has changed the state")
 }
 
 /// Where nobody releases labels, a label is withdrawing exactly as long as its Withdraw is held.

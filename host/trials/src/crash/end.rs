@@ -1,9 +1,12 @@
 //! One end: a cabinet, its memory, its store, and the history that the trial keeps of it.
 
+use super::requests;
+use super::tally::Cut;
 use crate::calls::{invoke, Call, Returned};
 use crate::store::Store;
 use crate::stored::Stored;
 use cabinet::{phase, Cabinet, Outcome, Session};
+use std::collections::BTreeSet;
 use std::io;
 use std::path::Path;
 
@@ -20,6 +23,8 @@ pub struct End<'a> {
     pub accepted: Vec<Vec<u8>>,
     /// Messages secured from the other end, without FT TLVs, since the fresh start.
     pub secured: Vec<Vec<u8>>,
+    /// The IDs of our Requests that are neither aborted nor answered, by that history.
+    pub open: BTreeSet<u32>,
     /// The number that released and issued had at the start, and the other end's secured.
     pub base: u32,
 }
@@ -34,10 +39,36 @@ impl<'a> End<'a> {
     pub fn new(cabinet: &'a dyn Cabinet, path: &Path) -> io::Result<Self> {
         let store = Store::create(path)?;
         let image = store.read()?;
-        let session = Session::default();
-        let mut end = End { cabinet, store, image, session, accepted: Vec::new(), secured: Vec::new(), base: 0 };
+        let mut end = End {
+            cabinet,
+            store,
+            image,
+            session: Session::default(),
+            accepted: Vec::new(),
+            secured: Vec::new(),
+            open: BTreeSet::new(),
+            base: 0,
+        };
         end.format()?;
         Ok(end)
+    }
+
+    /// Forgets the history: a session begins afresh.
+    pub fn begin(&mut self) {
+        (self.accepted, self.secured) = (Vec::new(), Vec::new());
+        (self.open, self.base) = (BTreeSet::new(), 0);
+    }
+
+    /// Notes a message that was accepted for sending.
+    pub fn note_accepted(&mut self, msg: Vec<u8>) {
+        requests::accepted(&mut self.open, &msg);
+        self.accepted.push(msg);
+    }
+
+    /// Notes a message that was secured from the other end.
+    pub fn note_secured(&mut self, msg: Vec<u8>) {
+        requests::secured(&mut self.open, &msg);
+        self.secured.push(msg);
     }
 
     /// Makes a call on the memory; nothing is stored yet.
@@ -54,10 +85,18 @@ impl<'a> End<'a> {
         Done { outcome, output }
     }
 
-    /// Stores what a call names: its slot, then block 0.
-    pub fn store_all(&mut self, outcome: &Outcome) -> io::Result<()> {
-        self.store.write_slot(&self.image, outcome)?;
-        self.store.write_block0(&self.image, outcome)
+    /// Stores what a call names, its slot, block 65, then block 0, as far as it comes before the power is cut.
+    pub fn store_until(&self, outcome: &Outcome, cut: Cut) -> io::Result<()> {
+        if cut >= Cut::SlotOnly {
+            self.store.write_slot(&self.image, outcome)?;
+        }
+        if cut >= Cut::BeforeBlock0 {
+            self.store.write_further(&self.image, outcome)?;
+        }
+        if cut >= Cut::NoOutput {
+            self.store.write_block0(&self.image, outcome)?;
+        }
+        Ok(())
     }
 
     /// Loses the memory and restores the session from the store; nothing of it is stored yet.

@@ -1,7 +1,7 @@
 //! The events of a world: what may befall an end in a step, and the calls that its owner makes then.
 
 use super::end::End;
-use super::owner;
+use super::owner::{self, Known};
 use super::world::World;
 use crate::calls::Call;
 use crate::stored::{u16_at, Stored, SLOTS};
@@ -62,14 +62,19 @@ impl World<'_, '_> {
     pub fn submit(&mut self, end: usize) -> Result<(), String> {
         self.serial += 1;
         let stored = Stored::read(&self.ends[end].image);
-        let msg = owner::submission(&mut self.random, &self.habits, &stored, self.serial);
         let session = self.ends[end].session;
+        let known = Known { stored: &stored, session, secured: &self.ends[end].secured };
+        let msg = owner::submission(&mut self.random, &self.habits, &known, self.serial);
         let made = self.perform(end, &Call::Submit { session, msg: msg.clone() })?;
         match made.map(|outcome| outcome.answer) {
             Some(0) => {
-                self.ends[end].accepted.push(msg);
+                let open = self.ends[end].open.len();
+                self.ends[end].note_accepted(msg);
                 self.tally.accepted += 1;
+                self.tally.asked += u64::from(self.ends[end].open.len() > open);
+                self.tally.aborted += u64::from(self.ends[end].open.len() < open);
             }
+            Some(14) => self.tally.stopped += 1,
             Some(7) if stored.queue.len() == SLOTS => self.tally.full += 1,
             Some(7) => return Err(format!("refused for room with {} held", stored.queue.len())),
             _ => {}
@@ -112,8 +117,10 @@ impl World<'_, '_> {
         if waits {
             self.tally.resumed += 1;
         } else if protection_number(&msg).is_some() {
-            self.ends[end].secured.push(without_ft(&msg));
+            let open = self.ends[end].open.len();
+            self.ends[end].note_secured(without_ft(&msg));
             self.tally.secured += 1;
+            self.tally.answered += u64::from(self.ends[end].open.len() < open);
         }
         Ok(())
     }
@@ -140,6 +147,7 @@ impl World<'_, '_> {
             receiver_lsr: 0xC000_0201,
             receiver_space: 0,
             proposal: self.random.pick(&[None, Some(0), Some(60)]),
+            on_demand: self.habits.asks > 0,
         };
         self.perform(end, &Call::Open { session, opening, room: 0 })?;
         Ok(())

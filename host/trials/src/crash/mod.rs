@@ -5,8 +5,9 @@ mod demand;
 mod end;
 mod events;
 mod owner;
+mod requests;
 mod tally;
 mod world;
 
 pub use tally::{Cut, Tally, CUTS};
-pub use world::run;
+pub use world::{run, run_asking};

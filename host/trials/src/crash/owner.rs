@@ -1,8 +1,13 @@
 //! What the owner of an end submits: messages about its labels, good for the most part.
 
+use super::requests;
 use crate::random::Random;
-use crate::stored::Stored;
-use crate::wire::{prefix, tlvs, types, Message, RESOURCES_AVAILABLE};
+use crate::stored::{Stored, PLACES, STOPPED};
+use crate::wire::{prefix, tlvs, types, Message, NO_RESOURCES, RESOURCES_AVAILABLE};
+use cabinet::{phase, Session};
+
+/// An owner answers one of so many Requests of the peer's, the latest.
+const LATEST: usize = 6;
 
 /// How the owners of a world behave.
 #[derive(Clone, Copy, Debug)]
@@ -11,6 +16,10 @@ pub struct Habits {
     pub last_label: u32,
     /// Whether labels in use are ever released.
     pub releases: bool,
+    /// How often, in a hundred submissions, one is about Requests.
+    pub asks: usize,
+    /// How often, in a hundred Requests that change block 65, the power is cut.
+    pub cuts_in_asking: usize,
     /// How often, in a hundred steps, something is submitted.
     pub submits: usize,
     /// How often, in a hundred calls, the power is cut.
@@ -24,11 +33,26 @@ impl Habits {
         Habits {
             last_label: random.pick(&[30, 65, 65, 65]),
             releases: random.percent(60),
+            asks: random.pick(&[0, 30, 70]),
+            cuts_in_asking: 40,
             submits: random.pick(&[10, 30, 60]),
             cuts: random.pick(&[2, 6, 20]),
             breaks: random.pick(&[0, 8, 40]),
         }
     }
+
+    /// Owners that ask for labels again and again, with hardly anything cut but that.
+    pub fn asking(random: &mut Random) -> Self {
+        Habits { asks: 80, cuts_in_asking: 90, submits: 30, cuts: 2, breaks: 0, ..Habits::any(random) }
+    }
+}
+
+/// What an owner knows when it decides.
+pub struct Known<'a> {
+    pub stored: &'a Stored,
+    pub session: Session,
+    /// The messages that it has secured.
+    pub secured: &'a [Vec<u8>],
 }
 
 /// A label of the list that has one of the codes.
@@ -37,11 +61,19 @@ fn listed(random: &mut Random, stored: &Stored, codes: &[u32]) -> Option<u32> {
     (!words.is_empty()).then(|| random.pick(&words) & 0xF_FFFF)
 }
 
+fn about(message_type: u16, label: u32, serial: u32) -> Message {
+    Message::new(message_type, serial).fec(&prefix(label as u16)).label(label)
+}
+
 /// The next message that an owner submits.
-pub fn submission(random: &mut Random, habits: &Habits, stored: &Stored, serial: u32) -> Vec<u8> {
+pub fn submission(random: &mut Random, habits: &Habits, known: &Known, serial: u32) -> Vec<u8> {
+    if random.percent(habits.asks) {
+        let message = about_requests(random, habits, known, serial);
+        return padded(random, message);
+    }
+    let stored = known.stored;
     let any = random.between(16, habits.last_label as usize) as u32;
-    let about =
-        |message_type: u16, label: u32| Message::new(message_type, serial).fec(&prefix(label as u16)).label(label);
+    let about = |message_type, label| about(message_type, label, serial);
     let message = match random.below(20) {
         0..=6 => about(types::MAPPING, any),
         7..=10 => about(types::WITHDRAW, listed(random, stored, &[1]).unwrap_or(any)),
@@ -51,8 +83,47 @@ pub fn submission(random: &mut Random, habits: &Habits, stored: &Stored, serial:
         16 => return refused(random, serial),
         _ => Message::new(types::ADDRESS, serial).tlv(tlvs::ADDRESS_LIST, &[0, 1, 10, 0, 0, 2]),
     };
+    padded(random, message)
+}
+
+/// The message's bytes, at times many more than it needs.
+fn padded(random: &mut Random, message: Message) -> Vec<u8> {
     let length = if random.percent(10) { random.between(60, 480) } else { 0 };
     message.padded_to(length).bytes()
+}
+
+/// One of the values, or the one given where there is none.
+fn one_of(random: &mut Random, values: &[u32], otherwise: u32) -> u32 {
+    if values.is_empty() {
+        otherwise
+    } else {
+        random.pick(values)
+    }
+}
+
+/// A Request or its Abort, an answer to a Request of the peer's, or word on whether there are labels to give. Every
+/// label of both sides has a word left beside the open Requests.
+fn about_requests(random: &mut Random, habits: &Habits, known: &Known, serial: u32) -> Message {
+    let label = random.between(16, habits.last_label as usize) as u32;
+    let open = known.stored.open_requests();
+    let room = open.len() + 2 * (habits.last_label as usize - 15) < PLACES;
+    let refused = known.session.phase != phase::UP_FT || known.stored.marks & STOPPED != 0;
+    let may_ask = room && (!refused || random.percent(20));
+    let peers = requests::ids(known.secured);
+    let id = one_of(random, &peers[peers.len().saturating_sub(LATEST)..], serial);
+    match random.below(20) {
+        0..=8 if may_ask => {
+            let again = one_of(random, &known.stored.ids, serial);
+            Message::new(types::REQUEST, if random.percent(15) { again } else { serial }).fec(&prefix(label as u16))
+        }
+        9 => {
+            let aborted = one_of(random, &open, serial);
+            Message::new(types::ABORT, serial).fec(&prefix(1)).request_id(aborted)
+        }
+        10..=15 => about(types::MAPPING, label, serial).request_id(id),
+        16..=17 => Message::new(types::NOTIFICATION, serial).status_of(NO_RESOURCES, id),
+        _ => Message::new(types::NOTIFICATION, serial).status_of(RESOURCES_AVAILABLE, id),
+    }
 }
 
 /// A message that submit refuses whatever is stored.

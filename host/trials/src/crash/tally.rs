@@ -8,15 +8,18 @@ use std::fmt;
 pub enum Cut {
     /// Nothing of the call was stored.
     Nothing,
-    /// Its slot was stored, block 0 was not.
+    /// Its slot was stored, no other block was.
     SlotOnly,
-    /// Slot and block 0 were stored; the output did not leave.
+    /// Slot and block 65 were stored, block 0 was not.
+    BeforeBlock0,
+    /// Everything was stored; the output did not leave.
     NoOutput,
     /// All was stored and the output left.
     All,
 }
 
-pub const CUTS: [Cut; 4] = [Cut::Nothing, Cut::SlotOnly, Cut::NoOutput, Cut::All];
+/// How far a call can come, in the order in which it is stored.
+pub const CUTS: [Cut; 5] = [Cut::Nothing, Cut::SlotOnly, Cut::BeforeBlock0, Cut::NoOutput, Cut::All];
 
 /// Counts over all worlds of a run.
 #[derive(Clone, Debug, Default)]
@@ -29,6 +32,12 @@ pub struct Tally {
     pub resumed: u64,
     pub accepted: u64,
     pub secured: u64,
+    /// Requests opened, and ended by their Abort or by an answer.
+    pub asked: u64,
+    pub aborted: u64,
+    pub answered: u64,
+    /// Requests refused because they are stopped.
+    pub stopped: u64,
     pub sent: u64,
     pub full: u64,
     pub most_held: usize,
@@ -51,16 +60,18 @@ impl Tally {
 
 impl fmt::Display for Tally {
     fn fmt(&self, f: &mut fmt::Formatter) -> fmt::Result {
-        writeln!(f, "{:>18}  nothing  slot only  no output      all", "cut in")?;
+        writeln!(f, "{:>18}  nothing  slot only  before 0  no output      all", "cut in")?;
         let calls: std::collections::BTreeSet<&str> = self.cuts.keys().map(|(call, _)| *call).collect();
         for call in calls {
             let count = |cut| self.cuts.get(&(call, cut)).copied().unwrap_or(0);
-            let [nothing, slot, silent, all] = CUTS.map(count);
-            writeln!(f, "{call:>18} {nothing:>8} {slot:>10} {silent:>10} {all:>8}")?;
+            let [nothing, slot, further, silent, all] = CUTS.map(count);
+            writeln!(f, "{call:>18} {nothing:>8} {slot:>10} {further:>9} {silent:>10} {all:>8}")?;
         }
         writeln!(f, "{} worlds, {} steps, {} cuts", self.worlds, self.steps, self.all_cuts())?;
         writeln!(f, "{} breaks, {} restarts, {} resumed", self.breaks, self.restarts, self.resumed)?;
         writeln!(f, "{} accepted, {} sent, {} secured", self.accepted, self.sent, self.secured)?;
+        let Tally { asked, aborted, answered, stopped, .. } = self;
+        writeln!(f, "{asked} Requests, {aborted} aborted, {answered} answered, {stopped} refused while stopped")?;
         write!(f, "{} refused at 64 held, at most {} held, {} worlds drained", self.full, self.most_held, self.drained)
     }
 }

@@ -1,9 +1,9 @@
 //! A world of two ends and one connection at a time: its start, its steps, its end, and how a call in it may be cut.
 
-use super::demand::{check_drained, Stores};
+use super::demand::{check_drained, check_undone, Stores};
 use super::end::{Done, End};
 use super::owner::Habits;
-use super::tally::{Cut, Tally};
+use super::tally::{Cut, Tally, CUTS};
 use crate::calls::Call;
 use crate::random::Random;
 use crate::store::Directory;
@@ -19,14 +19,29 @@ const BASES: [u32; 5] = [0, 0, 0, 0xFFFF_FFC8, 0xFFFF_FFFF];
 
 /// Runs worlds with the cabinets given until there have been so many cuts; the seed decides everything.
 pub fn run(cabinets: [&dyn Cabinet; 2], seed: u64, cuts: u64, tally: &mut Tally) -> Result<(), String> {
+    worlds(cabinets, seed, Habits::any, |tally| tally.all_cuts() < cuts, tally)
+}
+
+/// Runs worlds of owners that ask for labels, until so many cuts fell between block 65 and block 0.
+pub fn run_asking(cabinets: [&dyn Cabinet; 2], seed: u64, cuts: u64, tally: &mut Tally) -> Result<(), String> {
+    worlds(cabinets, seed, Habits::asking, |tally| tally.cuts_in("submit", Cut::BeforeBlock0) < cuts, tally)
+}
+
+fn worlds(
+    cabinets: [&dyn Cabinet; 2],
+    seed: u64,
+    habits: fn(&mut Random) -> Habits,
+    goes_on: impl Fn(&Tally) -> bool,
+    tally: &mut Tally,
+) -> Result<(), String> {
     let directory = Directory::create("crash").map_err(text)?;
     let mut random = Random::new(seed);
     let [first, second] = cabinets;
     let end = |cabinet, name: &str| End::new(cabinet, &directory.file(name)).map_err(text);
     let mut ends = [end(first, "first")?, end(second, "second")?];
-    while tally.all_cuts() < cuts {
+    while goes_on(tally) {
         let world = tally.worlds;
-        let mut world_run = World::new(ends, Random::new(random.u64()), tally);
+        let mut world_run = World::new(ends, Random::new(random.u64()), habits, tally);
         world_run.live().map_err(|what| format!("seed {seed}, world {world}: {what}"))?;
         ends = world_run.ends;
     }
@@ -49,8 +64,8 @@ pub struct World<'a, 't> {
 }
 
 impl<'a, 't> World<'a, 't> {
-    fn new(ends: [End<'a>; 2], mut random: Random, tally: &'t mut Tally) -> Self {
-        let habits = Habits::any(&mut random);
+    fn new(ends: [End<'a>; 2], mut random: Random, habits: fn(&mut Random) -> Habits, tally: &'t mut Tally) -> Self {
+        let habits = habits(&mut random);
         let lines = [VecDeque::new(), VecDeque::new()];
         World { ends, lines, connected: false, random, habits, serial: 0, tally }
     }
@@ -86,8 +101,7 @@ impl<'a, 't> World<'a, 't> {
         }
         for end in 0..2 {
             self.restart(end)?;
-            let end = &mut self.ends[end];
-            (end.base, end.accepted, end.secured) = (0, Vec::new(), Vec::new());
+            self.ends[end].begin();
         }
         self.connected = true;
         self.open(0)?;
@@ -128,39 +142,44 @@ impl<'a, 't> World<'a, 't> {
 
     /// Makes a call and stores what it names, or is cut before the end of that; none where it counts as not made.
     pub fn perform(&mut self, end: usize, call: &Call) -> Result<Option<Outcome>, String> {
+        let before = self.ends[end].image.clone();
         let Done { outcome, output } = self.ends[end].call(call);
         let cut = self.choose_cut(&outcome);
-        let stores = &self.ends[end];
-        if cut != Some(Cut::Nothing) {
-            stores.store.write_slot(&stores.image, &outcome).map_err(text)?;
-        }
-        let made = !matches!(cut, Some(Cut::Nothing | Cut::SlotOnly));
-        if made {
-            stores.store.write_block0(&stores.image, &outcome).map_err(text)?;
-        }
-        let leaves = matches!(cut, None | Some(Cut::All)) && !output.is_empty() && self.connected;
-        if leaves {
+        let reached = cut.unwrap_or(Cut::All);
+        self.ends[end].store_until(&outcome, reached).map_err(text)?;
+        if reached == Cut::All && !output.is_empty() && self.connected {
             self.lines[1 - end].push_back(output);
         }
+        let made = reached >= Cut::NoOutput;
         if let Some(cut) = cut {
             self.tally.note_cut(call.name(), cut);
             self.restart(end)?;
+            if !made {
+                check_undone(&before, &self.ends[end].image)?;
+            }
         }
         Ok(made.then_some(outcome))
     }
 
-    /// A store point at which the power is cut, at times; a call without a slot has three.
+    /// A store point at which the power is cut, at times. The points are those that the call has: one without a slot, or
+    /// that leaves block 65 as it was, has fewer.
     fn choose_cut(&mut self, outcome: &Outcome) -> Option<Cut> {
-        let refused = (1..=13).contains(&outcome.answer);
-        if refused || !self.random.percent(self.habits.cuts) {
+        let asks = outcome.further != 0;
+        let refused = (1..=19).contains(&outcome.answer);
+        let cuts = if asks { self.habits.cuts_in_asking } else { self.habits.cuts };
+        if refused || self.habits.cuts == 0 || !self.random.percent(cuts) {
             return None;
         }
-        let points: &[Cut] = if outcome.slot == 0 {
-            &[Cut::Nothing, Cut::NoOutput, Cut::All]
-        } else {
-            &[Cut::Nothing, Cut::SlotOnly, Cut::NoOutput, Cut::All]
+        if asks && self.random.percent(40) {
+            return Some(Cut::BeforeBlock0);
+        }
+        let has = |cut: &Cut| match cut {
+            Cut::SlotOnly => outcome.slot != 0,
+            Cut::BeforeBlock0 => asks,
+            _ => true,
         };
-        Some(self.random.pick(points))
+        let points: Vec<Cut> = CUTS.into_iter().filter(has).collect();
+        Some(self.random.pick(&points))
     }
 
     /// The power comes back: the session is restored, and this may be cut too.
@@ -176,7 +195,7 @@ impl<'a, 't> World<'a, 't> {
                 self.tally.note_cut("restore", Cut::Nothing);
                 continue;
             }
-            return self.ends[end].store_all(&outcome).map_err(text);
+            return self.ends[end].store_until(&outcome, Cut::All).map_err(text);
         }
     }
 

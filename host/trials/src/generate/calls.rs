@@ -3,7 +3,7 @@
 use super::{malformed, messages, states};
 use crate::calls::Call;
 use crate::random::Random;
-use crate::stored::Stored;
+use crate::stored::{Stored, REQUEST};
 use cabinet::{phase, Opening, Session};
 
 const EDGES: [u32; 9] = [0, 1, 2, 0x7FFF_FFFF, 0x8000_0000, 0x8000_0001, 0xFFFF_FFFD, 0xFFFF_FFFE, 0xFFFF_FFFF];
@@ -58,6 +58,7 @@ fn opening(random: &mut Random) -> Opening {
         receiver_lsr: random.u32(),
         receiver_space: random.u16(),
         proposal: if random.percent(30) { None } else { Some(states::timeout(random)) },
+        on_demand: random.percent(50),
     }
 }
 
@@ -103,8 +104,16 @@ pub fn on_image(random: &mut Random, stored: &Stored) -> Call {
             session: session(random, &[phase::UP_FT, phase::UP_PLAIN]),
             msg: messages::received(random, stored),
         },
-        _ => Call::Label { place: random.pick(&[0, 1, 60, 118, 119, 120, 121, u32::MAX]) },
+        98 => Call::Label { place: place(random, stored) },
+        _ if random.percent(70) => Call::RequestAt { place: place(random, stored) },
+        _ => Call::Extend { stored_len: random.pick(&[33_280, 33_280, 33_280, 33_792, 33_279, 0, usize::MAX]) },
     }
+}
+
+/// A place of the label list, one of an open Request in many cases, or one that it does not have.
+fn place(random: &mut Random, stored: &Stored) -> u32 {
+    let open = stored.labels.iter().position(|word| *word == REQUEST).unwrap_or(60) as u32;
+    random.pick(&[open, open, open, open, 0, 1, 118, 119, 120, 121, u32::MAX])
 }
 
 fn edge(random: &mut Random) -> u32 {

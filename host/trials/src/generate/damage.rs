@@ -1,8 +1,8 @@
 //! Images that fail a check: wrong sizes, bad blocks, and each field wrong in turn with its block sealed again.
 
 use crate::random::Random;
-use crate::stored::{seal, steps_after, u16_at, u32_at, word, Stored};
-use cabinet::BLOCK_SIZE;
+use crate::stored::{seal, steps_after, u16_at, u32_at, word, Stored, PLACES, REQUEST};
+use cabinet::{BLOCK_SIZE, REQUEST_BLOCK};
 
 /// A fault in one field; the block that bears it is sealed again afterwards.
 #[derive(Clone, Copy)]
@@ -41,7 +41,7 @@ pub const KEPT_FAULTS: &[FieldFault] = &[
     fault("kept 2", |b| b[22] = 2),
     fault("kept 255", |b| b[22] = 255),
     fault("kept 0 with state", |b| b[22] = 0),
-    fault("byte 23", |b| b[23] = 1),
+    fault("code 7 with label 1", |b| put_word(b, 60, word(1, 7))),
     fault("issued past held", |b| issue(b, u64::from(u16_at(b, 18)) + 1)),
     fault("issued behind released", |b| {
         put(b, 4, &[0, 0, 0, 9]);
@@ -57,8 +57,9 @@ pub const KEPT_FAULTS: &[FieldFault] = &[
     }),
     fault("code 0 with a label", |b| put_word(b, 119, 16)),
     fault("code 0 with label 1", |b| put_word(b, 0, 1)),
-    fault("code 7", |b| put_word(b, 60, word(500_000, 7))),
+    fault("code 7 with a label", |b| put_word(b, 60, word(500_000, 7))),
     fault("code 8", |b| put_word(b, 60, word(500_000, 8))),
+    fault("code 8 without a label", |b| put_word(b, 60, word(0, 8))),
     fault("code 4095", |b| put_word(b, 60, word(500_000, 4095))),
     fault("label 15 given", |b| put_word(b, 3, word(15, 1))),
     fault("label 0 used", |b| put_word(b, 3, word(0, 3))),
@@ -90,11 +91,11 @@ pub const IDLE_FAULTS: &[FieldFault] = &[
     fault("held, kept 0", |b| b[19] = 1),
     fault("timeout, kept 0", |b| b[21] = 5),
     fault("kept 2, all else zero", |b| b[22] = 2),
-    fault("byte 23, kept 0", |b| b[23] = 128),
     fault("KeepAlive time, kept 0", |b| b[24] = 1),
     fault("maximum PDU length, kept 0", |b| b[27] = 1),
     fault("first word, kept 0", |b| put_word(b, 0, word(16, 1))),
     fault("last word, kept 0", |b| put_word(b, 119, word(16, 6))),
+    fault("open Request, kept 0", |b| put_word(b, 60, REQUEST)),
     fault("byte 507, kept 0", |b| b[507] = 1),
 ];
 
@@ -109,6 +110,7 @@ pub const MAPPING_FAULTS: &[FieldFault] = &[
     fault("kind 0", |b| b[2] = 0),
     fault("kind 2 for a Mapping", |b| b[2] = 2),
     fault("kind 7", |b| b[2] = 7),
+    fault("kind 10", |b| b[2] = 10),
     fault("byte 3", |b| b[3] = 1),
     fault("another label", |b| b[7] ^= 1),
     fault("no label for a Mapping", |b| put(b, 4, &[255; 4])),
@@ -143,6 +145,47 @@ pub const ADDRESS_FAULTS: &[FieldFault] = &[
     fault("message of type KeepAlive", |b| put(b, 8, &[2, 1])),
     fault("message of type Init", |b| put(b, 8, &[2, 0])),
     fault("a Notification without Status", |b| put(b, 8, &[0, 1])),
+    fault("a Request without FEC", |b| {
+        b[2] = 7;
+        put(b, 8, &[4, 1]);
+    }),
+];
+
+/// Faults of a slot that holds an Abort: FEC of 8 bytes, then the Request's ID.
+pub const ABORT_FAULTS: &[FieldFault] = &[
+    fault("a label for Abort", |b| put(b, 4, &[0; 4])),
+    fault("kind 7 for Abort", |b| b[2] = 7),
+    fault("kind 9 for Abort", |b| b[2] = 9),
+    fault("Abort without FEC", |b| put(b, 16, &[0x3E, 0x02])),
+    fault("Abort without the Request's ID", |b| put(b, 28, &[0x3E, 0x02])),
+    fault("Request's ID of length 3", |b| b[31] = 3),
+    fault("an Abort made a Request", |b| b[9] = 1),
+    fault("an Abort with FT ACK for its ID", |b| put(b, 28, &[0x05, 0x04])),
+];
+
+/// Faults of a slot that holds 'No label resources'.
+pub const NO_RESOURCES_FAULTS: &[FieldFault] = &[
+    fault("kind 6 for kind 9", |b| b[2] = 6),
+    fault("kind 9 with E", |b| b[20] |= 0x80),
+    fault("kind 9 with status 15", |b| b[23] = 15),
+    fault("kind 9 with status 13", |b| b[23] = 13),
+];
+
+/// Faults of the block of the Requests' IDs, whatever block 0 holds.
+pub const ZERO_FAULTS: &[FieldFault] = &[
+    fault("first byte after the IDs", |b| b[480] = 1),
+    fault("last byte after the IDs", |b| b[507] = 0x80),
+    fault("a byte among those after the IDs", |b| b[493] = 7),
+];
+
+/// Faults of the block of the Requests' IDs, where the first three and the last word are open Requests.
+pub const ID_FAULTS: &[FieldFault] = &[
+    fault("one ID twice", |b| b.copy_within(0..4, 476)),
+    fault("one ID twice, side by side", |b| b.copy_within(4..8, 8)),
+    fault("ID 0 twice", |b| {
+        put(b, 0, &[0; 4]);
+        put(b, 476, &[0; 4]);
+    }),
 ];
 
 /// Applies a fault to a block and seals the block again.
@@ -156,7 +199,7 @@ pub fn image(random: &mut Random, stored: &Stored) -> Vec<u8> {
     let dead = random.u8();
     let mut image = stored.image(dead);
     match random.below(100) {
-        0..=1 => image.truncate(random.pick(&[0, 1, 511, 512, 33_279])),
+        0..=1 => image.truncate(random.pick(&[0, 1, 511, 512, 33_280, 33_791])),
         2 => image.extend(vec![0; random.pick(&[1, 512])]),
         3..=5 => flip(random, &mut image, 0),
         6..=8 if !stored.queue.is_empty() => {
@@ -172,9 +215,26 @@ pub fn image(random: &mut Random, stored: &Stored) -> Vec<u8> {
             spoil_byte(random, &mut image, block);
         }
         17 => spoil_byte(random, &mut image, 0),
+        18 => {
+            image[23] = random.u8();
+            seal(&mut image, 0);
+        }
+        19 => flip(random, &mut image, REQUEST_BLOCK),
+        20 => apply(&mut image, REQUEST_BLOCK, &random.pick(ZERO_FAULTS)),
+        21..=22 => repeat_id(random, stored, &mut image),
+        23 => spoil_byte(random, &mut image, REQUEST_BLOCK),
         _ => {}
     }
     image
+}
+
+/// Gives one ID to two places, mostly those of open Requests.
+fn repeat_id(random: &mut Random, stored: &Stored, image: &mut [u8]) {
+    let open: Vec<usize> = (0..PLACES).filter(|place| stored.labels[*place] == REQUEST).collect();
+    let mut place = || if open.is_empty() || random.percent(20) { random.below(PLACES) } else { random.pick(&open) };
+    let (from, to) = (4 * place(), 4 * place());
+    image[REQUEST_BLOCK * BLOCK_SIZE..].copy_within(from..from + 4, to);
+    seal(image, REQUEST_BLOCK);
 }
 
 /// Flips one bit of a block, its check included.

@@ -7,8 +7,16 @@ use crate::wire::{tlvs, Message};
 
 /// A message with one fault in its TLVs or lengths.
 pub fn message(random: &mut Random, mut message: Message) -> Vec<u8> {
-    let listed =
-        [tlvs::FEC, tlvs::LABEL, tlvs::STATUS, tlvs::PARAMETERS, tlvs::FT_SESSION, tlvs::FT_PROTECTION, tlvs::FT_ACK];
+    let listed = [
+        tlvs::FEC,
+        tlvs::LABEL,
+        tlvs::STATUS,
+        tlvs::PARAMETERS,
+        tlvs::FT_SESSION,
+        tlvs::FT_PROTECTION,
+        tlvs::FT_ACK,
+        tlvs::REQUEST_ID,
+    ];
     match random.below(8) {
         0 if !message.tlvs.is_empty() => {
             let again = message.tlvs[random.below(message.tlvs.len())].clone();

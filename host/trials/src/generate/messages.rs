@@ -3,7 +3,7 @@
 use super::{malformed, states};
 use crate::random::Random;
 use crate::stored::{steps_after, Queued, Stored, NO_LABEL};
-use crate::wire::{prefix, tlvs, types, Message, RESOURCES_AVAILABLE, WILDCARD};
+use crate::wire::{prefix, tlvs, types, Message, NO_RESOURCES, RESOURCES_AVAILABLE, WILDCARD};
 
 const TYPES: [u16; 10] = [
     types::NOTIFICATION,
@@ -17,14 +17,29 @@ const TYPES: [u16; 10] = [
     types::RELEASE,
     types::ABORT,
 ];
-const QUEUED: [u16; 6] =
-    [types::MAPPING, types::WITHDRAW, types::RELEASE, types::ADDRESS, types::ADDRESS_WITHDRAW, types::NOTIFICATION];
-const STATUSES: [u32; 9] = [
-    RESOURCES_AVAILABLE,
-    RESOURCES_AVAILABLE,
-    RESOURCES_AVAILABLE | 0x4000_0000,
+/// The type of each kind, from kind 1.
+const QUEUED: [u16; 9] = [
+    types::MAPPING,
+    types::WITHDRAW,
+    types::RELEASE,
+    types::ADDRESS,
+    types::ADDRESS_WITHDRAW,
+    types::NOTIFICATION,
+    types::REQUEST,
+    types::ABORT,
+    types::NOTIFICATION,
+];
+/// Kind 6, with F clear and set; kind 9.
+const AVAILABLE: [u32; 2] = [RESOURCES_AVAILABLE, RESOURCES_AVAILABLE | 0x4000_0000];
+const NONE_LEFT: [u32; 2] = [NO_RESOURCES, NO_RESOURCES | 0x4000_0000];
+const STATUSES: [u32; 11] = [
+    AVAILABLE[0],
+    AVAILABLE[0],
+    AVAILABLE[1],
+    NONE_LEFT[0],
+    NONE_LEFT[1],
     RESOURCES_AVAILABLE | 0x8000_0000,
-    0x0000_000E,
+    0x0000_000D,
     0x0000_0010,
     0x8000_000A,
     0xC000_0014,
@@ -63,11 +78,40 @@ fn fec(random: &mut Random) -> Vec<u8> {
     }
 }
 
+/// A message ID: mostly of a Request that the state has open, or of one that it had, 0, or any.
+fn id(random: &mut Random, stored: &Stored) -> u32 {
+    let open = stored.open_requests();
+    match random.below(20) {
+        0..=1 => 0,
+        2..=4 => random.pick(&stored.ids),
+        5 => random.u32(),
+        6..=8 => states::id(random),
+        _ if open.is_empty() => states::id(random),
+        _ => random.pick(&open),
+    }
+}
+
+/// The message's own ID; a Request's is mostly one that is not open.
+fn own_id(random: &mut Random, stored: &Stored, message_type: u16) -> u32 {
+    match random.below(10) {
+        0..=2 if message_type == types::REQUEST => id(random, stored),
+        3..=6 if message_type == types::REQUEST => states::id(random),
+        _ => random.u32(),
+    }
+}
+
 /// A message of a type with the TLVs that belong to it, none of them an FT TLV.
 fn body(random: &mut Random, stored: &Stored, message_type: u16, sending: bool) -> Message {
-    let message = Message::new(message_type, random.u32());
+    let message = Message::new(message_type, own_id(random, stored, message_type));
+    let named = id(random, stored);
+    let often = match message_type {
+        types::ABORT => 100,
+        types::MAPPING => 40,
+        _ => 4,
+    };
+    let message = if random.percent(often) { message.request_id(named) } else { message };
     match message_type {
-        types::NOTIFICATION if random.percent(95) => message.status(random.pick(&STATUSES)),
+        types::NOTIFICATION if random.percent(95) => message.status_of(random.pick(&STATUSES), named),
         types::ADDRESS | types::ADDRESS_WITHDRAW => message.tlv(tlvs::ADDRESS_LIST, &[0, 1, 10, 0, 0, 1]),
         types::MAPPING | types::WITHDRAW | types::RELEASE => {
             let codes = codes_for(random, message_type, sending);
@@ -87,7 +131,7 @@ fn body(random: &mut Random, stored: &Stored, message_type: u16, sending: bool) 
 
 /// A message that the send store may hold, with what its slot shows.
 pub fn queued(random: &mut Random, stored: &Stored) -> Queued {
-    let kind = random.between(1, 6) as u8;
+    let kind = random.between(1, QUEUED.len()) as u8;
     let message_type = QUEUED[usize::from(kind) - 1];
     let mut message = Message::new(message_type, random.u32());
     let mut label = NO_LABEL;
@@ -97,7 +141,8 @@ pub fn queued(random: &mut Random, stored: &Stored) -> Queued {
             label = self::label(random, stored, code);
             message = message.fec(&fec(random)).label(label);
         }
-        6 => message = message.status(random.pick(&STATUSES[..3])),
+        6 => message = message.status_of(random.pick(&AVAILABLE), id(random, stored)),
+        9 => message = message.status_of(random.pick(&NONE_LEFT), id(random, stored)),
         _ => message = body(random, stored, message_type, true),
     }
     if random.percent(20) {

@@ -2,13 +2,14 @@
 
 use super::messages;
 use crate::random::Random;
-use crate::stored::{steps_after, word, Stored, PLACES};
+use crate::stored::{steps_after, word, Stored, PLACES, REQUEST, STOPPED, STOPPING};
 use std::collections::HashSet;
 
 const NUMBERS: [u32; 11] =
     [0, 0, 1, 2, 40, 0x7FFF_FFFF, 0x8000_0000, 0xFFFF_FFC0, 0xFFFF_FFF0, 0xFFFF_FFFE, 0xFFFF_FFFF];
 const HELD: [usize; 12] = [0, 0, 0, 1, 1, 2, 3, 8, 30, 63, 64, 64];
 const LISTED: [usize; 11] = [0, 1, 2, 4, 10, 30, 90, 119, 119, 120, 120];
+const OPEN: [usize; 9] = [0, 0, 0, 1, 2, 5, 20, 100, 120];
 const TIMEOUTS: [u16; 6] = [0, 0, 1, 5, 600, 65_535];
 
 /// A number near the ends of the circle, or any.
@@ -38,10 +39,20 @@ pub fn label(random: &mut Random) -> u32 {
     }
 }
 
+/// A message ID from a small range, so that messages and Requests meet, or one at an end.
+pub fn id(random: &mut Random) -> u32 {
+    match random.below(20) {
+        0..=1 => 0,
+        2 => u32::MAX,
+        3 => random.u32(),
+        _ => random.between(1, 200) as u32,
+    }
+}
+
 /// A state, kept in most cases.
 pub fn state(random: &mut Random) -> Stored {
     if random.percent(15) {
-        return Stored::idle();
+        return Stored { ids: left_over(random), ..Stored::idle() };
     }
     let held = random.pick(&HELD);
     let numbered = match random.below(3) {
@@ -50,6 +61,8 @@ pub fn state(random: &mut Random) -> Stored {
         _ => random.between(0, held),
     };
     let released = number(random);
+    let mut labels = label_list(random);
+    let ids = open_requests(random, &mut labels);
     let mut stored = Stored {
         released,
         issued: steps_after(released, numbered as u64),
@@ -57,9 +70,11 @@ pub fn state(random: &mut Random) -> Stored {
         first: random.pick(&[0, 0, 1, 32, 62, 63]),
         timeout: timeout(random),
         kept: true,
+        marks: random.pick(&[0, 0, 0, STOPPED, STOPPING, STOPPED | STOPPING]),
         keepalive_time: random.pick(&[0, 30, 65_535]),
         max_pdu_length: random.pick(&[0, 4096, 65_535]),
-        labels: label_list(random),
+        labels,
+        ids,
         queue: Vec::new(),
     };
     stored.queue = (0..held).map(|_| messages::queued(random, &stored)).collect();
@@ -81,4 +96,25 @@ fn label_list(random: &mut Random) -> [u32; PLACES] {
         }
     }
     list
+}
+
+/// IDs that earlier Requests left, or none.
+fn left_over(random: &mut Random) -> [u32; PLACES] {
+    let used = random.percent(60);
+    std::array::from_fn(|_| if used { id(random) } else { 0 })
+}
+
+/// Opens Requests in some of the free words, each with an ID of its own, and gives all IDs.
+fn open_requests(random: &mut Random, labels: &mut [u32; PLACES]) -> [u32; PLACES] {
+    let mut ids = left_over(random);
+    let mut free: Vec<usize> = (0..PLACES).filter(|place| labels[*place] == 0).collect();
+    let mut seen = HashSet::new();
+    for _ in 0..random.pick(&OPEN).min(free.len()) {
+        let place = free.swap_remove(random.below(free.len()));
+        while !seen.insert(ids[place]) {
+            ids[place] = id(random);
+        }
+        labels[place] = REQUEST;
+    }
+    ids
 }

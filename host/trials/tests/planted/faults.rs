@@ -55,9 +55,45 @@ pub enum Fault {
     KeepsOldTimeout,
     /// A sum of 65,535 counts as 0.
     TakesBothZeros,
+    /// Submit does not say that block 65 changed.
+    HidesFurther,
+    /// A Request's ID is not put beside its word.
+    LeavesIds,
+    /// Submit says that block 65 changed, and it did not.
+    NamesFurtherInVain,
+    /// The ID of a Request that ends is made 0.
+    WipesIds,
+    /// An ID that no open Request has counts as open.
+    ForgetsMask,
+    /// Two equal IDs are refused, whether or not they count.
+    CountsAllIds,
+    /// A Request outside UpFT is 15 also while Requests are stopped.
+    StopsAfterPhase,
+    /// Requests are taken while they are stopped.
+    StopsNothing,
+    /// A Mapping takes the first free word, not that of the Request that it answers.
+    TakesFirstFreeForAnswer,
+    /// A Request ends when the peer acknowledges it.
+    AckEndsRequest,
+    /// A Mapping that names ID 0 answers no Request.
+    ZeroIdIsNone,
+    /// A break ends the open Requests.
+    BreakEndsRequests,
+    /// A break forgets whether Requests are stopped.
+    BreakForgetsMarks,
+    /// The block of the IDs is not looked at where nothing is kept.
+    SkipsIdsOfIdle,
+    /// Bytes after the IDs may be anything.
+    SkipsZerosAfterIds,
+    /// The ID beside a word that is no open Request is shown.
+    ShowsClosedRequest,
+    /// An image of any earlier size is extended.
+    ExtendsAnySize,
+    /// Bit A is never set.
+    NeverOnDemand,
 }
 
-pub const ALL: [Fault; 26] = [
+pub const ALL: [Fault; 44] = [
     Fault::FreesOnWithdraw,
     Fault::WrapsToZero,
     Fault::ZeroTimeoutIsNoWait,
@@ -84,4 +120,22 @@ pub const ALL: [Fault; 26] = [
     Fault::NamesNoBlock,
     Fault::KeepsOldTimeout,
     Fault::TakesBothZeros,
+    Fault::HidesFurther,
+    Fault::LeavesIds,
+    Fault::NamesFurtherInVain,
+    Fault::WipesIds,
+    Fault::ForgetsMask,
+    Fault::CountsAllIds,
+    Fault::StopsAfterPhase,
+    Fault::StopsNothing,
+    Fault::TakesFirstFreeForAnswer,
+    Fault::AckEndsRequest,
+    Fault::ZeroIdIsNone,
+    Fault::BreakEndsRequests,
+    Fault::BreakForgetsMarks,
+    Fault::SkipsIdsOfIdle,
+    Fault::SkipsZerosAfterIds,
+    Fault::ShowsClosedRequest,
+    Fault::ExtendsAnySize,
+    Fault::NeverOnDemand,
 ];

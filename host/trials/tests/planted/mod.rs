@@ -1,10 +1,14 @@
 //! Cabinets with one fault planted in each: the tests must find every one of them.
 
 mod faults;
+mod requests;
 
 pub use faults::{Fault, ALL};
 
-use cabinet::{phase, Cabinet, Distance, Message, Opening, Outcome, Part, Pdu, Session};
+use cabinet::{
+    phase, Cabinet, Distance, Extended, Message, Opening, Outcome, Part, Pdu, Request, Session,
+    IMAGE_SIZE_WITHOUT_REQUESTS, REQUEST_BLOCK,
+};
 use model::Model;
 use trials::stored::{check, seal, steps_after, u16_at, u32_at, word, Stored};
 use trials::wire;
@@ -43,7 +47,7 @@ impl Planted {
             Fault::ChecksDeadSlots if outcome.answer == 0 && (1..65).any(|block| is_bad(image, block)) => {
                 outcome.answer = 10;
             }
-            Fault::SkipsPadding if outcome.answer == 11 && outcome.block > 0 => {
+            Fault::SkipsPadding if outcome.answer == 11 && (1..65).contains(&outcome.block) => {
                 let mut mended = image.to_vec();
                 let slot = outcome.block as usize * 512;
                 let end = slot + (8 + usize::from(u16_at(image, slot))).min(508);
@@ -60,6 +64,10 @@ impl Planted {
                 }
                 outcome = Model.restore(&mut mended);
             }
+            Fault::CountsAllIds if outcome.answer == 0 && requests::repeats_id(image) => {
+                outcome = Outcome { answer: 11, block: REQUEST_BLOCK as u32, ..Outcome::default() };
+            }
+            _ if outcome.block as usize == REQUEST_BLOCK => self.wrong_refusal(image, &mut outcome),
             _ => {}
         }
         outcome
@@ -95,6 +103,17 @@ impl Planted {
         }
     }
 
+    /// What restore and connection failed do wrong.
+    fn after_break(&self, before: &[u8], image: &mut [u8], outcome: &mut Outcome) {
+        if self.0 == Fault::KeepsUnprotected && outcome.block0 == 1 {
+            image.copy_from_slice(before);
+            outcome.block0 = 0;
+        }
+        if outcome.session.phase == phase::FAILED && outcome.answer == 0 {
+            self.wrong_break(before, image, outcome);
+        }
+    }
+
     fn acknowledged_as_all(&self, image: &[u8], msg: &[u8]) -> Vec<u8> {
         let mut msg = msg.to_vec();
         let zero_ack = [5, 4, 0, 4, 0, 0, 0, 0];
@@ -113,17 +132,15 @@ impl Cabinet for Planted {
     fn restore(&self, image: &mut [u8]) -> Outcome {
         let before = image.to_vec();
         let mut outcome = self.restore_outcome(image);
-        if self.0 == Fault::KeepsUnprotected && outcome.block0 == 1 {
-            image.copy_from_slice(&before);
-            outcome.block0 = 0;
-        }
+        self.after_break(&before, image, &mut outcome);
         outcome
     }
 
     fn open(&self, image: &mut [u8], session: Session, opening: &Opening, out: &mut [u8]) -> Outcome {
         let unknown = self.0 == Fault::TakesUnknownPhase && session.phase > phase::FAILED;
         let session = if unknown { Session::default() } else { session };
-        let outcome = Model.open(image, session, opening, out);
+        let opening = Opening { on_demand: opening.on_demand && self.0 != Fault::NeverOnDemand, ..*opening };
+        let outcome = Model.open(image, session, &opening, out);
         if self.0 == Fault::WritesWhenRefused && outcome.answer == 9 && !out.is_empty() {
             out[0] = 2;
         }
@@ -152,10 +169,7 @@ impl Cabinet for Planted {
     fn connection_failed(&self, image: &mut [u8], session: Session) -> Outcome {
         let before = image.to_vec();
         let mut outcome = Model.connection_failed(image, session);
-        if self.0 == Fault::KeepsUnprotected && outcome.block0 == 1 {
-            image.copy_from_slice(&before);
-            outcome.block0 = 0;
-        }
+        self.after_break(&before, image, &mut outcome);
         outcome
     }
 
@@ -174,6 +188,7 @@ impl Cabinet for Planted {
         if outcome.answer == 0 {
             self.after_submission(&before, image, session, &mut outcome);
         }
+        self.wrong_submission(&before, image, session, msg, &mut outcome);
         outcome
     }
 
@@ -209,8 +224,11 @@ impl Cabinet for Planted {
         let before = image.to_vec();
         let all = self.acknowledged_as_all(image, msg);
         let msg = if self.0 == Fault::ZeroAckIsAll { &all } else { msg };
-        let mut outcome = Model.receive(image, session, msg);
+        let mut outcome = Model.receive(image, session, &self.read_wrongly(msg));
         let accepted = outcome.answer == 0 && session.phase == phase::UP_FT;
+        if accepted {
+            self.wrong_reception(&before, image, &mut outcome);
+        }
         match self.0 {
             Fault::HidesBlock0 if accepted => outcome.block0 = 0,
             Fault::SecuredStays if accepted => {
@@ -267,5 +285,18 @@ impl Cabinet for Planted {
 
     fn label(&self, image: &[u8], place: u32) -> u32 {
         Model.label(image, place)
+    }
+
+    fn request_at(&self, image: &[u8], place: u32) -> Request {
+        let mut request = Model.request_at(image, place);
+        if self.0 == Fault::ShowsClosedRequest && Model.label(image, place) != u32::MAX {
+            request.id = u32_at(image, REQUEST_BLOCK * 512 + 4 * place as usize);
+        }
+        request
+    }
+
+    fn extend(&self, image: &mut [u8], stored_len: usize) -> Extended {
+        let any = self.0 == Fault::ExtendsAnySize && stored_len.is_multiple_of(512);
+        Model.extend(image, if any { IMAGE_SIZE_WITHOUT_REQUESTS } else { stored_len })
     }
 }

@@ -15,7 +15,8 @@ same-numbers-spec =
     (λ c. (λ e. absurd (false≢true e), λ _ same. c .if5 .taken (ap (λ (h : Header). h .held) same)))
     (λ c. (λ e. absurd (false≢true e), λ _ same. c .if6 .taken (ap (λ (h : Header). h .timeout) same)))
     (λ c. (λ e. absurd (false≢true e), λ _ same. c .if7 .taken (ap (λ (h : Header). h .kept) same)))
-    (λ c. (λ e. absurd (false≢true e), λ _ same. c .if8 .taken (ap (λ (h : Header). h .keepalive) same)))
-    (λ c. (λ e. absurd (false≢true e), λ _ same. c .if9 .taken (ap (λ (h : Header). h .maxpdu) same)))
-    (λ c. (λ _. header-eq (c .before .before .before .before .before .before .before .before .before .before .before .before .before .before .before .before .before .before .before .before .before .before .before .before .if1 .left) (c .before .before .before .before .before .before .before .before .before .before .before .before .before .before .before .before .before .before .before .before .before .if2 .left) (c .before .before .before .before .before .before .before .before .before .before .before .before .before .before .before .before .before .before .if3 .left) (c .before .before .before .before .before .before .before .before .before .before .before .before .before .before .before .if4 .left) (c .before .before .before .before .before .before .before .before .before .before .before .before .if5 .left) (c .before .before .before .before .before .before .before .before .before .if6 .left) (c .before .before .before .before .before .before .if7 .left) (c .before .before .before .if8 .left) (c .if9 .left), λ e. absurd (true≢false e))) in
+    (λ c. (λ e. absurd (false≢true e), λ _ same. c .if8 .taken (ap (λ (h : Header). h .marks) same)))
+    (λ c. (λ e. absurd (false≢true e), λ _ same. c .if9 .taken (ap (λ (h : Header). h .keepalive) same)))
+    (λ c. (λ e. absurd (false≢true e), λ _ same. c .if10 .taken (ap (λ (h : Header). h .maxpdu) same)))
+    (λ c. (λ _. header-eq (c .before .before .before .before .before .before .before .before .before .before .before .before .before .before .before .before .before .before .before .before .before .before .before .before .before .before .before .if1 .left) (c .before .before .before .before .before .before .before .before .before .before .before .before .before .before .before .before .before .before .before .before .before .before .before .before .if2 .left) (c .before .before .before .before .before .before .before .before .before .before .before .before .before .before .before .before .before .before .before .before .before .if3 .left) (c .before .before .before .before .before .before .before .before .before .before .before .before .before .before .before .before .before .before .if4 .left) (c .before .before .before .before .before .before .before .before .before .before .before .before .before .before .before .if5 .left) (c .before .before .before .before .before .before .before .before .before .before .before .before .if6 .left) (c .before .before .before .before .before .before .before .before .before .if7 .left) (c .before .before .before .before .before .before .if8 .left) (c .before .before .before .if9 .left) (c .if10 .left), λ e. absurd (true≢false e))) in
     tie.close answers

@@ -1,4 +1,4 @@
--- `image::format` meets its contract: zeros everywhere, then released. Assumes nothing.
+-- `image::format` meets its contract: zeros everywhere, no ID, then released. Assumes nothing.
 use borrow.Author.Needs.{needs}
 use Rattle.image.proofs.Formatted.{format-refused, format-done}
 use Rattle.image.proofs.events.format.Statement.{statement}
@@ -8,12 +8,16 @@ returns : tie.Need-returns
 returns c = format-refused _ (c .if1 .taken)
 
 returns-2 : tie.Need-returns-2
-returns-2 c = format-done _ (c .before .before .before .before .before .before .before .before .if1 .left) (c .before .before .before .before .before .before .zero-to .ensures) (c .before .before .release .ensures)
+returns-2 c =
+    format-done _ (c .before .before .before .before .before .before .before .before .before .before .before .before .if1 .left)
+    (c .before .before .before .before .before .before .before .before .before .before .zero-to .ensures)
+    (c .before .before .before .before .before .before .clear-ids .ensures) (c .before .before .release .ensures)
 
 pub format-spec : {M : Type 1} → statement M
 format-spec =
     let answers = tie.spec
     returns
+    (λ c κs. search needs)
     (λ c κs. search needs)
     (λ c κs. search needs)
     (λ c. search needs)

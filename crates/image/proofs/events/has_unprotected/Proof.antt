@@ -3,8 +3,8 @@ use Prim.Native.Nat.{ℕ}
 use mathlib.Core.List.{List}
 use mathlib.Core.Path.{ap, _∙_}
 use borrow.Author.Needs.{needs}
+use Rattle.block0.specs.Coded.{unprotected}
 use Rattle.block0.specs.Layout.{labelsOf}
-use Rattle.block0.specs.Unprotected.{unprotected}
 use Rattle.image.specs.State.{decode}
 use Rattle.image.proofs.events.has_unprotected.Statement.{statement}
 use Rattle.image.proofs.events.has_unprotected.Tie as tie

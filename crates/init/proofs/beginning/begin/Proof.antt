@@ -10,5 +10,5 @@ begin-spec =
     (λ c κs. search needs)
     (λ c κs. search needs)
     (λ c. search needs)
-    (λ c. begun-is _ _ _ (c .before .before .store-start .ensures .0) (c .before .before .before .before .start-phase .ensures) (c .before .before .store-start .ensures .1)) in
+    (λ c. begun-is _ (c .before .before .before .before .before .before .pre .0 .size) _ _ (c .before .before .store-start .ensures .0) (c .before .before .before .before .start-phase .ensures) (c .before .before .store-start .ensures .1)) in
     tie.close answers

@@ -14,6 +14,6 @@ plan-change-spec =
     (λ c. search needs)
     (λ c. search needs)
     (λ c. change-found _ _ _ _ _ (c .before .before .before .word-of .ensures) (c .before .place .given .1))
-    (λ c. change-free _ _ _ _ (c .before .before .before .before .before .enum-told .given .1) (c .before .before .before .before .if1 .left) _ (c .before .before .before .before .before .before .before .word-of .ensures) (c .before .before .before .find .ensures) (c .before .free .given .1))
-    (λ c. change-full _ _ _ _ (c .before .before .before .before .enum-told .given .1) (c .before .before .before .if1 .left) (c .before .before .find .ensures) (c .enum-told2 .given .1)) in
+    (λ c. change-free _ _ _ _ (c .before .before .before .before .before .enum-told .given .1) (c .before .before .before .before .if1 .left) _ (c .before .before .before .before .before .before .before .word-of .ensures) (c .before .before .before .room-at .ensures) (c .before .free .given .1))
+    (λ c. change-full _ _ _ _ (c .before .before .before .before .enum-told .given .1) (c .before .before .before .if1 .left) (c .before .before .room-at .ensures) (c .enum-told2 .given .1)) in
     tie.close answers

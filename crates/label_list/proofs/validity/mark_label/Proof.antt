@@ -12,7 +12,7 @@ mark-label-spec =
     (λ c. omega arith)
     (λ c. search needs)
     (λ c. let place = c .before .before .place-of .ensures in
-    (unmarked-absent (c .before .before .before .before .before .pre) _ _ (place .0) (c .if1 .taken), marked-now (c .before .before .before .before .before .pre) _ _ (place .0) (place .1)))
+    (unmarked-absent _ (c .before .before .before .before .before .pre) _ _ (place .0) (c .if1 .taken), marked-now _ (c .before .before .before .before .before .pre) _ _ (place .0) (place .1)))
     (λ c κs. tt)
-    (λ c. (c .is-absent .ensures, marked-again (c .before .before .before .before .before .before .pre) _ _ (c .before .before .before .place-of .ensures .0) (c .before .if1 .left))) in
+    (λ c. (c .is-absent .ensures, marked-again _ (c .before .before .before .before .before .before .pre) _ _ (c .before .before .before .place-of .ensures .0) (c .before .if1 .left))) in
     tie.close answers

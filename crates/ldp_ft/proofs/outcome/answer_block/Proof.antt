@@ -34,6 +34,8 @@ answer-block-spec =
     (λ c. search needs)
     (λ c. search needs)
     (λ c. search needs)
+    (λ c. search needs)
+    (λ c. search needs)
     (λ c. rw (c .enum-told .given .1))
     (λ c. rw (c .enum-told2 .given .1))
     (λ c. rw (c .enum-told3 .given .1))
@@ -58,5 +60,7 @@ answer-block-spec =
     (λ c. rw (c .enum-told20 .given .1))
     (λ c. rw (c .enum-told21 .given .1))
     (λ c. rw (c .enum-told22 .given .1))
-    (λ c. rw (c .enum-told23 .given .1)) in
+    (λ c. rw (c .enum-told23 .given .1))
+    (λ c. rw (c .enum-told24 .given .1))
+    (λ c. rw (c .enum-told25 .given .1)) in
     tie.close answers

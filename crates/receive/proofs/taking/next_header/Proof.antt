@@ -8,5 +8,7 @@ next-header-spec =
     (λ c κs. search needs)
     (λ c κs. search needs)
     (λ c κs. search needs)
-    (λ c. rw (c .secured-by .ensures, c .before .released-header .ensures, c .before .before .ack-borne .ensures)) in
+    (λ c κs. search needs)
+    (λ c κs. search needs)
+    (λ c. rw (c .marks-heard .ensures, c .before .kind-of .ensures, c .before .before .secured-by .ensures, c .before .before .before .released-header .ensures, c .before .before .before .before .ack-borne .ensures)) in
     tie.close answers

@@ -11,5 +11,5 @@ take-ft-spec =
     (λ c κs. (c .before .before .before .before .before .before .pre, c .before .before .header-of .ensures, count-read _ _ (c .before .before .header-of .ensures) (c .before .ack-count .ensures)))
     (λ c κs. search needs)
     (λ c. search needs)
-    (λ c. take-is _ _ _ (c .before .before .before .before .before .before .header-of .ensures) (c .before .before .before .before .before .ack-count .ensures) (c .before .before .before .store-taken .ensures) (c .lowered .ensures)) in
+    (λ c. take-is _ _ _ (c .before .before .before .before .before .before .before .before .before .before .pre .sound .size) (c .before .before .before .before .before .before .header-of .ensures) (c .before .before .before .before .before .ack-count .ensures) (c .before .before .before .store-taken .ensures) (c .lowered .ensures)) in
     tie.close answers

@@ -1,7 +1,6 @@
 use borrow.Author.Needs.{needs}
 use Rattle.protocol.specs.Accepting.{acceptedAs}
 use Rattle.submit.specs.Change.{acceptedChange}
-use Rattle.submit.proofs.Accepted.{unlisted}
 use Rattle.submit.proofs.labels.accept_as.Statement.{statement}
 use Rattle.submit.proofs.labels.accept_as.Tie as tie
 
@@ -24,13 +23,19 @@ accept-as-spec =
     (λ c. search needs)
     (λ c κs. search needs)
     (λ c. search needs)
-    (λ c. rw (c .before .before .before .before .enum-told .given .1) (c .before .before .accept .ensures))
+    (λ c κs. search needs)
     (λ c. search needs)
-    (λ c. rw (c .before .before .before .before .enum-told2 .given .1) (c .before .before .accept2 .ensures))
+    (λ c κs. search needs)
     (λ c. search needs)
-    (λ c. rw (c .before .before .before .before .enum-told3 .given .1) (c .before .before .accept3 .ensures))
-    (λ c. rw (c .before .enum-told4 .given .1) (unlisted _ _ (c .without-label .ensures)))
-    (λ c. rw (c .before .enum-told5 .given .1) (unlisted _ _ (c .without-label2 .ensures)))
-    (λ c. rw (c .before .enum-told6 .given .1) (unlisted _ _ (c .without-label3 .ensures)))
-    (λ c. rw (c .before .enum-told7 .given .1) (unlisted _ _ (c .without-label4 .ensures))) in
+    (λ c κs. search needs)
+    (λ c. rw (c .before .enum-told .given .1) (c .accept-label .ensures))
+    (λ c. rw (c .before .enum-told2 .given .1) (c .accept-label2 .ensures))
+    (λ c. rw (c .before .enum-told3 .given .1) (c .accept-label3 .ensures))
+    (λ c. rw (c .before .enum-told4 .given .1) (c .without-label .ensures))
+    (λ c. rw (c .before .enum-told5 .given .1) (c .without-label2 .ensures))
+    (λ c. rw (c .before .enum-told6 .given .1) (c .without-label3 .ensures))
+    (λ c. rw (c .before .before .kind .given .1) (c .accept-request .ensures))
+    (λ c. rw (c .before .before .kind2 .given .1) (c .accept-abort .ensures))
+    (λ c. rw (c .before .enum-told7 .given .1) (c .without-label4 .ensures))
+    (λ c. rw (c .before .enum-told8 .given .1) (c .without-label5 .ensures)) in
     tie.close answers

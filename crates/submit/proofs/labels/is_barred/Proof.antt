@@ -18,11 +18,17 @@ is-barred-spec =
     (λ c. search needs)
     (λ c. search needs)
     (λ c. search needs)
+    (λ c. search needs)
+    (λ c. search needs)
+    (λ c. search needs)
     (λ c. rw (c .enum-told .given .1))
     (λ c. simp (c .is-held .ensures, c .before .kind-number .ensures, c .before .before .enum-told2 .given .1))
     (λ c. simp (c .is-held2 .ensures, c .before .kind-number2 .ensures, c .before .before .enum-told3 .given .1))
     (λ c. rw (c .enum-told4 .given .1))
     (λ c. rw (c .enum-told5 .given .1))
     (λ c. rw (c .enum-told6 .given .1))
-    (λ c. rw (c .enum-told7 .given .1)) in
+    (λ c. rw (c .enum-told7 .given .1))
+    (λ c. rw (c .enum-told8 .given .1))
+    (λ c. rw (c .enum-told9 .given .1))
+    (λ c. rw (c .enum-told10 .given .1)) in
     tie.close answers

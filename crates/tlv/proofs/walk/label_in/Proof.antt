@@ -10,5 +10,5 @@ label-in-spec =
     (λ c. search (needs, labels)) (λ c. search (needs, labels)) (λ c. search (needs, labels)) (λ c. search (needs, labels))
     (λ c. search (needs, labels)) (λ c. search (needs, labels)) (λ c. search (needs, labels)) (λ c. search (needs, labels))
     (λ c. search (needs, labels)) (λ c. search (needs, labels)) (λ c. search (needs, labels)) (λ c. search (needs, labels))
-    (λ c. search (needs, labels)) (λ c. search (needs, labels)) in
+    (λ c. search (needs, labels)) (λ c. search (needs, labels)) (λ c. search (needs, labels)) (λ c. search (needs, labels)) in
     tie.close answers

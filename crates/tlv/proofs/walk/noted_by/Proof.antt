@@ -10,6 +10,7 @@ noted-by-spec =
     let answers = tie.spec
     (λ c κs. search needs) (λ c κs. search needs) (λ c κs. search needs) (λ c κs. search needs)
     (λ c κs. search needs) (λ c κs. search needs) (λ c κs. search needs) (λ c κs. search needs)
+    (λ c κs. search needs)
     (λ c. unfold tlvOf in rw (c .before .match .keys1) (c .noted .ensures))
     (λ c. unfold tlvOf in rw (c .before .match .keys2) (c .noted2 .ensures))
     (λ c. unfold tlvOf in rw (c .before .match .keys3) (c .noted3 .ensures))
@@ -17,5 +18,6 @@ noted-by-spec =
     (λ c. unfold tlvOf in rw (c .before .match .keys5) (c .noted5 .ensures))
     (λ c. unfold tlvOf in rw (c .before .match .keys6) (c .noted6 .ensures))
     (λ c. unfold tlvOf in rw (c .before .match .keys7) (c .noted7 .ensures))
-    (λ c. unfold tlvOf in rw (← lookup-absent Tlv.Other listed (c .before .before .before .args .number) (search needs)) (c .noted8 .ensures)) in
+    (λ c. unfold tlvOf in rw (c .before .match .keys8) (c .noted8 .ensures))
+    (λ c. unfold tlvOf in rw (← lookup-absent Tlv.Other listed (c .before .before .before .args .number) (search needs)) (c .noted9 .ensures)) in
     tie.close answers

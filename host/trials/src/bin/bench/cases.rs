@@ -3,11 +3,12 @@
 use cabinet::{phase, Opening, Session};
 use trials::calls::Call;
 use trials::coverage::ANSWERS;
-use trials::stored::{word, Queued, Stored};
+use trials::stored::{word, Queued, Stored, REQUEST};
 use trials::wire::{self, prefix, types, Message};
 
 const LONG: usize = 480;
 const NEARLY_FULL: usize = 119;
+const OPEN: usize = 100;
 
 /// One row of the table.
 pub struct Case {
@@ -27,6 +28,8 @@ struct Fill {
     held: usize,
     length: usize,
     listed: usize,
+    /// Open Requests, from the first word on; labels are then listed after them.
+    open: usize,
 }
 
 impl Fill {
@@ -39,7 +42,9 @@ impl Fill {
     }
 
     fn labels(&self) -> &'static str {
-        if self.listed == 0 {
+        if self.open > 0 {
+            "100 asked"
+        } else if self.listed == 0 {
             "empty"
         } else {
             "119 of 120"
@@ -67,8 +72,16 @@ impl Fill {
         for place in 0..self.listed {
             stored.labels[place] = word(5_000 + 7 * place as u32, if place % 2 == 0 { 1 } else { 3 });
         }
+        for place in 0..self.open {
+            (stored.labels[place], stored.ids[place]) = (REQUEST, request_at(place));
+        }
         stored
     }
+}
+
+/// The ID of the open Request at a place.
+fn request_at(place: usize) -> u32 {
+    7_000 + 3 * place as u32
 }
 
 fn mapping(label: u32) -> Message {
@@ -85,13 +98,16 @@ pub fn all() -> Vec<Case> {
     for listed in [0, NEARLY_FULL] {
         for held in [0, 8, 64] {
             for length in [0, LONG] {
-                let fill = Fill { held, length, listed };
+                let fill = Fill { held, length, listed, open: 0 };
                 if held > 0 || length == 0 {
                     cases.extend(without_message(fill));
                 }
                 cases.extend(with_message(fill));
             }
         }
+    }
+    for held in [0, 8, 63] {
+        cases.extend(about_requests(Fill { held, length: 0, listed: 0, open: OPEN }));
     }
     cases.extend(pure());
     cases.sort_by_key(|case| order(&case.call));
@@ -104,7 +120,7 @@ fn order(call: &Call) -> usize {
 }
 
 fn case(fill: Fill, about: &'static str, call: Call) -> Case {
-    let must_read = 512 * (1 + fill.held) + call.input().len();
+    let must_read = 512 * (2 + fill.held) + call.input().len();
     let image = fill.stored().image(0);
     Case { call, image, held: Some(fill.held), messages: fill.messages(), labels: fill.labels(), about, must_read }
 }
@@ -115,7 +131,8 @@ fn without_message(fill: Fill) -> Vec<Case> {
     let all = 100 + fill.held as u32;
     let init = |ack| Message::new(types::INITIALIZATION, 1).parameters(30, 4096).ft_session(true, 5).ack(ack).bytes();
     let wait = at(phase::INIT_WAIT, 5);
-    let opening = Opening { message_id: 1, keepalive_time: 30, max_pdu_length: 4096, proposal: Some(5), ..Opening::default() };
+    let opening =
+        Opening { message_id: 1, keepalive_time: 30, max_pdu_length: 4096, proposal: Some(5), ..Opening::default() };
     let keepalive = Message::new(types::KEEPALIVE, 1).ack(all).bytes();
     let mut cases = vec![
         case(fill, "", Call::Restore),
@@ -152,6 +169,24 @@ fn with_message(fill: Fill) -> Vec<Case> {
     cases
 }
 
+/// Requests, their Aborts and their answers, with 100 open; the last of them is the one that ends.
+fn about_requests(fill: Fill) -> Vec<Case> {
+    let up = at(phase::UP_FT, 0);
+    let last = request_at(fill.open - 1);
+    let request = Message::new(types::REQUEST, 9).fec(&prefix(9)).bytes();
+    let abort = Message::new(types::ABORT, 9).fec(&prefix(9)).request_id(last).bytes();
+    let answer = mapping(900_000).request_id(last).protection(51).ack(100).bytes();
+    let refusal = Message::new(types::NOTIFICATION, 9).status_of(0x0D, last).protection(51).ack(100).bytes();
+    vec![
+        case(fill, "", Call::Restore),
+        case(fill, "Request", Call::Submit { session: up, msg: request }),
+        case(fill, "Abort", Call::Submit { session: up, msg: abort }),
+        case(fill, "Mapping, answers", Call::Receive { session: up, msg: answer }),
+        case(fill, "Notification, answers", Call::Receive { session: up, msg: refusal }),
+        case(fill, "", Call::RequestAt { place: 60 }),
+    ]
+}
+
 fn pure_case(about: &'static str, call: Call, must_read: usize) -> Case {
     Case { call, image: Vec::new(), held: None, messages: "", labels: "", about, must_read }
 }
@@ -164,10 +199,10 @@ fn pure() -> Vec<Case> {
     let length = 10 + messages.concat().len();
     messages.push(Message::new(types::KEEPALIVE, 1).padded_to(4_000 - length).bytes());
     let pdu = wire::pdu(1, &messages);
-    let mut format = pure_case("", Call::Format, 0);
-    format.image = Stored::idle().image(0);
+    let on_idle = |call| Case { image: Stored::idle().image(0), ..pure_case("", call, 0) };
     vec![
-        format,
+        on_idle(Call::Format),
+        on_idle(Call::Extend { stored_len: 33_280 }),
         pure_case("4,000 bytes, 111 messages", Call::PduOpen { pdu: pdu.clone() }, pdu.len()),
         pure_case("one message", Call::PduMessage { pdu, at: 10 }, 4),
         pure_case("Mapping, short", Call::MessageRead { msg: short.bytes() }, short.length()),

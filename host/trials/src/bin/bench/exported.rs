@@ -1,6 +1,6 @@
 //! A model behind a C boundary like the library's, so that both pay for crossing it.
 
-use cabinet::{Cabinet, Distance, Message, Opening, Outcome, Part, Pdu, Session};
+use cabinet::{Cabinet, Distance, Extended, Message, Opening, Outcome, Part, Pdu, Request, Session};
 use ldp_ft::abi::*;
 
 /// A model whose calls go out as C calls and come back as C structs.
@@ -47,4 +47,6 @@ exported! {
     lesser_timeout(a: u32, b: u32) -> u32 => u32;
     block_check(block: &[u8]) -> u32 => u32;
     label(image: &[u8], place: u32) -> u32 => u32;
+    request_at(image: &[u8], place: u32) -> ldp_ft_request => Request;
+    extend(image: &mut [u8], stored_len: usize) -> ldp_ft_extended => Extended;
 }

@@ -1,7 +1,7 @@
 //! Timing: the subjects take turns within each round; a round's ratio is of times measured next to each other.
 
 use crate::cases::Case;
-use cabinet::Cabinet;
+use cabinet::{Cabinet, REQUEST_BLOCK};
 use std::hint::black_box;
 use std::time::{Duration, Instant};
 use trials::calls::{invoke, Returned};
@@ -71,6 +71,7 @@ impl<'a> Bench<'a> {
         let returned = invoke(cabinet, &case.call, &mut image, case.call.input(), &mut bench.out);
         if let Returned::Outcome(outcome) = returned {
             bench.changed.extend((outcome.slot > 0).then_some(outcome.slot as usize));
+            bench.changed.extend((outcome.further > 0).then_some(REQUEST_BLOCK));
         }
         bench
     }

@@ -5,7 +5,7 @@ use crate::supervisor::file;
 use cabinet::Cabinet;
 use std::path::Path;
 use trials::store::Store;
-use trials::stored::Stored;
+use trials::stored::{Stored, STOPPED, STOPPING};
 use trials::under_test::UnderTest;
 
 /// What one cabinet leaves behind.
@@ -80,5 +80,10 @@ fn clauses(sender: &Left, receiver: &Left) -> Vec<(String, bool)> {
         (format!("accepted ({n}) is let go ({let_go}) plus held ({h})"), n == let_go + h),
         (format!("at most 64 are held ({h})"), h <= 64),
         ("the labels given are the labels in use".to_string(), sender.labels(1) == receiver.labels(3)),
+        ("no Request is open".to_string(), sender.stored.open_requests().is_empty()),
+        (
+            "the peer knows whether there are labels to be had".to_string(),
+            (sender.stored.marks & STOPPING != 0) == (receiver.stored.marks & STOPPED != 0),
+        ),
     ]
 }

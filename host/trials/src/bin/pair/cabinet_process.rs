@@ -1,8 +1,9 @@
 //! One cabinet's process: its owner's loop around the session, the store and the connection.
 
+use crate::ask::Asks;
 use crate::journal::Journal;
 use crate::link::{Link, Way};
-use crate::plan::{self, Plan};
+use crate::plan::{self, Offers, Plan, View};
 use crate::Setting;
 use cabinet::{phase, Cabinet, Opening, Outcome, Session};
 use std::io::{self, BufRead, Write};
@@ -10,13 +11,15 @@ use std::path::PathBuf;
 use std::sync::mpsc::{channel, Receiver, TryRecvError};
 use std::time::{Duration, Instant};
 use trials::store::Store;
-use trials::stored::{u16_at, Stored};
+use trials::stored::{u16_at, Stored, STOPPING};
 use trials::under_test::UnderTest;
 
 const LIFETIME: Duration = Duration::from_secs(50);
 /// The owner submits at this pace, so that there is something to see.
 const PACE: Duration = Duration::from_millis(30);
 const RETRY: Duration = Duration::from_millis(30);
+/// After this time a cabinet that had no labels to give has some again.
+const RECOVERY: Duration = Duration::from_millis(400);
 /// Seconds for which state is kept over a break.
 const TIMEOUT: u16 = 60;
 /// Room for a message with its FT TLVs.
@@ -61,6 +64,9 @@ pub struct Process {
     pub accepted: Journal,
     pub secured: Journal,
     pub plan: Plan,
+    pub on_demand: bool,
+    /// Since when this process knows that the peer is told of no labels.
+    pub stopping_since: Option<Instant>,
     pub broken_at: Instant,
     pub next_try: Instant,
     pub next_submission: Instant,
@@ -95,7 +101,9 @@ impl Process {
             session: outcome.session,
             accepted: Journal::open(&directory.join(format!("{name}.accepted")), accepted)?,
             secured: Journal::open(&directory.join(format!("{name}.secured")), stored.secured as usize)?,
-            plan: Plan::new(if name == "north" { 16 } else { 216 }, setting.labels),
+            plan: plan_of(name, setting),
+            on_demand: setting.on_demand,
+            stopping_since: None,
             image,
             broken_at: now,
             next_try: now,
@@ -130,9 +138,38 @@ impl Process {
         words.filter(|word| word >> 20 == code).map(|word| word & 0xF_FFFF).collect()
     }
 
-    /// Stores what a call names: the slot, the owner's own record, then block 0. Output may leave after that.
+    /// The IDs of the open Requests.
+    fn open_requests(&self) -> Vec<u32> {
+        let places = (0..120).map(|place| UnderTest.request_at(&self.image, place));
+        places.filter(|request| request.open == 1).map(|request| request.id).collect()
+    }
+
+    /// Hands what the owner has before it to a decision.
+    fn decide<T>(&self, decision: impl FnOnce(&Plan, &View) -> T) -> T {
+        decision(
+            &self.plan,
+            &View {
+                accepted: &self.accepted.messages,
+                secured: &self.secured.messages,
+                given: &self.listed(1),
+                asked_back: &self.listed(4),
+                open: &self.open_requests(),
+                is_up: self.session.phase == phase::UP_FT,
+                is_stopping: self.is_stopping(),
+                has_recovered: self.stopping_since.is_some_and(|since| since.elapsed() >= RECOVERY),
+            },
+        )
+    }
+
+    /// The peer was told that there are no labels.
+    fn is_stopping(&self) -> bool {
+        self.image[23] & STOPPING != 0
+    }
+
+    /// Stores what a call names: slot, block 65, the owner's own record, then block 0. Output may leave after that.
     pub fn keep(&mut self, outcome: &Outcome, record: Option<(&[u8], Record)>) -> io::Result<()> {
         self.store.write_slot(&self.image, outcome)?;
+        self.store.write_further(&self.image, outcome)?;
         match record {
             Some((msg, Record::Accepted)) => self.accepted.add(msg)?,
             Some((msg, Record::Secured)) => self.secured.add(msg)?,
@@ -184,6 +221,7 @@ impl Process {
             receiver_lsr: self.lsr ^ 3,
             receiver_space: 0,
             proposal: Some(TIMEOUT),
+            on_demand: self.on_demand,
         };
         let mut out = [0; ROOM];
         let outcome = UnderTest.open(&mut self.image, self.session, &opening, &mut out);
@@ -211,19 +249,14 @@ impl Process {
         Ok(())
     }
 
-    /// Submits the next message of the plan, or gives back a label that was asked back.
+    /// Submits the next message of the plan.
     fn submit(&mut self, now: Instant) -> io::Result<()> {
         if now < self.next_submission || !self.keeps_state() {
             return Ok(());
         }
         self.next_submission = now + PACE;
-        let place = self.accepted.messages.iter().filter(|msg| plan::is_planned(msg)).count() as u32;
-        let asked_back = self.listed(4).first().copied();
-        let msg = match asked_back {
-            Some(label) => plan::release(label, 1_000 + label),
-            None if place < self.plan.length() => self.plan.message(place),
-            None => return Ok(()),
-        };
+        self.stopping_since = self.stopping_since.or(Some(now)).filter(|_| self.is_stopping());
+        let Some(msg) = self.decide(Plan::next) else { return Ok(()) };
         let outcome = UnderTest.submit(&mut self.image, self.session, &msg);
         if outcome.answer == 0 {
             self.keep(&outcome, Some((&msg, Record::Accepted)))?;
@@ -236,14 +269,23 @@ impl Process {
 
     /// Tells the supervisor where things stand, whenever that changes.
     fn report(&mut self) {
-        let place = self.accepted.messages.iter().filter(|msg| plan::is_planned(msg)).count() as u32;
-        let done = place == self.plan.length() && self.held() == 0 && self.listed(4).is_empty();
+        let done = self.held() == 0 && self.decide(Plan::is_done);
         let (accepted, secured) = (self.accepted.messages.len(), self.secured.messages.len());
         let report = format!("#{} {accepted} {} {secured} {}", self.name, self.held(), u32::from(done));
         if report != self.reported {
             println!("{report}");
             self.reported = report;
         }
+    }
+}
+
+/// North gives labels from 16 on, south from 216 on; who asks does so for the other's.
+fn plan_of(name: &str, setting: &Setting) -> Plan {
+    let (own, others) = if name == "north" { (16, 216) } else { (216, 16) };
+    if setting.on_demand {
+        Plan::Asks(Asks::new(others, setting.labels))
+    } else {
+        Plan::Offers(Offers::new(own, setting.labels))
     }
 }
 

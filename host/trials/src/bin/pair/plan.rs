@@ -1,62 +1,104 @@
-//! What the owner of a cabinet sends: offers of its labels, a Withdraw of every third, and what it is asked back.
+//! What the owner of a cabinet sends: offers of its labels and a Withdraw of every third, or Requests and answers; and
+//! in both cases what it is asked back.
 
-use trials::wire::{prefix, types, Message};
+use crate::ask::Asks;
+use trials::wire::{self, prefix, types, Message};
+
+/// What an owner has before it when it decides.
+#[derive(Clone, Copy)]
+pub struct View<'a> {
+    pub accepted: &'a [Vec<u8>],
+    pub secured: &'a [Vec<u8>],
+    /// Labels that are given, and labels that the peer wants back.
+    pub given: &'a [u32],
+    pub asked_back: &'a [u32],
+    /// The IDs of the open Requests.
+    pub open: &'a [u32],
+    pub is_up: bool,
+    /// The peer was told that there are no labels.
+    pub is_stopping: bool,
+    /// There are labels again, and the peer is still to be told.
+    pub has_recovered: bool,
+}
+
+/// The plan of one cabinet.
+pub enum Plan {
+    Offers(Offers),
+    Asks(Asks),
+}
+
+impl Plan {
+    /// The next message to submit: a label that was asked back is released first.
+    pub fn next(&self, view: &View) -> Option<Vec<u8>> {
+        if let Some(label) = view.asked_back.first() {
+            return Some(about(types::RELEASE, *label, 1_000 + label).bytes());
+        }
+        match self {
+            Plan::Offers(offers) => offers.next(view),
+            Plan::Asks(asks) => asks.next(view),
+        }
+    }
+
+    /// True where there is nothing left to submit, nor to wait for.
+    pub fn is_done(&self, view: &View) -> bool {
+        let settled = match self {
+            Plan::Offers(offers) => offers.next(view).is_none(),
+            Plan::Asks(asks) => asks.is_done(view),
+        };
+        settled && view.asked_back.is_empty()
+    }
+}
 
 /// The offers and withdrawals of one cabinet.
-pub struct Plan {
+pub struct Offers {
     first: u32,
     labels: u32,
 }
 
-impl Plan {
-    /// A plan for so many labels from the first.
+impl Offers {
+    /// Offers of so many labels from the first.
     pub fn new(first: u32, labels: u32) -> Self {
-        Plan { first, labels }
+        Offers { first, labels }
     }
 
     /// Every third label is withdrawn again.
-    fn withdrawn(&self) -> u32 {
-        self.labels / 3
+    fn length(&self) -> u32 {
+        self.labels + self.labels / 3
     }
 
-    pub fn length(&self) -> u32 {
-        self.labels + self.withdrawn()
-    }
-
-    /// The message at a place of the plan.
-    pub fn message(&self, place: u32) -> Vec<u8> {
-        if place < self.labels {
+    /// The message at the place that the plan has come to.
+    fn next(&self, view: &View) -> Option<Vec<u8>> {
+        let planned = view.accepted.iter().filter(|msg| wire::message_type(msg) != types::RELEASE);
+        let place = planned.count() as u32;
+        let message = if place < self.labels {
             about(types::MAPPING, self.first + place, place)
         } else {
-            about(types::WITHDRAW, self.first + 3 * (place - self.labels), place)
-        }
+            about(types::WITHDRAW, self.first + 3 * place.saturating_sub(self.labels), place)
+        };
+        (place < self.length()).then(|| message.bytes())
     }
 }
 
-/// A message about a label of this plan or of the other cabinet's.
-fn about(message_type: u16, label: u32, message_id: u32) -> Vec<u8> {
-    Message::new(message_type, message_id).fec(&prefix(label as u16)).label(label).bytes()
-}
-
-/// The Release of a label that was asked back.
-pub fn release(label: u32, message_id: u32) -> Vec<u8> {
-    about(types::RELEASE, label, message_id)
-}
-
-/// True for the messages of a plan.
-pub fn is_planned(msg: &[u8]) -> bool {
-    !msg.starts_with(&types::RELEASE.to_be_bytes())
+/// A message about a label of this cabinet or of the other.
+pub fn about(message_type: u16, label: u32, message_id: u32) -> Message {
+    Message::new(message_type, message_id).fec(&prefix(label as u16)).label(label)
 }
 
 /// A message in words.
 pub fn in_words(msg: &[u8]) -> String {
-    let name = match u16::from_be_bytes([msg[0], msg[1]]) {
-        types::MAPPING => "Mapping",
-        types::WITHDRAW => "Withdraw",
-        types::RELEASE => "Release",
-        _ => "message",
-    };
-    let label = msg.windows(4).position(|tlv| tlv == [2, 0, 0, 4]).and_then(|at| msg.get(at + 4..at + 8));
-    let label = label.map_or(0, |bytes| u32::from_be_bytes([bytes[0], bytes[1], bytes[2], bytes[3]]));
-    format!("{name} of label {label}")
+    let of_label = |name: &str| format!("{name} of label {}", wire::label(msg).unwrap_or(0));
+    let answered = wire::request_id(msg).map_or(String::new(), |id| format!(" for Request {id}"));
+    match wire::message_type(msg) {
+        types::MAPPING => of_label("Mapping") + &answered,
+        types::WITHDRAW => of_label("Withdraw"),
+        types::RELEASE => of_label("Release"),
+        types::REQUEST => format!("Request {}", wire::message_id(msg)),
+        types::ABORT => format!("Abort{answered}"),
+        _ => match wire::status(msg) {
+            Some(wire::NO_RESOURCES) => {
+                format!("'No label resources' for Request {}", wire::status_id(msg).unwrap_or(0))
+            }
+            _ => "'Label resources available'".to_string(),
+        },
+    }
 }

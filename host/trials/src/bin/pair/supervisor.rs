@@ -88,6 +88,7 @@ impl Supervisor {
         let mut child = Command::new(program)
             .args(["--cabinet", name, "--labels", &self.setting.labels.to_string(), "--directory"])
             .arg(&self.setting.directory)
+            .args(self.setting.on_demand.then_some("--on-demand"))
             .stdin(Stdio::piped())
             .stdout(Stdio::piped())
             .spawn()
