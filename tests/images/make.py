@@ -116,7 +116,7 @@ def slot_of(i):
 
 def full_ring():
     """64 held from slot 40 on, round the end of the ring and of the numbers, with every label code."""
-    words = [word(1048575 - i, 1 + i % 7) if i % 7 < 6 else OPEN for i in range(COUNT)]
+    words = [OPEN if i % 9 == 6 else word(1048575 - i, 1 + i % 9) for i in range(COUNT)]
     slots = {(40 + i) % SLOTS: slot_of(i) for i in range(SLOTS)}
     return image(block0(words, released=LAST - 1, issued=2, secured=77, first=40, held=64), slots, requests=requests_block(range(COUNT)))
 
@@ -154,6 +154,7 @@ CASES = [
     ("full_ring_wraps", full_ring(), counts(LAST - 1, 2, 77, 64, 61, 120)),
     ("dead_slots_damaged", image(block0(GIVEN16, held=1), {0: mapping_slot()}, bytes(range(256)) * 2), counts(0, 0, 0, 1, 1, 1)),
     ("code_6_counted", image(block0([word(30, 6), 0, word(31, 3), word(30, 1)])), counts(0, 0, 0, 0, 0, 3)),
+    ("withdrawn_codes_counted", image(block0([word(30, 8), word(31, 9), word(30, 4), word(31, 3)])), counts(0, 0, 0, 0, 0, 4)),
     ("label_below_16_held", live({0: slot_block(mapping(3), MAPPING, 3)}), counts(0, 0, 0, 1, 1, 0)),
     ("empty", b"", refused(12, 0)),
     ("byte_short", PAPER[:-1], refused(12, 0)),
@@ -181,10 +182,12 @@ CASES = [
     ("issued_0_released_not", image(block0(released=5, issued=0)), refused(11, 0)),
     ("word_of_code_0", image(block0([17])), refused(11, 0)),
     ("word_of_code_7_with_a_label", image(block0([word(17, 7)])), refused(11, 0)),
-    ("word_of_code_8", image(block0([word(17, 8)])), refused(11, 0)),
+    ("word_of_code_10", image(block0([word(17, 10)])), refused(11, 0)),
     ("word_of_code_8_without_label", image(block0([word(0, 8)])), refused(11, 0)),
     ("word_of_label_15", image(block0([word(15, 3)])), refused(11, 0)),
     ("label_twice_on_a_side", image(block0([word(17, 3), 0, word(17, 6)])), refused(11, 0)),
+    ("label_given_and_withdrawn", image(block0([word(17, 1), 0, word(17, 8)])), refused(11, 0)),
+    ("label_at_8_and_9", image(block0([word(17, 9), 0, word(17, 8)])), refused(11, 0)),
     ("kept_0_last_byte_set", image(altered(RELEASED, 507, b"\1")), refused(11, 0)),
     ("kept_0_secured_set", image(State(secured=1).block()), refused(11, 0)),
     ("kept_0_stopped", image(State(marks=2).block()), refused(11, 0)),

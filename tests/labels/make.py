@@ -21,10 +21,10 @@ def row(name, event, full=False):
     """For each code of label 16, and for an open Request in the place of a label: the answer, and the codes of the first two words. The first word
     has the ID 9 beside it. A full list has labels of code 1 in all other words."""
     line = name
-    for code in range(8):
+    for code in range(10):
         words = [word(100 + i, 1) for i in range(COUNT)] if full else [0] * COUNT
         if code:
-            words[0] = word(16, code) if code < 7 else OPEN
+            words[0] = OPEN if code == 7 else word(16, code)
         labels = Labels(words, [ID])
         line += f" | {event(labels)} {labels.words[0] >> 20} {labels.words[1] >> 20}"
     return line

@@ -9,7 +9,7 @@ import sys
 
 sys.dont_write_bytecode = True
 sys.path.append(str(pathlib.Path(__file__).resolve().parents[1]))
-from paper.numbers import LAST, acknowledged, advance, distance, lesser, steps, successor  # noqa: E402
+from paper.numbers import LAST, acknowledged, advance, distance, lesser, next_number, steps, successor  # noqa: E402
 from stored import settle  # noqa: E402
 
 EDGES = [0, 1, 2, 64, 65, 2**31 - 2, 2**31 - 1, 2**31, 2**31 + 1, LAST - 1, LAST]
@@ -26,6 +26,11 @@ def acknowledge(r, i, a):
     return "sequence error" if count is None else f"releases {count}"
 
 
+def turn(secured, n, resumed):
+    answer, left_out = next_number(secured, n, resumed)
+    return {0: f"left out {left_out}", 20: "out of turn", 30: "zero number"}[answer]
+
+
 def lines():
     for a in EDGES:
         yield f"successor {a} {successor(a)}"
@@ -33,6 +38,8 @@ def lines():
             yield f"steps {a} {b} {said(steps(a, b), 'unreachable')}"
             yield f"distance {a} {b} {said(distance(a, b), 'refused')}"
             yield f"advance {a} {b} {advance(a, b)}"
+            yield f"next {a} {b} {turn(a, b, False)}"
+            yield f"next resumed {a} {b} {turn(a, b, True)}"
     for (r, i), t in zip(WINDOWS, TIMEOUTS):
         for a in EDGES:
             yield f"acknowledge {r} {i} {a} {acknowledge(r, i, a)}"

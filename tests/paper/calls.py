@@ -1,15 +1,16 @@
-"""The ten calls, from the build paper's words "Events" and "What each answer does", and ticket 2 of 02.
+"""The ten calls, from the build paper's words "Events" and "What each answer does", and tickets 2 and 3 of 02. UpFT on a resumed connection is ("UpFT", count sent, RESUMED).
 
 Every call decodes the image, does what the paper says, and lays block 0 anew. What the paper says in a sentence is quoted."""
 
 from .image import BLOCK, EARLIER_SIZE, REQUESTS, SIZE, SLOTS, STOPPED, STOPPING, State, block_of, held_message, refusal, requests_block, slot_block, state_of
 from .labels import EVERY
 from .message import Message, submission
-from .numbers import acknowledged, advance, lesser, steps, successor
+from .numbers import acknowledged, advance, lesser, next_number, steps
 from .wire import ABORT, ACK, ADDRESS, ADDRESS_WITHDRAW, INIT, KEEPALIVE, MAPPING, NO_RESOURCES, PARAMETERS, PROTECTION, RELEASE, REQUEST, REQUEST_ID, RESOURCES, SESSION, WITHDRAW
 from .wire import ack_tlv, field, message, number, parameters_tlv, protection_tlv, session_tlv
 
 LABEL_KINDS = (MAPPING, WITHDRAW, RELEASE)
+RESUMED = "resumed"
 
 
 def allowed(st, phase):
@@ -20,10 +21,10 @@ def allowed(st, phase):
 
 
 class Outcome:
-    """`further` is 1 where block 65's bytes have changed."""
+    """`further` is 1 where block 65's bytes have changed; `left_out` is of the peer's messages at Receive, of ours at Send."""
 
-    def __init__(self, answer, phase, out=b"", slot=0, block=0):
-        self.answer, self.phase, self.out, self.slot, self.block, self.further, self.block0 = answer, phase, out, slot, block, 0, False
+    def __init__(self, answer, phase, out=b"", slot=0, block=0, left_out=0):
+        self.answer, self.phase, self.out, self.slot, self.block, self.left_out, self.further, self.block0 = answer, phase, out, slot, block, left_out, 0, False
 
 
 RESTING = {0: ("Idle",), 1: ("Failed",)}
@@ -171,14 +172,24 @@ def accept_request(st, phase, ident):
     return 15 if phase[0] != "UpFT" else st.labels.ask(ident)
 
 
+def is_left_out(image, st, place):
+    """ "Of ours only a numbered Request is left out, at every re-issue exactly if an Abort naming its message ID, queued after it, is held too" """
+    held = [Message(held_message(image, st, i)) for i in range(place, st.held)]
+    if place >= steps(st.released, st.issued) or held[0].kind() != REQUEST:
+        return False
+    return any(later.kind() == ABORT and later.value(REQUEST_ID) == held[0].ident for later in held[1:])
+
+
 @call
 def send_next(image, st, phase, ack, room):
-    """The oldest not sent on this connection; it is numbered if it has no number."""
+    """The oldest not sent on this connection that is not left out; it is numbered if it has no number. One left out "counts as sent with the next message"."""
     if phase[0] != "UpFT":
         return Outcome(1, phase)
-    sent = phase[1]
-    if sent >= st.held:
+    if phase[1] >= st.held:
         return Outcome(8, phase)
+    sent = phase[1]
+    while is_left_out(image, st, sent):
+        sent += 1
     n, m = advance(st.released, sent + 1), held_message(image, st, sent)
     added = protection_tlv(n) + (ack_tlv(st.secured) if ack else b"")
     out = m[:2] + field(number(m[2:4]) + len(added), 2) + m[4:] + added
@@ -186,7 +197,7 @@ def send_next(image, st, phase, ack, room):
         return Outcome(9, phase)
     if sent >= steps(st.released, st.issued):
         st.issued = n
-    return Outcome(0, ("UpFT", sent + 1), out)
+    return Outcome(0, ("UpFT", sent + 1, *phase[2:]), out, left_out=sent - phase[1])
 
 
 def apply_ack(image, st, ack):
@@ -216,7 +227,8 @@ def init_received(image, st, phase, m):
         return begun(State(), ("UpPlain",))
     given = read.tlvs[PARAMETERS]
     peers = number(given[2:4]), number(given[6:8])
-    if again and st.kept:
+    resumed = again and st.kept
+    if resumed:
         if peers != (st.keepalive, st.maxpdu):
             return Outcome(35, phase)
         if apply_ack(image, st, read.value(ACK)) is None:
@@ -225,7 +237,7 @@ def init_received(image, st, phase, m):
         st = State()
         st.kept, (st.keepalive, st.maxpdu) = 1, peers
     st.timeout = lesser(phase[1], number(session[2:]))
-    return begun(st, ("UpFT", 0))
+    return begun(st, ("UpFT", 0, *[RESUMED] * resumed))
 
 
 @call
@@ -245,25 +257,24 @@ def receive(image, st, phase, m):
     count = apply_ack(image, st, read.value(ACK)) if read.has(ACK) else 0
     if count is None:
         return Outcome(34, phase)
-    answer = judge(st, read, protected)
+    turn, left_out = next_number(st.secured, read.value(PROTECTION), RESUMED in phase) if protected else (0, 0)
+    answer = judge(st, read, protected, turn)
     if answer:
         return Outcome(answer, phase)
     if protected:
         st.secured = read.value(PROTECTION)
-    return Outcome(0, ("UpFT", max(phase[1] - count, 0)))
+    return Outcome(0, ("UpFT", max(phase[1] - count, 0), *phase[2:]), left_out=left_out)
 
 
-def judge(st, read, protected):
-    """Protection missing (33) or wrong (32), the number not the next (20), no word for the label (21): else the labels have changed, and a Request
+def judge(st, read, protected, turn):
+    """Protection missing (33) or wrong (32), the number not in turn (20), no word for the label (21): else the labels have changed, and a Request
     that a Mapping or a Notification names has ended, "the Mapping taking its word if the label has none"."""
     kind, label = read.kind(), EVERY if read.every() else read.label()
     if kind in (ADDRESS, ADDRESS_WITHDRAW, RESOURCES) and not protected:
         return 33
     answer = st.labels.judge(kind, label, protected) if kind in LABEL_KINDS else 0
-    if not answer and protected and read.value(PROTECTION) != successor(st.secured):
-        answer = 20
-    if answer:
-        return answer
+    if answer or turn:
+        return answer or turn
     st.marks = marked(st.marks, kind, STOPPED)
     free = st.labels.end(read.answered())
     return st.labels.take(kind, label, protected, free) if kind in LABEL_KINDS else 0

@@ -1,22 +1,25 @@
-"""The label list, from the build paper's words "Label list" and "What each answer does", with the open Requests of ticket 2 of 02."""
+"""The label list, from the build paper's words "Label list" and "What each answer does", with the open Requests of ticket 2 of 02 and the end of a
+withdrawal of ticket 4."""
 
 from .wire import MAPPING, RELEASE, WITHDRAW
 
 COUNT = 120
-GIVEN, USED = (1, 2), (3, 4, 5, 6)
+# "A label stands once among codes 1-2 and once among 3-6"; ticket 4: the rules "now cover" 8 and 9, of a label that we gave too
+GIVEN, USED = (1, 2, 8, 9), (3, 4, 5, 6)
 SENT_SIDE = {MAPPING: GIVEN, WITHDRAW: GIVEN, RELEASE: USED}
 RECEIVED_SIDE = {MAPPING: USED, WITHDRAW: USED, RELEASE: GIVEN}
 EVERY = "every"  # in the place of a label: all of a side
 
 # "Accepted for sending: Mapping, absent or 1, becomes 1; Withdraw, 1 becomes 2; Release, 3 becomes 5, 4 becomes free."
 ACCEPTED = {MAPPING: {0: 1, 1: 1}, WITHDRAW: {1: 2}, RELEASE: {3: 5, 4: 0}}
-# "Released by ACK: Withdraw 2 becomes free; Release 5 becomes free; other codes stay."
-ACKED = {MAPPING: {}, WITHDRAW: {2: 0}, RELEASE: {5: 0}}
+# "Released by ACK: Withdraw 2 becomes free; Release 5 becomes free; other codes stay." Ticket 4: "Free a withdrawn label at the second of Release and ACK.
+# Codes 8 (the ACK) and 9 (the Release) say which one has come"
+ACKED = {MAPPING: {}, WITHDRAW: {2: 8, 9: 0}, RELEASE: {5: 0}}
 # "Received: Mapping protected, absent or 3 or 5 becomes 3, 4 stays; unprotected, absent becomes 6, 6 stays.
-# Withdraw: 3 becomes 4; 4, 5 stay; 6 becomes free. Release: 1, 2 become free."
-RECEIVED = {MAPPING: {True: {0: 3, 5: 3}, False: {0: 6}}, WITHDRAW: {3: 4, 6: 0}, RELEASE: {1: 0, 2: 0}}
-# "(Mapping and Withdraw 3-5, Release 1-2)"
-NEEDS_PROTECTION = (1, 2, 3, 4, 5)
+# Withdraw: 3 becomes 4; 4, 5 stay; 6 becomes free. Release: 1, 2 become free." Ticket 4: "A Release at code 1 still frees it."
+RECEIVED = {MAPPING: {True: {0: 3, 5: 3}, False: {0: 6}}, WITHDRAW: {3: 4, 6: 0}, RELEASE: {1: 0, 2: 9, 8: 0}}
+# "(Mapping and Withdraw 3-5, Release 1-2)"; ticket 4: that its Release is protected covers 8 and 9
+NEEDS_PROTECTION = (1, 2, 3, 4, 5, 8, 9)
 
 
 def word(label, code):
@@ -120,4 +123,4 @@ class Labels:
         """Open Requests stand "outside the rule of standing once"."""
         rest = [(label, code) for label, code in self.listed() if word(label, code) != OPEN]
         sides = [(code in GIVEN, label) for label, code in rest]
-        return len(set(sides)) == len(sides) and all(1 <= code <= 6 and label >= 16 for label, code in rest)
+        return len(set(sides)) == len(sides) and all(code in GIVEN + USED and label >= 16 for label, code in rest)

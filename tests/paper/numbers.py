@@ -25,6 +25,19 @@ def advance(a, k):
     return place
 
 
+def next_number(secured, n, resumed):
+    """The test of the next number: 0 and how many were left out before it, 20 or 30. "On a resumed connection accept a number 1 to 64 steps ahead of S"; else it must
+    be the successor."""
+    if n == 0:
+        return 30, 0
+    ahead = secured
+    for left_out in range(64 if resumed else 1):
+        ahead = successor(ahead)
+        if ahead == n:
+            return 0, left_out
+    return 20, 0
+
+
 def distance(a, b):
     """The signed distance from a to b, None where one of them is "none"."""
     if a == 0 or b == 0:

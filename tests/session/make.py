@@ -9,16 +9,19 @@ import sys
 
 sys.dont_write_bytecode = True
 sys.path.append(str(pathlib.Path(__file__).resolve().parents[1]))
+import left_out  # noqa: E402
 import requests  # noqa: E402
+import withdrawals  # noqa: E402
 from answers import INITS, PLAIN, RECEIVED, RECEIVED_BY_BYTES, SUBMITTED, SUBMITTED_BY_BYTES, TWO_FAULTS, init, own, with_label  # noqa: E402
 from pair import AN_ADDRESS, COPY, KEPT, P1, P2, SHORT, Pair, label_message, request_message  # noqa: E402
-from paper.image import BLOCK, REQUESTS, SIZE  # noqa: E402
+from paper.image import BLOCK, REQUESTS, SIZE, state_of  # noqa: E402
+from paper.labels import word  # noqa: E402
 from paper.wire import ABORT, ADDRESS, MAPPING, REQUEST, TYPE, WITHDRAW, ack_tlv, message, protection_tlv, session_tlv, tlv  # noqa: E402
 from player import LINES, SCRIPT  # noqa: E402
 from stored import settle  # noqa: E402
 
 # How many bytes of a script session_cases reads.
-ROOM = 131072
+ROOM = 163840
 
 
 def before(p):
@@ -105,9 +108,11 @@ def recovery(p):
     p.send_lost(P2)
     p.alive(P1)
     p.alive(P2)
+    p.holds(P2, 0, (201, 8), (202, 1))
     p.both()
     p.release(P1, 201)
     p.pass_on(P1, ack=True)
+    p.holds(P2, 0, 0, (202, 1))
     p.both()
 
 
@@ -250,19 +255,20 @@ def still_held(p):
     p.mapping(P1, 110)
     p.pass_on(P1)
     p.release(P2, 110)
-    p.withdraw(P1, 110)
     p.pass_on(P2)
     p.mapping(P1, 110)
-    p.withdraw(P1, 110, 6)
     p.pass_on(P1)
-    p.pass_on(P1)
+    p.holds(P2, (110, 3))
     p.release(P2, 110, 6)
     p.both()
     p.alive(P1)
-    p.alive(P2)
-    p.mapping(P1, 110)
-    p.withdraw(P1, 110)
     p.release(P2, 110)
+    p.withdraw(P1, 110)
+    # No run leaves a label at code 1 while its Withdraw is held; an image that says so is sound.
+    state = state_of(p.image[P1])
+    state.labels.words[0] = word(110, 1)
+    p.lay(P1, 0, state.block())
+    p.withdraw(P1, 110, 6)
     p.both()
 
 
@@ -369,10 +375,8 @@ def block_0(p):
     """Each field is read where the paper puts it."""
     p.title("blocks 0 and 65 by their bytes")
     p.format(KEPT, "format")
-    for start, block in ((0, BLOCK_0), (BLOCK * REQUESTS, BLOCK_65)):
-        for at, byte in enumerate(block, start):
-            if p.image[KEPT][at] != byte:
-                p.spoil(KEPT, at, byte)
+    p.lay(KEPT, 0, BLOCK_0)
+    p.lay(KEPT, REQUESTS, BLOCK_65)
     p.restore(KEPT, "restore")
     p.answered(0, "Failed")
     p.counts(KEPT, "kept")
@@ -400,7 +404,7 @@ PARTS = (before, example, recovery, restart, net_zero, timeouts, lengths, full_l
 
 def main():
     p = Pair()
-    for part in (*PARTS, *requests.PARTS):
+    for part in (*PARTS, *requests.PARTS, *left_out.PARTS, *withdrawals.PARTS):
         part(p)
     size = sum(len(line) + 1 for line in SCRIPT)
     assert size <= ROOM, size

@@ -18,7 +18,9 @@ def show(name, o, image):
     slot = f" {im.block_of(image, o.slot)[508:].hex()}" if o.slot else ""
     further = f" {im.block_of(image, im.REQUESTS)[508:].hex()}" if o.further else ""
     block0 = f"true {bytes(image[508:512]).hex()}" if o.block0 else "false"
-    LINES.append(f"{name}: {o.answer}{block}, {' '.join(map(str, o.phase))}, written {len(o.out)}, slot {o.slot}{slot}, further {o.further}{further}, block0 {block0}")
+    left_out = f", left out {o.left_out}" if o.left_out else ""
+    phase = " ".join(map(str, o.phase))
+    LINES.append(f"{name}: {o.answer}{block}, {phase}, written {len(o.out)}, slot {o.slot}{slot}, further {o.further}{further}, block0 {block0}{left_out}")
     if o.out:
         LINES.append(f"  {o.out.hex()}")
 
@@ -94,6 +96,10 @@ class Player:
     def answered(self, answer, phase=None):
         assert (self.last.answer, phase or self.last.phase[0]) == (answer, self.last.phase[0]), (SCRIPT[-1], answer, phase)
 
+    def passed_over(self, count):
+        """So many messages were left out, by the peer before the one received or by us before the one sent."""
+        assert (self.last.answer, self.last.left_out) == (0, count), (SCRIPT[-1], self.last.left_out)
+
     def wrote(self, text):
         assert self.last.out == bytes.fromhex(text), (SCRIPT[-1], self.last.out.hex())
 
@@ -129,7 +135,7 @@ class Player:
         LINES.append(f"{name} open {int(is_open)} id {labels.ids[i] if is_open else 0}")
 
     def put(self, place, phase):
-        step("", phase[0], place, *phase[1:])
+        step("", phase[0], place, *(1 if n == c.RESUMED else n for n in phase[1:]))
         self.phase[place] = phase
 
     def copy(self, place, source):
@@ -145,3 +151,16 @@ class Player:
     def spoil(self, place, at, byte):
         step("", "spoil", place, at, byte)
         self.image[place][at] = byte
+
+    def lay(self, place, k, block):
+        """Block k becomes another, byte by byte."""
+        for at, byte in enumerate(block, im.BLOCK * k):
+            if self.image[place][at] != byte:
+                self.spoil(place, at, byte)
+
+    def numbered(self, place, **numbers):
+        """Other numbers in block 0."""
+        st = im.state_of(self.image[place])
+        for name, n in numbers.items():
+            setattr(st, name, n)
+        self.lay(place, 0, st.block())

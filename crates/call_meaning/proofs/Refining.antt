@@ -66,5 +66,6 @@ module _ (im : List ℕ) (ph : Phase) (st : Standing im ph) (o : List ℕ) (slot
       (λ t. rw (byte.settle-does a ph im o (stepStored im slots d o) t, settle-does a (stateOf im) ph d t, put-state im (st .sound) slots (d .state) (k t .puts)) (written (room t)))
       (λ n. rw (settle-other a ph im o (stepStored im slots d o) (untouched a ph im o) n) (others n)))
     where
-      written : length (d .output) ≤ length o → record { answer = d .answer; state = d .state; phase = d .phase; output = take (length (d .output)) (laid o 0 (d .output)) } ≡ d
+      written : length (d .output) ≤ length o
+          → record { answer = d .answer; state = d .state; phase = d .phase; output = take (length (d .output)) (laid o 0 (d .output)); leftout = d .leftout } ≡ d
       written fits = rw (take-laid o (d .output) fits)

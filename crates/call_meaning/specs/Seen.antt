@@ -1,4 +1,4 @@
--- What the protocol sees of a call on an image: its answer, the state that the image stands for, the phase, and the bytes written.
+-- What the protocol sees of a call on an image: its answer, the state that the image stands for, the phase, the bytes written, and how many were left out.
 use lib.ListN.{take}
 use Rattle.protocol.specs.Step.{Step}
 use Rattle.calls.specs.Outcomes.{After}
@@ -10,4 +10,5 @@ seen x = record {
   state = stateOf (x .image);
   phase = x .outcome .phase;
   output = take (x .outcome .written) (x .out);
+  leftout = x .outcome .leftout;
 }

@@ -36,7 +36,7 @@ module _ (a : Answer) (im o : List ℕ) (s : IsSound im) (byte : Bytes im) {h : 
   fail-none f e = rw (break-puts im s, break-same im s byte (sym e₃ ∙ f), differ-self (block im 0), differ-self (block im requestBlock), e, e₂, e₁)
 
   pub fail-some : {im′ : List ℕ} → b ≡ true → im′ ≡ breakOf im
-      → afterWith (record { answer = a; phase = ph; written = 0; slot = 0; block0 = true; further = 0 }) im′ o ≡ failedOn a im o
+      → afterWith (record { answer = a; phase = ph; written = 0; slot = 0; block0 = true; further = 0; leftout = 0 }) im′ o ≡ failedOn a im o
   unfolding failedOn laid
   fail-some t e = rw (break-puts im s, ← break-changed im s byte (sym e₃ ∙ t), further-break im (s .size), e, e₂, e₁)
 
@@ -48,7 +48,7 @@ module _ (a : Answer) (im o : List ℕ) (s : IsSound im) {h : Header} (e : h ≡
   release-none byte idle p = rw (release-puts im, release-same im s byte (rw e at idle), differ-self (block im 0), differ-self (block im requestBlock), p)
 
   pub release-some : {im′ : List ℕ} → h .kept ≢ 0 → im′ ≡ releaseOf im
-      → afterWith (record { answer = a; phase = Phase.Idle; written = 0; slot = 0; block0 = true; further = 0 }) im′ o ≡ releasedOn a im o
+      → afterWith (record { answer = a; phase = Phase.Idle; written = 0; slot = 0; block0 = true; further = 0; leftout = 0 }) im′ o ≡ releasedOn a im o
   unfolding releasedOn laid
   release-some kept p = rw (release-puts im, ← release-changed im (s .size) (rw e at kept), further-release im (s .size), p)
 

@@ -30,7 +30,7 @@ afterWith r im o = record { outcome = r; image = im; out = o }
 
 -- "nothing changed"
 abbrev pub refusal : Answer → Phase → Outcome
-refusal a ph = record { answer = a; phase = ph; written = 0; slot = 0; block0 = false; further = 0 }
+refusal a ph = record { answer = a; phase = ph; written = 0; slot = 0; block0 = false; further = 0; leftout = 0 }
 
 abbrev pub untouched : Answer → Phase → List ℕ → List ℕ → After
 untouched a ph im o = afterWith (refusal a ph) im o
@@ -50,6 +50,7 @@ stepStored im slots x o =
       slot = slotNamed im slots;
       block0 = differ (block im 0) (block (stored im slots (x .state)) 0);
       further = furtherBits (differ (block im requestBlock) (block (stored im slots (x .state)) requestBlock));
+      leftout = x .leftout;
     })
     (stored im slots (x .state))
     (laid o 0 (x .output))

@@ -46,5 +46,6 @@ pub fn refuse(answer: Answer, phase: Phase) -> Outcome
         slot: 0,
         block0: false,
         further: 0,
+        leftout: 0,
     }
 }

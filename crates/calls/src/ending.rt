@@ -28,6 +28,7 @@ pub fn fail(image: &mut [u8], answer: Answer) -> Outcome
         slot: 0,
         block0: true,
         further: 0,
+        leftout: 0,
     }
 }
 
@@ -48,6 +49,7 @@ pub fn release(image: &mut [u8], answer: Answer) -> Outcome
         slot: 0,
         block0: true,
         further: 0,
+        leftout: 0,
     }
 }
 

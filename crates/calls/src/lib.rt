@@ -37,7 +37,7 @@ pub use storing::store_numbers;
 
 // What a call answers. `slot` is the block of the slot that was written, to be stored first, and 0 where none was; `further` has a bit for each further
 // block whose bytes changed, bit 0 for block 65, to be stored next; `block0` says whether block 0's bytes changed, to be stored last and before output
-// leaves.
+// leaves. `leftout` says how many messages were left out: by the peer before the one received, or by us before the one sent.
 pub struct Outcome {
     pub answer: Answer,
     pub phase: Phase,
@@ -45,4 +45,5 @@ pub struct Outcome {
     pub slot: usize,
     pub block0: bool,
     pub further: u32,
+    pub leftout: u32,
 }

@@ -9,4 +9,4 @@ use Rattle.calls.specs.Outcomes.{refusal}
 -- what is answered to what was written: the phase is then `next`
 abbrev pub writtenAs : Written → Phase → Phase → Outcome
 writtenAs Written.TooShort ph next = refusal Answer.OutputTooShort ph
-writtenAs (Written.Bytes n) ph next = record { answer = Answer.Done; phase = next; written = n; slot = 0; block0 = false; further = 0 }
+writtenAs (Written.Bytes n) ph next = record { answer = Answer.Done; phase = next; written = n; slot = 0; block0 = false; further = 0; leftout = 0 }

@@ -16,7 +16,7 @@ use Rattle.calls.specs.Storing.{stay}
 
 -- a new image, and no session; every block is to be stored
 abbrev pub formatted : After
-formatted = afterWith (record { answer = format .answer; phase = format .phase; written = length (format .output); slot = 0; block0 = true; further = furtherBits true }) newImage (format .output)
+formatted = afterWith (record { answer = format .answer; phase = format .phase; written = length (format .output); slot = 0; block0 = true; further = furtherBits true; leftout = format .leftout }) newImage (format .output)
 
 -- "12: image not 33,280 bytes", 02: "12 reads the new size"; one of another size is left, and has no session: Idle
 unfoldable pub formatOf : List ℕ → After

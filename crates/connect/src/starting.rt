@@ -22,6 +22,7 @@ pub fn format(image: &mut [u8]) -> Outcome
         slot: 0,
         block0: true,
         further: 1,
+        leftout: 0,
     }
 }
 

@@ -82,6 +82,7 @@ fn answer_written(written: Written, phase: Phase, next: Phase) -> Outcome
             slot: 0,
             block0: false,
             further: 0,
+            leftout: 0,
         },
     }
 }

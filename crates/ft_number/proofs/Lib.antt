@@ -3,3 +3,4 @@ pub mod Circle
 pub mod AckRight
 pub mod Signed
 pub mod Timeout
+pub mod Turns

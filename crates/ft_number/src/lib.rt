@@ -4,6 +4,7 @@ ghost use Rattle.ft_number.specs.Ack.{ackOf};
 ghost use Rattle.ft_number.specs.Circle.{next, after, forward, stepsOf};
 ghost use Rattle.ft_number.specs.Distance.{distanceOf};
 ghost use Rattle.ft_number.specs.Timeout.{lesserOf, proposedOf};
+ghost use Rattle.ft_number.specs.Turn.{farthest, numberTurn};
 
 // An FT sequence number: 1 to 0xFFFFFFFF, then 1 again; 0 is "none".
 pub struct FtNumber(pub u32);
@@ -21,6 +22,13 @@ pub enum Steps {
 pub enum Ack {
     Releases(u32),
     SequenceError,
+}
+
+// What the number of a protected message is: in turn, with how many were left out before it, out of turn, or zero.
+pub enum Turn {
+    InTurn(u32),
+    OutOfTurn,
+    ZeroNumber,
 }
 
 // The shorter way round; refused with a zero.
@@ -97,6 +105,34 @@ pub fn acknowledge(released: FtNumber, issued: FtNumber, ack: FtNumber) -> Ack
             Steps::Unreachable => Ack::SequenceError,
         },
         Steps::Unreachable => Ack::SequenceError,
+    }
+}
+
+// How many steps ahead of the last number secured the next one may be.
+fn steps_allowed(resumed: bool) -> u32
+    ensures { λ r. ⌜ r ≡ farthest resumed ⌝ }
+{
+    if resumed { 64 } else { 1 }
+}
+
+// Whether a number is the next after the last one secured, and how many were left out before it.
+pub fn judge_turn(secured: FtNumber, number: FtNumber, resumed: bool) -> Turn
+    ensures { λ r. ⌜ r ≡ numberTurn resumed (secured .0) (number .0) ⌝ }
+{
+    if number.0 == 0 {
+        return Turn::ZeroNumber;
+    }
+    match steps_between(secured, number) {
+        Steps::Count(k) => {
+            if k == 0 {
+                return Turn::OutOfTurn;
+            }
+            if steps_allowed(resumed) < k {
+                return Turn::OutOfTurn;
+            }
+            Turn::InTurn(k - 1)
+        }
+        Steps::Unreachable => Turn::OutOfTurn,
     }
 }
 

@@ -7,6 +7,7 @@ pub mod Scans
 pub mod Stored
 pub mod Sound
 pub mod Queue
+pub mod Counted
 pub mod Formatted
 pub mod Changes
 pub mod Same

@@ -1,19 +1,21 @@
 -- The messages held: the queue and the slots in which they stand. Assumes nothing.
-use Prim.Native.Nat.{ℕ, _+_, _<_}
+use Prim.Native.Nat.{ℕ, _+_, _*_, _≤_, _<_}
 use mathlib.Core.Bool.{true}
 use mathlib.Core.List.{List, []}
-use mathlib.Core.Path.{_≡_, sym, _∙_}
+use mathlib.Core.Path.{_≡_, sym, ap, _∙_}
 use native.Mathlib.Omega.{arith}
 use lib.ListN.{length, getD}
+use Rattle.octets.specs.Part.{part}
+use Rattle.octets.proofs.Part.{part-part}
 use Rattle.block.specs.Check.{blockSize}
 use Rattle.block0.specs.Layout.{headerOf}
-use Rattle.message.specs.Storable.{Storable, kindIn, labelIn}
+use Rattle.message.specs.Storable.{longest, Storable, kindIn, labelIn}
 use Rattle.message.specs.Submission.{submissionOf}
 use Rattle.slot.specs.Fields.{slotOk}
-use Rattle.slot.specs.Layout.{slotKind, slotLabel, slotMessage}
-use Rattle.slot.proofs.Holding.{holds-kind, holds-label, holds-storable}
+use Rattle.slot.specs.Layout.{messageAt, slotLength, slotKind, slotLabel, slotMessage}
+use Rattle.slot.proofs.Holding.{high-length, length-message, holds-kind, holds-label, holds-storable}
 use Rattle.image.specs.Sizes.{block, blockOf, slotAt}
-use Rattle.image.specs.State.{decode, slotsOf, heldBlock}
+use Rattle.image.specs.State.{decode, slotsOf, heldBlock, heldPlace, heldStart, heldEnd}
 use Rattle.image.specs.Verdict.{IsSound, SlotGood}
 use Rattle.image.proofs.Blocks.{length-block}
 use Rattle.image.proofs.Rings.{ring-at, ring-length}
@@ -34,12 +36,35 @@ module _ (image : List ℕ) (s : IsSound image) (i : ℕ) (l : i < decode image 
   unfolding heldBlock
   held-good = sound-live image s i l
 
+  held-long : length (heldBlock image i) ≡ blockSize
+  unfolding heldBlock
+  held-long = length-block image (blockOf (slotAt (decode image .header .first) i)) (omega (arith, s .size))
+
   -- each message held may be stored again
   pub queue-storable : Storable (getD (decode image .queue) i [])
-  unfolding heldBlock
-  queue-storable =
-      let long : length (heldBlock image i) ≡ blockSize = length-block image (blockOf (slotAt (decode image .header .first) i)) (omega (arith, s .size)) in
-      rw (queue-at image i l) (holds-storable (heldBlock image i) long (held-good .fields))
+  queue-storable = rw (queue-at image i l) (holds-storable (heldBlock image i) held-long (held-good .fields))
+
+  -- ---- where the message stands: within the image, and that part of the image is the message
+  held-size : length (getD (decode image .queue) i []) ≡ slotLength (heldBlock image i)
+  held-size = rw (queue-at image i l) (length-message (heldBlock image i) held-long (held-good .fields))
+
+  pub held-inside : heldEnd image i ≤ length image
+  unfolding heldPlace
+  held-inside = omega (arith, held-size, high-length (heldBlock image i) (held-good .fields), s .size)
+
+  pub held-part : part image (heldStart image i) (heldEnd image i) ≡ getD (decode image .queue) i []
+  unfolding heldBlock heldPlace slotMessage
+  held-part =
+      let b : ℕ = blockOf (slotAt (decode image .header .first) i) in
+      let n : ℕ = slotLength (heldBlock image i) in
+      let short : n ≤ longest = high-length (heldBlock image i) (held-good .fields) in
+      let start : messageAt + b * blockSize ≡ b * blockSize + messageAt = omega arith in
+      let end : b * blockSize + messageAt + n ≡ b * blockSize + (messageAt + n) = omega arith in
+      ap (λ (k : ℕ). part image (heldStart image i) (heldStart image i + k)) held-size
+      ∙ ap (λ (k : ℕ). part image k (k + n)) start
+      ∙ ap (part image (b * blockSize + messageAt)) end
+      ∙ sym (part-part image (b * blockSize) (b * blockSize + blockSize) messageAt (messageAt + n) (omega arith) (omega (arith, s .size)) (omega arith))
+      ∙ sym (queue-at image i l)
 
   -- ---- what the readers answer
   pub held-sum : (f : ℕ) → f < 65536 → f + i < 65600

@@ -259,3 +259,7 @@ number-sound Sound e = refl
 number-sound WrongSize e = absurd (omega arith)
 number-sound (BadBlock b) e = absurd (omega arith)
 number-sound (BadField b) e = absurd (omega arith)
+
+-- the image passes where the number that was answered is 0
+pub number-passes : (s : List ℕ) {v : Verdict} {n : ℕ} → v ≡ verdict s → n ≡ verdictNumber v → n ≡ 0 → verdict s ≡ Sound
+number-passes s {v} e en z = sym e ∙ number-sound v (sym en ∙ z)

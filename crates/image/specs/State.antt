@@ -1,8 +1,8 @@
 -- The state that an image stands for, and the three stages in which it is stored.
-use Prim.Native.Nat.{_<_, ℕ, _*_}
-use mathlib.Core.List.{List}
+use Prim.Native.Nat.{_<_, ℕ, _+_, _*_}
+use mathlib.Core.List.{List, []}
 use mathlib.Core.Logic.{_≢_}
-use lib.ListN.{set}
+use lib.ListN.{length, getD, set}
 use Rattle.block.specs.Check.{blockSize}
 use Rattle.block.specs.Run.{Words}
 use Rattle.ft_number.specs.declared.MessageId.{MessageId}
@@ -13,7 +13,7 @@ use Rattle.block0.specs.Fields.{Fits}
 use Rattle.block0.specs.Layout.{headerOf, labelsOf, block0}
 use Rattle.request_ids.specs.Layout.{idsOf, idBlock}
 use Rattle.slot.specs.Held.{slotFor}
-use Rattle.slot.specs.Layout.{slotMessage}
+use Rattle.slot.specs.Layout.{messageAt, slotMessage}
 use Rattle.image.specs.Ring.{ring}
 use Rattle.image.specs.Sizes.{requestBlock, block, withBlock, blockOf, slotAt}
 
@@ -46,6 +46,13 @@ heldBlock image i = block image (blockOf (slotAt (decode image .header .first) i
 
 unfoldable pub heldPlace : List ℕ → ℕ → ℕ
 heldPlace image i = blockOf (slotAt (decode image .header .first) i) * blockSize
+
+-- where that message starts in the image, and where it ends
+abbrev pub heldStart : List ℕ → ℕ → ℕ
+heldStart image i = messageAt + heldPlace image i
+
+abbrev pub heldEnd : List ℕ → ℕ → ℕ
+heldEnd image i = heldStart image i + length (getD (decode image .queue) i [])
 
 -- slot k is not live
 abbrev pub NotLive : List ℕ → ℕ → Type 0

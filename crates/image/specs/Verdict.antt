@@ -69,6 +69,10 @@ verdictNumber WrongSize = 12
 verdictNumber (BadBlock b) = 10
 verdictNumber (BadField b) = 11
 
+-- any answer but 0 refuses the image
+abbrev pub refuses : Verdict → Bool
+refuses v = not (eqb (verdictNumber v) 0)
+
 -- the block that it names: "block 0 where none applies"
 abbrev pub verdictBlock : Verdict → ℕ
 verdictBlock Sound = 0

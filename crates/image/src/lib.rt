@@ -16,14 +16,17 @@ ghost use Rattle.image.specs.Sizes.{requestBlock, further, blockCount, i
 ghost use Rattle.image.specs.State.{storedIds, decode, storeSlot, storeId, store0};
 ghost use Rattle.image.specs.Verdict.{bytesJudged, firstFault, verdict, verdictNumber, verdictBlock};
 use block0::Header;
+use ft_number::FtNumber;
 use ft_number::MessageId;
 use message::Kind;
 use slot::SlotVerdict;
 
+mod counting;
 mod events;
 mod extending;
 mod held;
 
+pub use counting::counts_of;
 pub use events::format;
 pub use events::free_unprotected;
 pub use events::has_unprotected;
@@ -32,6 +35,7 @@ pub use extending::extend;
 pub use held::held_kind;
 pub use held::held_label;
 pub use held::held_message;
+pub use held::held_start;
 
 // What restore's checks answer; a block or a field that is wrong, with its block's number.
 pub enum Verdict {
@@ -47,6 +51,16 @@ pub enum Judgement {
     BadCheck,
     BadFields,
     Idle,
+}
+
+// The numbers of a sound image, its messages held, those of them pended, and its label words in use.
+pub struct Counts {
+    pub released: FtNumber,
+    pub issued: FtNumber,
+    pub secured: FtNumber,
+    pub held: u16,
+    pub pended: u16,
+    pub labels: usize,
 }
 
 // The slots of the ring; the block of the IDs behind them; the blocks of the image; its size.

@@ -2,7 +2,7 @@
 use Prim.Native.Nat.{ℕ}
 use mathlib.Core.List.{List, _++_}
 use Rattle.text.specs.Text.{ascii, decimal}
-use Rattle.image_report.specs.declared.Counts.{Counts}
+use Rattle.image.specs.declared.Counts.{Counts}
 use Rattle.image_report.specs.declared.Report.{Report}
 use Rattle.image_report.specs.declared.Report.the-variants.{Counted, Refused}
 

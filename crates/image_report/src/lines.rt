@@ -3,8 +3,8 @@ ghost use Prim.Native.Nat.{_+_, _≤_};
 ghost use lib.ListN.{length};
 ghost use Rattle.text.specs.Text.{Put};
 ghost use Rattle.image_report.specs.Lines.{reportRoom, line, numbersText, countsText, refusedText, textOf};
-use crate::Counts;
 use crate::Report;
+use image::Counts;
 
 // A name, a number and the line's end. The longest name has nine letters.
 fn put_line(out: &mut [u8], at: usize, name: &[u8], n: u64) -> usize

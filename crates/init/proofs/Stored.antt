@@ -67,6 +67,6 @@ idless im size (Start.Resumed t k a) s = further-none im size _ _
 
 pub begun-is : (im : List ℕ) → length im ≡ imageSize → (ph : Phase) (st : Start) {im′ : List ℕ} {next : Phase} {b : Bool}
     → im′ ≡ stored im (startSlots st) (startState (stateOf im) st) → next ≡ startPhase ph st → b ≡ differ (block im 0) (block im′ 0)
-    → afterWith (record { answer = Answer.Done; phase = next; written = 0; slot = 0; block0 = b; further = 0 }) im′ [] ≡ begunOn im ph st
+    → afterWith (record { answer = Answer.Done; phase = next; written = 0; slot = 0; block0 = b; further = 0; leftout = 0 }) im′ [] ≡ begunOn im ph st
 unfolding begunOn laid
 begun-is im size ph st ei en eb = rw (eb, ei, en, ← slotless im st, idless im size st (startState (stateOf im) st))

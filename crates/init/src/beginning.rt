@@ -7,7 +7,7 @@ ghost use Rattle.image.specs.Sizes.{block};
 ghost use Rattle.image.specs.State.{decode};
 ghost use Rattle.image.specs.Verdict.{IsSound};
 ghost use Rattle.protocol.specs.Init.{fresh, resumed, startPhase, startState};
-ghost use Rattle.protocol.specs.Phases.{awaits, proposalOf};
+ghost use Rattle.protocol.specs.Phases.{awaits, proposalOf, upWith};
 ghost use Rattle.protocol.specs.State.{releasedState};
 ghost use Rattle.calls.specs.Outcomes.{afterWith};
 ghost use Rattle.calls.specs.State.{stateOf};
@@ -112,6 +112,16 @@ fn store_start(image: &mut [u8], start: Start) -> bool
     }
 }
 
+// UpFT with nothing sent yet.
+fn up_ft(resumed: bool) -> Phase
+    ensures { λ r. ⌜ r ≡ upWith resumed 0 ⌝ }
+{
+    Phase::UpFT(Progress {
+        sent: 0,
+        resumed: resumed,
+    })
+}
+
 // The phase that a start leads to.
 fn start_phase(start: Start, phase: Phase) -> Phase
     ensures { λ r. ⌜ r ≡ startPhase phase start ⌝ }
@@ -119,8 +129,8 @@ fn start_phase(start: Start, phase: Phase) -> Phase
     match start {
         Start::Refused(_) => phase,
         Start::Plain => Phase::UpPlain,
-        Start::Fresh(_) => Phase::UpFT(Progress { sent: 0 }),
-        Start::Resumed(_, _, _) => Phase::UpFT(Progress { sent: 0 }),
+        Start::Fresh(_) => up_ft(false),
+        Start::Resumed(_, _, _) => up_ft(true),
     }
 }
 
@@ -136,6 +146,7 @@ fn begin(image: &mut [u8], phase: Phase, start: Start) -> Outcome
         slot: 0,
         block0: store_start(image, start),
         further: 0,
+        leftout: 0,
     }
 }
 

@@ -10,7 +10,7 @@ use Rattle.label_list.specs.declared.Next.the-variants.{Code, NotAllowed
 use Rattle.label_list.specs.declared.SweepRule.{SweepRule}
 use Rattle.label_list.specs.declared.SweepRule.the-variants.{WithdrawAll, ReleaseAll, AfterBreak}
 use Rattle.label_list.specs.Rules.{codeAccepted, codeAcked, codeReceived, codeSwept}
-use Rattle.label_list.specs.Word.{within, withoutProtection}
+use Rattle.label_list.specs.Word.{withoutProtection}
 
 abbrev pub Small : ℕ → Type 0
 Small code = code < 4096
@@ -28,7 +28,7 @@ accepted-small Release c = pick-all SmallNext (eqb c 3) (lit< tt) (pick-all Smal
 pub acked-small : (m : LabelMessage) (c : ℕ) → Small c → Small (codeAcked m c)
 unfolding codeAcked
 acked-small Mapping c h = h
-acked-small Withdraw c h = pick-all Small (eqb c 2) (lit< tt) h
+acked-small Withdraw c h = pick-all Small (eqb c 2) (lit< tt) (pick-all Small (eqb c 9) (lit< tt) h)
 acked-small Release c h = pick-all Small (eqb c 5) (lit< tt) h
 
 pub received-small : (m : LabelMessage) (p : Bool) (c : ℕ) → Small c → Small (codeReceived m p c)
@@ -36,7 +36,7 @@ unfolding codeReceived
 received-small Mapping true c h = pick-all Small (eqb c 0) (lit< tt) (pick-all Small (eqb c 5) (lit< tt) h)
 received-small Mapping false c h = pick-all Small (eqb c 0) (lit< tt) h
 received-small Withdraw p c h = pick-all Small (eqb c 3) (lit< tt) (pick-all Small (eqb c withoutProtection) (lit< tt) h)
-received-small Release p c h = pick-all Small (within 1 2 c) (lit< tt) h
+received-small Release p c h = pick-all Small (eqb c 1) (lit< tt) (pick-all Small (eqb c 2) (lit< tt) (pick-all Small (eqb c 8) (lit< tt) h))
 
 pub swept-small : (r : SweepRule) (c : ℕ) → Small c → Small (codeSwept r c)
 unfolding codeSwept

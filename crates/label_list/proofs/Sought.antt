@@ -144,3 +144,12 @@ module _ (words : List ℕ) where
     counted-all h =
         let none : listedCount (drop i words) ≡ 0 = rw (drop-of-length-le words h) in
         omega (arith, s .rest)
+
+-- No more words are listed than there are.
+pub listed-most : (words : List ℕ) → listedCount words ≤ length words
+unfolding listedCount
+listed-most [] = omega arith
+listed-most (w ∷ ws) =
+    by-test (isFree w)
+    (λ t. rw t (omega (arith, listed-most ws)))
+    (λ f. rw f (omega (arith, listed-most ws)))

@@ -11,7 +11,8 @@ use Rattle.label_list.specs.declared.Side.{Side}
 use Rattle.label_list.specs.Rules.{receivedSide}
 use Rattle.label_list.specs.Word.{codeOf, withoutProtection, onSide}
 
--- 01: "Protection is missing (33) .. on a message touching codes 1 to 5 on its own side (Mapping and Withdraw 3-5, Release 1-2)": any code of its side but 6
+-- 01: "Protection is missing (33) .. on a message touching codes 1 to 5 on its own side (Mapping and Withdraw 3-5, Release 1-2)": any code of its side but 6.
+-- 02: "the rules that a label stands once on its side and that its Release is protected now cover" 8 and 9
 unfoldable pub needsProtection : Side → ℕ → Bool
 needsProtection side code = both (not (eqb code withoutProtection)) (onSide side code)
 

@@ -13,7 +13,7 @@ use Rattle.label_list.specs.Word.{firstLabel, labelOf, codeOf, isFree, o
 abbrev pub absent : Side → ℕ → List ℕ → Bool
 absent side label words = not (any (standsFor side label) words)
 
--- "A label stands once among codes 1-2 and once among 3-6": a listed label has a code of one side and stands in no later word of that side
+-- 01: "A label stands once among codes 1-2 and once among 3-6"; 02: 8 and 9 are of the first. A listed label has a code of one side and stands in no later word of that side
 abbrev pub standsOnce : ℕ → ℕ → List ℕ → Bool
 standsOnce label code later = pick (onSide Given code) (absent Given label later) (both (onSide Used code) (absent Used label later))
 

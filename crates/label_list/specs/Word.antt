@@ -1,6 +1,6 @@
 -- A label word, and the side on which its code stands. 01: "120 numbers of 32 bits: label + 1,048,576 x code; 0 is free, and no other word has code 0".
 use Prim.Native.Nat.{ℕ, _+_, _-_, _*_, _/_, _%_}
-use mathlib.Core.Bool.{Bool}
+use mathlib.Core.Bool.{Bool, true}
 use lib.Dec.{eqb, leb}
 use Rattle.octets.specs.Pick.{pick, both}
 use Rattle.label_list.specs.declared.Side.{Side}
@@ -39,9 +39,10 @@ within low high n = both (leb low n) (leb n high)
 abbrev pub withoutProtection : ℕ
 withoutProtection = 6
 
--- "A label stands once among codes 1-2 and once among 3-6": the labels that we gave, and those that we use
+-- 01: "A label stands once among codes 1-2 and once among 3-6": the labels that we gave, and those that we use.
+-- 02: "Codes 8 (the ACK) and 9 (the Release) ..; the rules that a label stands once on its side .. now cover them": we gave these too
 unfoldable pub onSide : Side → ℕ → Bool
-onSide Given code = within 1 2 code
+onSide Given code = pick (within 1 2 code) true (within 8 9 code)
 onSide Used code = within 3 6 code
 
 -- 02: "An open Request takes one of the 120 words under code 7, with label part 0": every open Request has this one word; its code is on no side

@@ -1,7 +1,7 @@
 // The label list: label words, what each event makes of a label's code, validity, and the rules that act on every word.
 //
 // A word is label + 1,048,576 x code, and 0 is a free word. Codes: 1 given, 2 withdrawing, 3 using, 4 asked back, 5 releasing, 6 using without protection, 7 an open
-// Request, whose message ID stands at the same place of a list beside the words.
+// Request, whose message ID stands at the same place of a list beside the words, 8 withdrawn and the ACK has come, 9 withdrawn and the Release has come.
 mod requests;
 mod rules;
 mod search;
@@ -28,7 +28,7 @@ pub use word::REQUEST_WORD;
 pub use word::WORD_COUNT;
 pub use word::word_of;
 
-// The two sides on which a label can stand: given to the peer, codes 1 and 2; used by us, codes 3 to 6.
+// The two sides on which a label can stand: given to the peer, codes 1, 2, 8 and 9; used by us, codes 3 to 6.
 pub enum Side {
     Given,
     Used,

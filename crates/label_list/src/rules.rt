@@ -37,7 +37,8 @@ pub fn code_acked(message: LabelMessage, code: u32) -> u32
     match message {
         LabelMessage::Mapping => code,
         LabelMessage::Withdraw => match code {
-            2 => 0,
+            2 => 8,
+            9 => 0,
             _ => code,
         },
         LabelMessage::Release => match code {
@@ -72,7 +73,9 @@ pub fn code_received(message: LabelMessage, protected: bool, code: u32) -> u32
             _ => code,
         },
         LabelMessage::Release => match code {
-            1..=2 => 0,
+            1 => 0,
+            2 => 9,
+            8 => 0,
             _ => code,
         },
     }
@@ -114,14 +117,14 @@ pub fn received_side(message: LabelMessage) -> Side
     }
 }
 
-// 01: "touching codes 1 to 5 on its own side (Mapping and Withdraw 3-5, Release 1-2)"
+// Any code of the message's own side but 6: Mapping and Withdraw 3 to 5, Release 1, 2, 8 and 9.
 pub fn needs_protection(side: Side, code: u32) -> bool
     ensures { λ r. ⌜ r ≡ needsProtection side code ⌝ }
 {
-    if code <= 5 {
-        return on_side(side, code);
+    if code == 6 {
+        return false;
     }
-    false
+    on_side(side, code)
 }
 
 // 01: "wrong (32) on a Mapping or Withdraw that names a label of code 6"

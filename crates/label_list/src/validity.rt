@@ -74,8 +74,8 @@ fn mark_word(word: u32, later: &[u32], marks: &mut [u8]) -> bool
     false
 }
 
-// Restore's rule for the label words: each is 0, or an open Request's, or has a label from 16 up and a code from 1 to 6; no label stands twice among
-// codes 1-2 nor twice among 3-6.
+// Restore's rule for the label words: each is 0, or an open Request's, or has a label from 16 up and a code of a side; no label stands twice among
+// codes 1, 2, 8 and 9 nor twice among 3 to 6.
 pub fn valid(words: &[u32]) -> bool
     ensures { λ r. ⌜ r ≡ validOf (now (words .entry)) ⌝ }
 {

@@ -16,12 +16,12 @@ pub const FIRST_LABEL: u32 = 16;
 // The word of every open Request: code 7 and no label.
 pub const REQUEST_WORD: u32 = 7340032;
 
-// 01: "A label stands once among codes 1-2 and once among 3-6."
+// Codes 1, 2, 8 and 9 are of labels that we gave, codes 3 to 6 of labels that we use.
 pub fn on_side(side: Side, code: u32) -> bool
     ensures { λ r. ⌜ r ≡ onSide side code ⌝ }
 {
     match code {
-        1..=2 => match side {
+        1..=2 | 8..=9 => match side {
             Side::Given => true,
             Side::Used => false,
         },

@@ -8,6 +8,9 @@ pub mod Kept
 pub mod Step
 pub mod Moved
 pub mod Life
+pub mod Withdrawal
+pub mod GivenMoves
+pub mod Earlier
 pub mod Protected
 pub mod Room
 pub mod Requests

@@ -22,8 +22,8 @@ use Rattle.label_events.specs.Change.{codeAt}
 use Rattle.label_events.specs.Receive.{everyReceived, receivedWith}
 use Rattle.label_events.specs.Requests.{endedAt}
 use Rattle.label_events.proofs.Ended.{ended-code}
-use Rattle.label_meaning.specs.Event.{LabelEvent, Accepted, Acked, Received, afterEvent, Touches, named, every, Moves, given, withdrawn, released, returned, withdraw-acked, release-acked, taken, taken-again, taken-bare, asked-back, bare-withdrawn, given-back, withdrawn-back, bare-lost}
-use Rattle.label_meaning.specs.Life.{EndsWithdrawal, by-ack, by-release, Frees, release-of-given, release-of-withdrawing, ack-of-withdraw, our-release, ack-of-release}
+use Rattle.label_meaning.specs.Event.{LabelEvent, Accepted, Acked, Received, afterEvent, Touches, named, every, Moves, given, withdrawn, released, returned, withdraw-acked, back-acked, release-acked, taken, taken-again, taken-bare, asked-back, bare-withdrawn, given-back, withdrawn-back, acked-back, bare-lost}
+use Rattle.label_meaning.specs.Life.{Frees, release-of-given, release-after-ack, ack-after-release, our-release, ack-of-release}
 use Rattle.label_meaning.specs.Valid.{IsValid}
 use Rattle.label_meaning.specs.View.{Effect}
 use Rattle.label_meaning.proofs.Moved.{every-move}
@@ -33,13 +33,6 @@ use Rattle.label_meaning.proofs.Unlisted.{ended-stays}
 use Rattle.label_meaning.proofs.View.{code-is, is-code}
 
 -- The moves from one code, taken apart.
-ends : {e : LabelEvent} {k c d : ℕ} → c ≡ 2 → Moves e Given k c d → (d ≡ 0) × EndsWithdrawal e k
-ends z given = absurd (omega arith)
-ends z withdrawn = absurd (omega arith)
-ends z withdraw-acked = (refl, by-ack)
-ends z (given-back touches) = absurd (omega arith)
-ends z (withdrawn-back touches) = (refl, by-release touches)
-
 gives-back : {e : LabelEvent} {k c d : ℕ} → c ≡ 4 → Moves e Used k c d → (d ≡ 0) × (e ≡ Accepted Release k)
 gives-back z returned = (refl, refl)
 gives-back z released = absurd (omega arith)
@@ -56,7 +49,8 @@ frees z kept given = absurd (omega arith)
 frees z kept withdrawn = absurd (omega arith)
 frees z kept released = absurd (omega arith)
 frees z kept returned = our-release
-frees z kept withdraw-acked = ack-of-withdraw
+frees z kept withdraw-acked = absurd (omega arith)
+frees z kept back-acked = ack-after-release
 frees z kept release-acked = ack-of-release
 frees z kept taken = absurd (omega arith)
 frees z kept taken-again = absurd (omega arith)
@@ -64,19 +58,11 @@ frees z kept taken-bare = absurd (omega arith)
 frees z kept (asked-back touches) = absurd (omega arith)
 frees z kept (bare-withdrawn touches) = absurd (omega arith)
 frees z kept (given-back touches) = release-of-given touches
-frees z kept (withdrawn-back touches) = release-of-withdrawing touches
+frees z kept (withdrawn-back touches) = absurd (omega arith)
+frees z kept (acked-back touches) = release-after-ack touches
 frees z kept bare-lost = absurd (omega arith)
 
 module _ (words : List ℕ) (v : IsValid words) where
-  -- A withdrawn label stays withdrawing until the first of Release and ACK, which frees it.
-  pub withdrawing-stays : (e : LabelEvent) (k : ℕ) → codeAt words Given k ≡ 2
-      → (codeAt (afterEvent words e) Given k ≡ 2) ⊎ ((codeAt (afterEvent words e) Given k ≡ 0) × EndsWithdrawal e k)
-  withdrawing-stays e k two =
-      ⊎-elim
-      (λ (same : codeAt (afterEvent words e) Given k ≡ codeAt words Given k). inl (same ∙ two))
-      (λ (move : Moves e Given k (codeAt words Given k) (codeAt (afterEvent words e) Given k)). inr (ends two move))
-      (every-move words v e Given k)
-
   -- A label that the peer asked back stays in use until our Release of it is accepted.
   pub asked-back-stays : (e : LabelEvent) (k : ℕ) → codeAt words Used k ≡ 4
       → (codeAt (afterEvent words e) Used k ≡ 4) ⊎ ((codeAt (afterEvent words e) Used k ≡ 0) × (e ≡ Accepted Release k))
@@ -86,7 +72,7 @@ module _ (words : List ℕ) (v : IsValid words) where
       (λ (move : Moves e Used k (codeAt words Used k) (codeAt (afterEvent words e) Used k)). inr (gives-back four move))
       (every-move words v e Used k)
 
-  -- A listed label of any code but 6 vanishes only by the message that 01 names.
+  -- A listed label of any code but 6 vanishes only by the message that 01 and 02 name.
   pub freed-by : (e : LabelEvent) (s : Side) (k : ℕ) → codeAt words s k ≢ 0 → codeAt words s k ≢ withoutProtection → codeAt (afterEvent words e) s k ≡ 0 → Frees e s k (codeAt words s k)
   freed-by e s k listed kept gone =
       ⊎-elim
@@ -140,7 +126,8 @@ module _ (words : List ℕ) (v : IsValid words) where
   move-happens (withdrawn {k}) h e = accept-happens words v Withdraw k 1 2 e h refl
   move-happens (released {k}) h e = accept-happens words v Release k 3 5 e h refl
   move-happens (returned {k}) h e = accept-happens words v Release k 4 0 e h refl
-  move-happens (withdraw-acked {k}) h e = ack-happens words v Withdraw k 2 0 e refl
+  move-happens (withdraw-acked {k}) h e = ack-happens words v Withdraw k 2 8 e refl
+  move-happens (back-acked {k}) h e = ack-happens words v Withdraw k 9 0 e refl
   move-happens (release-acked {k}) h e = ack-happens words v Release k 5 0 e refl
   move-happens taken h e = absurd (h refl)
   move-happens (taken-again {k} {r}) h e = receive-happens words v r Mapping true k 5 3 e h refl
@@ -148,10 +135,6 @@ module _ (words : List ℕ) (v : IsValid words) where
   move-happens (asked-back {p} {t} {k} {r} touches) h e = withdraw-happens words v r p t k 3 4 touches e h (λ q. refl)
   move-happens (bare-withdrawn {p} {t} {k} {r} touches) h e = withdraw-happens words v r p t k withoutProtection 0 touches e h (λ q. refl)
   move-happens (given-back {p} {t} {k} {r} touches) h e = release-happens words v r p t k 1 0 touches e h (λ q. refl)
-  move-happens (withdrawn-back {p} {t} {k} {r} touches) h e = release-happens words v r p t k 2 0 touches e h (λ q. refl)
+  move-happens (withdrawn-back {p} {t} {k} {r} touches) h e = release-happens words v r p t k 2 9 touches e h (λ q. refl)
+  move-happens (acked-back {p} {t} {k} {r} touches) h e = release-happens words v r p t k 8 0 touches e h (λ q. refl)
   move-happens (bare-lost {k}) h e = sweep-happens words v AfterBreak Used k withoutProtection 0 e refl
-
-  -- So both the ACK and a Release free a withdrawn label.
-  pub withdrawal-ends : (e : LabelEvent) (k : ℕ) → codeAt words Given k ≡ 2 → EndsWithdrawal e k → codeAt (afterEvent words e) Given k ≡ 0
-  withdrawal-ends e k two by-ack = move-happens withdraw-acked (omega arith) two
-  withdrawal-ends e k two (by-release touches) = move-happens (withdrawn-back touches) (omega arith) two

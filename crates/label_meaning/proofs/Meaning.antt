@@ -9,14 +9,14 @@ use lib.Dec.{eqb, leb}
 use lib.ListN.{getD}
 use borrow.Author.Tests.{eqb-true, eqb-false, ne-eqb, leb-true}
 use Rattle.octets.specs.Pick.{pick, both}
-use Rattle.octets.proofs.Choice.{by-test, both-true, below-or-not}
+use Rattle.octets.proofs.Choice.{by-test, both-true}
 use Rattle.label_list.specs.declared.Side.{Side}
 use Rattle.label_list.specs.declared.Side.the-variants.{Given, Used}
 use Rattle.label_list.specs.Find.{any}
 use Rattle.label_list.specs.Valid.{absent, standsOnce, validWord, validOf}
 use Rattle.label_list.specs.Word.{labelCount, labelOf, codeOf, isFree, onSide, requestWord, isRequest, standsFor}
 use Rattle.label_list.proofs.Checked.{word-free, word-request, word-given, word-used}
-use Rattle.label_list.proofs.Standing.{off-high, side-listed, one-side, stands-parts, parts-stands, free-stands, request-stands}
+use Rattle.label_list.proofs.Standing.{side-listed, one-side, stands-parts, parts-stands, free-stands, request-stands, side-low}
 use Rattle.label_meaning.specs.Valid.{WordInRange, IsValid}
 
 -- No word passes a test exactly if none does at any index.
@@ -162,8 +162,8 @@ unfolding validOf
 means-valid [] v = refl
 means-valid (w ∷ ws) v = rw (← head-valid w ws v) (means-valid ws (tail-valid w ws v))
 
--- Every word of a valid list is below 8 x 1,048,576, so it has 32 bits.
-pub valid-range : {words : List ℕ} → IsValid words → (i : ℕ) → getD words i 0 < 8 * labelCount
+-- Every word of a valid list is below 10 x 1,048,576, so it has 32 bits.
+pub valid-range : {words : List ℕ} → IsValid words → (i : ℕ) → getD words i 0 < 10 * labelCount
 valid-range {words} v i =
     by-test
     (eqb (getD words i 0) 0)
@@ -171,12 +171,5 @@ valid-range {words} v i =
     (λ z.
     ⊎-elim
     (λ (r : getD words i 0 ≡ requestWord). omega arith)
-    (λ (range : WordInRange (getD words i 0)). in-range (range .side) (range .on))
+    (λ (range : WordInRange (getD words i 0)). omega (arith, side-low (range .side) (codeOf (getD words i 0)) (range .on)))
     (v .each i (eqb-false (getD words i 0) 0 z)))
-  where
-    in-range : (s : Side) → onSide s (codeOf (getD words i 0)) ≡ true → getD words i 0 < 8 * labelCount
-    in-range s on =
-        ⊎-elim
-        (λ (high : 6 < codeOf (getD words i 0)). absurd (false≢true (off-high s (codeOf (getD words i 0)) high ∙ on)))
-        (λ (fits : codeOf (getD words i 0) ≤ 6). omega arith)
-        (below-or-not 6 (codeOf (getD words i 0)))

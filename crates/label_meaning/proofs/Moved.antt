@@ -18,8 +18,7 @@ use Rattle.label_list.specs.declared.SweepRule.{SweepRule}
 use Rattle.label_list.specs.declared.SweepRule.the-variants.{WithdrawAll, ReleaseAll, AfterBreak}
 use Rattle.label_list.specs.Rules.{sentSide, receivedSide, codeAccepted, codeAcked, codeReceived, codeSwept}
 use Rattle.label_list.specs.Sweep.{sweptOf}
-use Rattle.label_list.specs.Word.{within, withoutProtection, onSide}
-use Rattle.label_list.proofs.Standing.{within-range}
+use Rattle.label_list.specs.Word.{withoutProtection, onSide}
 use Rattle.label_events.specs.declared.Touched.{Touched}
 use Rattle.label_events.specs.declared.Touched.the-variants.{Label, Every, Nothing}
 use Rattle.label_events.specs.Accept.{acceptedOf}
@@ -27,7 +26,7 @@ use Rattle.label_events.specs.Change.{codeAt}
 use Rattle.label_events.specs.Receive.{everyReceived, receivedWith, receivedOf}
 use Rattle.label_events.specs.Requests.{endedAt}
 use Rattle.label_events.proofs.Ended.{ended-code}
-use Rattle.label_meaning.specs.Event.{LabelEvent, Accepted, Acked, Received, Asked, Ended, Broken, afterEvent, Touches, named, every, Moves, given, withdrawn, released, returned, withdraw-acked, release-acked, taken, taken-again, taken-bare, asked-back, bare-withdrawn, given-back, withdrawn-back, bare-lost}
+use Rattle.label_meaning.specs.Event.{LabelEvent, Accepted, Acked, Received, Asked, Ended, Broken, afterEvent, Touches, named, every, Moves, given, withdrawn, released, returned, withdraw-acked, release-acked, taken, taken-again, taken-bare, asked-back, bare-withdrawn, given-back, withdrawn-back, bare-lost, back-acked, acked-back}
 use Rattle.label_meaning.specs.Life.{Moved}
 use Rattle.label_meaning.specs.Valid.{IsValid}
 use Rattle.label_meaning.specs.View.{Effect}
@@ -81,7 +80,11 @@ accepted-move Release k c n e =
 acked-move : (m : LabelMessage) (k c : ℕ) → Move (Acked m k) (sentSide m) k c (codeAcked m c)
 unfolding codeAcked sentSide
 acked-move Mapping k c = inl refl
-acked-move Withdraw k c = by-test (eqb c 2) (λ p. let two : c ≡ 2 = eqb-true c 2 p in inr (rw two withdraw-acked)) (λ p. inl (rw p))
+acked-move Withdraw k c =
+    by-test
+    (eqb c 2)
+    (λ p. let two : c ≡ 2 = eqb-true c 2 p in inr (rw two withdraw-acked))
+    (λ p. by-test (eqb c 9) (λ q. let nine : c ≡ 9 = eqb-true c 9 q in inr (rw nine back-acked)) (λ q. inl (rw (p, q))))
 acked-move Release k c = by-test (eqb c 5) (λ p. let five : c ≡ 5 = eqb-true c 5 p in inr (rw five release-acked)) (λ p. inl (rw p))
 
 mapping-move : (r : Found) (p : Bool) (k c : ℕ) → Move (Received r Mapping p (Label k)) Used k c (codeReceived Mapping p c)
@@ -113,17 +116,15 @@ module _ (s : Side) (k c : ℕ) (proper : Proper s c) where
   unfolding codeReceived onSide
   release-move r p q t touches =
       by-test
-      (within 1 2 c)
-      (λ z.
-      let range : (1 ≤ c) × (c ≤ 2) = within-range 1 2 c z in
-      by-test
       (eqb c 1)
-      (λ y. let one : c ≡ 1 = eqb-true c 1 y in inr (rw (proper-side s Given c proper (rw one), one) (given-back touches)))
-      (λ y.
-      let apart : c ≢ 1 = eqb-false c 1 y in
-      let two : c ≡ 2 = omega arith in
-      inr (rw (proper-side s Given c proper (rw two), two) (withdrawn-back touches))))
-      (λ z. inl (rw z))
+      (λ z. let one : c ≡ 1 = eqb-true c 1 z in inr (rw (proper-side s Given c proper (rw one), one) (given-back touches)))
+      (λ z. by-test
+      (eqb c 2)
+      (λ y. let two : c ≡ 2 = eqb-true c 2 y in inr (rw (proper-side s Given c proper (rw two), two) (withdrawn-back touches)))
+      (λ y. by-test
+      (eqb c 8)
+      (λ x. let eight : c ≡ 8 = eqb-true c 8 x in inr (rw (proper-side s Given c proper (rw eight), eight) (acked-back touches)))
+      (λ x. inl (rw (z, y, x)))))
 
   break-move : Move Broken s k c (codeSwept AfterBreak c)
   unfolding codeSwept onSide

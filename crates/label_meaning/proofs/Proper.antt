@@ -15,7 +15,7 @@ use Rattle.label_list.specs.declared.Side.the-variants.{Given, Used}
 use Rattle.label_list.specs.declared.SweepRule.{SweepRule}
 use Rattle.label_list.specs.declared.SweepRule.the-variants.{WithdrawAll, ReleaseAll, AfterBreak}
 use Rattle.label_list.specs.Rules.{sentSide, receivedSide, codeAccepted, codeAcked, codeReceived, codeSwept}
-use Rattle.label_list.specs.Word.{within, withoutProtection, onSide}
+use Rattle.label_list.specs.Word.{withoutProtection, onSide}
 use Rattle.label_list.proofs.Standing.{side-listed, one-side}
 
 -- A code that a label can have on a side: 0, absent, or one of the side.
@@ -40,15 +40,20 @@ pub accepted-proper : (m : LabelMessage) (c n : ℕ) → codeAccepted m c ≡ Co
 accepted-proper m c n e = rw e at (next-proper m c)
 
 pub acked-proper : (m : LabelMessage) (c : ℕ) → Proper (sentSide m) c → Proper (sentSide m) (codeAcked m c)
-unfolding codeAcked
+unfolding codeAcked sentSide onSide
 acked-proper Mapping c h = h
-acked-proper Withdraw c h = pick-all (Proper (sentSide Withdraw)) (eqb c 2) (inl refl) h
+acked-proper Withdraw c h = pick-all (Proper (sentSide Withdraw)) (eqb c 2) (inr refl) (pick-all (Proper (sentSide Withdraw)) (eqb c 9) (inl refl) h)
 acked-proper Release c h = pick-all (Proper (sentSide Release)) (eqb c 5) (inl refl) h
 
 -- code 4 is of the side of code 3
 four-proper : (s : Side) → Proper s 3 → Proper s 4
 unfolding onSide
 four-proper s h = rw (proper-side s Used 3 h refl) (inr refl)
+
+-- and code 9 of that of code 2
+nine-proper : (s : Side) → Proper s 2 → Proper s 9
+unfolding onSide
+nine-proper s h = rw (proper-side s Given 2 h refl) (inr refl)
 
 withdraw-proper : (p : Bool) (s : Side) (c : ℕ) → Proper s c → Proper s (codeReceived Withdraw p c)
 unfolding codeReceived
@@ -60,7 +65,14 @@ withdraw-proper p s c h =
 
 release-proper : (p : Bool) (s : Side) (c : ℕ) → Proper s c → Proper s (codeReceived Release p c)
 unfolding codeReceived
-release-proper p s c h = pick-all (Proper s) (within 1 2 c) (inl refl) h
+release-proper p s c h =
+    by-test
+    (eqb c 1)
+    (λ e. rw e (inl refl))
+    (λ e. by-test
+    (eqb c 2)
+    (λ f. let two : c ≡ 2 = eqb-true c 2 f in rw (e, f) (nine-proper s (rw two at h)))
+    (λ f. rw (e, f) (pick-all (Proper s) (eqb c 8) (inl refl) h)))
 
 pub received-proper : (m : LabelMessage) (p : Bool) (c : ℕ) → Proper (receivedSide m) c → Proper (receivedSide m) (codeReceived m p c)
 unfolding codeReceived receivedSide onSide

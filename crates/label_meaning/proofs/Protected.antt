@@ -26,7 +26,7 @@ use Rattle.label_events.specs.declared.Touched.{Touched}
 use Rattle.label_events.specs.declared.Touched.the-variants.{Label, Every, Nothing}
 use Rattle.label_events.specs.Change.{codeAt}
 use Rattle.label_events.specs.Protect.{protectionOf}
-use Rattle.label_meaning.specs.Event.{Received, afterEvent, Touches, named, every, Moves, taken-bare, asked-back, bare-withdrawn, given-back, withdrawn-back}
+use Rattle.label_meaning.specs.Event.{Received, afterEvent, Touches, named, every, Moves, taken-bare, asked-back, bare-withdrawn, given-back, withdrawn-back, acked-back}
 use Rattle.label_meaning.specs.Protected.{TouchesProtected}
 use Rattle.label_meaning.specs.Valid.{IsValid}
 use Rattle.label_meaning.specs.View.{CodeIs, listed, absent}
@@ -62,6 +62,7 @@ no-move words e there kept right (asked-back {k = k} touches) = right-missing ri
 no-move words e there kept right (bare-withdrawn touches) = kept refl
 no-move words e there kept right (given-back {k = k} touches) = right-missing right (touched-missing words Release _ k touches (rw e))
 no-move words e there kept right (withdrawn-back {k = k} touches) = right-missing right (touched-missing words Release _ k touches (rw e))
+no-move words e there kept right (acked-back {k = k} touches) = right-missing right (touched-missing words Release _ k touches (rw e))
 
 -- Protection is missing exactly if the message touches such a label.
 record Passed (test : ℕ → Bool) (words : List ℕ) : Type 0 where

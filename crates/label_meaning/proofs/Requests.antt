@@ -2,14 +2,14 @@
 use Prim.Native.Nat.{ℕ, _+_, _*_, _≤_, _<_}
 use mathlib.Core.Bool.{Bool, true, false, true≢false, false≢true}
 use mathlib.Core.List.{List}
-use mathlib.Core.Logic.{_≢_, _⊎_, inl, inr, ⊎-elim}
+use mathlib.Core.Logic.{_≢_, inr, ⊎-elim}
 use mathlib.Core.Path.{_≡_, refl, sym, _∙_}
 use native.Mathlib.Omega.{arith}
 use lib.Dec.{eqb}
 use lib.ListN.{length, getD, set}
 use lib.Seq.{getD-set-same}
-use borrow.Author.Tests.{eqb-true, eq-eqb, ne-eqb}
-use Rattle.octets.proofs.Choice.{by-test, pick-all, below-or-not, no}
+use borrow.Author.Tests.{eqb-true, eq-eqb, ne-eqb, eqb-false}
+use Rattle.octets.proofs.Choice.{by-test, pick-all, no}
 use Rattle.label_list.specs.declared.Found.{Found}
 use Rattle.label_list.specs.declared.Found.the-variants.{At, Nowhere}
 use Rattle.label_list.specs.declared.LabelMessage.{LabelMessage}
@@ -22,10 +22,10 @@ use Rattle.label_list.specs.declared.SweepRule.the-variants.{WithdrawAll, Relea
 use Rattle.label_list.specs.Find.{findOf}
 use Rattle.label_list.specs.Rules.{sentSide, receivedSide, codeAccepted, codeAcked, codeReceived, codeSwept}
 use Rattle.label_list.specs.Sweep.{wordSwept, sweptOf}
-use Rattle.label_list.specs.Word.{labelCount, labelOf, codeOf, wordOf, isFree, onSide, requestWord, isRequest, withoutProtection, within, listable, standsFor}
+use Rattle.label_list.specs.Word.{labelCount, labelOf, codeOf, wordOf, isFree, onSide, requestWord, isRequest, withoutProtection, listable, standsFor, requestCode}
 use Rattle.label_list.proofs.OpenIds.{request-inside}
 use Rattle.label_list.proofs.Reached.{found-in, found-place, found-passes}
-use Rattle.label_list.proofs.Standing.{within-range, off-high, stands-parts, request-stands, request-word}
+use Rattle.label_list.proofs.Standing.{within-range, stands-parts, request-stands, request-word, side-plain}
 use Rattle.label_events.specs.declared.Touched.{Touched}
 use Rattle.label_events.specs.declared.Touched.the-variants.{Label, Every, Nothing}
 use Rattle.label_events.specs.Accept.{planBy, planOf, acceptedBy, acceptedOf}
@@ -65,19 +65,12 @@ module _ (w : ℕ) where
   stands-plain s l e =
       by-test (isRequest w) (λ t. absurd (true≢false (sym e ∙ request-stands s l w (request-word w t)))) (λ f. f)
 
-proper-low : (s : Side) (c : ℕ) → Proper s c → c ≤ 6
-proper-low s c =
-    ⊎-elim
-    (λ (z : c ≡ 0). omega arith)
-    (λ (on : onSide s c ≡ true).
-    ⊎-elim
-    (λ (high : 6 < c). absurd (true≢false (sym on ∙ sym (off-high s c high))))
-    (λ (low : c ≤ 6). low)
-    (below-or-not 6 c))
+proper-plain : (s : Side) (c : ℕ) → Proper s c → c ≢ requestCode
+proper-plain s c h = ⊎-elim (λ (z : c ≡ 0). λ e. omega arith) (λ (on : onSide s c ≡ true). side-plain s c on) h
 
-written-plain : (l c : ℕ) → l < labelCount → c ≤ 6 → isRequest (wordOf l c) ≡ false
+written-plain : (l c : ℕ) → l < labelCount → c ≢ requestCode → isRequest (wordOf l c) ≡ false
 unfolding isRequest wordOf
-written-plain l c h k = by-test (eqb c 0) (λ z. rw z) (λ z. rw z (ne-eqb (l + labelCount * c) requestWord (λ e. omega arith)))
+written-plain l c h plain = by-test (eqb c 0) (λ z. rw z) (λ z. rw z (ne-eqb (l + labelCount * c) requestWord (λ e. omega arith)))
 
 -- ---- one word is another, a Request's neither before nor afterwards
 set-requests : (words : List ℕ) (i w : ℕ) → i < length words → isRequest (getD words i 0) ≡ false → isRequest w ≡ false → RequestsStay words (set words i w) Nowhere
@@ -87,15 +80,15 @@ set-requests words i w inside was new =
       still = λ j apart t. at-index words i w inside (λ (x : ℕ). isRequest x ≡ true) j (λ e. absurd (true≢false (sym (rw e at t) ∙ was))) (λ e. t);
     }
 
-module _ (words : List ℕ) (s : Side) (l c : ℕ) (small : l < labelCount) (low : c ≤ 6) where
+module _ (words : List ℕ) (s : Side) (l c : ℕ) (small : l < labelCount) (plain : c ≢ requestCode) where
   found-requests : (i : ℕ) → At i ≡ findOf (standsFor s l) words → RequestsStay words (set words i (wordOf l c)) Nowhere
   found-requests i e =
       set-requests words i (wordOf l c) (found-place words (At i) i (found-in (standsFor s l) words e) refl)
-      (stands-plain (getD words i 0) s l (found-passes (standsFor s l) words i e refl)) (written-plain l c small low)
+      (stands-plain (getD words i 0) s l (found-passes (standsFor s l) words i e refl)) (written-plain l c small plain)
 
   free-requests : (room : Found) → FreeAt words room → RequestsStay words (changed words (takeFree room (wordOf l c))) Nowhere
   unfolding changed
-  free-requests (At j) free = set-requests words j (wordOf l c) (free .0) (free-plain (getD words j 0) (free .1)) (written-plain l c small low)
+  free-requests (At j) free = set-requests words j (wordOf l c) (free .0) (free-plain (getD words j 0) (free .1)) (written-plain l c small plain)
   free-requests Nowhere free = same-requests words Nowhere
 
   change-requests : (f room : Found) → f ≡ findOf (standsFor s l) words → FreeAt words room → RequestsStay words (changed words (changeAt f room l c)) Nowhere
@@ -105,11 +98,16 @@ module _ (words : List ℕ) (s : Side) (l c : ℕ) (small : l < labelCount) (low
       by-test (eqb c 0) (λ z. rw z (same-requests words Nowhere)) (λ z. rw z (free-requests room free))
 
 -- ---- a sweep leaves a Request's word, and makes none
-rule-keeps : (r : SweepRule) (c : ℕ) → (codeSwept r c ≤ 4) ⊎ (codeSwept r c ≡ c)
+abbrev WasRequest : ℕ → ℕ → Type 0
+WasRequest c d = d ≡ requestCode → c ≡ requestCode
+
+rule-keeps : (r : SweepRule) (c : ℕ) → WasRequest c (codeSwept r c)
 unfolding codeSwept codeReceived
-rule-keeps WithdrawAll c = pick-all (λ (x : ℕ). (x ≤ 4) ⊎ (x ≡ c)) (eqb c 3) (inl (omega arith)) (pick-all (λ (x : ℕ). (x ≤ 4) ⊎ (x ≡ c)) (eqb c withoutProtection) (inl (omega arith)) (inr refl))
-rule-keeps ReleaseAll c = pick-all (λ (x : ℕ). (x ≤ 4) ⊎ (x ≡ c)) (within 1 2 c) (inl (omega arith)) (inr refl)
-rule-keeps AfterBreak c = pick-all (λ (x : ℕ). (x ≤ 4) ⊎ (x ≡ c)) (eqb c withoutProtection) (inl (omega arith)) (inr refl)
+rule-keeps WithdrawAll c = pick-all (WasRequest c) (eqb c 3) (λ e. omega arith) (pick-all (WasRequest c) (eqb c withoutProtection) (λ e. omega arith) (λ e. e))
+rule-keeps ReleaseAll c =
+    pick-all (WasRequest c) (eqb c 1) (λ e. omega arith)
+    (pick-all (WasRequest c) (eqb c 2) (λ e. omega arith) (pick-all (WasRequest c) (eqb c 8) (λ e. omega arith) (λ e. e)))
+rule-keeps AfterBreak c = pick-all (WasRequest c) (eqb c withoutProtection) (λ e. omega arith) (λ e. e)
 
 own-word : (w : ℕ) → isRequest (wordOf (labelOf w) (codeOf w)) ≡ true → isRequest w ≡ true
 unfolding isRequest wordOf
@@ -122,10 +120,12 @@ own-word w t =
 swept-old : (r : SweepRule) (w : ℕ) → isRequest (wordSwept r w) ≡ true → isRequest w ≡ true
 unfolding wordSwept
 swept-old r w t =
-    ⊎-elim
-    (λ (low : codeSwept r (codeOf w) ≤ 4). absurd (true≢false (sym t ∙ written-plain (labelOf w) (codeSwept r (codeOf w)) (omega arith) (omega arith))))
-    (λ (same : codeSwept r (codeOf w) ≡ codeOf w). own-word w (rw same at t))
-    (rule-keeps r (codeOf w))
+    by-test
+    (eqb (codeSwept r (codeOf w)) requestCode)
+    (λ e.
+    let seven : codeSwept r (codeOf w) ≡ requestCode = eqb-true (codeSwept r (codeOf w)) requestCode e in
+    own-word w (rw (seven, ← rule-keeps r (codeOf w) seven) at t))
+    (λ e. absurd (true≢false (sym t ∙ written-plain (labelOf w) (codeSwept r (codeOf w)) (omega arith) (eqb-false (codeSwept r (codeOf w)) requestCode e))))
 
 pub request-itself : isRequest requestWord ≡ true
 unfolding isRequest
@@ -143,7 +143,7 @@ module _ (words : List ℕ) where
   next-requests : (m : LabelMessage) (l : ℕ) (n : Next) → l < labelCount → codeAccepted m (codeAt words (sentSide m) l) ≡ n
       → RequestsStay words (acceptedBy words (planBy n words (sentSide m) l) .1) Nowhere
   next-requests m l (Code c) small e =
-      change-requests words (sentSide m) l c small (proper-low (sentSide m) c (accepted-proper m (codeAt words (sentSide m) l) c e))
+      change-requests words (sentSide m) l c small (proper-plain (sentSide m) c (accepted-proper m (codeAt words (sentSide m) l) c e))
       (findOf (standsFor (sentSide m) l) words) (findOf isFree words) refl (free-first words (findOf isFree words) refl)
   next-requests m l NotAllowed small e = same-requests words Nowhere
 
@@ -163,7 +163,7 @@ module _ (words : List ℕ) where
       let parts : (onSide (sentSide m) (codeOf (getD words i 0)) ≡ true) × (labelOf (getD words i 0) ≡ l) =
       stands-parts (sentSide m) l (getD words i 0) (found-passes (standsFor (sentSide m) l) words i e refl) in
       let c : ℕ = codeAcked m (codeOf (getD words i 0)) in
-      found-requests words (sentSide m) l c (omega (arith, parts .1)) (proper-low (sentSide m) c (acked-proper m (codeOf (getD words i 0)) (inr (parts .0)))) i e
+      found-requests words (sentSide m) l c (omega (arith, parts .1)) (proper-plain (sentSide m) c (acked-proper m (codeOf (getD words i 0)) (inr (parts .0)))) i e
   acked-requests m l Nowhere e = same-requests words Nowhere
 
   every-requests : (m : LabelMessage) → RequestsStay words (everyReceived m words) Nowhere
@@ -182,7 +182,7 @@ module _ (words : List ℕ) where
       let range : (16 ≤ l) × (l ≤ 1048575) = within-range 16 1048575 l may in
       rw may
       (change-requests words (receivedSide m) l c (omega arith)
-      (proper-low (receivedSide m) c (received-proper m p (codeAt words (receivedSide m) l) (code-proper words (receivedSide m) l)))
+      (proper-plain (receivedSide m) c (received-proper m p (codeAt words (receivedSide m) l) (code-proper words (receivedSide m) l)))
       (findOf (standsFor (receivedSide m) l) words) room refl free))
       (λ may. rw may (same-requests words Nowhere))
   with-requests room free m p Every = every-requests m

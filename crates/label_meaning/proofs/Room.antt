@@ -36,7 +36,7 @@ use Rattle.label_events.specs.Receive.{receivedChange, receptionOf, receivedWit
 use Rattle.label_events.specs.Requests.{askedChange, endedAt, roomAt}
 use Rattle.label_events.proofs.Planned.{change-full}
 use Rattle.label_events.proofs.Received.{received-same}
-use Rattle.label_meaning.specs.Event.{LabelEvent, Accepted, Acked, Received, Asked, Ended, Broken, afterEvent, Moves, given, withdrawn, released, returned, withdraw-acked, release-acked, taken, taken-again, taken-bare, asked-back, bare-withdrawn, given-back, withdrawn-back, bare-lost}
+use Rattle.label_meaning.specs.Event.{LabelEvent, Accepted, Acked, Received, Asked, Ended, Broken, afterEvent, Moves, given, withdrawn, released, returned, withdraw-acked, back-acked, release-acked, taken, taken-again, taken-bare, asked-back, bare-withdrawn, given-back, withdrawn-back, acked-back, bare-lost}
 use Rattle.label_meaning.specs.Room.{NeedsWord, NoneFree, NoneOpen, LacksRoom, sent, asked, received, NoRoomAnswered, FirstTaken, EndsNone}
 use Rattle.label_meaning.proofs.Effect.{free-word}
 
@@ -236,6 +236,7 @@ module _ (words : List ℕ) where
   from-absent z released needs closed = absurd (omega arith)
   from-absent z returned needs closed = absurd (omega arith)
   from-absent z withdraw-acked needs closed = absurd (omega arith)
+  from-absent z back-acked needs closed = absurd (omega arith)
   from-absent z release-acked needs closed = absurd (omega arith)
   from-absent z (taken {k} {r}) needs closed = received-takes r true k 3 refl needs closed
   from-absent z taken-again needs closed = absurd (omega arith)
@@ -244,6 +245,7 @@ module _ (words : List ℕ) where
   from-absent z (bare-withdrawn touches) needs closed = absurd (omega arith)
   from-absent z (given-back touches) needs closed = absurd (omega arith)
   from-absent z (withdrawn-back touches) needs closed = absurd (omega arith)
+  from-absent z (acked-back touches) needs closed = absurd (omega arith)
   from-absent z bare-lost needs closed = absurd (omega arith)
 
   -- each move from absent (to 1, 3, 6) that ends no Request takes place in the first free word, all others as they were, or is answered 13 or 21
@@ -283,6 +285,7 @@ module _ (words : List ℕ) where
     from-answer z (bare-withdrawn touches) needs = absurd (omega arith)
     from-answer z (given-back touches) needs = absurd (omega arith)
     from-answer z (withdrawn-back touches) needs = absurd (omega arith)
+    from-answer z (acked-back touches) needs = absurd (omega arith)
 
     pub answer-takes : {m : LabelMessage} {p : Bool} {t : Touched} {s : Side} {k d : ℕ} → Moves (Received (At i) m p t) s k 0 d → NeedsWord words s k
         → afterEvent words (Received (At i) m p t) ≡ set words i (k + labelCount * d)

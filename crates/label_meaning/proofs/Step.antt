@@ -7,7 +7,7 @@ use mathlib.Core.Path.{_≡_, refl, sym}
 use native.Mathlib.Omega.{arith}
 use lib.ListN.{length, getD, set, length-set}
 use lib.Seq.{getD-set-same}
-use Rattle.octets.proofs.Choice.{by-test}
+use Rattle.octets.proofs.Choice.{by-test, no}
 use Rattle.label_list.specs.declared.Found.{Found}
 use Rattle.label_list.specs.declared.Found.the-variants.{At, Nowhere}
 use Rattle.label_list.specs.declared.LabelMessage.{LabelMessage}
@@ -23,11 +23,12 @@ use Rattle.label_list.specs.Word.{labelCount, labelOf, codeOf, wordOf, isFree, 
 use Rattle.label_list.proofs.OpenIds.{request-inside}
 use Rattle.label_list.proofs.Reached.{found-passes}
 use Rattle.label_list.proofs.Standing.{within-in, within-range, stands-parts}
+use Rattle.label_events.specs.declared.Acceptance.{Acceptance}
 use Rattle.label_events.specs.declared.Change.{Change}
 use Rattle.label_events.specs.declared.Change.the-variants.{Keep, Put, NoRoom}
 use Rattle.label_events.specs.declared.Touched.{Touched}
 use Rattle.label_events.specs.declared.Touched.the-variants.{Label, Every, Nothing}
-use Rattle.label_events.specs.Accept.{planBy, planOf, acceptedBy, acceptedOf}
+use Rattle.label_events.specs.Accept.{planBy, planOf, acceptedBy, acceptanceOf, acceptedOf}
 use Rattle.label_events.specs.Ack.{ackedAt, ackedOf}
 use Rattle.label_events.specs.Change.{codeIn, codeAt, changeAt, changeWith, changed, changeOf}
 use Rattle.label_events.specs.Receive.{receivedChange, everyReceived, receivedWith, receivedOf}
@@ -54,6 +55,11 @@ room : (x : Change) → (x ≡ NoRoom) ⊎ (x ≢ NoRoom)
 room Keep = inr (λ e. let z : _≡_ {A = ℕ} 0 1 = cc in omega arith)
 room (Put i w) = inr (λ e. let z : _≡_ {A = ℕ} 0 1 = cc in omega arith)
 room NoRoom = inl refl
+
+has-room : (x : Change) → acceptanceOf x ≡ Acceptance.Taken → x ≢ NoRoom
+has-room Keep e z = no cc
+has-room (Put i w) e z = no cc
+has-room NoRoom e z = no cc
 
 -- A message of ours that is allowed, with room for it.
 pub record Accepts (words : List ℕ) (m : LabelMessage) (l : ℕ) (after : List ℕ) : Type 0 where
@@ -91,6 +97,27 @@ module _ (words : List ℕ) (v : IsValid words) where
         (listable l)
         (λ may. rw may (next-outcome may (codeAccepted m (codeAt words (sentSide m) l)) refl))
         (λ may. inl (rw may))
+
+    -- where it is taken its code is what the rule says
+    next-taken : listable l ≡ true → (n : Next) → codeAccepted m (codeAt words (sentSide m) l) ≡ n → acceptedBy words (planBy n words (sentSide m) l) .0 ≡ Acceptance.Taken
+        → Accepts words m l (acceptedBy words (planBy n words (sentSide m) l) .1)
+    next-taken may (Code c) e taken =
+        let range : (16 ≤ l) × (l ≤ 1048575) = within-range 16 1048575 l may in
+        let first : Found = findOf isFree words in
+        record {
+          code = c;
+          rule = e;
+          effect = change-effect words v (sentSide m) l c (range .0) (omega arith) (accepted-proper m (codeAt words (sentSide m) l) c e) first (free-first words first refl) (has-room (changeOf words (sentSide m) l c) taken);
+        }
+    next-taken may NotAllowed e taken = no cc
+
+    pub accepted-taken : acceptedOf words m l .0 ≡ Acceptance.Taken → Accepts words m l (acceptedOf words m l .1)
+    unfolding acceptedOf planOf
+    accepted-taken taken =
+        by-test
+        (listable l)
+        (λ may. rw may (next-taken may (codeAccepted m (codeAt words (sentSide m) l)) refl (rw may at taken)))
+        (λ may. no (cc (rw may at taken)))
 
   -- a label that is listed may be listed, and its change needs no free word
   listed-label : (s : Side) (l i : ℕ) → standsFor s l (getD words i 0) ≡ true → (16 ≤ l) × (l < labelCount)

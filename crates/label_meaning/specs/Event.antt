@@ -1,4 +1,4 @@
--- The events of the label list, the list after each, and the moves of a label's code that 01 names.
+-- The events of the label list, the list after each, and the moves of a label's code that 01 and 02 name.
 use Prim.Native.Nat.{ℕ}
 use mathlib.Core.Bool.{Bool, true, false}
 use mathlib.Core.List.{List}
@@ -48,8 +48,9 @@ pub data Moves : LabelEvent → Side → ℕ → ℕ → ℕ → Type 0 where
   withdrawn : {k : ℕ} → Moves (Accepted Withdraw k) Given k 1 2
   released : {k : ℕ} → Moves (Accepted Release k) Used k 3 5
   returned : {k : ℕ} → Moves (Accepted Release k) Used k 4 0
-  -- "Released by ACK: Withdraw 2 becomes free; Release 5 becomes free"
-  withdraw-acked : {k : ℕ} → Moves (Acked Withdraw k) Given k 2 0
+  -- "Released by ACK: .. Release 5 becomes free"; 02: "Free a withdrawn label at the second of Release and ACK": of a Withdraw 2 becomes 8, 9 becomes free
+  withdraw-acked : {k : ℕ} → Moves (Acked Withdraw k) Given k 2 8
+  back-acked : {k : ℕ} → Moves (Acked Withdraw k) Given k 9 0
   release-acked : {k : ℕ} → Moves (Acked Release k) Used k 5 0
   -- "Received: Mapping protected, absent or 3 or 5 becomes 3 ..; unprotected, absent becomes 6"
   taken : {k : ℕ} {r : Found} → Moves (Received r Mapping true (Label k)) Used k 0 3
@@ -58,8 +59,9 @@ pub data Moves : LabelEvent → Side → ℕ → ℕ → ℕ → Type 0 where
   -- "Withdraw: 3 becomes 4; .. 6 becomes free"
   asked-back : {p : Bool} {t : Touched} {k : ℕ} {r : Found} → Touches t k → Moves (Received r Withdraw p t) Used k 3 4
   bare-withdrawn : {p : Bool} {t : Touched} {k : ℕ} {r : Found} → Touches t k → Moves (Received r Withdraw p t) Used k withoutProtection 0
-  -- "Release: 1, 2 become free"
+  -- 02: "A Release at code 1 still frees it"; 2 becomes 9, 8 becomes free
   given-back : {p : Bool} {t : Touched} {k : ℕ} {r : Found} → Touches t k → Moves (Received r Release p t) Given k 1 0
-  withdrawn-back : {p : Bool} {t : Touched} {k : ℕ} {r : Found} → Touches t k → Moves (Received r Release p t) Given k 2 0
+  withdrawn-back : {p : Bool} {t : Touched} {k : ℕ} {r : Found} → Touches t k → Moves (Received r Release p t) Given k 2 9
+  acked-back : {p : Bool} {t : Touched} {k : ℕ} {r : Found} → Touches t k → Moves (Received r Release p t) Given k 8 0
   -- "code 6 words are freed"
   bare-lost : {k : ℕ} → Moves Broken Used k withoutProtection 0

@@ -3,6 +3,8 @@ pub mod View
 pub mod Event
 pub mod Keep
 pub mod Life
+pub mod Withdrawal
+pub mod Earlier
 pub mod Protected
 pub mod Room
 pub mod Requests

@@ -17,5 +17,5 @@ pub record WordInRange (w : ℕ) : Type 0 where
 pub record IsValid (words : List ℕ) : Type 0 where
   -- "0 is free, and no other word has code 0"; 02: an open Request's word has no label
   pub each : (i : ℕ) → getD words i 0 ≢ 0 → (getD words i 0 ≡ requestWord) ⊎ WordInRange (getD words i 0)
-  -- "A label stands once among codes 1-2 and once among 3-6": two words that list one label on one side are one word
+  -- 01: "A label stands once among codes 1-2 and once among 3-6"; 02: 8 and 9 are of the first. Two words that list one label on one side are one word
   pub once : (side : Side) (label i j : ℕ) → standsFor side label (getD words i 0) ≡ true → standsFor side label (getD words j 0) ≡ true → i ≡ j

@@ -150,7 +150,7 @@ fn fill(words: &mut [u32], full: bool)
 
 // Lists label 16 in the first word; code 0 leaves it absent, code 7 is an open Request.
 fn list(words: &mut [u32], code: u32)
-    requires { ⌜ (length (now words) ≡ wordCount) × (code < 8) ⌝ }
+    requires { ⌜ (length (now words) ≡ wordCount) × (code < 10) ⌝ }
 {
     if code == 0 {
         return;
@@ -163,7 +163,7 @@ fn list(words: &mut [u32], code: u32)
 }
 
 fn cell(event: Event, code: u32, full: bool)
-    requires { ⌜ code < 8 ⌝ }
+    requires { ⌜ code < 10 ⌝ }
 {
     let mut words = [0u32; WORD_COUNT];
     fill(&mut words, full);
@@ -177,10 +177,10 @@ fn cell(event: Event, code: u32, full: bool)
     number(words[1] / LABEL_COUNT);
 }
 
-// A cell for each code, from 0 for a label that is absent to 7 for an open Request.
+// A cell for each code: 0 for a label that is absent, 7 for an open Request.
 fn row(event: Event, full: bool) {
     let mut code: u32 = 0;
-    while code < 8 {
+    while code < 10 {
         cell(event, code, full);
         code += 1;
     }

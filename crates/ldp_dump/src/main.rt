@@ -1,4 +1,10 @@
-// Prints the messages of a stream of LDP PDUs on standard input, a line for each (docs/LDP_DUMP.md).
+// Prints the messages of a stream of LDP PDUs, on standard input or in the file that is named, a line for each (docs/LDP_DUMP.md).
 fn main() {
-    dump::stream::dump_stream(libc::STDIN_FILENO);
+    let fd = arguments::input(
+        b"usage: ldp_dump [FILE]   prints the messages of a stream of LDP PDUs, a line each; without FILE it reads standard input\n",
+    );
+    if fd < 0 {
+        return;
+    }
+    dump::stream::dump_stream(fd);
 }

@@ -1,7 +1,7 @@
 -- A label word of an image. Assumes nothing.
 use Prim.Native.Nat.{ℕ, _≤_, _<_}
 use mathlib.Core.List.{List}
-use mathlib.Core.Path.{_≡_, refl, sym, _∙_}
+use mathlib.Core.Path.{_≡_, refl, _∙_}
 use lib.ListN.{length, getD}
 use borrow.Author.Tests.{lt-ltb, le-ltb}
 use Rattle.label_list.specs.Word.{wordCount}
@@ -9,7 +9,7 @@ use Rattle.image.specs.declared.Verdict.{Verdict}
 use Rattle.image.specs.Sizes.{imageSize}
 use Rattle.image.specs.State.{decode}
 use Rattle.image.specs.Verdict.{verdict, verdictNumber}
-use Rattle.image.proofs.Scans.{number-sound}
+use Rattle.image.proofs.Scans.{number-passes}
 use Rattle.image.proofs.Sound.{sound-parts}
 use Rattle.ldp_ft.specs.Numbers.{refusedNumber, labelBy, labelAt}
 
@@ -25,16 +25,13 @@ module _ (im : List ℕ) (place : ℕ) {v : Verdict} {n : ℕ} (ev : v ≡ verdi
   unfolding labelAt
   label-refused h = rw (← ev) (refused-by v (decode im .labels) place (λ e. h (en ∙ e)))
 
-  passes : n ≡ 0 → verdict im ≡ Verdict.Sound
-  passes z = sym ev ∙ number-sound v (sym en ∙ z)
-
   pub label-past : n ≡ 0 → wordCount ≤ place → refusedNumber ≡ labelAt im place
   unfolding labelAt
-  label-past z l = rw (passes z, le-ltb place wordCount l)
+  label-past z l = rw (number-passes im ev en z, le-ltb place wordCount l)
 
   pub label-size : n ≡ 0 → length im ≡ imageSize
-  label-size z = sound-parts im (passes z) .size
+  label-size z = sound-parts im (number-passes im ev en z) .size
 
   pub label-read : {w : ℕ} → n ≡ 0 → place < wordCount → w ≡ getD (decode im .labels) place 0 → w ≡ labelAt im place
   unfolding labelAt
-  label-read z l e = rw (passes z, lt-ltb place wordCount l) e
+  label-read z l e = rw (number-passes im ev en z, lt-ltb place wordCount l) e

@@ -23,9 +23,9 @@ use Rattle.protocol.specs.Calls.{Call, formats, restores, fails, opens, greets,
 use Rattle.protocol.specs.Judged.{judged, done}
 use Rattle.protocol.specs.KeepAlive.{aliveAck}
 use Rattle.protocol.specs.Open.{keptAck}
-use Rattle.protocol.specs.Phases.{isUpFT, sentOf}
+use Rattle.protocol.specs.Phases.{isUpFT}
 use Rattle.protocol.specs.Receive.{takenInFt, takenAs}
-use Rattle.protocol.specs.Send.{nextMessage, queueNumber, ackAsked, sendBytes, sendRule}
+use Rattle.protocol.specs.Send.{queueMessage, queueNumber, ackAsked, placeSent, sendBytes, sendRule}
 use Rattle.protocol.specs.State.{State}
 use Rattle.protocol.specs.Step.{Step, roomFor}
 use Rattle.protocol.specs.TimePassed.{expired}
@@ -58,12 +58,13 @@ taken-short s ph r = pick-all (λ (x : Step). length (x .output) ≤ longestWrit
 
 module _ (im : List ℕ) (ph : Phase) (sound : IsSound im) where
   -- a held message has 480 bytes at most, and two TLVs of 8 are added
-  sent-short : (ask : Bool) → Sendable (stateOf im) ph → length (sendBytes (stateOf im) (sentOf ph) ask) ≤ longestWritten
+  sent-short : (ask : Bool) → Sendable (stateOf im) ph → length (sendBytes (stateOf im) (placeSent (stateOf im) ph) ask) ≤ longestWritten
   unfolding sendBytes
   sent-short ask d =
-      let f = next-fits im (sentOf ph) sound (omega (arith, d .some, queue-length im)) refl in
-      let t : List ℕ = ftTlvs (queueNumber (stateOf im) (sentOf ph)) (ackAsked ask (stateOf im)) in
-      omega (arith, f, length-raised (nextMessage (stateOf im) (sentOf ph)) (f .0) t, ack-short (ackAsked ask (stateOf im)))
+      let place : ℕ = placeSent (stateOf im) ph in
+      let f = next-fits im place sound (omega (arith, d .place, queue-length im)) refl in
+      let t : List ℕ = ftTlvs (queueNumber (stateOf im) place) (ackAsked ask (stateOf im)) in
+      omega (arith, f, length-raised (queueMessage (stateOf im) place) (f .0) t, ack-short (ackAsked ask (stateOf im)))
 
   done-short : (c : Call) (room : ℕ) → judged c (stateOf im) ph room ≡ Answer.Done → length (done c (stateOf im) ph .output) ≤ longestWritten
   unfolding judged done
@@ -75,7 +76,7 @@ module _ (im : List ℕ) (ph : Phase) (sound : IsSound im) where
   done-short (passes elapsed) room e = pick-all (λ (x : Step). length (x .output) ≤ longestWritten) (expired (stateOf im) elapsed) (omega arith) (omega arith)
   done-short (submits m) room e = omega arith
   done-short (sends ask) room e =
-      let own = roomFor (sendBytes (stateOf im) (sentOf ph) ask) room in
+      let own = roomFor (sendBytes (stateOf im) (placeSent (stateOf im) ph) ask) room in
       sent-short ask (sendable (stateOf im) ph own (admitted-done (stateOf im) ph (sendRule (stateOf im) ph own) (ap isDone e)))
   done-short (keeps-alive id) room e = alive-short id (aliveAck ph (stateOf im .secured))
   done-short (receives m) room e = taken-short (stateOf im) ph (readingOf m)

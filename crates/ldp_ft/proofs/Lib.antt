@@ -8,4 +8,5 @@ pub mod Parts
 pub mod LabelWord
 pub mod Requests
 pub mod Extending
+pub mod Holdings
 pub mod Again

@@ -38,12 +38,12 @@ use Rattle.ldp_ft.proofs.Rules.{step-named}
 
 -- ---- how calls end
 -- nothing written, and no slot
-quiet : (a : Answer) (ph : Phase) (b : Bool) (f : ℕ) → Named a → Narrow (record { answer = a; phase = ph; written = 0; slot = 0; block0 = b; further = f })
-quiet a ph b f n = record { block = n; written = omega arith; slot = omega arith }
+quiet : (a : Answer) (ph : Phase) (b : Bool) (f l : ℕ) → Named a → Narrow (record { answer = a; phase = ph; written = 0; slot = 0; block0 = b; further = f; leftout = l })
+quiet a ph b f l n = record { block = n; written = omega arith; slot = omega arith }
 
 module _ (a : Answer) (ph : Phase) (im o : List ℕ) (n : Named a) where
   pub unchanged-narrow : Narrow (untouched a ph im o .outcome)
-  unchanged-narrow = quiet a ph _ _ n
+  unchanged-narrow = quiet a ph _ _ _ n
 
   settled-narrow : (d : After) → (isDone a ≡ true → Narrow (d .outcome)) → Narrow (settleOf a ph im o d .outcome)
   unfolding settleOf failedOn releasedOn
@@ -51,8 +51,8 @@ module _ (a : Answer) (ph : Phase) (im o : List ℕ) (n : Named a) where
     where
       by : (f : Effect) → effectOf a ≡ f → Narrow (leftBy f a ph im o d .outcome)
       by Effect.Nothing e = unchanged-narrow
-      by Effect.Fail e = quiet a _ _ _ n
-      by Effect.Release e = quiet a _ _ _ n
+      by Effect.Fail e = quiet a _ _ _ _ n
+      by Effect.Release e = quiet a _ _ _ _ n
       by Effect.Act e = by-test (isDone a) w (λ f. absurd (act-done a e f))
 
 -- a slot stands in one of the blocks 1 to 64
@@ -81,7 +81,7 @@ pub format-narrow : (im : List ℕ) → Narrow (formatOf im .outcome)
 unfolding formatOf
 format-narrow im =
     settled-narrow _ Phase.Idle im [] (pick-all Named (not (eqb (length im) imageSize)) none none) formatted
-    (λ t. quiet Answer.Done _ _ _ none)
+    (λ t. quiet Answer.Done _ _ _ _ none)
 
 pub restore-narrow : (im : List ℕ) → Narrow (restoreOf im .outcome)
 unfolding restoreOf step

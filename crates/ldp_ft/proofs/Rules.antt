@@ -18,7 +18,7 @@ use Rattle.protocol.specs.Judged.{judged}
 use Rattle.protocol.specs.KeepAlive.{aliveBytes}
 use Rattle.protocol.specs.Open.{openBytes}
 use Rattle.protocol.specs.Phases.{connected, waiting, mayOpen, awaits, isUp, isUpFT, sentOf, proposalOf}
-use Rattle.protocol.specs.Send.{sendBytes, sendRule}
+use Rattle.protocol.specs.Send.{sendBytes, sendRule, placeSent}
 use Rattle.protocol.specs.State.{State, held}
 use Rattle.protocol.specs.Step.{whereOpen, roomFor}
 use Rattle.protocol.specs.SubmitCases.{SubmitCase, not-kept, too-short, too-long, malformed-submission, not-sent, still-held, code-forbids, stopped, outside, no-free-word, store-full, queues}
@@ -88,7 +88,7 @@ judged-named (opens id own proposal) s ph room = admitted-named s ph _ (may-name
 judged-named (greets m) s ph room = admitted-named s ph _ (may-named (awaits ph) _ (start-named (start-cases s (proposalOf ph) (readingOf m))))
 judged-named (passes elapsed) s ph room = admitted-named s ph _ (may-named (waiting ph) Answer.Done none)
 judged-named (submits m) s ph room = admitted-named s ph _ (submit-named (submit-cases s ph m))
-judged-named (sends ask) s ph room = admitted-named s ph _ (send-named s ph _ (room-named (sendBytes s (sentOf ph) ask) room))
+judged-named (sends ask) s ph room = admitted-named s ph _ (send-named s ph _ (room-named (sendBytes s (placeSent s ph) ask) room))
 judged-named (keeps-alive id) s ph room = admitted-named s ph _ (may-named (isUp ph) _ (room-named (aliveBytes s ph id) room))
 judged-named (receives m) s ph room = admitted-named s ph _ (receive-named (cases s ph (readingOf m)))
 

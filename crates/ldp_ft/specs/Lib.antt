@@ -3,3 +3,4 @@ pub mod Outcome
 pub mod Opening
 pub mod Reading
 pub mod Numbers
+pub mod Contents

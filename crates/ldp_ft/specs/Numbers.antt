@@ -1,4 +1,4 @@
--- Distances, checks, label words, open Requests and an extended image as numbers.
+-- Distances, the next number, checks, label words, open Requests and an extended image as numbers.
 use Prim.Native.Nat.{ℕ}
 use mathlib.Core.Bool.{not}
 use mathlib.Core.List.{List}
@@ -8,7 +8,9 @@ use lib.ListN.{getD}
 use Rattle.octets.specs.Pick.{pick}
 use Rattle.block.specs.declared.BlockCheck.{BlockCheck}
 use Rattle.ft_number.specs.declared.Distance.{Distance}
+use Rattle.ft_number.specs.declared.Turn.{Turn}
 use Rattle.ft_number.specs.Distance.{distanceNumber}
+use Rattle.ft_number.specs.Turn.{turnGap, turnNumber}
 use Rattle.label_list.specs.Word.{wordCount, isRequest}
 use Rattle.image.specs.declared.Verdict.{Verdict}
 use Rattle.image.specs.State.{decode}
@@ -16,12 +18,17 @@ use Rattle.image.specs.Verdict.{verdict, verdictNumber}
 use Rattle.calls.specs.Outcomes.{furtherBits}
 use Rattle.ldp_ft.specs.declared.DistanceNumbers.{DistanceNumbers}
 use Rattle.ldp_ft.specs.declared.ExtendedNumbers.{ExtendedNumbers}
+use Rattle.ldp_ft.specs.declared.NextNumbers.{NextNumbers}
 use Rattle.ldp_ft.specs.declared.RequestNumbers.{RequestNumbers}
 
 -- "answer 0 or 2; steps 0 with 2"
 abbrev pub distanceNumbers : Distance → DistanceNumbers
 distanceNumbers (Distance.Steps n) = record { answer = distanceNumber (Distance.Steps n); steps = n }
 distanceNumbers Distance.Refused = record { answer = distanceNumber Distance.Refused; steps = pos 0 }
+
+-- "0 and how many were left out (0 to 63; unresumed 0); 20, 0; 30, 0 for number zero"
+abbrev pub nextNumbers : Turn → NextNumbers
+nextNumbers turn = record { answer = turnNumber turn; leftout = turnGap turn }
 
 -- "0xFFFFFFFF where refused"
 abbrev pub refusedNumber : ℕ

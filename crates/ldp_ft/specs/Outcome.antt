@@ -1,6 +1,5 @@
 -- An outcome as numbers, and what a call of the boundary leaves.
 use Prim.Native.Nat.{ℕ, _≤_}
-use mathlib.Core.Bool.{Bool, true, false}
 use mathlib.Core.List.{List}
 use Rattle.block0.specs.Layout.{slotCount}
 use Rattle.image.specs.Sizes.{requestBlock}
@@ -13,11 +12,7 @@ use Rattle.calls.specs.Outcomes.{After, afterWith, refusal, checked}
 use Rattle.ldp_ft.specs.declared.Given.{Given}
 use Rattle.ldp_ft.specs.declared.OutcomeNumbers.{OutcomeNumbers}
 use Rattle.ldp_ft.specs.declared.SessionNumbers.{SessionNumbers}
-use Rattle.ldp_ft.specs.Session.{sessionOf, givenOf, sessionLeft}
-
-abbrev pub bitOf : Bool → ℕ
-bitOf true = 1
-bitOf false = 0
+use Rattle.ldp_ft.specs.Session.{bitOf, sessionOf, givenOf, sessionLeft}
 
 -- the numbers of an outcome, where the session was given as s; each number is the outcome's own, none is cut to 32 bits
 unfoldable pub outcomeNumbers : SessionNumbers → Outcome → OutcomeNumbers
@@ -29,6 +24,7 @@ outcomeNumbers s o = record {
   slot = o .slot;
   block0 = bitOf (o .block0);
   further = o .further;
+  leftout = o .leftout;
 }
 
 -- the longest message that a call writes: "8 to 480" as it was submitted, and at its end FT Protection and FT ACK of 8 bytes each

@@ -26,9 +26,13 @@ abbrev pub pduNumbers : Opened → PduNumbers
 pduNumbers (Opened.Whole count) = record { answer = openedNumber (Opened.Whole count); count = count }
 pduNumbers Opened.Malformed = record { answer = openedNumber Opened.Malformed; count = 0 }
 
+-- no part: why, and "start and end 0 then"
+abbrev pub noPartFor : ℕ → PartNumbers
+noPartFor answer = record { answer = answer; start = 0; end = 0 }
+
 -- "4, 0, 0 where none does"; so too where 32 bits do not name the place, which no PDU reaches: it has 65,539 bytes at most
 abbrev pub noPart : PartNumbers
-noPart = record { answer = placeNumber Place.None; start = 0; end = 0 }
+noPart = noPartFor (placeNumber Place.None)
 
 abbrev pub partOf : ℕ → ℕ → PartNumbers
 partOf start end = pick (ltb 4294967295 end) noPart (record { answer = placeNumber (Place.Message start end); start = start; end = end })

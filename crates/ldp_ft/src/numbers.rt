@@ -3,10 +3,13 @@ ghost use mathlib.Core.Path.{_≡_};
 ghost use Rattle.ft_number.specs.Circle.{next};
 ghost use Rattle.ft_number.specs.Distance.{distanceOf};
 ghost use Rattle.ft_number.specs.Timeout.{lesserOf};
-ghost use Rattle.ldp_ft.specs.Numbers.{distanceNumbers};
+ghost use Rattle.ft_number.specs.Turn.{numberTurn};
+ghost use Rattle.ldp_ft.specs.Numbers.{distanceNumbers, nextNumbers};
 use crate::DistanceNumbers;
+use crate::NextNumbers;
 use ft_number::Distance;
 use ft_number::FtNumber;
+use ft_number::Turn;
 
 // The shorter way from one number to another; 2 and 0 where one is zero.
 #[no_mangle]
@@ -32,6 +35,27 @@ pub extern "C" fn ldp_ft_successor(number: u32) -> u32
 {
     let n = ft_number::successor(FtNumber(number));
     n.0
+}
+
+// Whether a number is the next after the last one secured: 0 and how many were left out before it, 20 where it is out of turn, 30 where it is zero.
+#[no_mangle]
+pub extern "C" fn ldp_ft_next_number(secured: u32, number: u32, resumed: bool) -> NextNumbers
+    ensures { λ r. ⌜ r ≡ nextNumbers (numberTurn resumed secured number) ⌝ }
+{
+    match ft_number::judge_turn(FtNumber(secured), FtNumber(number), resumed) {
+        Turn::InTurn(k) => NextNumbers {
+            answer: 0,
+            leftout: k,
+        },
+        Turn::OutOfTurn => NextNumbers {
+            answer: 20,
+            leftout: 0,
+        },
+        Turn::ZeroNumber => NextNumbers {
+            answer: 30,
+            leftout: 0,
+        },
+    }
 }
 
 // The lesser of two timeouts, zero counting as infinite.

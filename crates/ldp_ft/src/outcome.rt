@@ -3,9 +3,10 @@ ghost use Prim.Native.Nat.{_≤_};
 ghost use mathlib.Core.Path.{_≡_};
 ghost use Rattle.image.specs.Sizes.{requestBlock};
 ghost use Rattle.protocol.specs.Answers.{answerBlock};
-ghost use Rattle.ldp_ft.specs.Outcome.{bitOf, Narrow, outcomeNumbers, unknownPhase};
+ghost use Rattle.ldp_ft.specs.Outcome.{Narrow, outcomeNumbers, unknownPhase};
 use crate::OutcomeNumbers;
 use crate::SessionNumbers;
+use crate::phases::bit_of;
 use crate::phases::session_left;
 use calls::Answer;
 use calls::Outcome;
@@ -47,15 +48,6 @@ fn answer_block(a: Answer) -> u32
     }
 }
 
-fn bit_of(b: bool) -> u32
-    ensures { λ r. ⌜ r ≡ bitOf b ⌝ }
-{
-    if b {
-        return 1;
-    }
-    0
-}
-
 // The numbers of an outcome, where the session was given as s.
 pub fn outcome_numbers(s: SessionNumbers, o: Outcome) -> OutcomeNumbers
     requires { ⌜ Narrow o ⌝ }
@@ -71,6 +63,7 @@ pub fn outcome_numbers(s: SessionNumbers, o: Outcome) -> OutcomeNumbers
         slot: o.slot as u32,
         block0: bit_of(o.block0),
         further: o.further,
+        leftout: o.leftout,
     }
 }
 

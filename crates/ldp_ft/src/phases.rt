@@ -1,6 +1,6 @@
-// A phase and its two numbers, both ways.
+// A phase and its numbers, both ways.
 ghost use mathlib.Core.Path.{_≡_};
-ghost use Rattle.ldp_ft.specs.Session.{sessionOf, awaitingOf, givenOf, sessionLeft};
+ghost use Rattle.ldp_ft.specs.Session.{bitOf, sessionOf, awaitingOf, givenOf, sessionLeft};
 use crate::Given;
 use crate::SessionNumbers;
 use calls::Effect;
@@ -8,22 +8,46 @@ use calls::Phase;
 use calls::Progress;
 use calls::Waiting;
 
+// 1 where it holds, else 0.
+pub fn bit_of(b: bool) -> u32
+    ensures { λ r. ⌜ r ≡ bitOf b ⌝ }
+{
+    if b {
+        return 1;
+    }
+    0
+}
+
 // The numbers of a phase.
 pub fn session_of(phase: Phase) -> SessionNumbers
     ensures { λ r. ⌜ r ≡ sessionOf phase ⌝ }
 {
     match phase {
-        Phase::Idle => SessionNumbers { phase: 0, value: 0 },
+        Phase::Idle => SessionNumbers {
+            phase: 0,
+            value: 0,
+            flags: 0,
+        },
         Phase::InitWait(v) => SessionNumbers {
             phase: 1,
             value: v.timeout as u32,
+            flags: 0,
         },
         Phase::UpFT(u) => SessionNumbers {
             phase: 2,
             value: u.sent,
+            flags: bit_of(u.resumed),
         },
-        Phase::UpPlain => SessionNumbers { phase: 3, value: 0 },
-        Phase::Failed => SessionNumbers { phase: 4, value: 0 },
+        Phase::UpPlain => SessionNumbers {
+            phase: 3,
+            value: 0,
+            flags: 0,
+        },
+        Phase::Failed => SessionNumbers {
+            phase: 4,
+            value: 0,
+            flags: 0,
+        },
     }
 }
 
@@ -46,7 +70,10 @@ pub fn phase_given(s: SessionNumbers) -> Given
     match phase {
         0 => Given::Known(Phase::Idle),
         1 => awaiting(s.value),
-        2 => Given::Known(Phase::UpFT(Progress { sent: s.value })),
+        2 => Given::Known(Phase::UpFT(Progress {
+            sent: s.value,
+            resumed: s.flags % 2 == 1,
+        })),
         3 => Given::Known(Phase::UpPlain),
         4 => Given::Known(Phase::Failed),
         _ => Given::Unknown,

@@ -84,12 +84,12 @@ pub extern "C" fn ldp_ft_send_next(
 // A KeepAlive.
 #[no_mangle]
 pub extern "C" fn ldp_ft_keepalive(
-    image: &mut [u8],
+    image: &[u8],
     s: SessionNumbers,
     id: u32,
     out: &mut [u8],
 ) -> OutcomeNumbers
-    ensures { λ r. ⌜ shown r (now (image .exit)) (now (out .exit)) ≡ shownCall s (now (image .entry)) (now (out .entry)) (λ ph. keepaliveOf (now (image .entry)) ph (idOf id) (now (out .entry))) ⌝ }
+    ensures { λ r. ⌜ shown r (now (image .entry)) (now (out .exit)) ≡ shownCall s (now (image .entry)) (now (out .entry)) (λ ph. keepaliveOf (now (image .entry)) ph (idOf id) (now (out .entry))) ⌝ }
 {
     match phase_given(s) {
         Given::Known(phase) => {

@@ -48,7 +48,7 @@ fn proposal_of(given: bool, seconds: u16) -> Proposal
 // Our Init.
 #[no_mangle]
 pub extern "C" fn ldp_ft_open(
-    image: &mut [u8],
+    image: &[u8],
     s: SessionNumbers,
     id: u32,
     keepalive: u16,
@@ -60,7 +60,7 @@ pub extern "C" fn ldp_ft_open(
     ondemand: bool,
     out: &mut [u8],
 ) -> OutcomeNumbers
-    ensures { λ r. ⌜ shown r (now (image .exit)) (now (out .exit)) ≡ shownCall s (now (image .entry)) (now (out .entry)) (λ ph. openOf (now (image .entry)) ph (idOf id) (parametersOf keepalive maxpdu lsr space ondemand) (proposalGiven given seconds) (now (out .entry))) ⌝ }
+    ensures { λ r. ⌜ shown r (now (image .entry)) (now (out .exit)) ≡ shownCall s (now (image .entry)) (now (out .entry)) (λ ph. openOf (now (image .entry)) ph (idOf id) (parametersOf keepalive maxpdu lsr space ondemand) (proposalGiven given seconds) (now (out .entry))) ⌝ }
 {
     let parameters = OwnParameters {
         keepalive: keepalive,

@@ -1,6 +1,7 @@
 -- 01's marked cases, P1 to P12, as one list: "Proved together, as one list and one theorem". Each entry is a definition that the shipped contracts
 -- cite, applied to the paper's values, beside the paper's result.
 use Prim.Native.Nat.{ℕ}
+use mathlib.Core.Bool.{Bool}
 use mathlib.Core.List.{List, [], _∷_, map}
 use lib.IntN.{pos, negℤ}
 use lib.ListN.{replicate}
@@ -56,23 +57,23 @@ bearing g a = record {
   statusid = g .statusid;
 }
 
--- what acknowledging a does, and how a message is answered that is judged by its ACK
+-- what acknowledging a does, and how a message is answered that is judged by its ACK, whether the connection is resumed or not
 abbrev acks : State → Message → ℕ → Ack
 acks s g a = ackOn (between s) (bearing g a)
 
-abbrev answered : State → Message → ℕ → ℕ
-answered s g a = answerNumber (ackRule (between s) (bearing g a) (acks s g a))
+abbrev answered : State → Bool → Message → ℕ → ℕ
+answered s resumed g a = answerNumber (ackRule (between s) resumed (bearing g a) (acks s g a))
 
-abbrev pub cases : State → Message → List Marked
-cases s g =
+abbrev pub cases : State → Bool → Message → List Marked
+cases s resumed g =
     -- P1 to P3: "lesser of 0 and 5 is 5; 0 and 0 is 0; 65,535 and 0 is 65,535"
     case (seconds (lesserOf 0 5)) (seconds 5)
     ∷ case (seconds (lesserOf 0 0)) (seconds 0)
     ∷ case (seconds (lesserOf 65535 0)) (seconds 65535)
     -- P4 to P7: "ACK 1 releases 2; ACK 0 is 34; ACK 2 is 34; ACK 0xFFFFFFFE releases none"
     ∷ case (acknowledges (acks s g 1)) (acknowledges (Ack.Releases 2))
-    ∷ case (answers (answered s g 0)) (answers 34)
-    ∷ case (answers (answered s g 2)) (answers 34)
+    ∷ case (answers (answered s resumed g 0)) (answers 34)
+    ∷ case (answers (answered s resumed g 2)) (answers 34)
     ∷ case (acknowledges (acks s g 0xFFFFFFFE)) (acknowledges (Ack.Releases 0))
     -- P8, P9: "Distance 0xFFFFFFFF to 1 is 1; 1 to 0x80000001 is -2,147,483,647"
     ∷ case (lies (distanceOf 0xFFFFFFFF 1)) (lies (Distance.Steps (pos 1)))

@@ -5,6 +5,7 @@ use ft_number::Distance;
 use ft_number::FtNumber;
 use ft_number::Proposal;
 use ft_number::Steps;
+use ft_number::Turn;
 
 const STDOUT: i32 = 1;
 
@@ -66,6 +67,17 @@ fn signed(z: i32) {
     }
 }
 
+fn turn(t: Turn) {
+    match t {
+        Turn::InTurn(k) => {
+            text(b" left out");
+            number(k);
+        }
+        Turn::OutOfTurn => text(b" out of turn"),
+        Turn::ZeroNumber => text(b" zero number"),
+    }
+}
+
 fn way(d: Distance) {
     match d {
         Distance::Steps(z) => signed(z),
@@ -102,6 +114,16 @@ fn advance(a: u32, b: u32) {
     end();
 }
 
+// The next number, on an unresumed connection and on a resumed one.
+fn next(a: u32, b: u32) {
+    start(b"next", a, b);
+    turn(ft_number::judge_turn(FtNumber(a), FtNumber(b), false));
+    end();
+    start(b"next resumed", a, b);
+    turn(ft_number::judge_turn(FtNumber(a), FtNumber(b), true));
+    end();
+}
+
 fn successor(a: u32) {
     text(b"successor");
     number(a);
@@ -117,6 +139,7 @@ fn edge(a: u32) {
         steps(a, EDGES[j]);
         distance(a, EDGES[j]);
         advance(a, EDGES[j]);
+        next(a, EDGES[j]);
         j += 1;
     }
 }

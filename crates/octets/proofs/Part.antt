@@ -56,3 +56,18 @@ part-at s a e i inside = rw (getD-take (e - a) (drop a s) i 0, getD-drop a s i 0
 
 pub part-inside : (s : List ℕ) (a e i : ℕ) → i < length (part s a e) → i < e - a
 part-inside s a e i l = omega (arith, simp (length-take, length-drop) at l)
+
+-- a part of a part is one of the list
+pub part-part : (s : List ℕ) (a e b f : ℕ) → a ≤ e → e ≤ length s → f ≤ e - a → part (part s a e) b f ≡ part s (a + b) (a + f)
+part-part s a e b f h g k =
+    let inner : length (part s a e) ≡ e - a = length-part s a e g in
+    let size : f - b ≡ a + f - (a + b) = omega arith in
+    let there : a + f ≤ length s = omega arith in
+    ext-getD 0 (part (part s a e) b f) (part s (a + b) (a + f))
+    (length-part (part s a e) b f (rw inner k) ∙ size ∙ sym (length-part s (a + b) (a + f) there)) (λ i hi.
+    let inside : i < f - b = part-inside (part s a e) b f i hi in
+    let same : a + (b + i) ≡ a + b + i = omega arith in
+    part-at (part s a e) b f i inside
+    ∙ part-at s a e (b + i) (omega arith)
+    ∙ ap (λ (n : ℕ). getD s n 0) same
+    ∙ sym (part-at s (a + b) (a + f) i (rw (← size) inside)))

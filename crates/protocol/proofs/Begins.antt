@@ -1,5 +1,6 @@
 -- What the peer's Init leaves, where it is not refused, and where its parameters are others. Assumes nothing.
 use Prim.Native.Nat.{ℕ}
+use mathlib.Core.Bool.{Bool}
 use mathlib.Core.List.{[], List}
 use mathlib.Core.Path.{_≡_, refl, _∙_, ap}
 use native.Mathlib.Omega.{arith}
@@ -30,8 +31,8 @@ module _ (now : State) (t : ℕ) (m : List ℕ) where
   is = refl
 
   -- a start that is not refused
-  pub begins : (s : State) → startAnswer st ≡ Answer.Done → startState now st ≡ s → startPhase ph st ≡ upWith 0 → x ≡ stepped Answer.Done s (upWith 0) []
-  begins s d e f = is ∙ ap (λ (a : Answer). settle a now ph does) d ∙ settle-does Answer.Done now ph does refl ∙ rw (e, f)
+  pub begins : (s : State) → startAnswer st ≡ Answer.Done → startState now st ≡ s → (resumed : Bool) → startPhase ph st ≡ upWith resumed 0 → x ≡ stepped Answer.Done s (upWith resumed 0) []
+  begins s d e resumed f = is ∙ ap (λ (a : Answer). settle a now ph does) d ∙ settle-does Answer.Done now ph does refl ∙ rw (e, f)
 
   -- one that is refused with 35 releases
   pub changed : st ≡ Start.Refused Answer.ParametersChanged → x ≡ releasedWith Answer.ParametersChanged

@@ -1,10 +1,15 @@
 -- The judgement of a message is the list of its cases. Assumes nothing.
 use Prim.Native.Nat.{ℕ}
-use mathlib.Core.Bool.{Bool, true, false, not, true≢false, false≢true}
+use mathlib.Core.Bool.{Bool, true, false, true≢false, false≢true}
 use mathlib.Core.Path.{_≡_, refl}
+use native.Mathlib.Omega.{arith}
+use borrow.Author.Tests.{eqb-false}
 use Rattle.octets.specs.Pick.{pick}
 use Rattle.ft_number.specs.declared.Ack.{Ack}
+use Rattle.ft_number.specs.declared.Turn.{Turn}
+use Rattle.ft_number.proofs.Turns.{turn-is-zero}
 use Rattle.label_list.specs.declared.Protection.{Protection}
+use Rattle.tlv.specs.declared.FtField.{FtField}
 use Rattle.label_events.specs.declared.Reception.{Reception}
 use Rattle.message.specs.declared.Message.{Message}
 use Rattle.message.specs.declared.Reading.{Reading}
@@ -15,7 +20,7 @@ use Rattle.protocol.specs.declared.Progress.{Progress}
 use Rattle.protocol.specs.Acked.{acked}
 use Rattle.protocol.specs.Cases.{mayReceive, wordsAfter, Heard, AckRight, ProtectionRight, TurnRight, Takes, Case, wrong-phase, malformed, an-init, fatal, ft-tlv, passed-on, zero-number, wrong-ack, missing, wrong, out-of-turn, no-word, taken, tableAfter}
 use Rattle.protocol.specs.Labels.{labelEffect, isProtected, protectionRule, effectReception, answeredAt}
-use Rattle.protocol.specs.Receive.{ackRule, ackOn, ftRule, receiveRule, isFatal, messageRule, plainRule, isZero, inTurn, receptionRule, protectedRule, labelsRule, readRule, ackCount}
+use Rattle.protocol.specs.Receive.{ackRule, ackOn, ftRule, receiveRule, isFatal, messageRule, plainRule, isZero, turnBorne, turnRule, receptionRule, protectedRule, labelsRule, readRule, ackCount}
 use Rattle.protocol.specs.Received.{isInit}
 use Rattle.protocol.specs.State.{State}
 
@@ -35,34 +40,43 @@ module _ (s : State) (u : Progress) (g : Message) where
   abbrev Here : Answer → Type 0
   Here a = Case s (Phase.UpFT u) (Reading.Whole g) a
 
-  room-case : {k : ℕ} → TurnRight s g k → (r : Reception) → effectReception (wordsAfter s k) (answeredAt (tableAfter s k) g) (isProtected (g .protection)) (labelEffect g) ≡ r → Here (receptionRule r)
+  room-case : {k : ℕ} → TurnRight s (u .resumed) g k → (r : Reception) → effectReception (wordsAfter s k) (answeredAt (tableAfter s k) g) (isProtected (g .protection)) (labelEffect g) ≡ r → Here (receptionRule r)
   room-case t Reception.Taken e = taken (record { turn = t; room = e })
   room-case t Reception.NoRoom e = no-word t e
 
-  turn-case : {k : ℕ} → ProtectionRight s g k → (b : Bool) → inTurn (s .secured .0) (g .protection) ≡ b
-      → Here (pick (not b) Answer.OutOfTurn (receptionRule (effectReception (wordsAfter s k) (answeredAt (tableAfter s k) g) (isProtected (g .protection)) (labelEffect g))))
-  turn-case {k} p true e = room-case (record { protection = p; turn = e }) (effectReception (wordsAfter s k) (answeredAt (tableAfter s k) g) (isProtected (g .protection)) (labelEffect g)) refl
-  turn-case p false e = out-of-turn p e
+  abbrev turn : Turn
+  turn = turnBorne (u .resumed) (s .secured .0) (g .protection)
 
-  protection-case : {k : ℕ} → AckRight s g k → (p : Protection) → protectionRule (wordsAfter s k) g ≡ p → Here (protectedRule (tableAfter s k) (s .secured .0) g p)
+  -- a number that is not zero has its turn, or is out of it
+  turn-number : {P : Type 0} (f : FtField) → isZero f ≡ false → turnBorne (u .resumed) (s .secured .0) f ≡ Turn.ZeroNumber → P
+  turn-number FtField.Absent z e = let q : _≡_ {A = ℕ} 0 1 = cc in absurd (omega arith)
+  turn-number (FtField.Number n) z e = absurd (eqb-false (n .0) 0 z (turn-is-zero (u .resumed) (s .secured .0) (n .0) e))
+
+  turn-case : {k : ℕ} → ProtectionRight s g k → (t : Turn) → turn ≡ t
+      → Here (turnRule t (receptionRule (effectReception (wordsAfter s k) (answeredAt (tableAfter s k) g) (isProtected (g .protection)) (labelEffect g))))
+  turn-case {k} p (Turn.InTurn n) e = room-case (record { protection = p; leftout = n; turn = e }) (effectReception (wordsAfter s k) (answeredAt (tableAfter s k) g) (isProtected (g .protection)) (labelEffect g)) refl
+  turn-case p Turn.OutOfTurn e = out-of-turn p e
+  turn-case p Turn.ZeroNumber e = turn-number (g .protection) (p .ack .nonzero) e
+
+  protection-case : {k : ℕ} → AckRight s g k → (p : Protection) → protectionRule (wordsAfter s k) g ≡ p → Here (protectedRule (tableAfter s k) turn g p)
   protection-case a Protection.Missing e = missing a e
   protection-case a Protection.Wrong e = wrong a e
-  protection-case a Protection.Right e = turn-case (record { ack = a; right = e }) (inTurn (s .secured .0) (g .protection)) refl
+  protection-case a Protection.Right e = turn-case (record { ack = a; right = e }) turn refl
 
-  ack-case : Heard g → isZero (g .protection) ≡ false → (x : Ack) → ackOn s g ≡ x → Here (ackRule s g x)
+  ack-case : Heard g → isZero (g .protection) ≡ false → (x : Ack) → ackOn s g ≡ x → Here (ackRule s (u .resumed) g x)
   unfolding acked labelsRule
   ack-case h z (Ack.Releases k) e = protection-case (record { heard = h; nonzero = z; acks = e }) (protectionRule (wordsAfter s k) g) refl
   ack-case h z Ack.SequenceError e = wrong-ack h z e
 
-  zero-case : Heard g → (b : Bool) → isZero (g .protection) ≡ b → Here (pick b Answer.ZeroNumber (ackRule s g (ackOn s g)))
+  zero-case : Heard g → (b : Bool) → isZero (g .protection) ≡ b → Here (pick b Answer.ZeroNumber (ackRule s (u .resumed) g (ackOn s g)))
   zero-case h true e = zero-number h e
   zero-case h false e = ack-case h e (ackOn s g) refl
 
-  ft-case : Here (ftRule s g)
+  ft-case : Here (ftRule s (u .resumed) g)
   unfolding ftRule
-  ft-case = heard-case Here g (pick (isZero (g .protection)) Answer.ZeroNumber (ackRule s g (ackOn s g))) (an-init refl) (fatal refl) (λ h. zero-case h (isZero (g .protection)) refl)
+  ft-case = heard-case Here g (pick (isZero (g .protection)) Answer.ZeroNumber (ackRule s (u .resumed) g (ackOn s g))) (an-init refl) (fatal refl) (λ h. zero-case h (isZero (g .protection)) refl)
 
-up-case : (s : State) (u : Progress) (rd : Reading) → Case s (Phase.UpFT u) rd (readRule rd (ftRule s))
+up-case : (s : State) (u : Progress) (rd : Reading) → Case s (Phase.UpFT u) rd (readRule rd (ftRule s (u .resumed)))
 up-case s u Reading.Malformed = malformed refl
 up-case s u (Reading.Whole g) = ft-case s u g
 
@@ -99,13 +113,13 @@ alike : (s : State) (ph : Phase) (rd : Reading) (x : Answer) → mayReceive ph �
 unfolding ftRule
 alike s Phase.Idle rd x e f = absurd (false≢true e)
 alike s (Phase.InitWait v) rd x e f = absurd (false≢true e)
-alike s (Phase.UpFT u) rd x e f = f (λ g. pick (isZero (g .protection)) Answer.ZeroNumber (ackRule s g (ackOn s g)))
+alike s (Phase.UpFT u) rd x e f = f (λ g. pick (isZero (g .protection)) Answer.ZeroNumber (ackRule s (u .resumed) g (ackOn s g)))
 alike s Phase.UpPlain rd x e f = f (λ g. pick (bearsFt (g .found)) Answer.FtTlvInPlain Answer.Done)
 alike s Phase.Failed rd x e f = absurd (false≢true e)
 
 -- past 30 and 34 the labels are judged, as the ACK leaves them
 acked-rule : (s : State) (u : Progress) (g : Message) (k : ℕ) → AckRight s g k
-    → receiveRule s (Phase.UpFT u) (Reading.Whole g) ≡ protectedRule (tableAfter s k) (s .secured .0) g (protectionRule (wordsAfter s k) g)
+    → receiveRule s (Phase.UpFT u) (Reading.Whole g) ≡ protectedRule (tableAfter s k) (turnBorne (u .resumed) (s .secured .0) (g .protection)) g (protectionRule (wordsAfter s k) g)
 unfolding ftRule messageRule labelsRule acked
 acked-rule s u g k a = rw (a .heard .another, a .heard .mild, a .nonzero, a .acks)
 
@@ -127,5 +141,5 @@ case-answer {s} (no-word {u} {k} {g} t e) = rw (acked-rule s u g k (t .protectio
 case-answer {s} (taken {u} {k} {g} t) = rw (acked-rule s u g k (t .turn .protection .ack), t .turn .protection .right, t .turn .turn, t .room)
 
 -- ---- done in UpFT: every test is passed
-pub done-takes : {s : State} {u : Progress} {g : Message} → Case s (Phase.UpFT u) (Reading.Whole g) Answer.Done → Takes s g (ackCount (ackOn s g))
+pub done-takes : {s : State} {u : Progress} {g : Message} → Case s (Phase.UpFT u) (Reading.Whole g) Answer.Done → Takes s (u .resumed) g (ackCount (ackOn s g))
 done-takes (taken t) = let e = t .turn .protection .ack .acks in rw e t

@@ -20,9 +20,9 @@ use Rattle.protocol.specs.ConnectionFailed.{connectionFailed}
 use Rattle.protocol.specs.Init.{fresh, resumed, startState, initReceived, initStart}
 use Rattle.protocol.specs.KeepAlive.{keepalive, aliveBytes}
 use Rattle.protocol.specs.Open.{openSession, openBytes}
-use Rattle.protocol.specs.Phases.{issuedCount, isUp, mayOpen, sentOf, waitingFor}
+use Rattle.protocol.specs.Phases.{issuedCount, isUp, mayOpen, waitingFor}
 use Rattle.protocol.specs.Receive.{receivedState, taken, takenAs, ackCount, ackOn, receive}
-use Rattle.protocol.specs.Send.{sentState, numbered, sendNext}
+use Rattle.protocol.specs.Send.{sentState, numbered, sendNext, placeSent}
 use Rattle.protocol.specs.State.{State, held, capacity}
 use Rattle.protocol.specs.Step.{Step, settle}
 use Rattle.protocol.specs.Submit.{submitted, submitRule, submit}
@@ -88,6 +88,6 @@ module _ (s : State) (few : Few s) where
     few-held (greets m) room = settled-few _ _ (λ t. begun-few (initStart s ph m))
     few-held (passes elapsed) room = settled-few _ _ (λ t. pick-all Left (expired s elapsed) (omega arith) few)
     few-held (submits m) room = settled-few _ _ (λ t. submitted-few ph m (done-is (submitRule s ph m) (admitted-done s ph (submitRule s ph m) t)))
-    few-held (sends ask) room = settled-few _ _ (λ t. sent-few (sentOf ph))
+    few-held (sends ask) room = settled-few _ _ (λ t. sent-few (placeSent s ph))
     few-held (keeps-alive id) room = writer-few (isUp ph) ph (aliveBytes s ph id) room
     few-held (receives m) room = settled-few _ _ (λ t. taken-few ph (readingOf m))

@@ -11,8 +11,8 @@ use Rattle.protocol.specs.Hearing.{hears}
 use Rattle.protocol.specs.Judged.{judged, done}
 use Rattle.protocol.specs.KeepAlive.{aliveBytes}
 use Rattle.protocol.specs.Open.{openBytes}
-use Rattle.protocol.specs.Phases.{isUp, mayOpen, sentOf, waiting, connected}
-use Rattle.protocol.specs.Send.{sendBytes}
+use Rattle.protocol.specs.Phases.{isUp, mayOpen, waiting, connected}
+use Rattle.protocol.specs.Send.{sendBytes, placeSent}
 use Rattle.protocol.specs.State.{State}
 use Rattle.protocol.specs.Step.{Step, unchanged}
 use Rattle.protocol.proofs.Effects.{done-is}
@@ -30,7 +30,7 @@ harmless (opens id own proposal) s ph room q = admitted-harmless s ph _ (may-har
 harmless (greets m) s ph room q = absurd (true≢false q)
 harmless (passes elapsed) s ph room q = admitted-harmless s ph _ (may-harmless (waiting ph) _ done-harmless)
 harmless (submits m) s ph room q = admitted-harmless s ph _ (submit-harmless s ph m)
-harmless (sends ask) s ph room q = admitted-harmless s ph _ (send-harmless s ph (sendBytes s (sentOf ph) ask) room)
+harmless (sends ask) s ph room q = admitted-harmless s ph _ (send-harmless s ph (sendBytes s (placeSent s ph) ask) room)
 harmless (keeps-alive id) s ph room q = admitted-harmless s ph _ (may-harmless (isUp ph) _ (room-harmless (aliveBytes s ph id) room))
 harmless (receives m) s ph room q = absurd (true≢false q)
 

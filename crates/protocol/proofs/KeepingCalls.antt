@@ -10,12 +10,12 @@ use Rattle.protocol.specs.declared.Phase.{Phase}
 use Rattle.protocol.specs.Calls.{Call, formats, restores, fails, opens, greets, passes, submits, sends, keeps-alive, receives, step}
 use Rattle.protocol.specs.Judged.{judged, done}
 use Rattle.protocol.specs.Lawful.{Lawful}
-use Rattle.protocol.specs.Phases.{phaseFits, sentOf, issuedCount}
+use Rattle.protocol.specs.Phases.{phaseFits, resumedOf, issuedCount}
 use Rattle.protocol.specs.Proper.{Proper}
 use Rattle.protocol.specs.Receive.{receiveRule}
-use Rattle.protocol.specs.Send.{sendRule, sendBytes}
+use Rattle.protocol.specs.Send.{placeSent, sendRoom, sendRule}
 use Rattle.protocol.specs.State.{State}
-use Rattle.protocol.specs.Step.{Step, admitted, roomFor}
+use Rattle.protocol.specs.Step.{Step, admitted}
 use Rattle.protocol.specs.Submit.{submitRule, submitted}
 use Rattle.protocol.specs.TimePassed.{expired}
 use Rattle.protocol.proofs.Effects.{done-is}
@@ -55,9 +55,9 @@ done-stands (greets m) s ph room p st d = greeted-lawful s ph m (st .0) (st .1) 
 done-stands (passes elapsed) s ph room p st d = pick-all Stands (expired s elapsed) (lawful-released, refl) st
 done-stands (submits m) s ph room p st d = (lawful-submitted s (st .0) ph m p (own-done s ph (submitRule s ph m) d), submitted-fits ph s m ∙ st .1)
 done-stands (sends ask) s ph room p st d =
-    let e : sendRule s ph (roomFor (sendBytes s (sentOf ph) ask) room) ≡ Answer.Done = own-done s ph (sendRule s ph (roomFor (sendBytes s (sentOf ph) ask) room)) d in
-    let x : Sendable s ph = sendable s ph (roomFor (sendBytes s (sentOf ph) ask) room) (rw e) in
-    sent-stands s (sentOf ph) (st .0) (kept-up ph s (x .up) (st .1)) (x .some)
+    let e : sendRule s ph (sendRoom s ph ask room) ≡ Answer.Done = own-done s ph (sendRule s ph (sendRoom s ph ask room)) d in
+    let x : Sendable s ph = sendable s ph (sendRoom s ph ask room) (rw e) in
+    sent-stands s (resumedOf ph) (placeSent s ph) (st .0) (kept-up ph s (x .up) (st .1)) (x .place)
 done-stands (keeps-alive id) s ph room p st d = st
 done-stands (receives m) s ph room p st d = taken-stands s ph m st p (own-done s ph (receiveRule s ph (readingOf m)) d)
 

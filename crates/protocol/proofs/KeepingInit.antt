@@ -1,6 +1,6 @@
 -- The peer's Init: the numbers of the start that it leads to have their widths, and the state that it leads to is lawful. Assumes nothing.
 use Prim.Native.Nat.{ℕ, _<_}
-use mathlib.Core.Bool.{Bool, true}
+use mathlib.Core.Bool.{Bool, true, false}
 use mathlib.Core.List.{List}
 use mathlib.Core.Path.{_≡_, refl}
 use native.Mathlib.Omega.{arith}
@@ -31,9 +31,9 @@ terms-width p l {g} w {r} {ka} {mp} {n} i e = record {
   maxpdu = w .parameters ka mp (i .parameters) .1;
 }
 
-fresh-stands : (t : Terms) → TermsFit t → Lawful (fresh t) × (phaseFits (upWith 0) (fresh t) ≡ true)
+fresh-stands : (t : Terms) → TermsFit t → Lawful (fresh t) × (phaseFits (upWith false 0) (fresh t) ≡ true)
 unfolding fresh
-fresh-stands t f = (lawful-fresh t f, fits-up (fresh t) 0 refl (omega arith))
+fresh-stands t f = (lawful-fresh t f, fits-up (fresh t) false 0 refl (omega arith))
 
 module _ (s : State) (ph : Phase) (law : Lawful s) (fits : phaseFits ph s ≡ true) {p : ℕ} (l : p < 65536) where
   pub start-lawful : {rd : Reading} {st : Start} → ((g : Message) → rd ≡ Reading.Whole g → Widths g) → StartCase s p rd st
@@ -51,7 +51,7 @@ module _ (s : State) (ph : Phase) (law : Lawful s) (fits : phaseFits ph s ≡ tr
   start-lawful w (resumes {g} {ka} {mp} {n} {k} {a} b e q) =
       let t = terms-width p l (w g refl) (b .init) (b .session) in (
         lawful-resumed s law (b .kept) (termsOf p n ka mp) k (a .0) (t .timeout) (w g refl .ack a (b .ack)) q,
-        fits-up (resumed s (termsOf p n ka mp) k (a .0)) 0 (b .kept) (omega arith),
+        fits-up (resumed s (termsOf p n ka mp) k (a .0)) true 0 (b .kept) (omega arith),
       )
 
 pub greeted-lawful : (s : State) (ph : Phase) (m : List ℕ) → Lawful s → phaseFits ph s ≡ true → Bytes m → proposalOf ph < 65536

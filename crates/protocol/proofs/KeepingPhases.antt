@@ -26,8 +26,8 @@ resting-fits s = by (s .kept) refl
     by true e = e
     by false e = rw e
 
-module _ (s : State) (n : ℕ) where
-  pub fits-up : s .kept ≡ true → n ≤ issuedCount s → phaseFits (upWith n) s ≡ true
+module _ (s : State) (resumed : Bool) (n : ℕ) where
+  pub fits-up : s .kept ≡ true → n ≤ issuedCount s → phaseFits (upWith resumed n) s ≡ true
   unfolding phaseFits
   fits-up k l = rw (le-leb n (issuedCount s) l, k)
 

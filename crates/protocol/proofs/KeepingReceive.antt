@@ -17,7 +17,7 @@ use Rattle.protocol.specs.declared.Phase.{Phase}
 use Rattle.protocol.specs.declared.Progress.{Progress}
 use Rattle.protocol.specs.Acked.{ackBorne, acked}
 use Rattle.protocol.specs.Lawful.{Lawful}
-use Rattle.protocol.specs.Phases.{phaseFits, issuedCount}
+use Rattle.protocol.specs.Phases.{phaseFits, issuedCount, upWith}
 use Rattle.protocol.specs.Receive.{ackOn, ackCount, securedBy, taken, receivedState, receivedPhase, receiveRule, takenAs}
 use Rattle.protocol.specs.State.{State}
 use Rattle.protocol.proofs.Cases.{cases, done-takes}
@@ -44,18 +44,23 @@ module _ (s : State) (law : Lawful s) (u : Progress) (fits : phaseFits (Phase.Up
   borne : ackBorne s (g .ack) < 4294967296
   borne = borne-width s (law .released) (g .ack) (w .ack)
 
-  -- as many fewer have a number, as many fewer count as sent
-  received-stands : (k : ℕ) → ackOn s g ≡ Ack.Releases k → LawfulIn (receivedState s g) (receivedPhase s (u .sent) g)
+  -- as many fewer have a number
+  pub received-issued : (k : ℕ) → ackOn s g ≡ Ack.Releases k → issuedCount (receivedState s g) ≡ issuedCount s - k
+  unfolding receivedState ackOn
+  received-issued k e =
+      let a : ℕ = ackBorne s (g .ack) in
+      rw e (taken-issued (acked s k a) g ∙ ack-issued s (law .window) a k e (law .released) (law .issued) borne (law .few))
+
+  -- and as many fewer count as sent
+  received-stands : (k : ℕ) → ackOn s g ≡ Ack.Releases k → LawfulIn (receivedState s g) (receivedPhase s (Phase.UpFT u) g)
   unfolding receivedState ackOn acked taken
   received-stands k e =
       let a : ℕ = ackBorne s (g .ack) in
       let n : Lawful (acked s k a) = lawful-acked s law a k borne e in
-      let fewer : issuedCount (taken (acked s k a) g) ≡ issuedCount s - k =
-      taken-issued (acked s k a) g ∙ ack-issued s (law .window) a k e (law .released) (law .issued) borne (law .few) in
-      rw e (
-        lawful-taken (acked s k a) n (up .0) g (number-width (s .secured) (law .secured) (g .protection) (w .protection)),
-        fits-up (taken (acked s k a) g) (u .sent - k) (up .0) (omega (arith, up .1, fewer)),
-      )
+      let fewer : issuedCount (receivedState s g) ≡ issuedCount s - k = received-issued k e in
+      let fits : phaseFits (upWith (u .resumed) (u .sent - k)) (receivedState s g) ≡ true =
+      fits-up (receivedState s g) (u .resumed) (u .sent - k) (up .0) (omega (arith, up .1, fewer)) in
+      rw e (lawful-taken (acked s k a) n (up .0) g (number-width (s .secured) (law .secured) (g .protection) (w .protection)), rw e at fits)
 
 -- whatever was read
 pub taken-stands : (s : State) (ph : Phase) (m : List ℕ) → LawfulIn s ph → Bytes m → receiveRule s ph (readingOf m) ≡ Answer.Done → LawfulIn (takenAs s ph (readingOf m) .state) (takenAs s ph (readingOf m) .phase)

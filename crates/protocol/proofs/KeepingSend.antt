@@ -1,6 +1,6 @@
 -- Send next leaves a lawful state, in a phase that it allows. Assumes nothing.
 use Prim.Native.Nat.{ℕ, _+_, _<_}
-use mathlib.Core.Bool.{true}
+use mathlib.Core.Bool.{Bool, true}
 use mathlib.Core.Path.{_≡_}
 use native.Mathlib.Omega.{arith}
 use lib.Dec.{ltb}
@@ -22,9 +22,9 @@ kept-up (Phase.UpFT v) s u f = up-fits s v f .0
 kept-up Phase.UpPlain s u f = no (cc)
 kept-up Phase.Failed s u f = no (cc)
 
-pub sent-stands : (s : State) (sent : ℕ) → Lawful s → s .kept ≡ true → sent < held s → LawfulIn (sentState s sent) (upWith (sent + 1))
+pub sent-stands : (s : State) (resumed : Bool) (place : ℕ) → Lawful s → s .kept ≡ true → place < held s → LawfulIn (sentState s place) (upWith resumed (place + 1))
 unfolding sentState numbered
-sent-stands s sent law kept l =
-    by-test (ltb sent (issuedCount s))
-    (λ t. rw t (law, fits-up s (sent + 1) kept (omega (arith, ltb-true sent (issuedCount s) t))))
-    (λ n. rw n (lawful-numbered s law sent l, fits-up (numbered s sent) (sent + 1) kept (omega (arith, numbered-issued s (law .released) sent (omega (arith, law .few))))))
+sent-stands s resumed place law kept l =
+    by-test (ltb place (issuedCount s))
+    (λ t. rw t (law, fits-up s resumed (place + 1) kept (omega (arith, ltb-true place (issuedCount s) t))))
+    (λ n. rw n (lawful-numbered s law place l, fits-up (numbered s place) resumed (place + 1) kept (omega (arith, numbered-issued s (law .released) place (omega (arith, law .few))))))

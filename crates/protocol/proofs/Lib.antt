@@ -18,6 +18,7 @@ pub mod KeepingQueue
 pub mod KeepingStates
 pub mod KeepingPhases
 pub mod KeepingInit
+pub mod PassedOver
 pub mod Sends
 pub mod KeepingSend
 pub mod KeepingReceive
@@ -35,13 +36,16 @@ pub mod MeaningInit
 pub mod MeaningTimers
 pub mod MeaningTimeout
 pub mod MeaningSubmit
+pub mod MeaningLeftOut
 pub mod MeaningSend
 pub mod MeaningReceive
+pub mod Unresumed
 pub mod Requests
 pub mod OpenRequests
 pub mod RequestsSubmitted
 pub mod RequestsReceived
 pub mod MeaningRequests
+pub mod MeaningLife
 pub mod MeaningMarks
 pub mod Asking
 pub mod Numbered

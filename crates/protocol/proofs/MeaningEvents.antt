@@ -10,7 +10,7 @@ use Rattle.label_list.specs.declared.Side.{Side}
 use Rattle.label_events.specs.declared.Acceptance.{Acceptance}
 use Rattle.label_events.specs.Change.{codeAt}
 use Rattle.message.specs.declared.Kind.{Kind}
-use Rattle.label_meaning.specs.Event.{Accepted, afterEvent, withdraw-acked, release-acked}
+use Rattle.label_meaning.specs.Event.{Accepted, afterEvent, withdraw-acked, back-acked, release-acked}
 use Rattle.label_meaning.specs.Valid.{IsValid}
 use Rattle.label_meaning.proofs.Life.{move-happens}
 use Rattle.protocol.specs.Accepting.{acceptedAs}
@@ -36,12 +36,17 @@ pub accepted-stop : (t : Table) (label : ℕ) → acceptedAs t Kind.NoResources 
 unfolding acceptedAs
 accepted-stop t label = refl
 
--- ---- "Released by ACK: Withdraw 2 becomes free; Release 5 becomes free; other codes stay."
+-- ---- 01: "Released by ACK: Withdraw 2 becomes free; Release 5 becomes free; other codes stay." 02: "Free a withdrawn label at the second of Release and ACK."
 module _ (ls : List ℕ) (v : IsValid ls) (label : ℕ) where
-  -- the ACK of a Withdraw frees its label of code 2
-  pub withdraw-released : codeAt ls Side.Given label ≡ 2 → codeAt (releasedKind 2 label ls) Side.Given label ≡ 0
+  -- the ACK of a Withdraw is the first of the two for its label of code 2,
+  pub withdraw-released : codeAt ls Side.Given label ≡ 2 → codeAt (releasedKind 2 label ls) Side.Given label ≡ 8
   unfolding releasedKind afterEvent
   withdraw-released two = move-happens ls v withdraw-acked (omega arith) two
+
+  -- and frees that of code 9, whose Release has come
+  pub back-released : codeAt ls Side.Given label ≡ 9 → codeAt (releasedKind 2 label ls) Side.Given label ≡ 0
+  unfolding releasedKind afterEvent
+  back-released nine = move-happens ls v back-acked (omega arith) nine
 
   -- that of a Release frees its label of code 5
   pub release-released : codeAt ls Side.Used label ≡ 5 → codeAt (releasedKind 3 label ls) Side.Used label ≡ 0

@@ -2,7 +2,7 @@
 use Prim.Native.Nat.{ℕ, _≤_}
 use mathlib.Core.Bool.{Bool, true, false, not}
 use mathlib.Core.List.{List}
-use mathlib.Core.Logic.{_≢_}
+use mathlib.Core.Logic.{_≢_, inl, inr, ⊎-elim}
 use mathlib.Core.Path.{_≡_, refl, ap, _∙_, sym}
 use native.Mathlib.Omega.{arith}
 use lib.Dec.{eqb}
@@ -16,8 +16,8 @@ use Rattle.label_list.specs.declared.Side.{Side}
 use Rattle.label_list.specs.Find.{any}
 use Rattle.label_list.specs.Protection.{needsProtection, barsProtection, codeProtection, protectedOn}
 use Rattle.label_list.specs.Rules.{receivedSide}
-use Rattle.label_list.specs.Word.{onSide, within}
-use Rattle.label_list.proofs.Standing.{within-range, within-in}
+use Rattle.label_list.specs.Word.{onSide}
+use Rattle.label_list.proofs.Standing.{given-in, given-range, used-in, used-range}
 use Rattle.tlv.specs.declared.Fec.{Fec}
 use Rattle.tlv.specs.declared.Field.{Field}
 use Rattle.tlv.specs.declared.FtField.{FtField}
@@ -34,7 +34,7 @@ use Rattle.label_meaning.specs.Valid.{IsValid}
 use Rattle.label_meaning.proofs.Protected.{touched-missing, missing-touches}
 use Rattle.protocol.specs.declared.LabelEffect.{LabelEffect}
 use Rattle.protocol.specs.Labels.{touchedBy, effectOn, labelEffect, isProtected, alwaysProtected, effectProtection, protectionRule}
-use Rattle.protocol.specs.MeaningLabels.{LabelType, is-mapping, is-withdraw, is-release, Touching, names, under-wildcard, NeverBare, address, address-withdraw, resources, Demands, by-kind, by-label, WronglyProtected, Guarded, to-mapping, to-withdraw, to-release}
+use Rattle.protocol.specs.MeaningLabels.{LabelType, is-mapping, is-withdraw, is-release, Touching, names, under-wildcard, NeverBare, address, address-withdraw, resources, Demands, by-kind, by-label, WronglyProtected, Guarded, to-mapping, to-withdraw, to-release, to-second}
 
 -- ---- what a message touches
 -- its type is one of the three
@@ -105,27 +105,30 @@ never-missing ls m Touched.Every e = cc
 never-missing ls m Touched.Nothing e = cc
 
 -- codes 3 to 6 without 6
-but-six : (code : ℕ) → both (not (eqb code 6)) (within 3 6 code) ≡ true → (3 ≤ code) × (code ≤ 5)
+but-six : (code : ℕ) → both (not (eqb code 6)) (onSide Side.Used code) ≡ true → (3 ≤ code) × (code ≤ 5)
 but-six code e =
-    let p = both-true (not (eqb code 6)) (within 3 6 code) e in
-    let r = within-range 3 6 code (p .1) in
+    let p = both-true (not (eqb code 6)) (onSide Side.Used code) e in
+    let r = used-range code (p .1) in
     let other : code ≢ 6 = eqb-false code 6 (not-true (eqb code 6) (p .0)) in
     (r .0, omega arith)
 
 -- the codes that need protection, by their ranges
 needs-guarded : (m : LabelMessage) (code : ℕ) → needsProtection (receivedSide m) code ≡ true → Guarded m code
-unfolding needsProtection receivedSide onSide
+unfolding needsProtection receivedSide
 needs-guarded LabelMessage.Mapping code e = let r = but-six code e in to-mapping (r .0) (r .1)
 needs-guarded LabelMessage.Withdraw code e = let r = but-six code e in to-withdraw (r .0) (r .1)
 needs-guarded LabelMessage.Release code e =
-    let r = within-range 1 2 code (both-true (not (eqb code 6)) (within 1 2 code) e .1) in
-    to-release (r .0) (r .1)
+    ⊎-elim
+    (λ (r : (1 ≤ code) × (code ≤ 2)). to-release (r .0) (r .1))
+    (λ (r : (8 ≤ code) × (code ≤ 9)). to-second (r .0) (r .1))
+    (given-range code (both-true (not (eqb code 6)) (onSide Side.Given code) e .1))
 
 guarded-needs : (m : LabelMessage) (code : ℕ) → Guarded m code → needsProtection (receivedSide m) code ≡ true
-unfolding needsProtection receivedSide onSide
-guarded-needs LabelMessage.Mapping code (to-mapping l h) = rw (ne-eqb code 6 (λ e. omega arith)) (sym (within-in 3 6 code l (omega arith)))
-guarded-needs LabelMessage.Withdraw code (to-withdraw l h) = rw (ne-eqb code 6 (λ e. omega arith)) (sym (within-in 3 6 code l (omega arith)))
-guarded-needs LabelMessage.Release code (to-release l h) = rw (ne-eqb code 6 (λ e. omega arith)) (sym (within-in 1 2 code l h))
+unfolding needsProtection receivedSide
+guarded-needs LabelMessage.Mapping code (to-mapping l h) = rw (ne-eqb code 6 (λ e. omega arith)) (sym (used-in code l (omega arith)))
+guarded-needs LabelMessage.Withdraw code (to-withdraw l h) = rw (ne-eqb code 6 (λ e. omega arith)) (sym (used-in code l (omega arith)))
+guarded-needs LabelMessage.Release code (to-release l h) = rw (ne-eqb code 6 (λ e. omega arith)) (sym (given-in code (inl (l, h))))
+guarded-needs LabelMessage.Release code (to-second l h) = rw (ne-eqb code 6 (λ e. omega arith)) (sym (given-in code (inr (l, h))))
 
 module _ (ls : List ℕ) (g : Message) where
   -- an unprotected message is judged by its kind, then by its labels

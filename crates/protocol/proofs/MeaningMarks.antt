@@ -14,9 +14,9 @@ use Rattle.protocol.specs.Calls.{Call, formats, restores, fails, opens, 
 use Rattle.protocol.specs.Init.{fresh, resumed, initDeed, initStart}
 use Rattle.protocol.specs.Judged.{done}
 use Rattle.protocol.specs.MeaningRequests.{MarksFrom, remembered, forgotten, telling, told}
-use Rattle.protocol.specs.Phases.{issuedCount, sentOf}
+use Rattle.protocol.specs.Phases.{issuedCount}
 use Rattle.protocol.specs.Receive.{receivedState, taken, takenAs}
-use Rattle.protocol.specs.Send.{sentState, numbered}
+use Rattle.protocol.specs.Send.{sentState, numbered, placeSent}
 use Rattle.protocol.specs.State.{State}
 use Rattle.protocol.specs.Submit.{submitted}
 use Rattle.protocol.specs.TimePassed.{expired}
@@ -58,7 +58,7 @@ module _ (s : State) (ph : Phase) where
   done-marks (greets m) = greeted-marks m
   done-marks (passes elapsed) = pick-all (MarksFrom s ph (passes elapsed)) (expired s elapsed) (forgotten refl refl) (remembered refl)
   done-marks (submits m) = telling refl refl
-  done-marks (sends ask) = remembered (sent-marks (sentOf ph))
+  done-marks (sends ask) = remembered (sent-marks (placeSent s ph))
   done-marks (keeps-alive id) = remembered refl
   done-marks (receives m) = taken-marks m
 

@@ -1,14 +1,17 @@
 -- What a received message leaves: its answer is that of its case, and where it is taken the ACK acts first, then the message. Assumes nothing.
-use Prim.Native.Nat.{ℕ}
-use mathlib.Core.Bool.{true, true≢false}
+use Prim.Native.Nat.{ℕ, _<_, _+_, _≤_}
+use mathlib.Core.Bool.{Bool, true, false, true≢false}
 use mathlib.Core.List.{List}
-use mathlib.Core.Path.{_≡_, refl, ap, _∙_}
+use mathlib.Core.Path.{_≡_, refl, ap, _∙_, sym}
+use native.Mathlib.Numerals.{add-one}
+use native.Mathlib.Omega.{arith}
 use lib.ListN.{length-drop}
-use borrow.Author.Tests.{eqb-true}
 use Rattle.octets.proofs.Choice.{no}
 use Rattle.ft_number.specs.declared.Ack.{Ack}
 use Rattle.ft_number.specs.declared.FtNumber.{FtNumber}
-use Rattle.ft_number.specs.Circle.{next}
+use Rattle.ft_number.specs.declared.Turn.{Turn}
+use Rattle.ft_number.specs.Turn.{turnGap, farthest, numberTurn}
+use Rattle.ft_number.proofs.Turns.{turn-means, unresumed-turn}
 use Rattle.tlv.specs.declared.FtField.{FtField}
 use Rattle.message.specs.declared.Message.{Message}
 use Rattle.message.specs.declared.Reading.{Reading}
@@ -21,7 +24,7 @@ use Rattle.protocol.specs.Cases.{Case, Takes, wrong-phase, malformed, an
 use Rattle.protocol.specs.Lawful.{Lawful}
 use Rattle.protocol.specs.MeaningReceive.{ReceivedFrom, AckThenMessage, SecuresFrom, PlainAnswer, plain-malformed, plain-fatal, plain-ft-tlv, plain-done}
 use Rattle.protocol.specs.Phases.{phaseFits}
-use Rattle.protocol.specs.Receive.{ackOn, ackCount, inTurn, securedBy, receiveRule, taken, receivedState, receive}
+use Rattle.protocol.specs.Receive.{ackOn, ackCount, turnBorne, securedBy, receiveRule, taken, receivedState, receive, takenInFt, leftBefore}
 use Rattle.protocol.specs.State.{State}
 use Rattle.protocol.specs.Step.{unchanged}
 use Rattle.protocol.proofs.Answered.{receive-says, receive-does}
@@ -64,18 +67,32 @@ module _ (s : State) (g : Message) where
         queue = refl;
       })
 
-  in-turn-next : (f : FtField) (n : FtNumber) → f ≡ FtField.Number n → inTurn (s .secured .0) f ≡ true → n .0 ≡ next (s .secured .0)
-  in-turn-next f n e t = eqb-true (n .0) (next (s .secured .0)) (rw e at t)
+  -- "a protected one must bear the successor of S, and S moves to it"; 02: or is 1 to 64 steps ahead
+  module _ (secured : s .secured .0 < 4294967296) (width : (n : FtNumber) → g .protection ≡ FtField.Number n → n .0 < 4294967296) (u : Progress) where
+    abbrev turn : Turn
+    turn = turnBorne (u .resumed) (s .secured .0) (g .protection)
 
-  -- "a protected one must bear the successor of S, and S moves to it"
-  pub taken-secures : (k : ℕ) → Takes s g k → SecuresFrom s g (receivedState s g)
-  taken-secures k t =
-      let a : AckThenMessage s g k (receivedState s g) = received-acts k (t .turn .protection .ack .acks) in
-      record {
-        moves = λ n e. a .secured ∙ ap (securedBy (s .secured)) e;
-        successor = λ n e. in-turn-next (g .protection) n e (t .turn .turn);
-        stays = λ e. a .secured ∙ ap (securedBy (s .secured)) e;
-      }
+    near-turn : (f : FtField) (k : ℕ) → ((n : FtNumber) → f ≡ FtField.Number n → n .0 < 4294967296) → turnBorne (u .resumed) (s .secured .0) f ≡ Turn.InTurn k → k + 1 ≤ farthest (u .resumed)
+    near-turn FtField.Absent k w e = let z : 0 ≡ k = cc in omega (arith, z, one (u .resumed))
+      where
+        one : (r : Bool) → 1 ≤ farthest r
+        one true = omega arith
+        one false = omega arith
+    near-turn (FtField.Number n) k w e = omega (arith, turn-means (u .resumed) (s .secured .0) (n .0) k (omega arith) (omega (arith, w n refl)) e .1)
+
+    pub taken-secures : (k : ℕ) → Takes s (u .resumed) g k → SecuresFrom s (u .resumed) g (takenInFt s (Phase.UpFT u) (Reading.Whole g))
+    taken-secures k t =
+        let a : AckThenMessage s g k (receivedState s g) = received-acts k (t .turn .protection .ack .acks) in
+        let e : leftBefore s (Phase.UpFT u) g ≡ t .turn .leftout = ap turnGap (t .turn .turn) in
+        let is : (n : FtNumber) → g .protection ≡ FtField.Number n → numberTurn (u .resumed) (s .secured .0) (n .0) ≡ Turn.InTurn (t .turn .leftout) =
+        λ n q. ap (turnBorne (u .resumed) (s .secured .0)) (sym q) ∙ t .turn .turn in
+        record {
+          moves = λ n q. a .secured ∙ ap (securedBy (s .secured)) q;
+          ahead = λ n q. rw (e, add-one (t .turn .leftout)) (sym (turn-means (u .resumed) (s .secured .0) (n .0) (t .turn .leftout) (omega arith) (omega (arith, width n q)) (is n q) .0));
+          near = rw e (near-turn (g .protection) (t .turn .leftout) width (t .turn .turn));
+          successor = λ r n q. unresumed-turn (s .secured .0) (n .0) (t .turn .leftout) (omega arith) (omega (arith, width n q)) (rw r at (is n q)) .1;
+          stays = λ q. (a .secured ∙ ap (securedBy (s .secured)) q, ap (λ (f : FtField). turnGap (turnBorne (u .resumed) (s .secured .0) f)) q);
+        }
 
   -- a message that acknowledges R again, as one without FT ACK does, releases nothing: the message alone acts
   module _ (law : Lawful s) (again : ackBorne s (g .ack) ≡ s .released .0) where
@@ -111,11 +128,11 @@ module _ (s : State) (u : Progress) (m : List ℕ) (fits : phaseFits (Phase.UpFT
     count = ackCount (ackOn s g)
 
     -- every test was passed
-    pub receive-takes : Takes s g count
+    pub receive-takes : Takes s (u .resumed) g count
     receive-takes = done-takes (rw (read, d) at (receive-case s (Phase.UpFT u) m fits))
 
     -- the state is exactly the rule's, the phase UpFT with the lowered count
-    pub receive-leaves : ReceivedFrom s (u .sent) g count (receive s (Phase.UpFT u) m)
+    pub receive-leaves : ReceivedFrom s u g count (receive s (Phase.UpFT u) m)
     receive-leaves = rw (receive-does s (Phase.UpFT u) m d, read) (record { answer = refl; state = refl; phase = refl; output = refl })
 
     -- by its parts: R is the number acknowledged, I, kept and the terms stay, S is the message's number or stays, the k oldest leave,
@@ -123,9 +140,10 @@ module _ (s : State) (u : Progress) (m : List ℕ) (fits : phaseFits (Phase.UpFT
     pub receive-acts : AckThenMessage s g count left
     receive-acts = rw (receive-leaves .state) (received-acts s g count (receive-takes .turn .protection .ack .acks))
 
-    -- S moves to the message's number, the successor of S; without FT Protection it stays
-    pub receive-secures : SecuresFrom s g left
-    receive-secures = rw (receive-leaves .state) (taken-secures s g count receive-takes)
+    -- S moves to the message's number, in turn after S; without FT Protection it stays
+    pub receive-secures : s .secured .0 < 4294967296 → ((n : FtNumber) → g .protection ≡ FtField.Number n → n .0 < 4294967296)
+        → SecuresFrom s (u .resumed) g (receive s (Phase.UpFT u) m)
+    receive-secures secured width = rw (receive-does s (Phase.UpFT u) m d, read) (taken-secures s g secured width u count receive-takes)
 
 -- ---- "In UpPlain messages are passed on."
 module _ (s : State) (m : List ℕ) where

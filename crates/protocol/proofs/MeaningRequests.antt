@@ -17,9 +17,9 @@ use Rattle.protocol.specs.Init.{fresh, resumed, initDeed, initStart}
 use Rattle.protocol.specs.Judged.{judged, done}
 use Rattle.protocol.specs.Lawful.{Lawful}
 use Rattle.protocol.specs.MeaningRequests.{isOpen, opensIn, forgotten, RequestFrom}
-use Rattle.protocol.specs.Phases.{issuedCount, sentOf}
+use Rattle.protocol.specs.Phases.{issuedCount}
 use Rattle.protocol.specs.Receive.{takenAs}
-use Rattle.protocol.specs.Send.{sentState, numbered}
+use Rattle.protocol.specs.Send.{sentState, numbered, placeSent}
 use Rattle.protocol.specs.State.{State, noTable, Table}
 use Rattle.protocol.specs.Step.{Step, releasedWith}
 use Rattle.protocol.specs.Submit.{submitRule}
@@ -72,7 +72,7 @@ module _ (s : State) (ph : Phase) (law : Lawful s) (id : MessageId) where
   done-moves (greets m) room d = greeted-moves m
   done-moves (passes elapsed) room d = pick-all (RequestFrom s ph id (passes elapsed)) (expired s elapsed) (forgets (passes elapsed) (releasedWith Answer.Done) refl) (inl refl)
   done-moves (submits m) room d = submitted-moves s ph law id m (own-done s ph (submitRule s ph m) d)
-  done-moves (sends ask) room d = inl (sent-moves (sentOf ph))
+  done-moves (sends ask) room d = inl (sent-moves (placeSent s ph))
   done-moves (keeps-alive n) room d = inl refl
   done-moves (receives m) room d = taken-moves m
 

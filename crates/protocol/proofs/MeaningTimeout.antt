@@ -27,9 +27,9 @@ use Rattle.protocol.specs.Judged.{done}
 use Rattle.protocol.specs.MeaningInit.{Agreed, BearsTerms}
 use Rattle.protocol.specs.MeaningTimeout.{TakenInit, TimeoutFrom, stays, released, agreed}
 use Rattle.protocol.specs.Open.{openBytes, openSession}
-use Rattle.protocol.specs.Phases.{awaits, isUpFT, issuedCount, mayOpen, phaseFits, proposalOf, sentOf, waitingFor}
+use Rattle.protocol.specs.Phases.{awaits, isUpFT, issuedCount, mayOpen, phaseFits, proposalOf, waitingFor}
 use Rattle.protocol.specs.Receive.{receivedState, taken, takenAs}
-use Rattle.protocol.specs.Send.{numbered, sentState}
+use Rattle.protocol.specs.Send.{numbered, sentState, placeSent}
 use Rattle.protocol.specs.State.{State}
 use Rattle.protocol.specs.Step.{Step, admitted, whereOpen}
 use Rattle.protocol.specs.Submit.{submitted}
@@ -88,7 +88,7 @@ module _ (s : State) (ph : Phase) where
   done-timeout (greets m) = init-timeout m
   done-timeout (passes elapsed) = pick-all (TimeoutFrom s ph (passes elapsed)) (expired s elapsed) (released refl) (stays refl)
   done-timeout (submits m) = stays refl
-  done-timeout (sends ask) = stays (send-timeout (sentOf ph))
+  done-timeout (sends ask) = stays (send-timeout (placeSent s ph))
   done-timeout (keeps-alive id) = stays refl
   done-timeout (receives m) = stays (receive-timeout (readingOf m))
 

@@ -21,9 +21,9 @@ use Rattle.protocol.specs.Begin.{restore}
 use Rattle.protocol.specs.ConnectionFailed.{connectionFailed}
 use Rattle.protocol.specs.KeepAlive.{aliveBytes, keepalive}
 use Rattle.protocol.specs.Open.{openBytes, openSession}
-use Rattle.protocol.specs.Phases.{connected, isUp, issuedCount, mayOpen, sentOf, waiting, waitingFor}
+use Rattle.protocol.specs.Phases.{connected, isUp, issuedCount, mayOpen, waiting, waitingFor}
 use Rattle.protocol.specs.Receive.{ackCount, ackOn, receive, receivedState, takenAs, taken}
-use Rattle.protocol.specs.Send.{numbered, sendBytes, sendNext, sendRule, sentState}
+use Rattle.protocol.specs.Send.{numbered, sendBytes, sendNext, sendRule, sentState, placeSent}
 use Rattle.protocol.specs.State.{State}
 use Rattle.protocol.specs.Step.{Step, admitted, broken, roomFor, settle, stepped, whereOpen}
 use Rattle.protocol.specs.Submit.{submit, submitRule, submitted}
@@ -71,8 +71,8 @@ module _ (s : State) (ph : Phase) where
   pub send-moves : (ask : Bool) (room : ℕ) → Still (sendNext s ph ask room .state)
   unfolding sendNext sentState numbered
   send-moves ask room =
-      call-moves (sendRule s ph (roomFor (sendBytes s (sentOf ph) ask) room)) _ (send-harmless s ph (sendBytes s (sentOf ph) ask) room)
-      (λ t. pick-all Still (ltb (sentOf ph) (issuedCount s)) (stays s) (record { kept = refl; keepalive = refl; maxpdu = refl; queue = sym (append-nil (s .queue)) }))
+      call-moves (sendRule s ph (roomFor (sendBytes s (placeSent s ph) ask) room)) _ (send-harmless s ph (sendBytes s (placeSent s ph) ask) room)
+      (λ t. pick-all Still (ltb (placeSent s ph) (issuedCount s)) (stays s) (record { kept = refl; keepalive = refl; maxpdu = refl; queue = sym (append-nil (s .queue)) }))
 
   writer-moves : (may : Bool) (next : Phase) (bytes : List ℕ) (room : ℕ) → Still (writer s ph may next bytes room .state)
   unfolding writer

@@ -8,6 +8,7 @@ use lib.ListN.{length}
 use Rattle.octets.specs.Laid.{laid}
 use Rattle.octets.specs.Pick.{pick}
 use Rattle.ft_number.specs.declared.Ack.{Ack}
+use Rattle.ft_number.specs.declared.Turn.{Turn}
 use Rattle.ft_number.specs.Ack.{ackNumber}
 use Rattle.label_list.specs.declared.Protection.{Protection}
 use Rattle.label_events.specs.declared.Acceptance.{Acceptance}
@@ -47,8 +48,8 @@ pub ack-numbered : (t : Terms) (a : ℕ) (x : Ack) → answerNumber (startAnswer
 ack-numbered t a (Ack.Releases k) = refl
 ack-numbered t a Ack.SequenceError = refl
 
-pub ack-error-numbered : (s : State) (g : Message) → answerNumber (ackRule s g Ack.SequenceError) ≡ ackNumber Ack.SequenceError
-ack-error-numbered s g = refl
+pub ack-error-numbered : (s : State) (resumed : Bool) (g : Message) → answerNumber (ackRule s resumed g Ack.SequenceError) ≡ ackNumber Ack.SequenceError
+ack-error-numbered s resumed g = refl
 
 -- 9
 pub room-numbered : (out bytes : List ℕ) → answerNumber (roomFor bytes (length out)) ≡ writtenNumber (writtenOf out bytes .0)
@@ -65,6 +66,6 @@ reception-numbered Reception.Taken = refl
 reception-numbered Reception.NoRoom = refl
 
 -- 32 and 33; what is right goes on to the number's turn
-pub protection-numbered : (t : Table) (s : ℕ) (g : Message) → (answerNumber (protectedRule t s g Protection.Wrong) ≡ protectionNumber Protection.Wrong)
-    × (answerNumber (protectedRule t s g Protection.Missing) ≡ protectionNumber Protection.Missing)
+pub protection-numbered : (t : Table) (turn : Turn) (g : Message) → (answerNumber (protectedRule t turn g Protection.Wrong) ≡ protectionNumber Protection.Wrong)
+    × (answerNumber (protectedRule t turn g Protection.Missing) ≡ protectionNumber Protection.Missing)
 protection-numbered t s g = (refl, refl)

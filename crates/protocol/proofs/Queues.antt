@@ -31,9 +31,9 @@ use Rattle.protocol.specs.Judged.{done}
 use Rattle.protocol.specs.KeepAlive.{keepalive}
 use Rattle.protocol.specs.Lawful.{Window}
 use Rattle.protocol.specs.Open.{openSession}
-use Rattle.protocol.specs.Phases.{issuedCount, sentOf}
+use Rattle.protocol.specs.Phases.{issuedCount}
 use Rattle.protocol.specs.Receive.{ackOn, ackCount, taken, receivedState, receive}
-use Rattle.protocol.specs.Send.{numbered, sentState, sendNext}
+use Rattle.protocol.specs.Send.{numbered, sentState, sendNext, placeSent}
 use Rattle.protocol.specs.State.{State, held, releasedState}
 use Rattle.protocol.specs.Step.{Step, admitted}
 use Rattle.protocol.specs.Submit.{submitRule, submitted, submit}
@@ -76,7 +76,7 @@ module _ (s : State) where
   module _ (ph : Phase) where
     pub send-stays : (ask : Bool) (room : ℕ) → Stays s (sendNext s ph ask room)
     unfolding step done
-    send-stays ask room = unheard (sends ask) s ph room refl (Stays s) (refl, refl) (λ d. sent-stays (sentOf ph))
+    send-stays ask room = unheard (sends ask) s ph room refl (Stays s) (refl, refl) (λ d. sent-stays (placeSent s ph))
 
     pub open-stays : (id : MessageId) (own : OwnParameters) (proposal : Proposal) (room : ℕ) → openSession s ph id own proposal room .state ≡ s
     unfolding step done

@@ -33,9 +33,9 @@ use Rattle.protocol.specs.Labels.{effectLabels, labelEffect, isProtected
 use Rattle.protocol.specs.Lawful.{Lawful}
 use Rattle.protocol.specs.MeaningRequests.{isOpen, opensIn, answered, RequestFrom}
 use Rattle.protocol.specs.Phases.{isUpFT}
-use Rattle.protocol.specs.Receive.{ackCount, ackOn, receivedState, taken, receivedPhase, receive}
+use Rattle.protocol.specs.Receive.{ackCount, ackOn, receivedState, taken, receivedPhase, receive, leftBefore}
 use Rattle.protocol.specs.State.{State, tableOf, Table}
-use Rattle.protocol.specs.Step.{Step, stepped}
+use Rattle.protocol.specs.Step.{Step, steppedPast}
 use Rattle.protocol.proofs.Answered.{receive-does}
 use Rattle.protocol.proofs.KeepingLabels.{acked-keeps, Beside}
 use Rattle.protocol.proofs.KeepingStates.{table-lawful}
@@ -99,7 +99,7 @@ module _ (s : State) (ph : Phase) (law : Lawful s) (id : MessageId) where
         ∙ before-is
 
     abbrev upDeed : Step
-    upDeed = stepped Answer.Done (receivedState s g) (receivedPhase s (u .sent) g) []
+    upDeed = steppedPast (leftBefore s (Phase.UpFT u) g) Answer.Done (receivedState s g) (receivedPhase s (Phase.UpFT u) g) []
 
     -- one that names q
     module _ (q : MessageId) (named : answers g ≡ IdField.Id q) where

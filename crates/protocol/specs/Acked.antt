@@ -14,7 +14,7 @@ use Rattle.message.specs.Submission.{submissionOf}
 use Rattle.protocol.specs.State.{State, withQueue, withReleased, withWords}
 
 -- the label words after a held message of that kind and label was released:
--- "Released by ACK: Withdraw 2 becomes free; Release 5 becomes free; other codes stay."
+-- 01: "Released by ACK: Withdraw 2 becomes free; Release 5 becomes free; other codes stay." 02: "Free a withdrawn label at the second of Release and ACK."
 unfoldable pub releasedKind : ℕ → ℕ → List ℕ → List ℕ
 releasedKind kind label ls =
     pick (eqb kind (kindNumber Kind.Withdraw)) (ackedOf ls LabelMessage.Withdraw label)

@@ -6,6 +6,7 @@ use mathlib.Core.List.{List}
 use mathlib.Core.Path.{_≡_}
 use lib.ListN.{take}
 use Rattle.ft_number.specs.declared.Ack.{Ack}
+use Rattle.ft_number.specs.declared.Turn.{Turn}
 use Rattle.label_list.specs.declared.Protection.{Protection}
 use Rattle.label_events.specs.declared.Reception.{Reception}
 use Rattle.message.specs.declared.Message.{Message}
@@ -16,7 +17,7 @@ use Rattle.protocol.specs.declared.Phase.{Phase}
 use Rattle.protocol.specs.declared.Progress.{Progress}
 use Rattle.protocol.specs.Acked.{releasedLabels}
 use Rattle.protocol.specs.Labels.{answeredAt, labelEffect, isProtected, protectionRule, effectReception}
-use Rattle.protocol.specs.Receive.{ackOn, isFatal, isZero, inTurn}
+use Rattle.protocol.specs.Receive.{ackOn, isFatal, isZero, turnBorne}
 use Rattle.protocol.specs.Received.{isInit}
 use Rattle.protocol.specs.State.{State, Table, tableOf}
 
@@ -52,14 +53,15 @@ pub record ProtectionRight (s : State) (g : Message) (k : ℕ) : Type 0 where
   pub ack : AckRight s g k
   pub right : protectionRule (wordsAfter s k) g ≡ Protection.Right
 
--- 20 is passed too
-pub record TurnRight (s : State) (g : Message) (k : ℕ) : Type 0 where
+-- 20 is passed too, with so many left out
+pub record TurnRight (s : State) (resumed : Bool) (g : Message) (k : ℕ) : Type 0 where
   pub protection : ProtectionRight s g k
-  pub turn : inTurn (s .secured .0) (g .protection) ≡ true
+  pub leftout : ℕ
+  pub turn : turnBorne resumed (s .secured .0) (g .protection) ≡ Turn.InTurn leftout
 
 -- 21 is passed too: the message is taken
-pub record Takes (s : State) (g : Message) (k : ℕ) : Type 0 where
-  pub turn : TurnRight s g k
+pub record Takes (s : State) (resumed : Bool) (g : Message) (k : ℕ) : Type 0 where
+  pub turn : TurnRight s resumed g k
   pub room : effectReception (wordsAfter s k) (answeredAt (tableAfter s k) g) (isProtected (g .protection)) (labelEffect g) ≡ Reception.Taken
 
 pub data Case (s : State) : Phase → Reading → Answer → Type 0 where
@@ -85,10 +87,10 @@ pub data Case (s : State) : Phase → Reading → Answer → Type 0 where
   wrong : {u : Progress} {k : ℕ} {g : Message} → AckRight s g k → protectionRule (wordsAfter s k) g ≡ Protection.Wrong
       → Case s (Phase.UpFT u) (Reading.Whole g) Answer.ProtectionWrong
   -- "20: number out of turn"
-  out-of-turn : {u : Progress} {k : ℕ} {g : Message} → ProtectionRight s g k → inTurn (s .secured .0) (g .protection) ≡ false
+  out-of-turn : {u : Progress} {k : ℕ} {g : Message} → ProtectionRight s g k → turnBorne (u .resumed) (s .secured .0) (g .protection) ≡ Turn.OutOfTurn
       → Case s (Phase.UpFT u) (Reading.Whole g) Answer.OutOfTurn
   -- "21: Mapping received that needs a word, none free"
-  no-word : {u : Progress} {k : ℕ} {g : Message} → TurnRight s g k
+  no-word : {u : Progress} {k : ℕ} {g : Message} → TurnRight s (u .resumed) g k
       → effectReception (wordsAfter s k) (answeredAt (tableAfter s k) g) (isProtected (g .protection)) (labelEffect g) ≡ Reception.NoRoom
       → Case s (Phase.UpFT u) (Reading.Whole g) Answer.NoWordForMapping
-  taken : {u : Progress} {k : ℕ} {g : Message} → Takes s g k → Case s (Phase.UpFT u) (Reading.Whole g) Answer.Done
+  taken : {u : Progress} {k : ℕ} {g : Message} → Takes s (u .resumed) g k → Case s (Phase.UpFT u) (Reading.Whole g) Answer.Done

@@ -44,8 +44,8 @@ startAnswer (Start.Resumed t k a) = Answer.Done
 abbrev pub startPhase : Phase → Start → Phase
 startPhase ph (Start.Refused a) = ph
 startPhase ph Start.Plain = Phase.UpPlain
-startPhase ph (Start.Fresh t) = upWith 0
-startPhase ph (Start.Resumed t k a) = upWith 0
+startPhase ph (Start.Fresh t) = upWith false 0
+startPhase ph (Start.Resumed t k a) = upWith true 0
 
 -- "Equal means the two stored ones"
 abbrev pub equalParameters : Terms → Terms → Bool

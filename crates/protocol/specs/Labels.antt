@@ -96,7 +96,7 @@ alwaysProtected (Kind.Abort id) = false
 alwaysProtected Kind.NoResources = false
 alwaysProtected Kind.NoKind = false
 
--- ".. and on a message touching codes 1 to 5 on its own side .. It is wrong (32) on a Mapping or Withdraw that names a label of code 6."
+-- ".. and on a message touching codes 1 to 5 on its own side .. It is wrong (32) on a Mapping or Withdraw that names a label of code 6."; 02: a Release touching 8 or 9 too
 abbrev pub effectProtection : List ℕ → Bool → LabelEffect → Protection
 effectProtection ls protected LabelEffect.Nothing = Protection.Right
 effectProtection ls protected (LabelEffect.Change m t) = protectionOf ls m protected t

@@ -15,6 +15,7 @@ pub mod ConnectionFailed
 pub mod TimePassed
 pub mod Accepting
 pub mod Submit
+pub mod LeftOut
 pub mod Send
 pub mod KeepAlive
 pub mod Labels
@@ -43,3 +44,4 @@ pub mod MeaningSubmit
 pub mod MeaningSend
 pub mod MeaningReceive
 pub mod MeaningRequests
+pub mod MeaningLife

@@ -32,11 +32,12 @@ pub data NeverBare : Kind → Type 0 where
   address-withdraw : NeverBare Kind.AddressWithdraw
   resources : NeverBare Kind.ResourcesAvailable
 
--- ".. on a message touching codes 1 to 5 on its own side (Mapping and Withdraw 3-5, Release 1-2) .."
+-- ".. on a message touching codes 1 to 5 on its own side (Mapping and Withdraw 3-5, Release 1-2) .."; 02: the rule that a label's "Release is protected" covers 8 and 9
 pub data Guarded : LabelMessage → ℕ → Type 0 where
   to-mapping : {code : ℕ} → 3 ≤ code → code ≤ 5 → Guarded LabelMessage.Mapping code
   to-withdraw : {code : ℕ} → 3 ≤ code → code ≤ 5 → Guarded LabelMessage.Withdraw code
   to-release : {code : ℕ} → 1 ≤ code → code ≤ 2 → Guarded LabelMessage.Release code
+  to-second : {code : ℕ} → 8 ≤ code → code ≤ 9 → Guarded LabelMessage.Release code
 
 -- ".., a named label or any under a wildcard"
 pub data Demands (ls : List ℕ) (g : Message) : Type 0 where

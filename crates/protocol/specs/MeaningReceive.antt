@@ -1,15 +1,18 @@
 -- What a received message means for the state, clause by clause.
-use Prim.Native.Nat.{ℕ, _-_}
+use Prim.Native.Nat.{ℕ, _+_, _-_, _≤_}
+use mathlib.Core.Bool.{Bool, false}
 use mathlib.Core.List.{[]}
 use mathlib.Core.Path.{_≡_}
 use lib.ListN.{drop}
 use Rattle.ft_number.specs.declared.FtNumber.{FtNumber}
-use Rattle.ft_number.specs.Circle.{next}
+use Rattle.ft_number.specs.Circle.{next, after}
+use Rattle.ft_number.specs.Turn.{farthest}
 use Rattle.label_list.specs.Requests.{openIds}
 use Rattle.tlv.specs.declared.FtField.{FtField}
 use Rattle.message.specs.declared.Message.{Message}
 use Rattle.message.specs.Kinds.{kindOf}
 use Rattle.protocol.specs.declared.Answer.{Answer}
+use Rattle.protocol.specs.declared.Progress.{Progress}
 use Rattle.protocol.specs.Accepting.{stopAfter}
 use Rattle.protocol.specs.Acked.{ackBorne}
 use Rattle.protocol.specs.Cases.{wordsAfter, tableAfter}
@@ -20,10 +23,11 @@ use Rattle.protocol.specs.State.{State, held}
 use Rattle.protocol.specs.Step.{Step}
 
 -- a message taken in UpFT, whose ACK releases the oldest k held: "An ACK lowers that count by the messages it releases, not below 0."
-pub record ReceivedFrom (s : State) (sent : ℕ) (g : Message) (k : ℕ) (x : Step) : Type 0 where
+pub record ReceivedFrom (s : State) (u : Progress) (g : Message) (k : ℕ) (x : Step) : Type 0 where
   pub answer : x .answer ≡ Answer.Done
   pub state : x .state ≡ receivedState s g
-  pub phase : x .phase ≡ upWith (sent - k)
+  -- the connection stays resumed or not
+  pub phase : x .phase ≡ upWith (u .resumed) (u .sent - k)
   pub output : x .output ≡ []
 
 -- "the ACK acts first, then the message": the state t after g, whose ACK releases the oldest k held
@@ -42,11 +46,15 @@ pub record AckThenMessage (s : State) (g : Message) (k : ℕ) (t : State) : Type
   pub stopping : t .marks .stopping ≡ s .marks .stopping
   pub queue : t .queue ≡ drop k (s .queue)
 
--- "a protected one must bear the successor of S, and S moves to it"; every other message leaves S
-pub record SecuresFrom (s : State) (g : Message) (t : State) : Type 0 where
-  pub moves : (n : FtNumber) → g .protection ≡ FtField.Number n → t .secured ≡ n
-  pub successor : (n : FtNumber) → g .protection ≡ FtField.Number n → n .0 ≡ next (s .secured .0)
-  pub stays : g .protection ≡ FtField.Absent → t .secured ≡ s .secured
+-- "a protected one must bear the successor of S, and S moves to it"; 02: "On a resumed connection .. 1 to 64 steps ahead of S", and so many less one were left out;
+-- every other message leaves S
+pub record SecuresFrom (s : State) (resumed : Bool) (g : Message) (x : Step) : Type 0 where
+  pub moves : (n : FtNumber) → g .protection ≡ FtField.Number n → x .state .secured ≡ n
+  pub ahead : (n : FtNumber) → g .protection ≡ FtField.Number n → n .0 ≡ after (x .leftout + 1) (s .secured .0)
+  pub near : x .leftout + 1 ≤ farthest resumed
+  -- on a connection that is not resumed
+  pub successor : resumed ≡ false → (n : FtNumber) → g .protection ≡ FtField.Number n → n .0 ≡ next (s .secured .0)
+  pub stays : g .protection ≡ FtField.Absent → (x .state .secured ≡ s .secured) × (x .leftout ≡ 0)
 
 -- the answers in UpPlain: 22, 36, 31, 0
 pub data PlainAnswer : Answer → Type 0 where

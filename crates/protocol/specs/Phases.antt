@@ -42,9 +42,9 @@ proposalOf (Phase.UpFT u) = 0
 proposalOf Phase.UpPlain = 0
 proposalOf Phase.Failed = 0
 
--- UpFT: "the count sent on this connection"
-abbrev pub upWith : ℕ → Phase
-upWith n = Phase.UpFT (record { sent = n })
+-- UpFT: "the count sent on this connection"; 02: "a resumed connection (UpFT bears which)"
+abbrev pub upWith : Bool → ℕ → Phase
+upWith resumed n = Phase.UpFT (record { sent = n; resumed = resumed })
 
 abbrev pub sentOf : Phase → ℕ
 sentOf Phase.Idle = 0
@@ -52,6 +52,13 @@ sentOf (Phase.InitWait v) = 0
 sentOf (Phase.UpFT u) = u .sent
 sentOf Phase.UpPlain = 0
 sentOf Phase.Failed = 0
+
+abbrev pub resumedOf : Phase → Bool
+resumedOf Phase.Idle = false
+resumedOf (Phase.InitWait v) = false
+resumedOf (Phase.UpFT u) = u .resumed
+resumedOf Phase.UpPlain = false
+resumedOf Phase.Failed = false
 
 -- ---- in which phases a call may come
 -- "Open (Idle, Failed)"

@@ -1,14 +1,16 @@
 -- Receive: the answer to a message in 01's order, 1, 22, 36, 31, 30, 34, 33, 32, 20, 21, and what it makes of the state.
 -- 01: "Receive (UpFT): the ACK acts first, then the message; a protected one must bear the successor of S, and S moves to it. In UpPlain messages are passed on."
+-- 02, ticket 3: on a resumed connection it may be 1 to 64 steps ahead of S.
 use Prim.Native.Nat.{ℕ, _-_}
-use mathlib.Core.Bool.{Bool, true, false, not}
+use mathlib.Core.Bool.{Bool, false}
 use mathlib.Core.List.{List, []}
 use lib.Dec.{eqb}
 use Rattle.octets.specs.Pick.{pick}
 use Rattle.ft_number.specs.declared.Ack.{Ack}
 use Rattle.ft_number.specs.declared.FtNumber.{FtNumber}
+use Rattle.ft_number.specs.declared.Turn.{Turn}
 use Rattle.ft_number.specs.Ack.{ackOf}
-use Rattle.ft_number.specs.Circle.{next}
+use Rattle.ft_number.specs.Turn.{turnGap, numberTurn}
 use Rattle.label_list.specs.declared.Protection.{Protection}
 use Rattle.tlv.specs.declared.Field.{Field}
 use Rattle.tlv.specs.declared.FtField.{FtField}
@@ -24,10 +26,10 @@ use Rattle.protocol.specs.declared.Phase.{Phase}
 use Rattle.protocol.specs.Accepting.{stopAfter}
 use Rattle.protocol.specs.Acked.{ackBorne, acked}
 use Rattle.protocol.specs.Labels.{effectLabels, effectReception, answeredAt, isProtected, labelEffect, protectionRule}
-use Rattle.protocol.specs.Phases.{upWith, sentOf, isUpFT}
+use Rattle.protocol.specs.Phases.{upWith, sentOf, resumedOf, isUpFT}
 use Rattle.protocol.specs.Received.{isInit}
 use Rattle.protocol.specs.State.{Marks, State, Table, withMarks, withSecured, withWords}
-use Rattle.protocol.specs.Step.{Step, admitted, settle, stepped, unchanged}
+use Rattle.protocol.specs.Step.{Step, admitted, settle, steppedPast, unchanged}
 
 -- "36: Status with E set"
 abbrev pub isFatal : Field → Bool
@@ -47,25 +49,30 @@ abbrev pub isZero : FtField → Bool
 isZero FtField.Absent = false
 isZero (FtField.Number n) = eqb (n .0) 0
 
--- "20: number out of turn": a protected message bears the successor of S
-abbrev pub inTurn : ℕ → FtField → Bool
-inTurn s FtField.Absent = true
-inTurn s (FtField.Number n) = eqb (n .0) (next s)
+-- the turn of a protected message, with how many were left out before it; a message that is not protected is always in turn
+abbrev pub turnBorne : Bool → ℕ → FtField → Turn
+turnBorne resumed s FtField.Absent = Turn.InTurn 0
+turnBorne resumed s (FtField.Number n) = numberTurn resumed s (n .0)
+
+-- "20: number out of turn"; zero has been answered before (30); only then the tests behind it, which say `a`
+abbrev pub turnRule : Turn → Answer → Answer
+turnRule Turn.OutOfTurn a = Answer.OutOfTurn
+turnRule Turn.ZeroNumber a = Answer.ZeroNumber
+turnRule (Turn.InTurn k) a = a
 
 abbrev pub receptionRule : Reception → Answer
 receptionRule Reception.Taken = Answer.Done
 receptionRule Reception.NoRoom = Answer.NoWordForMapping
 
--- "33 and later judge labels as the ACK leaves them": t has those, s is S
-abbrev pub protectedRule : Table → ℕ → Message → Protection → Answer
-protectedRule t s g Protection.Missing = Answer.ProtectionMissing
-protectedRule t s g Protection.Wrong = Answer.ProtectionWrong
-protectedRule t s g Protection.Right =
-    pick (not (inTurn s (g .protection))) Answer.OutOfTurn
-    (receptionRule (effectReception (t .words) (answeredAt t g) (isProtected (g .protection)) (labelEffect g)))
+-- "33 and later judge labels as the ACK leaves them": t has those; the turn of the message
+abbrev pub protectedRule : Table → Turn → Message → Protection → Answer
+protectedRule t turn g Protection.Missing = Answer.ProtectionMissing
+protectedRule t turn g Protection.Wrong = Answer.ProtectionWrong
+protectedRule t turn g Protection.Right =
+    turnRule turn (receptionRule (effectReception (t .words) (answeredAt t g) (isProtected (g .protection)) (labelEffect g)))
 
-unfoldable pub labelsRule : Table → ℕ → Message → Answer
-labelsRule t s g = protectedRule t s g (protectionRule (t .words) g)
+unfoldable pub labelsRule : Table → Turn → Message → Answer
+labelsRule t turn g = protectedRule t turn g (protectionRule (t .words) g)
 
 abbrev pub readRule : Reading → (Message → Answer) → Answer
 readRule Reading.Malformed rule = Answer.MalformedReceived
@@ -82,21 +89,21 @@ ackCount (Ack.Releases k) = k
 ackCount Ack.SequenceError = 0
 
 -- "34: ACK sequence error"; "33 and later judge labels as the ACK leaves them"
-abbrev pub ackRule : State → Message → Ack → Answer
-ackRule s g (Ack.Releases k) = labelsRule (acked s k (ackBorne s (g .ack)) .table) (s .secured .0) g
-ackRule s g Ack.SequenceError = Answer.AckSequenceError
+abbrev pub ackRule : State → Bool → Message → Ack → Answer
+ackRule s resumed g (Ack.Releases k) = labelsRule (acked s k (ackBorne s (g .ack)) .table) (turnBorne resumed (s .secured .0) (g .protection)) g
+ackRule s resumed g Ack.SequenceError = Answer.AckSequenceError
 
 -- the ACK that the message bears, against R and I
 unfoldable pub ackOn : State → Message → Ack
 ackOn s g = ackOf (s .released .0) (s .issued .0) (ackBorne s (g .ack))
 
-unfoldable pub ftRule : State → Message → Answer
-ftRule s g = messageRule g (pick (isZero (g .protection)) Answer.ZeroNumber (ackRule s g (ackOn s g)))
+unfoldable pub ftRule : State → Bool → Message → Answer
+ftRule s resumed g = messageRule g (pick (isZero (g .protection)) Answer.ZeroNumber (ackRule s resumed g (ackOn s g)))
 
 abbrev pub receiveRule : State → Phase → Reading → Answer
 receiveRule s Phase.Idle r = Answer.WrongPhase
 receiveRule s (Phase.InitWait v) r = Answer.WrongPhase
-receiveRule s (Phase.UpFT u) r = readRule r (ftRule s)
+receiveRule s (Phase.UpFT u) r = readRule r (ftRule s (u .resumed))
 receiveRule s Phase.UpPlain r = readRule r plainRule
 receiveRule s Phase.Failed r = Answer.WrongPhase
 
@@ -122,13 +129,17 @@ unfoldable pub receivedState : State → Message → State
 receivedState s g = taken (afterAck s g) g
 
 -- "An ACK lowers that count by the messages it releases, not below 0."
-abbrev pub receivedPhase : State → ℕ → Message → Phase
-receivedPhase s sent g = upWith (sent - ackCount (ackOn s g))
+abbrev pub receivedPhase : State → Phase → Message → Phase
+receivedPhase s ph g = upWith (resumedOf ph) (sentOf ph - ackCount (ackOn s g))
+
+-- how many the peer left out before the message
+abbrev pub leftBefore : State → Phase → Message → ℕ
+leftBefore s ph g = turnGap (turnBorne (resumedOf ph) (s .secured .0) (g .protection))
 
 -- what a message leaves in UpFT that is taken; a malformed one never is
 abbrev pub takenInFt : State → Phase → Reading → Step
 takenInFt s ph Reading.Malformed = unchanged Answer.Done s ph
-takenInFt s ph (Reading.Whole g) = stepped Answer.Done (receivedState s g) (receivedPhase s (sentOf ph) g) []
+takenInFt s ph (Reading.Whole g) = steppedPast (leftBefore s ph g) Answer.Done (receivedState s g) (receivedPhase s ph g) []
 
 -- "In UpPlain messages are passed on."
 abbrev pub takenAs : State → Phase → Reading → Step

@@ -1,5 +1,6 @@
 -- Send next: "Send next (UpFT) gives the oldest not sent on this connection, after a break from the oldest held; it numbers it if it has no number and
--- adds at its end FT Protection, then FT ACK if asked, raising its length. Everything held is re-issued, net-zero pairs too." Answers: 1, 8, 9.
+-- adds at its end FT Protection, then FT ACK if asked, raising its length. Everything held is re-issued, net-zero pairs too"; 02: but for the Requests that are left
+-- out (LeftOut.antt). Answers: 1, 8, 9.
 use Prim.Native.Nat.{ℕ, _+_}
 use mathlib.Core.Bool.{Bool, true, false}
 use mathlib.Core.List.{List, []}
@@ -12,17 +13,18 @@ use Rattle.tlv.specs.declared.FtField.{FtField}
 use Rattle.message_writer.specs.Forms.{protectedBytes}
 use Rattle.protocol.specs.declared.Answer.{Answer}
 use Rattle.protocol.specs.declared.Phase.{Phase}
-use Rattle.protocol.specs.Phases.{upWith, isUpFT, issuedCount, sentOf}
+use Rattle.protocol.specs.LeftOut.{leftOutFrom, nextPlace}
+use Rattle.protocol.specs.Phases.{upWith, isUpFT, issuedCount, resumedOf, sentOf}
 use Rattle.protocol.specs.State.{State, held, withIssued}
-use Rattle.protocol.specs.Step.{Step, admitted, roomFor, settle, stepped, whereOpen}
+use Rattle.protocol.specs.Step.{Step, admitted, roomFor, settle, steppedPast, whereOpen}
 
--- the oldest message not sent on this connection
-abbrev pub nextMessage : State → ℕ → List ℕ
-nextMessage s sent = getD (s .queue) sent []
+-- the message at that place of the queue
+abbrev pub queueMessage : State → ℕ → List ℕ
+queueMessage s place = getD (s .queue) place []
 
--- "The oldest held bears the number after R": the message at that place of the queue bears the one as many after it
+-- "The oldest held bears the number after R": the message at that place of the queue bears the one as many after it, whatever is left out before it
 unfoldable pub queueNumber : State → ℕ → FtNumber
-queueNumber s sent = record { 0 = after (sent + 1) (s .released .0) }
+queueNumber s place = record { 0 = after (place + 1) (s .released .0) }
 
 -- FT ACK, if asked, says what is secured
 unfoldable pub ackAsked : Bool → State → FtField
@@ -30,7 +32,7 @@ ackAsked true s = FtField.Number (s .secured)
 ackAsked false s = FtField.Absent
 
 unfoldable pub sendBytes : State → ℕ → Bool → List ℕ
-sendBytes s sent ask = protectedBytes (nextMessage s sent) (queueNumber s sent) (ackAsked ask s)
+sendBytes s place ask = protectedBytes (queueMessage s place) (queueNumber s place) (ackAsked ask s)
 
 -- "1: wrong phase"; "8: nothing unsent"; only then the test of the room, which says `room`
 unfoldable pub sendRule : State → Phase → Answer → Answer
@@ -40,18 +42,25 @@ sendRule s ph room =
 
 -- the message at that place of the queue is the last that has a number
 unfoldable pub numbered : State → ℕ → State
-numbered s sent = withIssued s (queueNumber s sent)
+numbered s place = withIssued s (queueNumber s place)
 
 -- "it numbers it if it has no number": those that have one keep it
 unfoldable pub sentState : State → ℕ → State
-sentState s sent = pick (ltb sent (issuedCount s)) s (numbered s sent)
+sentState s place = pick (ltb place (issuedCount s)) s (numbered s place)
+
+-- the place of what is sent in that phase
+unfoldable pub placeSent : State → Phase → ℕ
+placeSent s ph = nextPlace s (sentOf ph)
 
 -- "9: output too short"
 abbrev pub sendRoom : State → Phase → Bool → ℕ → Answer
-sendRoom s ph ask room = roomFor (sendBytes s (sentOf ph) ask) room
+sendRoom s ph ask room = roomFor (sendBytes s (placeSent s ph) ask) room
 
+-- those left out count as sent with it
 abbrev pub sendDeed : State → Phase → Bool → Step
-sendDeed s ph ask = stepped Answer.Done (sentState s (sentOf ph)) (upWith (sentOf ph + 1)) (sendBytes s (sentOf ph) ask)
+sendDeed s ph ask =
+    steppedPast (leftOutFrom s (sentOf ph)) Answer.Done (sentState s (placeSent s ph)) (upWith (resumedOf ph) (placeSent s ph + 1))
+    (sendBytes s (placeSent s ph) ask)
 
 -- `room`: so many bytes are lent for the output
 unfoldable pub sendNext : State → Phase → Bool → ℕ → Step

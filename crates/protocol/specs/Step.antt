@@ -14,15 +14,20 @@ use Rattle.protocol.specs.Answers.{effectOf}
 use Rattle.protocol.specs.Phases.{phaseFits, restingPhase}
 use Rattle.protocol.specs.State.{State, releasedState, withWords}
 
--- a call that writes nothing has the empty list as its output
+-- a call that writes nothing has the empty list as its output; 02: "how many were left out", 0 where the call can leave out none
 pub record Step : Type 0 where
   pub answer : Answer
   pub state : State
   pub phase : Phase
   pub output : List ℕ
+  pub leftout : ℕ
+
+-- a call that leaves out so many
+abbrev pub steppedPast : ℕ → Answer → State → Phase → List ℕ → Step
+steppedPast n a s ph o = record { answer = a; state = s; phase = ph; output = o; leftout = n }
 
 abbrev pub stepped : Answer → State → Phase → List ℕ → Step
-stepped a s ph o = record { answer = a; state = s; phase = ph; output = o }
+stepped a s ph o = steppedPast 0 a s ph o
 
 -- "nothing changed"
 abbrev pub unchanged : Answer → State → Phase → Step

@@ -6,9 +6,10 @@ pub struct Waiting {
     pub timeout: u16,
 }
 
-// What UpFT bears: the count sent on this connection.
+// What UpFT bears: the count sent on this connection, and whether the connection is resumed: both ends' Inits had R set.
 pub struct Progress {
     pub sent: u32,
+    pub resumed: bool,
 }
 
 // 01's phases.

@@ -9,6 +9,7 @@ use Rattle.octets.specs.Pick.{pick, both}
 use Rattle.octets.proofs.Choice.{by-test, both-true}
 use Rattle.ft_number.specs.declared.Ack.{Ack}
 use Rattle.ft_number.specs.declared.FtNumber.{FtNumber}
+use Rattle.ft_number.specs.declared.Turn.{Turn}
 use Rattle.ft_number.specs.Ack.{ackOf}
 use Rattle.label_list.specs.declared.Found.{Found}
 use Rattle.label_list.specs.declared.Protection.{Protection}
@@ -26,7 +27,7 @@ use Rattle.protocol.specs.declared.LabelEffect.{LabelEffect}
 use Rattle.protocol.specs.Acked.{ackBorne, releasedLabels, acked}
 use Rattle.protocol.specs.Answers.{isDone}
 use Rattle.protocol.specs.Labels.{labelEffect, isProtected, protectionRule, effectReception, effectLabels, alwaysProtected, answeredAt, answers}
-use Rattle.protocol.specs.Receive.{isFatal, messageRule, plainRule, isZero, inTurn, receptionRule, protectedRule, labelsRule, ackRule, ackOn, ftRule, ackCount, messageLabels, taken, receivedState}
+use Rattle.protocol.specs.Receive.{isFatal, messageRule, plainRule, isZero, turnBorne, receptionRule, protectedRule, labelsRule, ackRule, ackOn, ftRule, ackCount, messageLabels, taken, receivedState}
 use Rattle.protocol.specs.Received.{isInit}
 use Rattle.protocol.specs.State.{State, Table, tableOf}
 use Rattle.protocol.proofs.Queues.{count-held}
@@ -60,30 +61,35 @@ module _ (g : Message) {b f t : Bool} (eb : b ≡ isInit (g .typename)) (nb : b 
   pub plain-done : t ≡ false → Answer.Done ≡ plainRule g
   plain-done u = message-rest g _ eb nb ef nf (rw (← et, u))
 
-module _ (t : Table) (s : ℕ) (g : Message) {p : Protection} (e : p ≡ protectionRule (t .words) g) where
-  pub labels-protection : {q : Protection} {ws : List ℕ} → isDone (protectedRule t s g q) ≡ false → p ≡ q
-      → (protectedRule t s g q ≡ labelsRule t s g) × (protectedRule t s g q ≡ Answer.Done → ws ≡ messageLabels t g)
+module _ (t : Table) (turn : Turn) (g : Message) {p : Protection} (e : p ≡ protectionRule (t .words) g) where
+  pub labels-protection : {q : Protection} {ws : List ℕ} → isDone (protectedRule t turn g q) ≡ false → p ≡ q
+      → (protectedRule t turn g q ≡ labelsRule t turn g) × (protectedRule t turn g q ≡ Answer.Done → ws ≡ messageLabels t g)
   unfolding labelsRule
-  labels-protection {q} n u = (rw (← e, u), never (protectedRule t s g q) n)
+  labels-protection {q} n u = (rw (← e, u), never (protectedRule t turn g q) n)
 
-  pub labels-turn : {b : Bool} {ws : List ℕ} → p ≡ Protection.Right → b ≡ inTurn s (g .protection) → b ≡ false
-      → (Answer.OutOfTurn ≡ labelsRule t s g) × (Answer.OutOfTurn ≡ Answer.Done → ws ≡ messageLabels t g)
+  pub labels-out : {ws : List ℕ} → p ≡ Protection.Right → turn ≡ Turn.OutOfTurn
+      → (Answer.OutOfTurn ≡ labelsRule t turn g) × (Answer.OutOfTurn ≡ Answer.Done → ws ≡ messageLabels t g)
   unfolding labelsRule
-  labels-turn u q n = (rw (← e, u, ← q, n), never Answer.OutOfTurn refl)
+  labels-out u q = (rw (← e, u, q), never Answer.OutOfTurn refl)
 
-  pub labels-reception : {b d : Bool} {f : LabelEffect} {request : Found} {r r′ : Reception} {ws : List ℕ} → p ≡ Protection.Right → b ≡ inTurn s (g .protection) → b ≡ true
+  pub labels-zero : {ws : List ℕ} → p ≡ Protection.Right → turn ≡ Turn.ZeroNumber
+      → (Answer.ZeroNumber ≡ labelsRule t turn g) × (Answer.ZeroNumber ≡ Answer.Done → ws ≡ messageLabels t g)
+  unfolding labelsRule
+  labels-zero u q = (rw (← e, u, q), never Answer.ZeroNumber refl)
+
+  pub labels-reception : {k : ℕ} {d : Bool} {f : LabelEffect} {request : Found} {r r′ : Reception} {ws : List ℕ} → p ≡ Protection.Right → turn ≡ Turn.InTurn k
       → d ≡ isProtected (g .protection) → f ≡ labelEffect g → request ≡ answeredAt t g
       → (r ≡ effectReception (t .words) request d f) × (ws ≡ effectLabels (t .words) request d f) → r ≡ r′
-      → (receptionRule r′ ≡ labelsRule t s g) × (receptionRule r′ ≡ Answer.Done → ws ≡ messageLabels t g)
+      → (receptionRule r′ ≡ labelsRule t turn g) × (receptionRule r′ ≡ Answer.Done → ws ≡ messageLabels t g)
   unfolding labelsRule
-  labels-reception u q n ed ef ea er v = (rw (← e, u, ← q, n, ← ed, ← ef, ← ea, ← (er .0), v), λ d. rw (← ed, ← ef, ← ea) (er .1))
+  labels-reception u q ed ef ea er v = (rw (← e, u, q, ← ed, ← ef, ← ea, ← (er .0), v), λ d. rw (← ed, ← ef, ← ea) (er .1))
 
 -- of a message that touches no label the words are not looked at
-labels-unseen : (t t′ : Table) (s : ℕ) (g : Message) → touchesNone (labelEffect g) ≡ true → labelsRule t s g ≡ labelsRule t′ s g
+labels-unseen : (t t′ : Table) (turn : Turn) (g : Message) → touchesNone (labelEffect g) ≡ true → labelsRule t turn g ≡ labelsRule t′ turn g
 unfolding labelsRule protectionRule
-labels-unseen t t′ s g none = by (labelEffect g) refl
+labels-unseen t t′ turn g none = by (labelEffect g) refl
   where
-    by : (f : LabelEffect) → labelEffect g ≡ f → labelsRule t s g ≡ labelsRule t′ s g
+    by : (f : LabelEffect) → labelEffect g ≡ f → labelsRule t turn g ≡ labelsRule t′ turn g
     by LabelEffect.Nothing e = by-test (both (not (isProtected (g .protection))) (alwaysProtected (kindOf g))) (λ y. rw y) (λ n. simp (n, e))
     by (LabelEffect.Change m x) e = absurd (false≢true (rw e at none))
 
@@ -111,12 +117,12 @@ count-within im g s = rw (queue-length im) at (count-held (stateOf im) (image-wi
 pub ack-within : (im : List ℕ) (g : Message) {x : Ack} {k : ℕ} → IsSound im → x ≡ ackOn (stateOf im) g → x ≡ Ack.Releases k → k ≤ decode im .header .held
 ack-within im g s e t = rw (← e, t) at (count-within im g s)
 
-module _ (s : State) (g : Message) {x : Ack} (e : x ≡ ackOn s g) where
-  pub ack-error : {ws : List ℕ} → x ≡ Ack.SequenceError → (Answer.AckSequenceError ≡ ackRule s g (ackOn s g))
+module _ (s : State) (resumed : Bool) (g : Message) {x : Ack} (e : x ≡ ackOn s g) where
+  pub ack-error : {ws : List ℕ} → x ≡ Ack.SequenceError → (Answer.AckSequenceError ≡ ackRule s resumed g (ackOn s g))
       × (Answer.AckSequenceError ≡ Answer.Done → labelsStay s (ackCount (ackOn s g)) g ≡ false → ws ≡ receivedState s g .table .words)
   ack-error t = (rw (← e, t), never Answer.AckSequenceError refl)
 
-module _ (im : List ℕ) (g : Message) {x : Ack} (e : x ≡ ackOn (stateOf im) g) where
+module _ (im : List ℕ) (resumed : Bool) (g : Message) {x : Ack} (e : x ≡ ackOn (stateOf im) g) where
   abbrev s : State
   s = stateOf im
 
@@ -124,13 +130,13 @@ module _ (im : List ℕ) (g : Message) {x : Ack} (e : x ≡ ackOn (stateOf im) g
   abbrev left : ℕ → Table
   left k = acked s k (ackBorne s (g .ack)) .table
 
-  pub ack-right : {k : ℕ} {ws ws₂ : List ℕ} {r : Answer} {n : FtNumber} → n ≡ s .secured → x ≡ Ack.Releases k
+  pub ack-right : {k : ℕ} {ws ws₂ : List ℕ} {r : Answer} {n : FtNumber} {turn : Turn} → n ≡ s .secured → turn ≡ turnBorne resumed (n .0) (g .protection) → x ≡ Ack.Releases k
       → (labelsStay s k g ≡ false → ws ≡ releasedLabels (take k (s .queue)) (s .table .words))
-      → (r ≡ labelsRule (tableOf ws (storedIds im)) (n .0) g) × (r ≡ Answer.Done → ws₂ ≡ messageLabels (tableOf ws (storedIds im)) g)
-      → (r ≡ ackRule s g (ackOn s g)) × (r ≡ Answer.Done → labelsStay s (ackCount (ackOn s g)) g ≡ false → ws₂ ≡ receivedState s g .table .words)
+      → (r ≡ labelsRule (tableOf ws (storedIds im)) turn g) × (r ≡ Answer.Done → ws₂ ≡ messageLabels (tableOf ws (storedIds im)) g)
+      → (r ≡ ackRule s resumed g (ackOn s g)) × (r ≡ Answer.Done → labelsStay s (ackCount (ackOn s g)) g ≡ false → ws₂ ≡ receivedState s g .table .words)
   unfolding taken receivedState
-  ack-right {k} {ws} {n = n} en t ew er = (
-    rw (← e, t) (er .0 ∙ judged ∙ ap (λ (y : FtNumber). labelsRule (left k) (y .0) g) en),
+  ack-right {k} {ws} {n = n} {turn} en et t ew er = (
+    rw (← e, t) (er .0 ∙ judged ∙ ap (λ (y : Turn). labelsRule (left k) y g) (et ∙ ap (λ (y : FtNumber). turnBorne resumed (y .0) (g .protection)) en)),
     λ d f. er .1 d ∙ ap (λ (l : Table). messageLabels l g) (rw (← e, t) (loaded (rw (← e, t) at f))),
   )
     where
@@ -138,27 +144,28 @@ module _ (im : List ℕ) (g : Message) {x : Ack} (e : x ≡ ackOn (stateOf im) g
       loaded : labelsStay s k g ≡ false → tableOf ws (storedIds im) ≡ left k
       loaded y = ap (λ (l : List ℕ). tableOf l (storedIds im)) (ew y) ∙ sym (acked-table im k (ackBorne s (g .ack)))
 
-      judged : labelsRule (tableOf ws (storedIds im)) (n .0) g ≡ labelsRule (left k) (n .0) g
+      judged : labelsRule (tableOf ws (storedIds im)) turn g ≡ labelsRule (left k) turn g
       judged =
           by-test (labelsStay s k g)
-          (λ y. labels-unseen _ _ (n .0) g (both-true (touchesNone (labelEffect g)) (namesNone (answers g)) (both-true (leavesWords g) (freesNone (take k (s .queue))) y .0) .0))
-          (λ y. ap (λ (l : Table). labelsRule l (n .0) g) (loaded y))
+          (λ y. labels-unseen _ _ turn g (both-true (touchesNone (labelEffect g)) (namesNone (answers g)) (both-true (leavesWords g) (freesNone (take k (s .queue))) y .0) .0))
+          (λ y. ap (λ (l : Table). labelsRule l turn g) (loaded y))
 
 -- a test before the ACK refuses
-pub ft-refused : (s : State) (g : Message) {ws : List ℕ} {x : Answer} → isDone x ≡ false → x ≡ ftRule s g
-    → (x ≡ ftRule s g) × (x ≡ Answer.Done → labelsStay s (ackCount (ackOn s g)) g ≡ false → ws ≡ receivedState s g .table .words)
-ft-refused s g {x = x} n e = (e, never x n)
+pub ft-refused : (s : State) (resumed : Bool) (g : Message) {ws : List ℕ} {x : Answer} → isDone x ≡ false → x ≡ ftRule s resumed g
+    → (x ≡ ftRule s resumed g) × (x ≡ Answer.Done → labelsStay s (ackCount (ackOn s g)) g ≡ false → ws ≡ receivedState s g .table .words)
+ft-refused s resumed g {x = x} n e = (e, never x n)
 
-pub ft-is : (s : State) (g : Message) {x : Answer} → x ≡ messageRule g (pick (isZero (g .protection)) Answer.ZeroNumber (ackRule s g (ackOn s g))) → x ≡ ftRule s g
+pub ft-is : (s : State) (resumed : Bool) (g : Message) {x : Answer} → x ≡ messageRule g (pick (isZero (g .protection)) Answer.ZeroNumber (ackRule s resumed g (ackOn s g)))
+    → x ≡ ftRule s resumed g
 unfolding ftRule
-ft-is s g e = e
+ft-is s resumed g e = e
 
-module _ (s : State) (g : Message) {b f z : Bool} (eb : b ≡ isInit (g .typename)) (nb : b ≡ false) (ef : f ≡ isFatal (g .status)) (nf : f ≡ false) (ez : z ≡ isZero (g .protection)) where
-  pub ft-zero : z ≡ true → Answer.ZeroNumber ≡ ftRule s g
+module _ (s : State) (resumed : Bool) (g : Message) {b f z : Bool} (eb : b ≡ isInit (g .typename)) (nb : b ≡ false) (ef : f ≡ isFatal (g .status)) (nf : f ≡ false) (ez : z ≡ isZero (g .protection)) where
+  pub ft-zero : z ≡ true → Answer.ZeroNumber ≡ ftRule s resumed g
   unfolding ftRule
   ft-zero t = message-rest g _ eb nb ef nf (rw (← ez, t))
 
-  pub ft-rest : {r : Answer} → z ≡ false → r ≡ ackRule s g (ackOn s g) → r ≡ ftRule s g
+  pub ft-rest : {r : Answer} → z ≡ false → r ≡ ackRule s resumed g (ackOn s g) → r ≡ ftRule s resumed g
   unfolding ftRule
   ft-rest t e = message-rest g _ eb nb ef nf (rw (← ez, t) e)
 

@@ -9,6 +9,8 @@ use Rattle.octets.specs.Differ.{differ}
 use Rattle.octets.specs.Laid.{laid}
 use Rattle.octets.proofs.Choice.{by-test, both-true}
 use Rattle.octets.proofs.Differ.{differ-self}
+use Rattle.ft_number.specs.declared.Turn.{Turn}
+use Rattle.ft_number.specs.Turn.{turnGap}
 use Rattle.tlv.specs.declared.IdField.{IdField}
 use Rattle.block0.specs.declared.Header.{Header}
 use Rattle.label_events.specs.Requests.{endedAt}
@@ -23,12 +25,13 @@ use Rattle.image.proofs.Sound.{sound-valid}
 use Rattle.protocol.specs.declared.Answer.{Answer}
 use Rattle.protocol.specs.declared.LabelEffect.{LabelEffect}
 use Rattle.protocol.specs.declared.Phase.{Phase}
+use Rattle.protocol.specs.declared.Progress.{Progress}
 use Rattle.protocol.specs.Acked.{acked}
 use Rattle.protocol.specs.Answers.{effectOf, isDone}
 use Rattle.protocol.specs.Cases.{mayReceive}
 use Rattle.protocol.specs.Labels.{labelEffect, isProtected, effectLabels, answeredAt, answers, requestAt}
 use Rattle.protocol.specs.Phases.{upWith}
-use Rattle.protocol.specs.Receive.{ackOn, ackCount, taken, receivedState, takenAs, readRule, ftRule, plainRule, receiveRule, receive}
+use Rattle.protocol.specs.Receive.{turnBorne, ackOn, ackCount, taken, receivedState, takenAs, readRule, ftRule, plainRule, receiveRule, receive}
 use Rattle.protocol.specs.State.{State, tableOf}
 use Rattle.protocol.proofs.Cases.{wrong-by}
 use Rattle.protocol.proofs.Effects.{done-is}
@@ -85,21 +88,21 @@ module _ (im : List ℕ) (sound : IsSound im) (g : Message) {h h′ : Header} {k
   put-stays y e = put (stay-labels (stateOf im) g k ek y) e
 
 -- and block 0 alone
-pub take-is : (im : List ℕ) (sent : ℕ) (g : Message) {im′ : List ℕ} {h : Header} {k n : ℕ} {b : Bool}
-    → length im ≡ imageSize → h ≡ decode im .header → k ≡ ackCount (ackOn (stateOfNumbers h) g)
-    → (im′ ≡ stored im (fewer (ackCount (ackOn (stateOf im) g))) (receivedState (stateOf im) g)) × (b ≡ differ (block im 0) (block im′ 0)) → n ≡ sent - k
-    → afterWith (record { answer = Answer.Done; phase = upWith n; written = 0; slot = 0; block0 = b; further = 0 }) im′ [] ≡ takenFt im sent g
+pub take-is : (im : List ℕ) (u : Progress) (g : Message) {im′ : List ℕ} {h : Header} {k n left : ℕ} {turn : Turn} {b : Bool}
+    → length im ≡ imageSize → h ≡ decode im .header → k ≡ ackCount (ackOn (stateOfNumbers h) g) → turn ≡ turnBorne (u .resumed) (h .secured .0) (g .protection)
+    → (im′ ≡ stored im (fewer (ackCount (ackOn (stateOf im) g))) (receivedState (stateOf im) g)) × (b ≡ differ (block im 0) (block im′ 0)) → n ≡ u .sent - k → left ≡ turnGap turn
+    → afterWith (record { answer = Answer.Done; phase = upWith (u .resumed) n; written = 0; slot = 0; block0 = b; further = 0; leftout = left }) im′ [] ≡ takenFt im u g
 unfolding laid
-take-is im sent g size eh ek e en = rw (e .1, e .0, en, ek, ack-read im g eh, further-none im size _ _)
+take-is im u g size eh ek et e en el = rw (e .1, e .0, en, ek, el, et, ack-read im g eh, eh, further-none im size _ _)
 
 -- ---- how the answer settles
-module _ (im : List ℕ) (sent : ℕ) (g : Message) {a : Answer} (e : a ≡ ftRule (stateOf im) g) {x : After} where
-  pub ft-settled : isDone a ≡ false → x ≡ settleOf a (upWith sent) im [] (untouched a (upWith sent) im [])
-      → x ≡ settleOf (ftRule (stateOf im) g) (upWith sent) im [] (takenFt im sent g)
-  ft-settled n p = rw (← e) (p ∙ settle-other a (upWith sent) im [] (untouched a (upWith sent) im []) (takenFt im sent g) n)
+module _ (im : List ℕ) (u : Progress) (g : Message) {a : Answer} (e : a ≡ ftRule (stateOf im) (u .resumed) g) {x : After} where
+  pub ft-settled : isDone a ≡ false → x ≡ settleOf a (Phase.UpFT u) im [] (untouched a (Phase.UpFT u) im [])
+      → x ≡ settleOf (ftRule (stateOf im) (u .resumed) g) (Phase.UpFT u) im [] (takenFt im u g)
+  ft-settled n p = rw (← e) (p ∙ settle-other a (Phase.UpFT u) im [] (untouched a (Phase.UpFT u) im []) (takenFt im u g) n)
 
-  pub ft-taken : isDone a ≡ true → x ≡ takenFt im sent g → x ≡ settleOf (ftRule (stateOf im) g) (upWith sent) im [] (takenFt im sent g)
-  ft-taken t p = rw (← e) (own-done a (upWith sent) im [] (takenFt im sent g) t p)
+  pub ft-taken : isDone a ≡ true → x ≡ takenFt im u g → x ≡ settleOf (ftRule (stateOf im) (u .resumed) g) (Phase.UpFT u) im [] (takenFt im u g)
+  ft-taken t p = rw (← e) (own-done a (Phase.UpFT u) im [] (takenFt im u g) t p)
 
 -- Done in UpPlain changes nothing
 plain-untouched : (im : List ℕ) → IsSound im → Bytes im → (r : Reading) → takenOn im Phase.UpPlain r ≡ untouched Answer.Done Phase.UpPlain im []

@@ -13,12 +13,11 @@ use Rattle.message.specs.Reading.{readingOf}
 use Rattle.image.specs.Sizes.{slotAt}
 use Rattle.image.specs.State.{decode}
 use Rattle.image.specs.Verdict.{IsSound}
-use Rattle.protocol.specs.declared.Answer.{Answer}
 use Rattle.protocol.specs.declared.Phase.{Phase}
+use Rattle.protocol.specs.declared.Progress.{Progress}
 use Rattle.protocol.specs.Acked.{ackBorne}
-use Rattle.protocol.specs.Receive.{ackCount, ackOn, heardMarks, receive, receivedPhase, receivedState, securedBy, takenAs}
+use Rattle.protocol.specs.Receive.{ackCount, ackOn, heardMarks, receive, receivedState, securedBy, takenAs}
 use Rattle.protocol.specs.State.{State}
-use Rattle.protocol.specs.Step.{stepped}
 use Rattle.calls.specs.Outcomes.{After, callOf, stepStored}
 use Rattle.calls.specs.State.{marksOf, stateOf, stateOfNumbers}
 use Rattle.calls.specs.Storing.{Slots, stay, fewer, marksByte}
@@ -39,8 +38,8 @@ receiveOf im ph m = callOf im ph [] (receivedSlots (stateOf im) ph (readingOf m)
 abbrev pub takenOn : List ℕ → Phase → Reading → After
 takenOn im ph r = stepStored im (receivedSlots (stateOf im) ph r) (takenAs (stateOf im) ph r) []
 
-abbrev pub takenFt : List ℕ → ℕ → Message → After
-takenFt im sent g = stepStored im (fewer (ackCount (ackOn (stateOf im) g))) (stepped Answer.Done (receivedState (stateOf im) g) (receivedPhase (stateOf im) sent g) []) []
+abbrev pub takenFt : List ℕ → Progress → Message → After
+takenFt im u g = takenOn im (Phase.UpFT u) (Reading.Whole g)
 
 -- block 0's numbers after the ACK, which releases the oldest k messages held, and the message
 abbrev pub headerTaken : Header → ℕ → Message → Header

@@ -19,14 +19,14 @@ use crate::labels::judge_protection;
 use crate::labels::label_effect;
 use crate::labels::labels_stay;
 use crate::reading::ack_borne;
-use crate::reading::in_turn;
 use crate::reading::is_fatal;
 use crate::reading::is_protected;
 use crate::reading::is_zero;
+use crate::reading::turn_borne;
 use block0::Header;
 use calls::Answer;
 use ft_number::Ack;
-use ft_number::FtNumber;
+use ft_number::Turn;
 use label_events::Reception;
 use label_list::Protection;
 use message::Message;
@@ -50,10 +50,10 @@ pub fn judge_plain(g: Message) -> Answer
     Answer::Done
 }
 
-// 33, 32, 20, 21: a message over the label words as its ACK leaves them. Where the answer is Done, the message has changed them.
-fn judge_labels(image: &[u8], words: &mut [u32], secured: FtNumber, g: Message) -> Answer
+// 33, 32, 20, 21: a message of that turn over the label words as its ACK leaves them. Where the answer is Done, the message has changed them.
+fn judge_labels(image: &[u8], words: &mut [u32], turn: Turn, g: Message) -> Answer
     requires { ⌜ (length (now image) ≡ imageSize) × (length (now words) ≡ wordCount) ⌝ }
-    ensures { λ r. ⌜ (r ≡ labelsRule (tableOf (now (words .entry)) (storedIds (now (image .entry)))) (secured .0) g) × (r ≡ Answer.Done → now (words .exit) ≡ messageLabels (tableOf (now (words .entry)) (storedIds (now (image .entry)))) g) ⌝ }
+    ensures { λ r. ⌜ (r ≡ labelsRule (tableOf (now (words .entry)) (storedIds (now (image .entry)))) turn g) × (r ≡ Answer.Done → now (words .exit) ≡ messageLabels (tableOf (now (words .entry)) (storedIds (now (image .entry)))) g) ⌝ }
 {
     let effect = label_effect(g);
     let place = effect_place(words, effect);
@@ -66,10 +66,16 @@ fn judge_labels(image: &[u8], words: &mut [u32], secured: FtNumber, g: Message) 
         }
         Protection::Right => {}
     }
-    let number = g.protection;
-    if !in_turn(secured, number) {
-        return Answer::OutOfTurn;
+    match turn {
+        Turn::OutOfTurn => {
+            return Answer::OutOfTurn;
+        }
+        Turn::ZeroNumber => {
+            return Answer::ZeroNumber;
+        }
+        Turn::InTurn(_) => {}
     }
+    let number = g.protection;
     let request = answered_place(image, words, g);
     match change_labels(words, place, request, is_protected(number), effect) {
         Reception::Taken => Answer::Done,
@@ -90,24 +96,25 @@ fn load_acked(image: &[u8], count: u32, g: Message, words: &mut [u32])
 }
 
 // 34 and later: the ACK, and then the message. Where the answer is Done and a label may have changed, the words are those that both leave.
-fn judge_ack(image: &[u8], h: Header, g: Message, words: &mut [u32]) -> Answer
+fn judge_ack(image: &[u8], h: Header, resumed: bool, g: Message, words: &mut [u32]) -> Answer
     requires { ⌜ IsSound (now image) × (h ≡ decode (now image) .header) × (length (now words) ≡ wordCount) ⌝ }
-    ensures { λ r. ⌜ (r ≡ ackRule (stateOf (now (image .entry))) g (ackOn (stateOf (now (image .entry))) g)) × (r ≡ Answer.Done → labelsStay (stateOf (now (image .entry))) (ackCount (ackOn (stateOf (now (image .entry))) g)) g ≡ false → now (words .exit) ≡ receivedState (stateOf (now (image .entry))) g .table .words) ⌝ }
+    ensures { λ r. ⌜ (r ≡ ackRule (stateOf (now (image .entry))) resumed g (ackOn (stateOf (now (image .entry))) g)) × (r ≡ Answer.Done → labelsStay (stateOf (now (image .entry))) (ackCount (ackOn (stateOf (now (image .entry))) g)) g ≡ false → now (words .exit) ≡ receivedState (stateOf (now (image .entry))) g .table .words) ⌝ }
 {
     let ack = g.ack;
     match ft_number::acknowledge(h.released, h.issued, ack_borne(h, ack)) {
         Ack::SequenceError => Answer::AckSequenceError,
         Ack::Releases(k) => {
             load_acked(image, k, g, words);
-            judge_labels(image, words, h.secured, g)
+            let number = g.protection;
+            judge_labels(image, words, turn_borne(h.secured, number, resumed), g)
         }
     }
 }
 
 // 22, 36, 30, and then the ACK: a message in UpFT.
-pub fn judge_ft(image: &[u8], h: Header, g: Message, words: &mut [u32]) -> Answer
+pub fn judge_ft(image: &[u8], h: Header, resumed: bool, g: Message, words: &mut [u32]) -> Answer
     requires { ⌜ IsSound (now image) × (h ≡ decode (now image) .header) × (length (now words) ≡ wordCount) ⌝ }
-    ensures { λ r. ⌜ (r ≡ ftRule (stateOf (now (image .entry))) g) × (r ≡ Answer.Done → labelsStay (stateOf (now (image .entry))) (ackCount (ackOn (stateOf (now (image .entry))) g)) g ≡ false → now (words .exit) ≡ receivedState (stateOf (now (image .entry))) g .table .words) ⌝ }
+    ensures { λ r. ⌜ (r ≡ ftRule (stateOf (now (image .entry))) resumed g) × (r ≡ Answer.Done → labelsStay (stateOf (now (image .entry))) (ackCount (ackOn (stateOf (now (image .entry))) g)) g ≡ false → now (words .exit) ≡ receivedState (stateOf (now (image .entry))) g .table .words) ⌝ }
 {
     let t = g.typename;
     if calls::is_init(t) {
@@ -121,5 +128,5 @@ pub fn judge_ft(image: &[u8], h: Header, g: Message, words: &mut [u32]) -> Answe
     if is_zero(number) {
         return Answer::ZeroNumber;
     }
-    judge_ack(image, h, g, words)
+    judge_ack(image, h, resumed, g, words)
 }

@@ -1,11 +1,13 @@
 // What a received message is asked, one question a function.
 ghost use mathlib.Core.Path.{_≡_};
+ghost use Rattle.ft_number.specs.Turn.{turnGap};
 ghost use Rattle.protocol.specs.Acked.{ackBorne};
 ghost use Rattle.protocol.specs.Labels.{isProtected};
-ghost use Rattle.protocol.specs.Receive.{isFatal, isZero, inTurn};
+ghost use Rattle.protocol.specs.Receive.{isFatal, isZero, turnBorne};
 ghost use Rattle.calls.specs.State.{stateOfNumbers};
 use block0::Header;
 use ft_number::FtNumber;
+use ft_number::Turn;
 use message::Field;
 use message::FtField;
 
@@ -39,13 +41,24 @@ pub fn is_zero(n: FtField) -> bool
     }
 }
 
-// Whether a number is the one after the last secured.
-pub fn in_turn(secured: FtNumber, n: FtField) -> bool
-    ensures { λ r. ⌜ r ≡ inTurn (secured .0) n ⌝ }
+// The turn of its number, after the last one secured; without FT Protection it is always in turn.
+pub fn turn_borne(secured: FtNumber, n: FtField, resumed: bool) -> Turn
+    ensures { λ r. ⌜ r ≡ turnBorne resumed (secured .0) n ⌝ }
 {
     match n {
-        FtField::Absent => true,
-        FtField::Number(m) => m.0 == ft_number::successor(secured).0,
+        FtField::Absent => Turn::InTurn(0),
+        FtField::Number(m) => ft_number::judge_turn(secured, m, resumed),
+    }
+}
+
+// How many were left out before it.
+pub fn turn_gap(turn: Turn) -> u32
+    ensures { λ r. ⌜ r ≡ turnGap turn ⌝ }
+{
+    match turn {
+        Turn::InTurn(k) => k,
+        Turn::OutOfTurn => 0,
+        Turn::ZeroNumber => 0,
     }
 }
 

@@ -7,7 +7,6 @@ ghost use Rattle.message.specs.Reading.{readingOf};
 ghost use Rattle.image.specs.Sizes.{block};
 ghost use Rattle.image.specs.State.{decode};
 ghost use Rattle.image.specs.Verdict.{IsSound};
-ghost use Rattle.protocol.specs.Phases.{upWith};
 ghost use Rattle.protocol.specs.Receive.{ackOn, ackCount, securedBy, receivedState, readRule, ftRule, plainRule};
 ghost use Rattle.calls.specs.Outcomes.{afterWith, settleOf};
 ghost use Rattle.calls.specs.State.{stateOf, stateOfNumbers};
@@ -17,6 +16,8 @@ use crate::judging::judge_ft;
 use crate::judging::judge_plain;
 use crate::labels::labels_stay;
 use crate::reading::ack_borne;
+use crate::reading::turn_borne;
+use crate::reading::turn_gap;
 use block0::Header;
 use calls::Answer;
 use calls::Outcome;
@@ -85,43 +86,49 @@ fn store_taken(image: &mut [u8], h: Header, k: u32, g: Message, words: &[u32]) -
 }
 
 // A message that was judged Done in UpFT: the words are those that its ACK and the message leave.
-fn take_ft(image: &mut [u8], sent: u32, g: Message, words: &[u32]) -> Outcome
+fn take_ft(image: &mut [u8], u: Progress, g: Message, words: &[u32]) -> Outcome
     requires { ⌜ Taken (now image) g (now words) ⌝ }
-    ensures { λ r. ⌜ afterWith r (now (image .exit)) [] ≡ takenFt (now (image .entry)) sent g ⌝ }
+    ensures { λ r. ⌜ afterWith r (now (image .exit)) [] ≡ takenFt (now (image .entry)) u g ⌝ }
 {
     let h = image::header_of(image);
     let k = ack_count(h, g);
+    let number = g.protection;
+    let turn = turn_borne(h.secured, number, u.resumed);
     let changed = store_taken(image, h, k, g, words);
     Outcome {
         answer: Answer::Done,
-        phase: Phase::UpFT(Progress { sent: lowered(sent, k) }),
+        phase: Phase::UpFT(Progress {
+            sent: lowered(u.sent, k),
+            resumed: u.resumed,
+        }),
         written: 0,
         slot: 0,
         block0: changed,
         further: 0,
+        leftout: turn_gap(turn),
     }
 }
 
 // A well-formed message in UpFT.
-fn receive_ft(image: &mut [u8], sent: u32, g: Message) -> Outcome
+fn receive_ft(image: &mut [u8], u: Progress, g: Message) -> Outcome
     requires { ⌜ IsSound (now image) ⌝ }
-    ensures { λ r. ⌜ afterWith r (now (image .exit)) [] ≡ settleOf (ftRule (stateOf (now (image .entry))) g) (upWith sent) (now (image .entry)) [] (takenFt (now (image .entry)) sent g) ⌝ }
+    ensures { λ r. ⌜ afterWith r (now (image .exit)) [] ≡ settleOf (ftRule (stateOf (now (image .entry))) (u .resumed) g) (Phase.UpFT u) (now (image .entry)) [] (takenFt (now (image .entry)) u g) ⌝ }
 {
     let mut words = [0u32; label_list::WORD_COUNT];
-    let a = judge_ft(image, image::header_of(image), g, &mut words);
+    let a = judge_ft(image, image::header_of(image), u.resumed, g, &mut words);
     if !calls::is_done(a) {
-        return calls::settle(image, a, Phase::UpFT(Progress { sent: sent }));
+        return calls::settle(image, a, Phase::UpFT(u));
     }
-    take_ft(image, sent, g, &words)
+    take_ft(image, u, g, &words)
 }
 
-fn receive_up(image: &mut [u8], sent: u32, msg: &[u8]) -> Outcome
+fn receive_up(image: &mut [u8], u: Progress, msg: &[u8]) -> Outcome
     requires { ⌜ IsSound (now image) ⌝ }
-    ensures { λ r. ⌜ afterWith r (now (image .exit)) [] ≡ settleOf (readRule (readingOf (now (msg .entry))) (ftRule (stateOf (now (image .entry))))) (upWith sent) (now (image .entry)) [] (takenOn (now (image .entry)) (upWith sent) (readingOf (now (msg .entry)))) ⌝ }
+    ensures { λ r. ⌜ afterWith r (now (image .exit)) [] ≡ settleOf (readRule (readingOf (now (msg .entry))) (ftRule (stateOf (now (image .entry))) (u .resumed))) (Phase.UpFT u) (now (image .entry)) [] (takenOn (now (image .entry)) (Phase.UpFT u) (readingOf (now (msg .entry)))) ⌝ }
 {
     match message::read_message(msg) {
-        Reading::Malformed => calls::settle(image, Answer::MalformedReceived, Phase::UpFT(Progress { sent: sent })),
-        Reading::Whole(g) => receive_ft(image, sent, g),
+        Reading::Malformed => calls::settle(image, Answer::MalformedReceived, Phase::UpFT(u)),
+        Reading::Whole(g) => receive_ft(image, u, g),
     }
 }
 
@@ -147,7 +154,7 @@ pub fn receive(image: &mut [u8], phase: Phase, msg: &[u8]) -> Outcome
     match phase {
         Phase::Idle => calls::refuse(Answer::WrongPhase, phase),
         Phase::InitWait(_) => calls::refuse(Answer::WrongPhase, phase),
-        Phase::UpFT(u) => receive_up(image, u.sent, msg),
+        Phase::UpFT(u) => receive_up(image, u, msg),
         Phase::UpPlain => receive_plain(image, msg),
         Phase::Failed => calls::refuse(Answer::WrongPhase, phase),
     }

@@ -27,10 +27,11 @@ use Rattle.image.proofs.Queue.{queue-storable}
 use Rattle.protocol.specs.declared.Answer.{Answer}
 use Rattle.protocol.specs.declared.Phase.{Phase}
 use Rattle.protocol.specs.Answers.{effectOf, isDone}
-use Rattle.protocol.specs.Phases.{issuedCount, sentOf, upWith}
-use Rattle.protocol.specs.Send.{queueNumber, ackAsked, sendBytes, sendRule, numbered, sentState, sendNext}
+use Rattle.protocol.specs.LeftOut.{leftOutFrom}
+use Rattle.protocol.specs.Phases.{issuedCount, resumedOf, sentOf, upWith}
+use Rattle.protocol.specs.Send.{queueNumber, ackAsked, sendBytes, sendRule, numbered, sentState, sendNext, placeSent, sendDeed}
 use Rattle.protocol.specs.State.{State}
-use Rattle.protocol.specs.Step.{Step, roomFor, stepped}
+use Rattle.protocol.specs.Step.{Step, roomFor}
 use Rattle.calls.specs.declared.Outcome.{Outcome}
 use Rattle.calls.specs.Outcomes.{After, afterWith, refusal, admittedOn, settleOf, stepStored}
 use Rattle.calls.specs.State.{stateOf, stateOfNumbers}
@@ -89,10 +90,10 @@ module _ (im : List ℕ) (sent : ℕ) (s : IsSound im) {h : Header} {k : ℕ} (e
 -- ---- the call
 module _ (im : List ℕ) (ph : Phase) (ask : Bool) (o : List ℕ) where
   abbrev bytes : List ℕ
-  bytes = sendBytes (stateOf im) (sentOf ph) ask
+  bytes = sendBytes (stateOf im) (placeSent (stateOf im) ph) ask
 
   abbrev step : Step
-  step = stepped Answer.Done (sentState (stateOf im) (sentOf ph)) (upWith (sentOf ph + 1)) bytes
+  step = sendDeed (stateOf im) ph ask
 
   send-settles : settleOf (admittedOn im ph (sendRule (stateOf im) ph (roomFor bytes (length o)))) ph im o (stepStored im stay step o) ≡ sendOf im ph ask o
   unfolding sendOf sendNext
@@ -102,10 +103,14 @@ module _ (im : List ℕ) (ph : Phase) (ask : Bool) (o : List ℕ) where
       → afterWith x im o ≡ sendOf im ph ask o
   send-refused e n ex = judged-refused im ph (roomFor bytes (length o)) o (stepStored im stay step o) e n ex ∙ send-settles
 
-  module _ (d : Sendable im ph) {sent : ℕ} {w : Written} {o′ : List ℕ} (es : sent ≡ sentOf ph)
-      (ew : (w, o′) ≡ writtenOf o (sendBytes (stateOf im) sent ask)) where
+  module _ (d : Sendable im ph) {sent left : ℕ} {w : Written} {o′ : List ℕ} (es : sent ≡ sentOf ph) (el : left ≡ leftOutFrom (stateOf im) sent)
+      (ew : (w, o′) ≡ writtenOf o (sendBytes (stateOf im) (sent + left) ask)) where
+    place : sent + left ≡ placeSent (stateOf im) ph
+    unfolding placeSent
+    place = rw (el, es)
+
     written : (w, o′) ≡ writtenOf o bytes
-    written = rw es at ew
+    written = rw place at ew
 
     -- the answer that the room leads to
     answered : (a : Answer) {x : After} → roomFor bytes (length o) ≡ a → x ≡ settleOf a ph im o (stepStored im stay step o) → x ≡ sendOf im ph ask o
@@ -117,9 +122,10 @@ module _ (im : List ℕ) (ph : Phase) (ask : Bool) (o : List ℕ) where
         let p : (ltb (length o) (length bytes) ≡ true) × (o′ ≡ o) = too-short o bytes written t in
         rw (p .1) (answered Answer.OutputTooShort (rw (p .0)) (own-refused Answer.OutputTooShort ph im o (stepStored im stay step o) refl ex))
 
-    pub send-acts : {n : ℕ} {b : Bool} {im′ : List ℕ} → w ≡ Written.Bytes n
-        → (b ≡ differ (block im 0) (block im′ 0)) × (im′ ≡ stored im stay (sentState (stateOf im) sent))
-        → afterWith (record { answer = Answer.Done; phase = upWith (sent + 1); written = n; slot = 0; block0 = b; further = 0 }) im′ o′ ≡ sendOf im ph ask o
-    send-acts {n} {b} {im′} t q =
+    pub send-acts : {n : ℕ} {b resumed : Bool} {im′ : List ℕ} → w ≡ Written.Bytes n → resumed ≡ resumedOf ph
+        → (b ≡ differ (block im 0) (block im′ 0)) × (im′ ≡ stored im stay (sentState (stateOf im) (sent + left)))
+        → afterWith (record { answer = Answer.Done; phase = upWith resumed (sent + left + 1); written = n; slot = 0; block0 = b; further = 0; leftout = left }) im′ o′ ≡ sendOf im ph ask o
+    send-acts {n} {b} {resumed} {im′} t er q =
         let p : (ltb (length o) (length bytes) ≡ false) × ((n ≡ length bytes) × (o′ ≡ laid o 0 bytes)) = long-enough o bytes written t in
-        answered Answer.Done (rw (p .0)) (rw (settle-done, further-none im (sendable-sound d .size) _ _, q .0, q .1, p .1 .0, p .1 .1, es))
+        let left-is : left ≡ leftOutFrom (stateOf im) (sentOf ph) = el ∙ ap (leftOutFrom (stateOf im)) es in
+        answered Answer.Done (rw (p .0)) (rw (settle-done, further-none im (sendable-sound d .size) _ _, q .0, q .1, p .1 .0, p .1 .1, er, place, ← left-is))

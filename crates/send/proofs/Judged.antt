@@ -1,5 +1,5 @@
 -- The tests of Send next before that of the room, and what they tell. Assumes nothing.
-use Prim.Native.Nat.{ℕ, _≤_, _<_}
+use Prim.Native.Nat.{ℕ, _+_, _≤_, _<_}
 use mathlib.Core.Bool.{Bool, true, false, not}
 use mathlib.Core.List.{List}
 use mathlib.Core.Path.{_≡_, refl, sym, ap, _∙_}
@@ -16,9 +16,11 @@ use Rattle.image.proofs.Sound.{sound-valid}
 use Rattle.protocol.specs.declared.Answer.{Answer}
 use Rattle.protocol.specs.declared.Phase.{Phase}
 use Rattle.protocol.specs.Answers.{effectOf, isDone}
+use Rattle.protocol.specs.LeftOut.{leftOutFrom}
 use Rattle.protocol.specs.Phases.{isUpFT, sentOf}
 use Rattle.protocol.specs.Send.{sendRule}
 use Rattle.protocol.specs.State.{held}
+use Rattle.protocol.proofs.PassedOver.{next-held}
 use Rattle.protocol.proofs.Settling.{Harmless, done-harmless}
 use Rattle.calls.specs.declared.Outcome.{Outcome}
 use Rattle.calls.specs.Outcomes.{After, afterWith, refusal, admittedOn, settleOf}
@@ -66,9 +68,15 @@ sendable-sound d = admitted-sound (d .admitted)
 pub sendable-held : {im : List ℕ} {ph : Phase} → Sendable im ph → sentOf ph < decode im .header .held
 sendable-held {im} d = rw (← queue-length im) (d .some)
 
--- no more than 64 are held
-pub sendable-few : {im : List ℕ} {ph : Phase} → Sendable im ph → sentOf ph < 64
-sendable-few {im} d = omega (arith, sendable-held d, sound-valid im (sendable-sound d) .held)
+-- the place of what is sent
+module _ {im : List ℕ} {ph : Phase} (d : Sendable im ph) {sent left : ℕ} (es : sent ≡ sentOf ph) (el : left ≡ leftOutFrom (stateOf im) sent) where
+  -- it is held
+  pub place-held : sent + left < decode im .header .held
+  place-held = rw (el, es, ← queue-length im) (next-held (stateOf im) (sentOf ph) (d .some))
+
+  -- no more than 64 are
+  pub place-few : sent + left < 64
+  place-few = omega (arith, place-held, sound-valid im (sendable-sound d) .held)
 
 rule-harmless : (u l : Bool) → Harmless (pick u Answer.WrongPhase (pick l Answer.NothingUnsent Answer.Done))
 unfolding effectOf

@@ -1,1 +1,2 @@
+pub mod Aborted
 pub mod Send

@@ -1,4 +1,4 @@
-// Send next: the oldest held message not sent on this connection, with its FT number.
+// Send next: the oldest held message not sent on this connection that is not left out, with its FT number.
 ghost use Prim.Native.Nat.{_<_};
 ghost use mathlib.Core.Path.{_≡_};
 ghost use Rattle.octets.specs.Differ.{differ};
@@ -6,7 +6,7 @@ ghost use Rattle.message_writer.specs.Written.{writtenOf};
 ghost use Rattle.image.specs.Sizes.{block};
 ghost use Rattle.image.specs.State.{decode};
 ghost use Rattle.image.specs.Verdict.{IsSound};
-ghost use Rattle.protocol.specs.Phases.{isUpFT, sentOf};
+ghost use Rattle.protocol.specs.Phases.{isUpFT, resumedOf, sentOf};
 ghost use Rattle.protocol.specs.Send.{queueNumber, ackAsked, sendBytes, sendRule, sentState};
 ghost use Rattle.calls.specs.Outcomes.{afterWith, admittedOn};
 ghost use Rattle.calls.specs.State.{stateOf, stateOfNumbers};
@@ -20,6 +20,8 @@ use calls::Progress;
 use ft_number::FtNumber;
 use message_writer::Written;
 use tlv::FtField;
+
+mod leaving_out;
 
 // Whether the phase is UpFT: messages are sent in no other.
 fn is_up_ft(phase: Phase) -> bool
@@ -47,6 +49,19 @@ fn sent_of(phase: Phase) -> u32
     }
 }
 
+// Whether the connection is resumed.
+fn is_resumed(phase: Phase) -> bool
+    ensures { λ r. ⌜ r ≡ resumedOf phase ⌝ }
+{
+    match phase {
+        Phase::Idle => false,
+        Phase::InitWait(_) => false,
+        Phase::UpFT(u) => u.resumed,
+        Phase::UpPlain => false,
+        Phase::Failed => false,
+    }
+}
+
 // 12, 1, 8: all tests but that of the room.
 fn judge_send(image: &[u8], phase: Phase) -> Answer
     ensures { λ r. ⌜ r ≡ admittedOn (now (image .entry)) phase (sendRule (stateOf (now (image .entry))) phase Answer.Done) ⌝ }
@@ -66,11 +81,11 @@ fn judge_send(image: &[u8], phase: Phase) -> Answer
 }
 
 // The number of the message at a place of the queue.
-fn number_at(h: Header, sent: u32) -> FtNumber
-    requires { ⌜ sent < 65536 ⌝ }
-    ensures { λ r. ⌜ r ≡ queueNumber (stateOfNumbers h) sent ⌝ }
+fn number_at(h: Header, place: u32) -> FtNumber
+    requires { ⌜ place < 65536 ⌝ }
+    ensures { λ r. ⌜ r ≡ queueNumber (stateOfNumbers h) place ⌝ }
 {
-    ft_number::advance(h.released, sent + 1)
+    ft_number::advance(h.released, place + 1)
 }
 
 // The FT ACK to write.
@@ -85,30 +100,31 @@ fn ack_asked(ack: bool, h: Header) -> FtField
 }
 
 // Writes the message at a place of the queue, with its number; the writer tests the room (9).
-fn write_next(image: &[u8], sent: u32, ack: bool, out: &mut [u8]) -> Written
-    requires { ⌜ IsSound (now image) × (sent < decode (now image) .header .held) ⌝ }
-    ensures { λ r. ⌜ (r, now (out .exit)) ≡ writtenOf (now (out .entry)) (sendBytes (stateOf (now (image .entry))) sent ack) ⌝ }
+fn write_next(image: &[u8], place: u32, ack: bool, out: &mut [u8]) -> Written
+    requires { ⌜ IsSound (now image) × (place < decode (now image) .header .held) ⌝ }
+    ensures { λ r. ⌜ (r, now (out .exit)) ≡ writtenOf (now (out .entry)) (sendBytes (stateOf (now (image .entry))) place ack) ⌝ }
 {
     let h = image::header_of(image);
-    let m = image::held_message(image, sent as usize);
-    message_writer::write_protected(out, m, number_at(h, sent), ack_asked(ack, h))
+    let m = image::held_message(image, place as usize);
+    message_writer::write_protected(out, m, number_at(h, place), ack_asked(ack, h))
 }
 
 // Numbers the message at a place of the queue, if it has no number. Whether block 0 changed.
-fn issue(image: &mut [u8], sent: u32) -> bool
-    requires { ⌜ IsSound (now image) × (sent < 65536) ⌝ }
-    ensures { λ r. ⌜ (r ≡ differ (block (now (image .entry)) 0) (block (now (image .exit)) 0)) × (now (image .exit) ≡ stored (now (image .entry)) stay (sentState (stateOf (now (image .entry))) sent)) ⌝ }
+fn issue(image: &mut [u8], place: u32) -> bool
+    requires { ⌜ IsSound (now image) × (place < 65536) ⌝ }
+    ensures { λ r. ⌜ (r ≡ differ (block (now (image .entry)) 0) (block (now (image .exit)) 0)) × (now (image .exit) ≡ stored (now (image .entry)) stay (sentState (stateOf (now (image .entry))) place)) ⌝ }
 {
     let h = image::header_of(image);
-    if sent < calls::issued_count(h) {
+    if place < calls::issued_count(h) {
         return false;
     }
     let mut next = h;
-    next.issued = number_at(h, sent);
+    next.issued = number_at(h, place);
     calls::store_numbers(image, next)
 }
 
-// Sends the oldest message not sent on this connection; `ack` asks for FT ACK. Block 0 is stored before the output leaves.
+// Sends the oldest message not sent on this connection that is not left out; `ack` asks for FT ACK. Those left out before it count as sent with it.
+// Block 0 is stored before the output leaves.
 pub fn send_next(image: &mut [u8], phase: Phase, ack: bool, out: &mut [u8]) -> Outcome
     ensures { λ r. ⌜ afterWith r (now (image .exit)) (now (out .exit)) ≡ sendOf (now (image .entry)) phase ack (now (out .entry)) ⌝ }
 {
@@ -117,15 +133,21 @@ pub fn send_next(image: &mut [u8], phase: Phase, ack: bool, out: &mut [u8]) -> O
         return calls::refuse(a, phase);
     }
     let sent = sent_of(phase);
-    match write_next(image, sent, ack, out) {
+    let leftout = leaving_out::left_out(image, sent);
+    let place = sent + leftout;
+    match write_next(image, place, ack, out) {
         Written::TooShort => calls::refuse(Answer::OutputTooShort, phase),
         Written::Bytes(n) => Outcome {
             answer: Answer::Done,
-            phase: Phase::UpFT(Progress { sent: sent + 1 }),
+            phase: Phase::UpFT(Progress {
+                sent: place + 1,
+                resumed: is_resumed(phase),
+            }),
             written: n,
             slot: 0,
-            block0: issue(image, sent),
+            block0: issue(image, place),
             further: 0,
+            leftout: leftout,
         },
     }
 }

@@ -28,33 +28,33 @@ use Rattle.calls.specs.State.{stateOf}
 use Rattle.connect.specs.Start.{formatOf}
 use Rattle.session.specs.Call.{leaves}
 use Rattle.session.specs.Keepers.{InventsCount, InventsHeld, InventsReleased, Is, Keeper, Meets, Taking, Wrong, stateBefore, stateLeft, always-refuses, one-answer, one-answer-to-messages, one-count, never-stores, only-nods, invents-counts}
-use Rattle.session.proofs.Fresh.{begun, begun-stands, begun-state, second-send}
+use Rattle.session.proofs.Fresh.{Sending, begun, begun-stands, begun-state, second-send}
 use Rattle.session.proofs.Queued.{one-more-held}
 use Rattle.session.proofs.Refines.{refines}
 use Rattle.session.proofs.Round.{Alive, alive-none, alive-taken, alive-two, rounded, rounded-stands, rounded-state}
 use Rattle.session.proofs.Sample.{address, address-taken, aliveWith, alive-right, alive-wrong, alive-bytes, terms, address-bytes}
 
 -- ---- what the calls answer to a fresh session
-says : (c : Call) → Proper c (upWith 0) → leaves c begun (upWith 0) [] .outcome .answer ≡ judged c (fresh terms) (upWith 0) 0
+says : (c : Call) → Proper c (upWith false 0) → leaves c begun (upWith false 0) [] .outcome .answer ≡ judged c (fresh terms) (upWith false 0) 0
 says c p =
-    ap (λ (x : Step). x .answer) (refines begun (upWith 0) begun-stands [] c p)
-    ∙ step-answer c (stateOf begun) (upWith 0) 0
-    ∙ ap (λ (s : State). judged c s (upWith 0) 0) begun-state
+    ap (λ (x : Step). x .answer) (refines begun (upWith false 0) (begun-stands false) [] c p)
+    ∙ step-answer c (stateOf begun) (upWith false 0) 0
+    ∙ ap (λ (s : State). judged c s (upWith false 0) 0) begun-state
 
-fits : phaseFits (upWith 0) (fresh terms) ≡ true
-fits = rw begun-state at (begun-stands .fits)
+fits : phaseFits (upWith false 0) (fresh terms) ≡ true
+fits = rw begun-state at (begun-stands false .fits)
 
 -- it takes the Address message
-begun-takes : leaves (submits address) begun (upWith 0) [] .outcome .answer ≡ Answer.Done
+begun-takes : leaves (submits address) begun (upWith false 0) [] .outcome .answer ≡ Answer.Done
 unfolding judged fresh
-begun-takes = says (submits address) address-bytes ∙ admitted-is (fresh terms) (upWith 0) fits (submitRule (fresh terms) (upWith 0) address) ∙ address-taken (fresh terms) (upWith 0) refl (omega arith)
+begun-takes = says (submits address) address-bytes ∙ admitted-is (fresh terms) (upWith false 0) fits (submitRule (fresh terms) (upWith false 0) address) ∙ address-taken (fresh terms) (upWith false 0) refl (omega arith)
 
 -- a KeepAlive by the number that it acknowledges
-alive-says : (n : ℕ) → n < 256 → {a : Answer} → receiveRule (fresh terms) (upWith 0) (readingOf (aliveWith 0 0 0 n)) ≡ a → leaves (receives (aliveWith 0 0 0 n)) begun (upWith 0) [] .outcome .answer ≡ a
+alive-says : (n : ℕ) → n < 256 → {a : Answer} → receiveRule (fresh terms) (upWith false 0) (readingOf (aliveWith 0 0 0 n)) ≡ a → leaves (receives (aliveWith 0 0 0 n)) begun (upWith false 0) [] .outcome .answer ≡ a
 unfolding judged
 alive-says n low e =
     says (receives (aliveWith 0 0 0 n)) (alive-bytes 0 0 0 n (omega arith) (omega arith) (omega arith) low)
-    ∙ admitted-is (fresh terms) (upWith 0) fits (receiveRule (fresh terms) (upWith 0) (readingOf (aliveWith 0 0 0 n)))
+    ∙ admitted-is (fresh terms) (upWith false 0) fits (receiveRule (fresh terms) (upWith false 0) (readingOf (aliveWith 0 0 0 n)))
     ∙ e
 
 module _ (keeper : Keeper) (meets : Meets keeper) where
@@ -65,11 +65,11 @@ module _ (keeper : Keeper) (meets : Meets keeper) where
   same-image c im ph out = ap (λ (x : After). x .image) (meets c im ph out)
 
   -- what it answers to the first Address message of a fresh session
-  takes-one : keeper (submits address) begun (upWith 0) [] .outcome .answer ≡ Answer.Done
-  takes-one = same-answer (submits address) begun (upWith 0) [] ∙ begun-takes
+  takes-one : keeper (submits address) begun (upWith false 0) [] .outcome .answer ≡ Answer.Done
+  takes-one = same-answer (submits address) begun (upWith false 0) [] ∙ begun-takes
 
   refuser-fails : ((im : List ℕ) (ph : Phase) (m : List ℕ) → isDone (keeper (submits m) im ph [] .outcome .answer) ≡ false) → ⊥
-  refuser-fails wrong = true≢false (sym (ap isDone takes-one) ∙ wrong begun (upWith 0) address)
+  refuser-fails wrong = true≢false (sym (ap isDone takes-one) ∙ wrong begun (upWith false 0) address)
 
   wrong-size : keeper formats [] Phase.Idle [] .outcome .answer ≡ Answer.WrongSize
   unfolding leaves formatOf settleOf effectOf
@@ -77,27 +77,28 @@ module _ (keeper : Keeper) (meets : Meets keeper) where
 
   constant-fails : (a : Answer) → ((c : Call) (im : List ℕ) (ph : Phase) (out : List ℕ) → keeper c im ph out .outcome .answer ≡ a) → ⊥
   constant-fails a wrong =
-      let e : Answer.Done ≡ Answer.WrongSize = sym takes-one ∙ wrong (submits address) begun (upWith 0) [] ∙ sym (wrong formats [] Phase.Idle []) ∙ wrong-size in
+      let e : Answer.Done ≡ Answer.WrongSize = sym takes-one ∙ wrong (submits address) begun (upWith false 0) [] ∙ sym (wrong formats [] Phase.Idle []) ∙ wrong-size in
       let z : _≡_ {A = ℕ} 0 1 = cc in omega arith
 
   deaf-fails : (a : Answer) → ((im : List ℕ) (ph : Phase) (m : List ℕ) → keeper (receives m) im ph [] .outcome .answer ≡ a) → ⊥
   deaf-fails a wrong =
-      let said : (n : ℕ) → leaves (receives (aliveWith 0 0 0 n)) begun (upWith 0) [] .outcome .answer ≡ a =
-      λ n. sym (same-answer (receives (aliveWith 0 0 0 n)) begun (upWith 0) []) ∙ wrong begun (upWith 0) (aliveWith 0 0 0 n) in
+      let said : (n : ℕ) → leaves (receives (aliveWith 0 0 0 n)) begun (upWith false 0) [] .outcome .answer ≡ a =
+      λ n. sym (same-answer (receives (aliveWith 0 0 0 n)) begun (upWith false 0) []) ∙ wrong begun (upWith false 0) (aliveWith 0 0 0 n) in
       let e : Answer.Done ≡ Answer.AckSequenceError = sym (alive-says 0 (omega arith) alive-right) ∙ said 0 ∙ sym (said 1) ∙ alive-says 1 (omega arith) alive-wrong in
       let z : _≡_ {A = ℕ} 0 1 = cc in omega arith
 
   storeless-fails : ((im : List ℕ) (ph : Phase) (m : List ℕ) → keeper (submits m) im ph [] .image ≡ im) → ⊥
   storeless-fails wrong =
-      let still : held (stateOf (leaves (submits address) begun (upWith 0) [] .image)) ≡ held (stateOf begun) =
-      ap (λ (i : List ℕ). held (stateOf i)) (sym (same-image (submits address) begun (upWith 0) []) ∙ wrong begun (upWith 0) address) in
-      omega (arith, one-more-held begun (upWith 0) begun-stands address [] address-bytes begun-takes)
+      let still : held (stateOf (leaves (submits address) begun (upWith false 0) [] .image)) ≡ held (stateOf begun) =
+      ap (λ (i : List ℕ). held (stateOf i)) (sym (same-image (submits address) begun (upWith false 0) []) ∙ wrong begun (upWith false 0) address) in
+      omega (arith, one-more-held begun (upWith false 0) (begun-stands false) address [] address-bytes begun-takes)
 
-  nodder-fails : ((im : List ℕ) (sent : ℕ) (ask : Bool) (out : List ℕ) → 1 ≤ sent → keeper (sends ask) im (upWith sent) out .outcome .written ≡ 0) → ⊥
-  nodder-fails wrong =
-      let silent : leaves (sends false) (second-send .image) (upWith 1) (second-send .lent) .outcome .written ≡ 0 =
-      sym (ap (λ (x : After). x .outcome .written) (meets (sends false) (second-send .image) (upWith 1) (second-send .lent))) ∙ wrong (second-send .image) 1 false (second-send .lent) (omega arith) in
-      omega (arith, second-send .writes)
+  nodder-fails : (r : Bool) → ((im : List ℕ) (sent : ℕ) (ask : Bool) (out : List ℕ) → 1 ≤ sent → keeper (sends ask) im (upWith r sent) out .outcome .written ≡ 0) → ⊥
+  nodder-fails r wrong =
+      let x : Sending r = second-send r in
+      let silent : leaves (sends false) (x .image) (upWith r 1) (x .lent) .outcome .written ≡ 0 =
+      sym (ap (λ (x : After). x .outcome .written) (meets (sends false) (x .image) (upWith r 1) (x .lent))) ∙ wrong (x .image) 1 false (x .lent) (omega arith) in
+      omega (arith, x .writes)
 
   inventor-fails : InventsHeld keeper → ⊥
   inventor-fails w =
@@ -131,13 +132,13 @@ module _ (keeper : Keeper) (meets : Meets keeper) where
   abbrev takes-alive : {n : ℕ} → Alive n → Taking keeper
   takes-alive x = record {
     image = rounded;
-    progress = record { sent = 2 };
+    progress = record { sent = 2; resumed = false };
     message = x .message;
     read = x .read;
     standing = rounded-stands;
     bytes = x .bytes;
     whole = x .whole;
-    done = same-answer (receives (x .message)) rounded (upWith 2) [] ∙ alive-taken x;
+    done = same-answer (receives (x .message)) rounded (upWith false 2) [] ∙ alive-taken x;
   }
 
   -- P4 and P7: "R=0xFFFFFFFE, I=1: ACK 1 releases 2; .. ACK 0xFFFFFFFE releases none"
@@ -161,7 +162,7 @@ no-wrong-keeper one-answer keeper wrong meets = constant-fails keeper meets (wro
 no-wrong-keeper one-answer-to-messages keeper wrong meets = deaf-fails keeper meets (wrong .0) (wrong .1)
 no-wrong-keeper one-count keeper wrong meets = one-count-fails keeper meets (wrong .0) (wrong .1)
 no-wrong-keeper never-stores keeper wrong meets = storeless-fails keeper meets wrong
-no-wrong-keeper only-nods keeper wrong meets = nodder-fails keeper meets wrong
+no-wrong-keeper only-nods keeper wrong meets = nodder-fails keeper meets (wrong .0) (wrong .1)
 no-wrong-keeper invents-counts keeper (inl wrong) meets = inventor-fails keeper meets wrong
 no-wrong-keeper invents-counts keeper (inr (inl wrong)) meets = counter-fails keeper meets wrong
 no-wrong-keeper invents-counts keeper (inr (inr wrong)) meets = releaser-fails keeper meets wrong

@@ -18,7 +18,7 @@ use Rattle.protocol.specs.KeepAlive.{aliveBytes}
 use Rattle.protocol.specs.Open.{openBytes}
 use Rattle.protocol.specs.Phases.{isUp, isUpFT, mayOpen, phaseFits, sentOf}
 use Rattle.protocol.specs.Receive.{takenAs}
-use Rattle.protocol.specs.Send.{sendBytes, sendRule}
+use Rattle.protocol.specs.Send.{sendBytes, sendRule, placeSent}
 use Rattle.protocol.specs.State.{State, held}
 use Rattle.protocol.specs.Step.{Step, admitted, roomFor, whereOpen}
 use Rattle.protocol.specs.TimePassed.{expired}
@@ -61,7 +61,7 @@ done-room (greets m) s ph out e = omega arith
 done-room (passes elapsed) s ph out e = pick-all (λ (x : Step). length (x .output) ≤ 0) (expired s elapsed) (omega arith) (omega arith)
 done-room (submits m) s ph out e = omega arith
 done-room (sends ask) s ph out e =
-    let bytes : List ℕ = sendBytes s (sentOf ph) ask in
+    let bytes : List ℕ = sendBytes s (placeSent s ph) ask in
     let room : Answer = roomFor bytes (length out) in
     has-room bytes (length out) (sends-done s ph room (admits s ph (sendRule s ph room) e))
 done-room (keeps-alive id) s ph out e =

@@ -9,6 +9,7 @@ pub mod Lent
 pub mod Refines
 pub mod Room
 pub mod Timeout
+pub mod LeftOut
 -- what the owner stores
 pub mod Queued
 pub mod Writers

@@ -22,10 +22,10 @@ use Rattle.protocol.specs.Calls.{Call, formats, restores, fails, opens, greets,
 use Rattle.protocol.specs.Init.{fresh, initStart, resumed, startState}
 use Rattle.protocol.specs.Judged.{judged, done}
 use Rattle.protocol.specs.Lawful.{Lawful}
-use Rattle.protocol.specs.Phases.{issuedCount, sentOf, proposalOf}
+use Rattle.protocol.specs.Phases.{issuedCount, proposalOf}
 use Rattle.protocol.specs.Proper.{Proper}
 use Rattle.protocol.specs.Receive.{receivedState, taken, takenAs, ackCount, ackOn}
-use Rattle.protocol.specs.Send.{numbered, sentState}
+use Rattle.protocol.specs.Send.{numbered, sentState, placeSent}
 use Rattle.protocol.specs.State.{State, held, releasedState}
 use Rattle.protocol.specs.Step.{unchanged, releasedWith}
 use Rattle.protocol.specs.Submit.{submitted}
@@ -120,7 +120,7 @@ module _ (im : List ℕ) (ph : Phase) (st : Standing im ph) where
   done-fits (submits m) room other d =
       let f = slots-fit (submits m) im ph room d in
       ((refl, f .0, f .1, put-fits (idsLeft (stateOf im .table) (submissionOf m)) (f .2)), refl)
-  done-fits (sends ask) room other d = (sent-stays (stateOf im) (sentOf ph) .0, sent-kept (sentOf ph))
+  done-fits (sends ask) room other d = (sent-stays (stateOf im) (placeSent (stateOf im) ph) .0, sent-kept (placeSent (stateOf im) ph))
   done-fits (keeps-alive id) room other d = (refl, refl)
   done-fits (receives m) room other d = taken-fits ph (readingOf m)
 
@@ -158,7 +158,7 @@ module _ (im : List ℕ) (ph : Phase) (st : Standing im ph) where
   done-borne (greets m) other = start-borne (initStart (stateOf im) ph m)
   done-borne (passes elapsed) other = passed-borne (expired (stateOf im) elapsed)
   done-borne (submits m) other = submitted-borne im law m
-  done-borne (sends ask) other = sent-borne (sentOf ph)
+  done-borne (sends ask) other = sent-borne (placeSent (stateOf im) ph)
   done-borne (keeps-alive id) other = state-ids im
   done-borne (receives m) other = read-borne ph (readingOf m)
 

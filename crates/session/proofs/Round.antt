@@ -1,6 +1,6 @@
 -- A session whose numbers have just gone round, as P4 to P7 have it: "R=0xFFFFFFFE, I=1", both messages held. Assumes nothing.
 use Prim.Native.Nat.{ℕ, _≤_, _<_}
-use mathlib.Core.Bool.{true≢false}
+use mathlib.Core.Bool.{true≢false, false}
 use mathlib.Core.List.{List, [], _∷_, _++_}
 use mathlib.Core.Path.{_≡_, refl, ap, _∙_}
 use native.Mathlib.Omega.{arith}
@@ -135,7 +135,7 @@ pub rounded-state : stateOf rounded ≡ round 1 (address ∷ address ∷ [])
 unfolding rounded
 rounded-state = put-state image₁ sound₁ (one-more address same) (round 1 (address ∷ address ∷ [])) puts₂
 
-pub rounded-stands : Standing rounded (upWith 2)
+pub rounded-stands : Standing rounded (upWith false 2)
 unfolding rounded phaseFits fresh issuedCount stepsOf
 rounded-stands = puts-stands sound₁ puts₂ refl
 
@@ -145,7 +145,7 @@ pub record Alive (k : ℕ) : Type 0 where
   pub read : Message
   pub bytes : Bytes message
   pub whole : readingOf message ≡ Reading.Whole read
-  pub taken : ftRule (round 1 (address ∷ address ∷ [])) read ≡ Answer.Done
+  pub taken : ftRule (round 1 (address ∷ address ∷ [])) false read ≡ Answer.Done
   pub count : ackOn (round 1 (address ∷ address ∷ [])) read ≡ Ack.Releases k
 
 -- P4: "ACK 1 releases 2"
@@ -173,10 +173,10 @@ alive-none = record {
 }
 
 -- the call takes it
-pub alive-taken : {k : ℕ} → (x : Alive k) → leaves (receives (x .message)) rounded (upWith 2) [] .outcome .answer ≡ Answer.Done
+pub alive-taken : {k : ℕ} → (x : Alive k) → leaves (receives (x .message)) rounded (upWith false 2) [] .outcome .answer ≡ Answer.Done
 unfolding judged
 alive-taken x =
-    ap (λ (y : Step). y .answer) (refines rounded (upWith 2) rounded-stands [] (receives (x .message)) (x .bytes))
-    ∙ step-answer (receives (x .message)) (stateOf rounded) (upWith 2) 0
-    ∙ admitted-is (stateOf rounded) (upWith 2) (rounded-stands .fits) (receiveRule (stateOf rounded) (upWith 2) (readingOf (x .message)))
+    ap (λ (y : Step). y .answer) (refines rounded (upWith false 2) rounded-stands [] (receives (x .message)) (x .bytes))
+    ∙ step-answer (receives (x .message)) (stateOf rounded) (upWith false 2) 0
+    ∙ admitted-is (stateOf rounded) (upWith false 2) (rounded-stands .fits) (receiveRule (stateOf rounded) (upWith false 2) (readingOf (x .message)))
     ∙ rw (x .whole, rounded-state) (x .taken)

@@ -1,6 +1,6 @@
 -- A fresh session and an Address message: what the wrong keepers are tried on. Assumes nothing.
 use Prim.Native.Nat.{ℕ, zero, suc, _<_}
-use mathlib.Core.Bool.{true}
+use mathlib.Core.Bool.{true, false}
 use mathlib.Core.List.{List, [], _∷_}
 use mathlib.Core.Path.{_≡_, refl}
 use native.Mathlib.Omega.{arith}
@@ -72,10 +72,10 @@ alive-bytes a b c d la lb lc ld =
     (omega arith, (omega arith, (omega arith, (omega arith, (omega arith, (omega arith, (omega arith, (omega arith, (omega arith, (omega arith, (omega arith, (omega arith, (la, (lb, (lc, (ld, tt))))))))))))))))
 
 -- nothing was issued: zero says so, and one was never sent
-pub alive-right : receiveRule (fresh terms) (upWith 0) (readingOf (aliveWith 0 0 0 0)) ≡ Answer.Done
+pub alive-right : receiveRule (fresh terms) (upWith false 0) (readingOf (aliveWith 0 0 0 0)) ≡ Answer.Done
 unfolding fresh readingOf placesOf tlvsOf walkOf fix steps turnOf notedOf tlvOf typeOf messageOf kindOf fieldAt numberAt ftRule messageRule ackOn ackOf stepsOf labelsRule protectionRule labelEffect
 alive-right = refl
 
-pub alive-wrong : receiveRule (fresh terms) (upWith 0) (readingOf (aliveWith 0 0 0 1)) ≡ Answer.AckSequenceError
+pub alive-wrong : receiveRule (fresh terms) (upWith false 0) (readingOf (aliveWith 0 0 0 1)) ≡ Answer.AckSequenceError
 unfolding fresh readingOf placesOf tlvsOf walkOf fix steps turnOf notedOf tlvOf typeOf messageOf kindOf fieldAt numberAt ftRule messageRule ackOn ackOf stepsOf
 alive-wrong = refl

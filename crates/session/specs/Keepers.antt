@@ -82,6 +82,7 @@ Is one-answer-to-messages keeper = (a : Answer) × ((im : List ℕ) (ph : Phase)
 Is one-count keeper = (k : ℕ) × ((w : Taking keeper) → held (stateBefore w) ≡ held (stateLeft w) + k)
 -- no submission changes the image
 Is never-stores keeper = (im : List ℕ) (ph : Phase) (m : List ℕ) → keeper (submits m) im ph [] .image ≡ im
--- once something was sent on a connection, nothing more is written
-Is only-nods keeper = (im : List ℕ) (sent : ℕ) (ask : Bool) (out : List ℕ) → 1 ≤ sent → keeper (sends ask) im (upWith sent) out .outcome .written ≡ 0
+-- on the connections that are resumed, or on the others: once something was sent, nothing more is written
+Is only-nods keeper =
+    (resumed : Bool) × ((im : List ℕ) (sent : ℕ) (ask : Bool) (out : List ℕ) → 1 ≤ sent → keeper (sends ask) im (upWith resumed sent) out .outcome .written ≡ 0)
 Is invents-counts keeper = InventsHeld keeper ⊎ (InventsCount keeper ⊎ InventsReleased keeper)

@@ -134,7 +134,7 @@ fn play_line(images: &mut [u8], outputs: &mut [u8], c: Cabinets, line: &[u8]) ->
     }
     let call = before(step, b':');
     let n = read_numbers(after(call, b' '));
-    match deed_of(before(call, b' '), n.second) {
+    match deed_of(before(call, b' '), n) {
         Deed::Make(call) => play_call(images, outputs, c, call, n, first(&msg, size)),
         Deed::Title => end_line(c),
         Deed::Counts => play_counts(images, c, n.place),

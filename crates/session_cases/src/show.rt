@@ -4,7 +4,7 @@ use calls::Answer;
 use calls::Outcome;
 use calls::Phase;
 use ft_number::MessageId;
-use image_report::Counts;
+use image::Counts;
 use image_report::Report;
 use tlv::IdField;
 
@@ -43,7 +43,12 @@ fn show_phase(phase: Phase) {
     match phase {
         Phase::Idle => say(b", Idle"),
         Phase::InitWait(v) => number(b", InitWait ", v.timeout as u64),
-        Phase::UpFT(u) => number(b", UpFT ", u.sent as u64),
+        Phase::UpFT(u) => {
+            number(b", UpFT ", u.sent as u64);
+            if u.resumed {
+                say(b" resumed");
+            }
+        }
         Phase::UpPlain => say(b", UpPlain"),
         Phase::Failed => say(b", Failed"),
     }
@@ -74,12 +79,18 @@ fn show_stores(image: &[u8], slot: usize, further: u32, block0: bool) {
         show_check(image, image::REQUEST_BLOCK);
     }
     if !block0 {
-        say(b", block0 false\n");
+        say(b", block0 false");
         return;
     }
     say(b", block0 true");
     show_check(image, 0);
-    say(b"\n");
+}
+
+// How many messages were left out, if any were.
+fn show_leftout(leftout: u32) {
+    if leftout != 0 {
+        number(b", left out ", leftout as u64);
+    }
 }
 
 // The output, on a line of its own; the bytes after it are not printed.
@@ -100,6 +111,8 @@ pub fn show_outcome(o: Outcome, image: &[u8], out: &[u8]) {
     show_phase(phase);
     number(b", written ", o.written as u64);
     show_stores(image, o.slot, o.further, o.block0);
+    show_leftout(o.leftout);
+    say(b"\n");
     show_output(out, o.written);
 }
 

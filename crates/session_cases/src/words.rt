@@ -1,5 +1,6 @@
 // The words of the script, and the numbers behind each: first a place, then those that are named here.
 use crate::calling::Call;
+use crate::script::Numbers;
 use crate::script::place_in;
 use calls::Phase;
 use calls::Progress;
@@ -20,13 +21,13 @@ pub enum Deed {
     Copy,
     // An offset, and the byte that is put there.
     Spoil,
-    // Puts the cabinet in a phase; the number that the phase bears.
+    // Puts the cabinet in a phase; the number that the phase bears, and 1 for a connection that is resumed.
     Put(Phase),
     Unknown,
 }
 
-// The deed of a word at a place; `n` is the number that a phase bears.
-pub fn deed_of(word: &[u8], n: u32) -> Deed {
+// The deed of a word with its numbers.
+pub fn deed_of(word: &[u8], n: Numbers) -> Deed {
     let words =
         b"format restore open init submit send receive keepalive failed time title counts request copy spoil Idle InitWait UpFT UpPlain Failed";
     match place_in(words, word) {
@@ -47,9 +48,12 @@ pub fn deed_of(word: &[u8], n: u32) -> Deed {
         14 => Deed::Spoil,
         15 => Deed::Put(Phase::Idle),
         16 => Deed::Put(Phase::InitWait(Waiting {
-            timeout: (n % 65536) as u16,
+            timeout: (n.second % 65536) as u16,
         })),
-        17 => Deed::Put(Phase::UpFT(Progress { sent: n })),
+        17 => Deed::Put(Phase::UpFT(Progress {
+            sent: n.second,
+            resumed: n.third == 1,
+        })),
         18 => Deed::Put(Phase::UpPlain),
         19 => Deed::Put(Phase::Failed),
         _ => Deed::Unknown,

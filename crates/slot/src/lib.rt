@@ -30,7 +30,7 @@ pub const LONGEST: usize = 480;
 const LAST_KIND: u8 = 9;
 
 // Where the message stands, and the bytes from there to the check.
-const MESSAGE_AT: usize = 8;
+pub const MESSAGE_AT: usize = 8;
 
 const ROOM: usize = block::CHECK_AT - MESSAGE_AT;
 

@@ -13,7 +13,7 @@ use Rattle.protocol.specs.Phases.{awaits, connected}
 use Rattle.protocol.specs.State.{State}
 use Rattle.protocol.specs.Step.{Step}
 use Rattle.calls.specs.State.{stateOf}
-use Rattle.two_ends.specs.Calls.{accepts, beginning, disconnected, called, counts, greeted, keeps, on, put, replaced, took}
+use Rattle.two_ends.specs.Calls.{accepts, beginning, disconnected, called, counts, greeted, keeps, on, put, replaced, took, sentHistory}
 use Rattle.two_ends.specs.Runs.{AllProperEvents, Event, ProperEvent, act, breaks, delivers, keepalives, notices, opens, passes, restarts, sends, submits, eventAt, run}
 use Rattle.two_ends.specs.World.{End, Lasts, World, swap}
 use Rattle.two_ends.proofs.Invariant.{Good}
@@ -51,7 +51,7 @@ delivery-lasted true (m ∷ rest) w s x =
 
 shown-lasted : (v : Event) (w : World) (s : State) (x : Step) → Lasted w (worldAfter v w s x)
 shown-lasted (submits m) w s x = replaced-lasted w w (λ k. k) (called (w .a) x (counts (w .a) x (accepts m (w .a .history)))) (w .ab) (w .ba)
-shown-lasted (sends ask room) w s x = replaced-lasted w w (λ k. k) (called (w .a) x (w .a .history)) (put (w .a .joined) (w .ab) x) (w .ba)
+shown-lasted (sends ask room) w s x = replaced-lasted w w (λ k. k) (called (w .a) x (sentHistory (w .a) x)) (put (w .a .joined) (w .ab) x) (w .ba)
 shown-lasted (keepalives id room) w s x = replaced-lasted w w (λ k. k) (called (w .a) x (w .a .history)) (put (w .a .joined) (w .ab) x) (w .ba)
 shown-lasted (opens id p t room) w s x =
     pick-all (Lasted w) (isDone (x .answer))

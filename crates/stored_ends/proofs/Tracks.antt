@@ -36,7 +36,7 @@ use Rattle.protocol.specs.Submit.{submit}
 use Rattle.protocol.specs.TimePassed.{timePassed}
 use Rattle.calls.specs.Outcomes.{After, untouched}
 use Rattle.calls.specs.State.{stateOf}
-use Rattle.two_ends.specs.Calls.{accepts, beginning, disconnected, called, counts, delivery, greeted, greets, on, opened, plainly, put, receives, replaced, offered, took, wrote}
+use Rattle.two_ends.specs.Calls.{accepts, beginning, disconnected, called, counts, delivery, greeted, greets, on, opened, plainly, put, receives, replaced, offered, took, wrote, sent, sentHistory}
 use Rattle.two_ends.specs.Runs.{Event, ProperEvent, Seconds, act, breaks, delivers, keepalives, notices, opens, passes, restarts, sends, submits}
 use Rattle.two_ends.specs.World.{End, World}
 use Rattle.call_meaning.specs.Medium.{Same, committed, stores}
@@ -103,9 +103,9 @@ module _ (w : World) (own peer : Cabinet) (s : Synced (w .a) own) (r : Synced (w
   sends-tracks : (ask : Bool) (room : ℕ) (out : List ℕ) → room ≡ length out → Tracks (made z (sends ask room) out) (act w (sends ask room))
   unfolding step
   sends-tracks ask room out l = record {
-    world = ap (wrote w) (ruled-a (Calls.sends ask) out tt (λ (t : State). sendNext t ph ask (length out)) refl) ∙ ap (λ (n : ℕ). wrote w (sendNext (w .a .state) ph ask n)) (sym l);
+    world = ap (sent w) (ruled-a (Calls.sends ask) out tt (λ (t : State). sendNext t ph ask (length out)) refl) ∙ ap (λ (n : ℕ). sent w (sendNext (w .a .state) ph ask n)) (sym l);
     both =
-        pair-after (Calls.sends ask) out refl tt tt w (called (w .a) (seen (leaves (Calls.sends ask) im ph out)) (w .a .history))
+        pair-after (Calls.sends ask) out refl tt tt w (called (w .a) (seen (leaves (Calls.sends ask) im ph out)) (sentHistory (w .a) (seen (leaves (Calls.sends ask) im ph out))))
         (put (w .a .joined) (w .ab) (seen (leaves (Calls.sends ask) im ph out))) (w .ba) refl refl refl;
   }
 

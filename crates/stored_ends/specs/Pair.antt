@@ -16,7 +16,7 @@ use Rattle.protocol.specs.State.{State}
 use Rattle.protocol.specs.Step.{Step}
 use Rattle.calls.specs.Outcomes.{After, untouched}
 use Rattle.calls.specs.State.{stateOf}
-use Rattle.two_ends.specs.Calls.{disconnected, greets, opened, plainly, receives, offered, wrote}
+use Rattle.two_ends.specs.Calls.{disconnected, greets, opened, plainly, receives, offered, sent, wrote}
 use Rattle.two_ends.specs.Runs.{Event, submits, sends, keepalives, opens, passes, delivers, breaks, notices, restarts, ProperEvent}
 use Rattle.two_ends.specs.World.{World, swap}
 use Rattle.call_meaning.specs.Medium.{allStored, committed, stores}
@@ -68,7 +68,7 @@ deliveryAfter true (m ∷ rest) w s x = pick (awaits (w .a .phase)) (greets w re
 
 abbrev pub worldAfter : Event → World → State → Step → World
 worldAfter (submits m) w s x = offered w m x
-worldAfter (sends ask room) w s x = wrote w x
+worldAfter (sends ask room) w s x = sent w x
 worldAfter (keepalives id room) w s x = wrote w x
 worldAfter (opens id p t room) w s x = opened w x
 worldAfter (passes elapsed) w s x = plainly w x

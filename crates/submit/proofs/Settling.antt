@@ -54,7 +54,7 @@ module _ (im m : List ℕ) (kind : Kind) (label : ℕ) (sound : IsSound im) (roo
   pub queued-is : (ph : Phase) → Bytes im → Bytes m → {h h′ : Header} → h ≡ decode im .header → {k : ℕ} → (k ≡ nextSlot h) × (k < slotCount)
       → {im₁ im₂ im₃ : List ℕ} {f : ℕ} → im₁ ≡ storeSlot im k m → (im₂ ≡ putIds im₁ (idsBy kind change)) × (f ≡ furtherBy (storedIds im₁) (idsBy kind change))
       → h′ ≡ headerQueued h kind → im₃ ≡ store0 im₂ h′ (changed (decode im₂ .labels) change)
-      → afterWith (record { answer = Answer.Done; phase = ph; written = 0; slot = k + 1; block0 = true; further = f }) im₃ [] ≡ queued im ph m
+      → afterWith (record { answer = Answer.Done; phase = ph; written = 0; slot = k + 1; block0 = true; further = f; leftout = 0 }) im₃ [] ≡ queued im ph m
   unfolding queued laid
   queued-is ph bytes byte {h} {h′} eh {k} ek {im₁} {im₂} {im₃} {f} e₁ e₂ eh′ e₃ =
       let slots : one-more m (idsBy kind change) ≡ submittedSlots (stateOf im .table) m = rw (j, ec) in
@@ -68,7 +68,7 @@ module _ (im m : List ℕ) (kind : Kind) (label : ℕ) (sound : IsSound im) (roo
       e₂ .1
       ∙ further-is im m sound bytes (submitted (stateOf im) m) (idsBy kind change) (ids-in im m kind label change byte j submitted-inside) submitted-fits slotted
       ∙ ap (λ (x : Slots). furtherBits (differ (block im requestBlock) (block (stored im x (submitted (stateOf im) m)) requestBlock))) slots in
-      λ i. afterWith (record { answer = Answer.Done; phase = ph; written = 0; slot = slot i; block0 = zeroth i; further = requests i }) (image i) []
+      λ i. afterWith (record { answer = Answer.Done; phase = ph; written = 0; slot = slot i; block0 = zeroth i; further = requests i; leftout = 0 }) (image i) []
 
 -- ---- a message with its kind and label
 module _ (im : List ℕ) (ph : Phase) (m : List ℕ) {kind : Kind} {label : ℕ} (w : Fitting (stateOf im) m) (j : submissionOf m ≡ Submission.Accepted kind label)

@@ -124,5 +124,6 @@ pub fn queue_message(
         slot: k + 1,
         block0: true,
         further: further,
+        leftout: 0,
     }
 }

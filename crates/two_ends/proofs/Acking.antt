@@ -2,7 +2,7 @@
 use Prim.Native.Nat.{ℕ}
 use mathlib.Core.Bool.{true}
 use mathlib.Core.List.{List, [], _∷_}
-use mathlib.Core.Logic.{⊎-elim}
+use mathlib.Core.Logic.{_≢_, _⊎_, inl, inr, ⊎-elim}
 use mathlib.Core.Path.{_≡_, refl}
 use native.Mathlib.Omega.{arith}
 use lib.Dec.{eqb}
@@ -17,7 +17,7 @@ use Rattle.label_list.specs.Valid.{validOf}
 use Rattle.label_events.specs.Change.{codeAt}
 use Rattle.message.specs.Storable.{kindIn, labelIn}
 use Rattle.message.specs.Submission.{submissionOf}
-use Rattle.label_meaning.specs.Event.{Acked, Broken, afterEvent, Moves, withdraw-acked, release-acked, bare-lost}
+use Rattle.label_meaning.specs.Event.{Acked, Broken, afterEvent, Moves, withdraw-acked, back-acked, release-acked, bare-lost}
 use Rattle.protocol.specs.Acked.{releasedKind, releasedLabels}
 use Rattle.protocol.proofs.Words.{released-valid}
 use Rattle.two_ends.specs.Agree.{codeAfter, IsGiven, IsUsed, Agree}
@@ -25,15 +25,23 @@ use Rattle.two_ends.proofs.Agreeing.{moved}
 use Rattle.two_ends.proofs.Codes.{five-zero}
 use Rattle.two_ends.proofs.Sixless.{NoSix}
 
--- ---- an acknowledgement frees what it frees
-given-acked : {m : LabelMessage} {k l c d : ℕ} → Moves (Acked m k) Given l c d → d ≡ 0
-given-acked withdraw-acked = refl
+-- ---- an acknowledgement leaves a withdrawn label that the peer has not released, or frees one that it has
+given-acked : {m : LabelMessage} {k l c d : ℕ} → Moves (Acked m k) Given l c d → (c ≡ 2) ⊎ (d ≡ 0)
+given-acked withdraw-acked = inl refl
+given-acked back-acked = inr refl
 
 used-acked : {m : LabelMessage} {k l c d : ℕ} → Moves (Acked m k) Used l c d → (c ≡ 5) × (d ≡ 0)
 used-acked release-acked = (refl, refl)
 
+pub ungiven : {P : Type 0} {c : ℕ} → c ≢ 1 → c ≢ 2 → c ≢ 8 → IsGiven c → P
+ungiven {c = c} one two eight g =
+    ⊎-elim
+    (λ (e : c ≡ 1). absurd (one e))
+    (λ (h : (c ≡ 2) ⊎ (c ≡ 8)). ⊎-elim (λ (e : c ≡ 2). absurd (two e)) (λ (e : c ≡ 8). absurd (eight e)) h)
+    g
+
 pub none-given : {P : Type 0} {c : ℕ} → c ≡ 0 → IsGiven c → P
-none-given z g = ⊎-elim (λ (e : _ ≡ 1). absurd (omega arith)) (λ (e : _ ≡ 2). absurd (omega arith)) g
+none-given z g = ungiven (λ e. omega arith) (λ e. omega arith) (λ e. omega arith) g
 
 module _ (ls : List ℕ) (v : validOf ls ≡ true) (l : ℕ) where
   -- so a label that is given was given before
@@ -41,7 +49,10 @@ module _ (ls : List ℕ) (v : validOf ls ≡ true) (l : ℕ) where
   one-given m k g =
       ⊎-elim
       (λ (same : codeAt (afterEvent ls (Acked m k)) Given l ≡ codeAt ls Given l). rw same at g)
-      (λ (move : Moves (Acked m k) Given l (codeAt ls Given l) (codeAt (afterEvent ls (Acked m k)) Given l)). none-given (given-acked move) g)
+      (λ (move : Moves (Acked m k) Given l (codeAt ls Given l) (codeAt (afterEvent ls (Acked m k)) Given l)). ⊎-elim
+      (λ (two : codeAt ls Given l ≡ 2). inr (inl two))
+      (λ (free : codeAt (afterEvent ls (Acked m k)) Given l ≡ 0). none-given free g)
+      (given-acked move))
       (moved ls v (Acked m k) Given l)
 
   -- and one that comes into use still does

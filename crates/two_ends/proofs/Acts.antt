@@ -11,8 +11,8 @@ use Rattle.protocol.specs.Init.{initReceived, initStart}
 use Rattle.protocol.specs.Phases.{awaits}
 use Rattle.protocol.specs.Receive.{receive}
 use Rattle.protocol.specs.Step.{Step}
-use Rattle.two_ends.specs.Calls.{accepts, beginning, disconnected, called, counts, delivery, greeted, greets, on, opened, plainly, put, receives, replaced, offered, took, wrote, anew, keeps}
-use Rattle.two_ends.specs.World.{End, World, Lasts}
+use Rattle.two_ends.specs.Calls.{accepts, beginning, disconnected, called, counts, delivery, greeted, greets, on, opened, plainly, put, receives, replaced, offered, took, anew, keeps}
+use Rattle.two_ends.specs.World.{End, World, Lasts, History}
 use Rattle.two_ends.proofs.Worlds.{closes, next}
 
 -- ---- the end after the message m is delivered to it, as the peer's Init or as any other
@@ -61,8 +61,10 @@ module _ (P : World → Type 0) (broke : (v : World) → P v → P (disconnected
     pub by-submit : (m : List ℕ) (x : Step) → P (next w (called (w .a) x (counts (w .a) x (accepts m (w .a .history)))) (w .ab) (w .ba)) → P (offered w m x)
     by-submit m x p = by-replaced w (called (w .a) x (counts (w .a) x (accepts m (w .a .history)))) (w .ab) (w .ba) p
 
-    pub by-write : (x : Step) → P (next w (called (w .a) x (w .a .history)) (put (w .a .joined) (w .ab) x) (w .ba)) → P (wrote w x)
-    by-write x p = by-replaced w (called (w .a) x (w .a .history)) (put (w .a .joined) (w .ab) x) (w .ba) p
+    -- Send next and KeepAlive, each with its history
+    pub by-write : (x : Step) (h : History) → P (next w (called (w .a) x h) (put (w .a .joined) (w .ab) x) (w .ba))
+        → P (replaced w (called (w .a) x h) (put (w .a .joined) (w .ab) x) (w .ba))
+    by-write x h p = by-replaced w (called (w .a) x h) (put (w .a .joined) (w .ab) x) (w .ba) p
 
     pub by-open : (x : Step) → P (next w (on (called (w .a) x (w .a .history))) (put true (w .ab) x) (w .ba))
         → P (next w (called (w .a) x (w .a .history)) (w .ab) (w .ba)) → P (opened w x)

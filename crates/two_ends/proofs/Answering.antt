@@ -74,13 +74,13 @@ module _ (b : End) (ab : List (List ℕ)) where
         (λ (e : initStart now (waitingFor t) m ≡ Start.Resumed ts (st .0) a). rw (again-begins now t h id p seconds a i (st .0) e) taken)
         (λ (e : initStart now (waitingFor t) m ≡ Start.Refused Answer.ParametersChanged). rw (changed-init now t m e) changed)
         (st .2);
-    alives = λ now sent h id n qs i l.
-        rw (rule-answers now sent (bytesOf (alive id n)) (g₁ now sent h id n) (alive-read now sent h id n i) h i, alive-done now sent h id n i) taken;
-    carries = λ now sent h m n ack qs i l.
-        let g = g₂ now sent h m n ack i in
-        let read = carried-read now sent h m n ack i in
-        rw (rule-answers now sent (bytesOf (carried m n ack)) g read h i)
-        (fair-comes (rightly now g n (l .own) refl) (judged now sent (bytesOf (carried m n ack)) g read) (carried-fair now sent h m n ack i));
+    alives = λ now re sent h id n qs i l.
+        rw (rule-answers now re sent (bytesOf (alive id n)) (g₁ now re sent h id n) (alive-read now re sent h id n i) h i, alive-done now re sent h id n i) taken;
+    carries = λ now re sent h m n ack qs i l.
+        let g = g₂ now re sent h m n ack i in
+        let read = carried-read now re sent h m n ack i in
+        rw (rule-answers now re sent (bytesOf (carried m n ack)) g read h i)
+        (fair-comes (rightly now g n (l .own) refl) (judged now re sent (bytesOf (carried m n ack)) g read) (carried-fair now re sent h m n ack i));
   }
 
 pub good-comes : (w : World) → Good w → Persisted Labels w → Lasts w → AllCome w

@@ -1,6 +1,6 @@
 -- The start of a run. Assumes nothing.
 use Prim.Native.Nat.{_<_, _≤_, ℕ}
-use mathlib.Core.Bool.{false, true}
+use mathlib.Core.Bool.{false, true, false≢true}
 use mathlib.Core.List.{[], _∷_}
 use mathlib.Core.Logic.{inl, inr, ⊎-elim}
 use mathlib.Core.Path.{refl, sym, _≡_}
@@ -54,11 +54,12 @@ ready o s = record {
 }
 
 -- nothing is accepted, let go or secured, and the Init on its way says so
-nothing : Half (sndOf releasedState noHistory) 0 false (rcvOf releasedState noHistory) [] (0 ∷ [])
+nothing : Half (sndOf releasedState noHistory) 0 false true false (rcvOf releasedState noHistory) [] (0 ∷ [])
 nothing = record {
   r = 0;
   i = 0;
   s = 0;
+  e = 0;
   books = record {
     isR = sym (after-none 0);
     isI = sym (after-none 0);
@@ -72,8 +73,9 @@ nothing = record {
     room = omega arith;
   };
   sentI = omega arith;
-  flow = tt;
-  line = (refl, (0, sym (after-none 0), omega arith, omega arith));
+  marks = λ j e. absurd (false≢true e);
+  flow = refl;
+  line = record { none = refl; rising = (0, sym (after-none 0), omega arith, omega arith) };
 }
 
 direction : (x y : Opener) → Fit x → Leads (y .state .kept) (keptAck (x .state)) → Dir (sideOf (openingEnd x)) (sideOf (openingEnd y)) (packet x ∷ []) (packet y ∷ [])
@@ -102,6 +104,7 @@ at-start x y sx sy f k = (
     peer = ready y sy;
     out = direction x y sx (leads x y f);
     back = direction y x sy (leads y x (other x y f));
+    agree = refl;
   },
 )
 

@@ -6,7 +6,7 @@ use native.Mathlib.Numerals.{add-one}
 use native.Mathlib.Omega.{arith}
 use lib.Dec.{ltb}
 use lib.ListN.{length, take, drop, length-append, length-drop}
-use lib.Seq.{take-append-le, drop-append-le, drop-drop, take-add}
+use lib.Seq.{take-append-le, drop-append-le, drop-drop, take-add, length-take-le}
 use borrow.Author.Tests.{ltb-true, ltb-false}
 use Rattle.octets.specs.Pick.{pick}
 use Rattle.octets.proofs.Choice.{by-test}
@@ -14,24 +14,34 @@ use Rattle.ft_number.specs.declared.Ack.{Ack}
 use Rattle.ft_number.specs.Ack.{ackOf}
 use Rattle.ft_number.specs.Circle.{after, stepsOf}
 use Rattle.protocol.specs.Phases.{countOf}
-use Rattle.two_ends.proofs.Half.{Snd, Rcv, Books}
+use Rattle.two_ends.specs.LeftOut.{positions, without}
+use Rattle.two_ends.proofs.Gaps.{gap-secured, positions-below, without-same}
+use Rattle.two_ends.proofs.Half.{Snd, Rcv, Gap, Books}
 use Rattle.two_ends.proofs.Positions.{num, num-after, num-count, num-ack}
 
 module _ {A : Type 0} where
   -- ---- the sender's view after an event
   abbrev pub accepts : A → Snd A → Snd A
-  accepts m x = record { R = x .R; I = x .I; queue = x .queue ++ (m ∷ []); accepted = x .accepted ++ (m ∷ []); letgo = x .letgo }
+  accepts m x = record { R = x .R; I = x .I; queue = x .queue ++ (m ∷ []); accepted = x .accepted ++ (m ∷ []); letgo = x .letgo; left = x .left }
 
-  -- the message at place `sent` is sent: it is numbered if it has no number
+  -- the message at that place is sent: it is numbered if it has no number
   abbrev pub issuedAt : Snd A → ℕ → ℕ
-  issuedAt x sent = pick (ltb sent (countOf (stepsOf (x .R) (x .I)))) (x .I) (after (sent + 1) (x .R))
+  issuedAt x place = pick (ltb place (countOf (stepsOf (x .R) (x .I)))) (x .I) (after (place + 1) (x .R))
 
-  abbrev pub issues : ℕ → Snd A → Snd A
-  issues sent x = record { R = x .R; I = issuedAt x sent; queue = x .queue; accepted = x .accepted; letgo = x .letgo }
+  -- k messages behind those sent are passed over, and the next is sent
+  abbrev pub issues : ℕ → ℕ → Snd A → Snd A
+  issues sent k x = record {
+    R = x .R;
+    I = issuedAt x (sent + k);
+    queue = x .queue;
+    accepted = x .accepted;
+    letgo = x .letgo;
+    left = x .left ++ positions (length (x .letgo) + sent) k;
+  }
 
   -- an acknowledgement of n that releases k
   abbrev pub frees : ℕ → ℕ → Snd A → Snd A
-  frees k n x = record { R = n; I = x .I; queue = drop k (x .queue); accepted = x .accepted; letgo = x .letgo ++ take k (x .queue) }
+  frees k n x = record { R = n; I = x .I; queue = drop k (x .queue); accepted = x .accepted; letgo = x .letgo ++ take k (x .queue); left = x .left }
 
   abbrev pub secures : ℕ → A → Rcv A → Rcv A
   secures n m y = record { S = n; secured = y .secured ++ (m ∷ []) }
@@ -48,6 +58,9 @@ module _ {A : Type 0} where
     pub held-length : length (x .queue) ≡ length (x .accepted) - r
     held-length = ap length (b .que) ∙ length-drop r (x .accepted)
 
+    pub gone-length : length (x .letgo) ≡ r
+    gone-length = ap length (b .rel) ∙ length-take-le r (x .accepted) (omega (arith, b .rs, b .si, b .ia))
+
     pub window : countOf (stepsOf (x .R) (x .I)) ≡ i - r
     window = rw (b .isR, b .isI) (num-count r i (omega (arith, b .rs, b .si)) (omega (arith, b .ia, b .room)))
 
@@ -63,17 +76,17 @@ module _ {A : Type 0} where
         d ∙ ap (λ (l : List A). m ∷ l) (sym (drop-next (x .accepted) ms (r + sent) m d))
 
     abbrev pub Issued : ℕ → ℕ → Type 0
-    Issued sent z = (k : ℕ) × (z ≡ num k) × (i ≤ k) × (r + (sent + 1) ≤ k) × (k ≤ length (x .accepted))
+    Issued sent z = (k : ℕ) × (z ≡ num k) × (i ≤ k) × (r + (sent + 1) ≤ k) × (k ≤ length (x .accepted)) × (r + sent ≡ i → k ≡ r + (sent + 1))
 
     pub issued : (sent : ℕ) → r + sent < length (x .accepted) → Issued sent (issuedAt x sent)
     issued sent h =
         by-test (ltb sent (countOf (stepsOf (x .R) (x .I))))
         (λ t.
         let l : sent < countOf (stepsOf (x .R) (x .I)) = ltb-true sent (countOf (stepsOf (x .R) (x .I))) t in
-        rw t (i, b .isI, omega arith, omega (arith, l, window), b .ia))
+        rw t (i, b .isI, omega arith, omega (arith, l, window), b .ia, λ q. absurd (omega (arith, l, window))))
         (λ t.
         let l : countOf (stepsOf (x .R) (x .I)) ≤ sent = ltb-false sent (countOf (stepsOf (x .R) (x .I))) t in
-        rw t (r + (sent + 1), numbered sent, omega (arith, l, window, b .rs, b .si), omega arith, omega arith))
+        rw t (r + (sent + 1), numbered sent, omega (arith, l, window, b .rs, b .si), omega arith, omega arith, λ q. omega arith))
 
     -- an acknowledgement of a place that was secured is right
     pub ack-right : (n k : ℕ) → n ≡ num k → r ≤ k → k ≤ s → ackOf (x .R) (x .I) n ≡ Ack.Releases (k - r)
@@ -92,21 +105,26 @@ module _ {A : Type 0} where
         isS = b .isS;
         rel = b .rel ∙ sym (take-append-le r (x .accepted) (m ∷ []) lr);
         que = ap (λ (l : List A). l ++ (m ∷ [])) (b .que) ∙ sym (drop-append-le r (x .accepted) (m ∷ []) lr);
-        sec = b .sec ∙ sym (take-append-le s (x .accepted) (m ∷ []) ls);
+        sec = b .sec ∙ ap (λ (l : List A). without (x .left) 0 l) (sym (take-append-le s (x .accepted) (m ∷ []) ls));
         rs = b .rs;
         si = b .si;
         ia = omega (arith, la, b .ia);
         room = omega (arith, la, lq);
       }
 
-  pub books-issue : {x : Snd A} {y : Rcv A} {r i s : ℕ} (sent : ℕ) (b : Books x y r i s) (k : Issued b sent (issuedAt x sent)) → Books (issues sent x) y r (k .0) s
-  books-issue sent b k = record {
+  -- what is passed over lies behind what was secured
+  pub books-issue : {x : Snd A} {y : Rcv A} {r i s : ℕ} (sent n : ℕ) (b : Books x y r i s) → s ≤ r + sent → (k : Issued b (sent + n) (issuedAt x (sent + n)))
+      → Books (issues sent n x) y r (k .0) s
+  books-issue {x} {y} {r} {i} {s} sent n b reached k = record {
     isR = b .isR;
     isI = k .1;
     isS = b .isS;
     rel = b .rel;
     que = b .que;
-    sec = b .sec;
+    sec =
+        b .sec
+        ∙ sym (without-same (x .left) (x .left ++ positions (length (x .letgo) + sent) n) 0 (take s (x .accepted)) (λ j low high.
+        positions-below (x .left) (length (x .letgo) + sent) n j (omega (arith, gone-length b, length-take-le s (x .accepted) (omega (arith, b .si, b .ia))))));
     rs = b .rs;
     si = omega (arith, b .si, k .2);
     ia = k .4;
@@ -129,15 +147,16 @@ module _ {A : Type 0} where
         room = omega (arith, b .room);
       }
 
-  pub books-secure : {x : Snd A} {y : Rcv A} {r i s : ℕ} (b : Books x y r i s) (n : ℕ) (m : A) → n ≡ num (suc s) → drop s (x .accepted) ≡ m ∷ drop (suc s) (x .accepted)
-      → s < i → Books x (secures n m y) r i (suc s)
-  books-secure {x} {y} {r} {i} {s} b n m e d h = record {
+  -- the oldest of the line, whatever was left out before it
+  pub books-secure : {x : Snd A} {y : Rcv A} {r i s : ℕ} (b : Books x y r i s) (n : ℕ) (m : A) (g : Gap (x .left) (x .accepted) s n m) → suc (s + g .k) ≤ i
+      → Books x (secures n m y) r i (suc (s + g .k))
+  books-secure {x} {y} {r} {i} {s} b n m g h = record {
     isR = b .isR;
     isI = b .isI;
-    isS = e;
+    isS = g .number;
     rel = b .rel;
     que = b .que;
-    sec = ap (λ (l : List A). l ++ (m ∷ [])) (b .sec) ∙ sym (take-next (x .accepted) (drop (suc s) (x .accepted)) s m d);
+    sec = ap (λ (l : List A). l ++ (m ∷ [])) (b .sec) ∙ sym (gap-secured (x .left) (x .accepted) s n m g);
     rs = omega (arith, b .rs);
     si = h;
     ia = b .ia;

@@ -1,6 +1,6 @@
 -- A message of a steady owner is delivered: it is answered 0 or 21, and the end knows what it knew. Assumes nothing.
 use Prim.Native.Nat.{_≤_, ℕ}
-use mathlib.Core.Bool.{false, true, true≢false}
+use mathlib.Core.Bool.{false, true, true≢false, Bool}
 use mathlib.Core.List.{[], List, map, _∷_}
 use mathlib.Core.Path.{_≡_, refl, sym, _∙_}
 use native.Mathlib.Omega.{arith}
@@ -92,27 +92,27 @@ module _ (o : OwnParameters) (b : End) (ab : List (List ℕ)) where
         (rw d taken, rw d (record { keepalive = λ g. k .keepalive refl; maxpdu = λ g. k .maxpdu refl; mild = λ g. all-drop Mild (st .0) (now .queue) (k .mild refl) }))
 
   -- an answer below 30 leaves the parameters, and a part of the store
-  calmly : (now : State) (sent : ℕ) (h : History) (m : List ℕ) → Calm (receive now (upWith sent) m .answer) → Knows o (ended now (upWith sent) true true h)
-      → Calm (receive now (upWith sent) m .answer) × Knows o (hearer (ended now (upWith sent) true true h) m)
-  calmly now sent h m c k =
-      let e = ended now (upWith sent) true true h in
-      let f = receive-frees now (upWith sent) m (calm-low c) in
+  calmly : (now : State) (re : Bool) (sent : ℕ) (h : History) (m : List ℕ) → Calm (receive now (upWith re sent) m .answer) → Knows o (ended now (upWith re sent) true true h)
+      → Calm (receive now (upWith re sent) m .answer) × Knows o (hearer (ended now (upWith re sent) true true h) m)
+  calmly now re sent h m c k =
+      let e = ended now (upWith re sent) true true h in
+      let f = receive-frees now (upWith re sent) m (calm-low c) in
       (c, knows-moved o e (hearer e m) (f .0) [] refl (f .1) tt k)
 
   each : Oldests Calmly b ab
   each = record {
     firsts = λ now t h id p seconds ack qs lead i. first-calm now t h id p seconds ack lead i;
     agains = λ now t h id p seconds a qs i. again-calm now t h id p seconds a i;
-    alives = λ now sent h id n qs i l s k.
+    alives = λ now re sent h id n qs i l s k.
         let m = bytesOf (alive id n) in
-        calmly now sent h m (rw (rule-answers now sent m (g₁ now sent h id n) (alive-read now sent h id n i) h i, alive-done now sent h id n i) taken) k;
-    carries = λ now sent h m n ack qs i l s k.
+        calmly now re sent h m (rw (rule-answers now re sent m (g₁ now re sent h id n) (alive-read now re sent h id n i) h i, alive-done now re sent h id n i) taken) k;
+    carries = λ now re sent h m n ack qs i l s k.
         let bytes = bytesOf (carried m n ack) in
-        let g = g₂ now sent h m n ack i in
-        let read = carried-read now sent h m n ack i in
-        let mild = s .mild g read (carried-another now sent h m n ack i) in
-        calmly now sent h bytes
-        (rw (rule-answers now sent bytes g read h i) (fair-calm (rightly now g n (l .own) refl) mild (judged now sent bytes g read) (carried-fair now sent h m n ack i))) k;
+        let g = g₂ now re sent h m n ack i in
+        let read = carried-read now re sent h m n ack i in
+        let mild = s .mild g read (carried-another now re sent h m n ack i) in
+        calmly now re sent h bytes
+        (rw (rule-answers now re sent bytes g read h i) (fair-calm (rightly now g n (l .own) refl) mild (judged now re sent bytes g read) (carried-fair now re sent h m n ack i))) k;
   }
 
 -- ---- at the end a

@@ -3,7 +3,7 @@ use Prim.Native.Nat.{ℕ, zero, suc, _≤_, _<_}
 use mathlib.Core.Bool.{true}
 use mathlib.Core.List.{List, [], _∷_, _++_}
 use mathlib.Core.Logic.{_⊎_, inl, inr, ⊎-elim}
-use mathlib.Core.Path.{_≡_, refl}
+use mathlib.Core.Path.{_≡_, refl, ap}
 use native.Mathlib.Nat.{eq-or-lt-of-le}
 use native.Mathlib.Omega.{arith}
 use lib.Dec.{eqb}
@@ -104,7 +104,7 @@ after-snoc l c [] m = refl
 after-snoc l c (x ∷ ms) m = after-snoc l (codeBy l c (submissionOf x)) ms m
 
 -- ---- from releasing or from absent: a message leaves both as they are, or makes them the same
-five-zero-by : (l : ℕ) (j : Submission) → ((codeBy l 5 j ≡ 5) × (codeBy l 0 j ≡ 0)) ⊎ (codeBy l 5 j ≡ codeBy l 0 j)
+pub five-zero-by : (l : ℕ) (j : Submission) → ((codeBy l 5 j ≡ 5) × (codeBy l 0 j ≡ 0)) ⊎ (codeBy l 5 j ≡ codeBy l 0 j)
 unfolding codeReceived
 five-zero-by l Submission.Malformed = inl (refl, refl)
 five-zero-by l Submission.Refused = inl (refl, refl)
@@ -119,10 +119,18 @@ five-zero-by l (Submission.Accepted (Kind.Abort id) k) = inl (refl, refl)
 five-zero-by l (Submission.Accepted Kind.NoResources k) = inl (refl, refl)
 five-zero-by l (Submission.Accepted Kind.NoKind k) = inl (refl, refl)
 
-pub five-zero : (l : ℕ) (ms : List (List ℕ)) → IsUsed (codeAfter l 5 ms) → IsUsed (codeAfter l 0 ms)
-five-zero l [] u = ⊎-elim (λ (e : _≡_ {A = ℕ} 5 3). absurd (omega arith)) (λ (e : _≡_ {A = ℕ} 5 4). absurd (omega arith)) u
-five-zero l (m ∷ ms) u =
+pub five-zero-after : (l : ℕ) (ms : List (List ℕ)) → ((codeAfter l 5 ms ≡ 5) × (codeAfter l 0 ms ≡ 0)) ⊎ (codeAfter l 5 ms ≡ codeAfter l 0 ms)
+five-zero-after l [] = inl (refl, refl)
+five-zero-after l (m ∷ ms) =
     ⊎-elim
-    (λ (e : (codeBy l 5 (submissionOf m) ≡ 5) × (codeBy l 0 (submissionOf m) ≡ 0)). rw (e .1) (five-zero l ms (rw (e .0) at u)))
-    (λ (e : codeBy l 5 (submissionOf m) ≡ codeBy l 0 (submissionOf m)). rw e at u)
+    (λ (e : (codeBy l 5 (submissionOf m) ≡ 5) × (codeBy l 0 (submissionOf m) ≡ 0)). rw (e .0, e .1) (five-zero-after l ms))
+    (λ (e : codeBy l 5 (submissionOf m) ≡ codeBy l 0 (submissionOf m)). inr (ap (λ (c : ℕ). codeAfter l c ms) e))
     (five-zero-by l (submissionOf m))
+
+pub five-zero : (l : ℕ) (ms : List (List ℕ)) → IsUsed (codeAfter l 5 ms) → IsUsed (codeAfter l 0 ms)
+five-zero l ms u =
+    ⊎-elim
+    (λ (e : (codeAfter l 5 ms ≡ 5) × (codeAfter l 0 ms ≡ 0)).
+    ⊎-elim (λ (three : codeAfter l 5 ms ≡ 3). absurd (omega arith)) (λ (four : codeAfter l 5 ms ≡ 4). absurd (omega arith)) u)
+    (λ (e : codeAfter l 5 ms ≡ codeAfter l 0 ms). rw e at u)
+    (five-zero-after l ms)

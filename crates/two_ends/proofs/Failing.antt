@@ -54,6 +54,7 @@ failing-on now ph true h {b} s rest more =
           peer = ready-off (i .peer) gb;
           out = rw (resting now ph true h (i .own)) (dir-failed (i .out) gb);
           back = rw (resting now ph true h (i .own)) (dir-failed-peer (i .back) ga);
+          agree = sym gb;
         },
       ),
     )
@@ -77,6 +78,7 @@ failing now ph false true h s =
           peer = i .peer;
           out = rw (resting now ph false h (i .own)) (dir-rest now (now .kept) ph true h (i .out));
           back = rw (resting now ph false h (i .own)) (dir-rest-peer now (now .kept) ph true h (i .back));
+          agree = i .agree;
         },
       ),
     )

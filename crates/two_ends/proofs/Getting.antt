@@ -1,6 +1,6 @@
 -- What is given is in use or asked back, as either end takes a message with its number. Assumes nothing.
 use Prim.Native.Nat.{ℕ, _≤_}
-use mathlib.Core.Bool.{true, false, true≢false}
+use mathlib.Core.Bool.{true, false, true≢false, Bool}
 use mathlib.Core.List.{List, _∷_}
 use mathlib.Core.Logic.{_≢_, ⊎-elim}
 use mathlib.Core.Path.{_≡_, refl, sym, _∙_}
@@ -38,7 +38,7 @@ use Rattle.message.specs.Kinds.{kindOf, kindNumber, fatalOf, statusCode, resour
 use Rattle.message.specs.Storable.{bears}
 use Rattle.message.specs.Submission.{submissionOf}
 use Rattle.message.proofs.Laws.{accepted}
-use Rattle.label_meaning.specs.Event.{Received, afterEvent, Moves, named, given-back, withdrawn-back}
+use Rattle.label_meaning.specs.Event.{Received, afterEvent, Moves, named, given-back, withdrawn-back, acked-back}
 use Rattle.label_meaning.specs.View.{Effect}
 use Rattle.label_meaning.proofs.Effect.{change-effect}
 use Rattle.label_meaning.proofs.Life.{move-happens}
@@ -55,7 +55,7 @@ use Rattle.protocol.specs.Phases.{upWith}
 use Rattle.protocol.specs.State.{State}
 use Rattle.two_ends.specs.Agree.{codeBy, codeAfter, IsGiven, IsUsed, Agree}
 use Rattle.two_ends.specs.World.{End, History}
-use Rattle.two_ends.proofs.Acking.{none-given}
+use Rattle.two_ends.proofs.Acking.{none-given, ungiven}
 use Rattle.two_ends.proofs.Agreeing.{moved}
 use Rattle.two_ends.proofs.Arriving.{g₂, short, f}
 use Rattle.two_ends.proofs.Invariant.{Inv}
@@ -139,7 +139,7 @@ module _ (ls : List ℕ) (v : validOf ls ≡ true) (r : Found) (m : LabelMessage
       (x .elsewhere (receivedSide m) l code (λ p. true≢false (sym (eq-eqb k l (sym (p .1))) ∙ other)) (code-is ls (receivedSide m) l)))
       (received-outcome ls (valid-means ls v) r m true k)
 
-  code-received : (k : ℕ) → receivedOf ls r m true (Touched.Label k) .0 ≡ Reception.Taken
+  pub code-received : (k : ℕ) → receivedOf ls r m true (Touched.Label k) .0 ≡ Reception.Taken
       → codeAt (receivedOf ls r m true (Touched.Label k) .1) (receivedSide m) l ≡ pick (eqb k l) (codeReceived m true code) code
   code-received k room =
       by-test
@@ -147,13 +147,14 @@ module _ (ls : List ℕ) (v : validOf ls ≡ true) (r : Found) (m : LabelMessage
       (λ t. let same : k ≡ l = eqb-true k l t in rw (t, same) (code-here (rw same at room)))
       (λ f. rw f (code-there k f))
 
--- ---- a Release moves no label at its user, and frees one that is given
+-- ---- a Release moves no label at its user; after it one that is given is so no more
 release-used : {l c d k : ℕ} {r : Found} → Moves (Received r Release true (Touched.Label k)) Used l c d → c ≡ d
 release-used = elim [ ]
 
-given-received : {m : LabelMessage} {t : Touched} {l c d : ℕ} {r : Found} → Moves (Received r m true t) Given l c d → d ≡ 0
-given-received (given-back t) = refl
-given-received (withdrawn-back t) = refl
+given-received : {P : Type 0} {m : LabelMessage} {t : Touched} {l c d : ℕ} {r : Found} → Moves (Received r m true t) Given l c d → IsGiven d → P
+given-received (given-back t) g = none-given refl g
+given-received (withdrawn-back t) g = ungiven (λ e. omega arith) (λ e. omega arith) (λ e. omega arith) g
+given-received (acked-back t) g = none-given refl g
 
 module _ (giver user : List ℕ) (out back : List (List ℕ)) (m : List ℕ) (r : Found) where
   -- what was given before, and is not given back by the message
@@ -166,14 +167,20 @@ module _ (giver user : List ℕ) (out back : List (List ℕ)) (m : List ℕ) (r 
   kept-given e t v l g =
       ⊎-elim
       (λ (same : codeAt (afterEvent giver (Received r e true t)) Given l ≡ codeAt giver Given l). rw same at g)
-      (λ (move : Moves (Received r e true t) Given l (codeAt giver Given l) (codeAt (afterEvent giver (Received r e true t)) Given l)). none-given (given-received move) g)
+      (λ (move : Moves (Received r e true t) Given l (codeAt giver Given l) (codeAt (afterEvent giver (Received r e true t)) Given l)). given-received move g)
       (moved giver v (Received r e true t) Given l)
 
-  freed : validOf giver ≡ true → (l : ℕ) → IsGiven (codeAt giver Given l) → codeAt (afterEvent giver (Received r Release true (Touched.Label l))) Given l ≡ 0
-  freed v l g =
+  -- its Release has come
+  freed : {P : Type 0} → validOf giver ≡ true → (l : ℕ) → IsGiven (codeAt giver Given l) → IsGiven (codeAt (afterEvent giver (Received r Release true (Touched.Label l))) Given l) → P
+  freed v l g h =
+      let valid = valid-means giver v in
       ⊎-elim
-      (λ (one : codeAt giver Given l ≡ 1). move-happens giver (valid-means giver v) (given-back named) (λ z. omega arith) one)
-      (λ (two : codeAt giver Given l ≡ 2). move-happens giver (valid-means giver v) (withdrawn-back named) (λ z. omega arith) two)
+      (λ (one : codeAt giver Given l ≡ 1). none-given (move-happens giver valid (given-back named) (λ z. omega arith) one) h)
+      (⊎-elim
+      (λ (two : codeAt giver Given l ≡ 2).
+      let nine : codeAt (afterEvent giver (Received r Release true (Touched.Label l))) Given l ≡ 9 = move-happens giver valid (withdrawn-back named) (λ z. omega arith) two in
+      ungiven (λ e. omega arith) (λ e. omega arith) (λ e. omega arith) h)
+      (λ (eight : codeAt giver Given l ≡ 8). none-given (move-happens giver valid (acked-back named) (λ z. omega arith) eight) h))
       g
 
   -- the giver takes it
@@ -186,12 +193,12 @@ module _ (giver user : List ℕ) (out back : List (List ℕ)) (m : List ℕ) (r 
       let before : IsGiven (codeAt giver Given l) = kept-given Release (Touched.Label n) v l g in
       by-test
       (eqb n l)
-      (λ t. let same : n ≡ l = eqb-true n l t in none-given (freed v l before) (rw same at g))
+      (λ t. let same : n ≡ l = eqb-true n l t in freed v l before (rw same at g))
       (λ f. still a l may before none (rw (is, f)))
   take-giver a v k n e is (says-nothing stays others) l may g none = still a l may (rw (ended-code giver Given l r) at g) none (rw is (others l))
 
 -- the user takes it
-code-taken : (user : List ℕ) → validOf user ≡ true → (r : Found) (k : Kind) (n : ℕ) (e : LabelEffect) → Says k n e → effectReception user r true e ≡ Reception.Taken → (l : ℕ)
+pub code-taken : (user : List ℕ) → validOf user ≡ true → (r : Found) (k : Kind) (n : ℕ) (e : LabelEffect) → Says k n e → effectReception user r true e ≡ Reception.Taken → (l : ℕ)
     → listable l ≡ true → codeAt (effectLabels user r true e) Used l ≡ codeBy l (codeAt user Used l) (Submission.Accepted k n)
 unfolding afterEvent receivedSide
 code-taken user v r k n e says-mapping room l may = code-received user v r Mapping l may n room
@@ -209,12 +216,12 @@ pub take-user : (giver user : List ℕ) (out back : List (List ℕ)) (m : List �
 take-user giver user out back m r a v k n e is s room l may g none = rw (code-taken user v r k n e s room l may) (rw is at (a l may g none))
 
 -- ---- a message on a line says its kind and label to its reader
-module _ (now : State) (sent : ℕ) (h : History) (m : List ℕ) (n : FtNumber) (ack : FtField) {b : End} {ab ba : List (List ℕ)} {pa qs : List Packet}
-    (i : Inv (ended now (upWith sent) true true h) b ab ba pa (carried m n ack ∷ qs)) where
-  pub carried-says : Says (f now sent h m n ack i .0 .storable .kind) (f now sent h m n ack i .0 .storable .label) (labelEffect (g₂ now sent h m n ack i))
+module _ (now : State) (re : Bool) (sent : ℕ) (h : History) (m : List ℕ) (n : FtNumber) (ack : FtField) {b : End} {ab ba : List (List ℕ)} {pa qs : List Packet}
+    (i : Inv (ended now (upWith re sent) true true h) b ab ba pa (carried m n ack ∷ qs)) where
+  pub carried-says : Says (f now re sent h m n ack i .0 .storable .kind) (f now re sent h m n ack i .0 .storable .label) (labelEffect (g₂ now re sent h m n ack i))
   carried-says =
-      let stored = f now sent h m n ack i .0 .storable in
+      let stored = f now re sent h m n ack i .0 .storable in
       let k = stored .kind in
       let l = stored .label in
       let e = stored .accepted in
-      says (g₂ now sent h m n ack i) k l (sent-kind m k l e n ack (short now sent h m n ack i)) (accepted m k l e .labelled .label)
+      says (g₂ now re sent h m n ack i) k l (sent-kind m k l e n ack (short now re sent h m n ack i)) (accepted m k l e .labelled .label)

@@ -6,7 +6,7 @@ use mathlib.Core.Path.{_≡_, refl, sym, _∙_, ap}
 use native.Mathlib.Omega.{arith}
 use Rattle.protocol.specs.Held.{isHeld}
 use Rattle.two_ends.specs.Agree.{InUse}
-use Rattle.two_ends.specs.Demand.{Safe, heldMessages}
+use Rattle.two_ends.specs.Demand.{Safe, heldMessages, acceptedRead, letgoRead}
 use Rattle.two_ends.specs.Runs.{AllProperEvents, Event, run}
 use Rattle.two_ends.specs.Start.{Afresh, Fit, Opener, start}
 use Rattle.two_ends.specs.World.{End, Lasts, noHistory}
@@ -22,18 +22,18 @@ last-none : (xs ys : List (List ℕ)) → xs ++ ys ≡ [] → ys ≡ []
 last-none [] ys e = e
 last-none (x ∷ xs) ys e = let no : _≡_ {A = ℕ} 0 1 = cc in absurd (omega arith)
 
-all-secured : {x y : End} → Safe x y → x .begun ≡ true → heldMessages x ≡ [] → x .history .accepted ≡ y .history .secured ++ []
+pub all-secured : {x y : End} → Safe x y → x .begun ≡ true → heldMessages x ≡ [] → acceptedRead x ≡ y .history .secured ++ []
 all-secured {x} {y} s g noHistory =
-    let gone = x .history .letgo in
+    let gone = letgoRead x in
     let first = s .let-go .rest in
     let second = s .in-order .rest in
-    let all : gone ++ [] ≡ x .history .accepted = rw noHistory at (s .rest-held g) in
+    let all : gone ++ [] ≡ acceptedRead x = rw noHistory at (s .rest-held g) in
     let same : gone ++ (first ++ second) ≡ gone ++ [] =
     sym (append-assoc gone first second) ∙ ap (λ (l : List (List ℕ)). l ++ second) (s .let-go .whole) ∙ s .in-order .whole ∙ sym all in
     sym (s .in-order .whole) ∙ ap (λ (l : List (List ℕ)). y .history .secured ++ l) (last-none first second (cancel gone (first ++ second) [] same))
 
 in-use : (x y : End) → x .begun ≡ true → y .begun ≡ true → Shared (sideOf x .state .table .words) (x .history) (sideOf y .state .table .words) (y .history)
-    → x .history .accepted ≡ y .history .secured ++ [] → y .history .accepted ≡ x .history .secured ++ [] → InUse x y
+    → acceptedRead x ≡ y .history .secured ++ [] → acceptedRead y ≡ x .history .secured ++ [] → InUse x y
 unfolding isHeld
 in-use x y gx gy s p q = λ l may g. let t = rw (gx, gy) at s in t .agree [] [] p q l may g refl
 

@@ -40,8 +40,8 @@ module _ (now : State) (t : ℕ) (h : History) (id : MessageId) (p : OwnParamete
   pub fresh-start : Fine (first id p seconds ack) → Leads (now .kept) ack → initStart now (waitingFor t) m₁ ≡ Start.Fresh ts
   fresh-start f l = starts-fresh now t id p seconds ack f l
 
-  pub first-begins : Fine (first id p seconds ack) → Leads (now .kept) ack → initReceived now (waitingFor t) m₁ ≡ stepped Answer.Done (fresh ts) (upWith 0) []
-  first-begins f l = let e = fresh-start f l in begins now t m₁ (fresh ts) (rw e) (rw e) (rw e)
+  pub first-begins : Fine (first id p seconds ack) → Leads (now .kept) ack → initReceived now (waitingFor t) m₁ ≡ stepped Answer.Done (fresh ts) (upWith false 0) []
+  first-begins f l = let e = fresh-start f l in begins now t m₁ (fresh ts) (rw e) (rw e) false (rw e)
 
   module _ {b : End} {ab ba : List (List ℕ)} {pa qs : List Packet} where
     pub greet-first : Inv (ended now (waitingFor t) true false h) b ab ba pa (first id p seconds ack ∷ qs) → Leads (now .kept) ack
@@ -51,7 +51,7 @@ module _ (now : State) (t : ℕ) (h : History) (id : MessageId) (p : OwnParamete
         let e = fresh-start (i .back .fines .0) l in
         let d = first-begins (i .back .fines .0) l in
         let nothing : h ≡ noHistory = i .own .waiting refl .nothing in
-        let own : Ready (ended (fresh ts) (upWith 0) true true h) = record {
+        let own : Ready (ended (fresh ts) (upWith false 0) true true h) = record {
           few = omega arith;
           possible = refl;
           keeping = refl;
@@ -72,6 +72,7 @@ module _ (now : State) (t : ℕ) (h : History) (id : MessageId) (p : OwnParamete
               peer = i .peer;
               out = rw nothing (dir-fresh (now .kept) t ts true id p seconds ack (rw nothing at (i .out)));
               back = rw nothing (dir-fresh-peer (now .kept) t ts true id p seconds ack (rw nothing at (i .back)));
+              agree = i .agree;
             },
           ),
         ))

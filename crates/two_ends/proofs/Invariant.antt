@@ -7,7 +7,7 @@ use mathlib.Core.Path.{_≡_}
 use Rattle.octets.specs.Pick.{pick, both}
 use Rattle.tlv.specs.declared.FtField.{FtField}
 use Rattle.protocol.specs.declared.Phase.{Phase}
-use Rattle.protocol.specs.Phases.{isUpFT, sentOf, awaits}
+use Rattle.protocol.specs.Phases.{isUpFT, resumedOf, sentOf, awaits}
 use Rattle.protocol.specs.State.{State, releasedState, held, capacity}
 use Rattle.two_ends.specs.Calls.{keeps}
 use Rattle.two_ends.specs.World.{History, End, World, noHistory, Lasts}
@@ -35,7 +35,7 @@ sideOf e = record {
 }
 
 abbrev pub sndOf : State → History → Snd (List ℕ)
-sndOf s h = record { R = s .released .0; I = s .issued .0; queue = s .queue; accepted = h .accepted; letgo = h .letgo }
+sndOf s h = record { R = s .released .0; I = s .issued .0; queue = s .queue; accepted = h .accepted; letgo = h .letgo; left = h .left }
 
 abbrev pub rcvOf : State → History → Rcv (List ℕ)
 rcvOf s h = record { S = s .secured .0; secured = h .secured }
@@ -43,6 +43,10 @@ rcvOf s h = record { S = s .secured .0; secured = h .secured }
 -- up on the present connection
 abbrev pub live : Side → Bool
 live x = both (x .joined) (isUpFT (x .phase))
+
+-- whether the connection is a later one than that on which both began: an end that is up on it knows, one that awaits the peer's Init has begun or not
+abbrev pub later : Side → Bool
+later x = pick (live x) (resumedOf (x .phase)) (x .begun)
 
 -- ---- what stands on a line
 -- R is zero in that Init, or in ours
@@ -65,7 +69,7 @@ Shape true false begun kept ps = Headed begun kept ps
 
 -- ---- one direction: x sends, y reads
 pub record Dir (x y : Side) (to fro : List Packet) : Type 0 where
-  pub half : Half (sndOf (x .state) (x .history)) (sentOf (x .phase)) (live x) (rcvOf (y .state) (y .history)) (datas to) (acksOf fro)
+  pub half : Half (sndOf (x .state) (x .history)) (sentOf (x .phase)) (isUpFT (x .phase)) (x .joined) (resumedOf (x .phase)) (rcvOf (y .state) (y .history)) (datas to) (acksOf fro)
   pub shape : Shape (x .joined) (live y) (y .begun) (y .kept) to
   pub fines : Fines to
 
@@ -108,6 +112,8 @@ pub record Inv (a b : End) (ab ba : List (List ℕ)) (pa pb : List Packet) : Typ
   pub peer : Ready b
   pub out : Dir (sideOf a) (sideOf b) pa pb
   pub back : Dir (sideOf b) (sideOf a) pb pa
+  -- both ends agree on whether the connection is resumed
+  pub agree : later (sideOf a) ≡ later (sideOf b)
 
 abbrev pub Some : End → End → List (List ℕ) → List (List ℕ) → Type 0
 Some a b ab ba = (pa : List Packet) × (pb : List Packet) × Inv a b ab ba pa pb

@@ -1,14 +1,15 @@
 -- How the messages of the two ends are judged in UpFT. Assumes nothing.
 use Prim.Native.Nat.{ℕ, _≤_}
-use mathlib.Core.Bool.{true, false, true≢false}
+use mathlib.Core.Bool.{true, false, true≢false, Bool}
 use mathlib.Core.List.{List}
 use mathlib.Core.Path.{_≡_, refl, sym, _∙_}
 use native.Mathlib.Omega.{arith}
-use borrow.Author.Tests.{eq-eqb, ne-eqb}
+use borrow.Author.Tests.{ne-eqb}
 use Rattle.ft_number.specs.declared.Ack.{Ack}
 use Rattle.ft_number.specs.declared.FtNumber.{FtNumber}
 use Rattle.ft_number.specs.declared.MessageId.{MessageId}
-use Rattle.ft_number.specs.Circle.{next}
+use Rattle.ft_number.specs.declared.Turn.{Turn}
+use Rattle.ft_number.specs.Turn.{numberTurn}
 use Rattle.label_list.specs.declared.Protection.{Protection}
 use Rattle.tlv.specs.declared.Field.{Field}
 use Rattle.tlv.specs.declared.FtField.{FtField}
@@ -23,7 +24,7 @@ use Rattle.protocol.specs.declared.LabelEffect.{LabelEffect}
 use Rattle.protocol.specs.Cases.{wordsAfter, Case, wrong-phase, an-init, fatal, zero-number, wrong-ack, missing, wrong, out-of-turn, no-word, taken, tableAfter}
 use Rattle.protocol.specs.Labels.{labelEffect, isProtected, protectionRule, effectReception, answeredAt}
 use Rattle.protocol.specs.Phases.{upWith}
-use Rattle.protocol.specs.Receive.{ackOn, isFatal, isZero, inTurn}
+use Rattle.protocol.specs.Receive.{ackOn, isFatal, isZero, turnBorne}
 use Rattle.protocol.specs.Received.{isInit}
 use Rattle.protocol.specs.State.{State}
 
@@ -32,6 +33,9 @@ never e = absurd (true≢false e)
 
 errs : {P : Type 0} {j : ℕ} → Ack.Releases j ≡ Ack.SequenceError → P
 errs e = let z : _≡_ {A = ℕ} 0 1 = cc in absurd (omega arith)
+
+strays : {P : Type 0} {k : ℕ} → Turn.InTurn k ≡ Turn.OutOfTurn → P
+strays e = let z : _≡_ {A = ℕ} 0 1 = cc in absurd (omega arith)
 
 -- ---- the answers that come between the two
 pub data Fair : Answer → Type 0 where
@@ -42,25 +46,27 @@ pub data Fair : Answer → Type 0 where
   fair-wrong : Fair Answer.ProtectionWrong
 
 -- ---- a protected message in turn, with an ACK that is right
-pub record InOrder (s : State) (g : Message) (j : ℕ) (n : FtNumber) : Type 0 where
+pub record InOrder (s : State) (re : Bool) (g : Message) (j : ℕ) (n : FtNumber) : Type 0 where
   pub another : isInit (g .typename) ≡ false
   pub protected : g .protection ≡ FtField.Number n
   pub acks : ackOn s g ≡ Ack.Releases j
-  pub turn : n .0 ≡ next (s .secured .0)
+  pub some : n .0 ≡ 0 → ⊥
+  pub leftout : ℕ
+  pub turn : numberTurn re (s .secured .0) (n .0) ≡ Turn.InTurn leftout
 
-pub order-fair : {s : State} {sent : ℕ} {g : Message} {a : Answer} (j : ℕ) (n : FtNumber) → InOrder s g j n → Case s (upWith sent) (Reading.Whole g) a → Fair a
+pub order-fair : {s : State} {re : Bool} {sent : ℕ} {g : Message} {a : Answer} (j : ℕ) (n : FtNumber) → InOrder s re g j n → Case s (upWith re sent) (Reading.Whole g) a → Fair a
 order-fair j n p (wrong-phase e) = never e
 order-fair j n p (an-init r i) = never (sym i ∙ p .another)
 order-fair j n p (fatal r i f) = fair-fatal
 order-fair {g = g} j n p (zero-number h z) =
     let e : isZero (FtField.Number n) ≡ true = rw (p .protected) at z in
-    never (sym e ∙ ne-eqb (n .0) 0 (λ (q : n .0 ≡ 0). omega (arith, p .turn)))
+    never (sym e ∙ ne-eqb (n .0) 0 (p .some))
 order-fair j n p (wrong-ack h z e) = errs (sym (p .acks) ∙ e)
 order-fair j n p (missing a e) = fair-missing
 order-fair j n p (wrong a e) = fair-wrong
-order-fair {s = s} j n p (out-of-turn a e) =
-    let f : inTurn (s .secured .0) (FtField.Number n) ≡ false = rw (p .protected) at e in
-    never (sym (eq-eqb (n .0) (next (s .secured .0)) (p .turn)) ∙ f)
+order-fair {s = s} {re = re} j n p (out-of-turn a e) =
+    let f : turnBorne re (s .secured .0) (FtField.Number n) ≡ Turn.OutOfTurn = rw (p .protected) at e in
+    strays (sym (p .turn) ∙ f)
 order-fair j n p (no-word t e) = fair-full
 order-fair j n p (taken t) = fair-done
 
@@ -73,7 +79,7 @@ pub record Plain (s : State) (g : Message) (j : ℕ) : Type 0 where
   pub effect : labelEffect g ≡ LabelEffect.Nothing
   pub free : (ls : List ℕ) → protectionRule ls g ≡ Protection.Right
 
-pub plain-done : {s : State} {sent : ℕ} {g : Message} {a : Answer} (j : ℕ) → Plain s g j → Case s (upWith sent) (Reading.Whole g) a → a ≡ Answer.Done
+pub plain-done : {s : State} {re : Bool} {sent : ℕ} {g : Message} {a : Answer} (j : ℕ) → Plain s g j → Case s (upWith re sent) (Reading.Whole g) a → a ≡ Answer.Done
 plain-done j p (wrong-phase e) = never e
 plain-done j p (an-init r i) = never (sym i ∙ p .another)
 plain-done j p (fatal r i f) = never (sym f ∙ p .mild)
@@ -81,7 +87,7 @@ plain-done j p (zero-number h z) = let e : isZero FtField.Absent ≡ true = rw (
 plain-done j p (wrong-ack h z e) = errs (sym (p .acks) ∙ e)
 plain-done {s = s} j p (missing {k = k} a e) = let q : Protection.Right ≡ Protection.Missing = sym (p .free (wordsAfter s k)) ∙ e in let z : _≡_ {A = ℕ} 0 1 = cc in absurd (omega arith)
 plain-done {s = s} j p (wrong {k = k} a e) = let q : Protection.Right ≡ Protection.Wrong = sym (p .free (wordsAfter s k)) ∙ e in let z : _≡_ {A = ℕ} 0 1 = cc in absurd (omega arith)
-plain-done {s = s} j p (out-of-turn a e) = let f : inTurn (s .secured .0) FtField.Absent ≡ false = rw (p .bare) at e in never f
+plain-done {s = s} {re = re} j p (out-of-turn a e) = let f : turnBorne re (s .secured .0) FtField.Absent ≡ Turn.OutOfTurn = rw (p .bare) at e in strays f
 plain-done {s = s} {g = g} j p (no-word {k = k} t e) =
     let f : effectReception (wordsAfter s k) (answeredAt (tableAfter s k) g) (isProtected (g .protection)) LabelEffect.Nothing ≡ Reception.NoRoom = rw (p .effect) at e in
     let z : _≡_ {A = ℕ} 0 1 = cc in
@@ -107,7 +113,7 @@ unfolding kindOf
 not-init g l = init-else (g .typename) (g .status) (g .id) (g .requestid) l
 
 -- ---- a message that is taken has room
-pub has-room : {s : State} {sent : ℕ} {g : Message} (j : ℕ) → ackOn s g ≡ Ack.Releases j → Case s (upWith sent) (Reading.Whole g) Answer.Done
+pub has-room : {s : State} {re : Bool} {sent : ℕ} {g : Message} (j : ℕ) → ackOn s g ≡ Ack.Releases j → Case s (upWith re sent) (Reading.Whole g) Answer.Done
     → effectReception (wordsAfter s j) (answeredAt (tableAfter s j) g) (isProtected (g .protection)) (labelEffect g) ≡ Reception.Taken
 has-room {s} {g = g} j acks (taken {k = k} t) =
     let one : Ack.Releases k ≡ Ack.Releases j = sym (t .turn .protection .ack .acks) ∙ acks in

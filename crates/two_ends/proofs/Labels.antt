@@ -1,8 +1,9 @@
 -- The labels of the two ends persist over each change of the state of one. Assumes nothing.
 use Prim.Native.Nat.{ℕ}
+use mathlib.Core.Bool.{false}
 use mathlib.Core.List.{[], _++_, List, _∷_}
 use mathlib.Core.Path.{_≡_}
-use lib.ListN.{take}
+use lib.ListN.{take, length}
 use Rattle.message.specs.declared.Message.{Message}
 use Rattle.message.specs.Submission.{submissionOf}
 use Rattle.protocol.specs.Acked.{acked}
@@ -12,10 +13,12 @@ use Rattle.protocol.specs.State.{State, noTable, releasedState}
 use Rattle.protocol.specs.Step.{broken}
 use Rattle.protocol.specs.Submit.{submitted}
 use Rattle.two_ends.specs.Calls.{accepts, takes}
+use Rattle.two_ends.specs.LeftOut.{isLeft, without}
 use Rattle.two_ends.specs.World.{History, noHistory}
 use Rattle.two_ends.proofs.Accepting.{accepted-words}
+use Rattle.two_ends.proofs.NoRequests.{acceptedIn, noRequests, withLeft}
 use Rattle.two_ends.proofs.Persisting.{CarriedTo, Persists}
-use Rattle.two_ends.proofs.Sharing.{Shared, shared-accepted, shared-accepted-peer, shared-broken, shared-broken-peer, shared-freed, shared-freed-peer, shared-none, shared-taken, shared-taken-peer}
+use Rattle.two_ends.proofs.Sharing.{Shared, shared-accepted, shared-accepted-peer, shared-broken, shared-broken-peer, shared-freed, shared-freed-peer, shared-none, shared-taken, shared-taken-peer, shared-marked, shared-marked-peer}
 use Rattle.two_ends.proofs.Tidy.{Tidy, tidy-acked, tidy-broken, tidy-none, tidy-submitted, tidy-taken}
 
 -- of two ends, each by the state that counts and its history: both lists are in order, and either end's labels agree with the other's
@@ -48,13 +51,21 @@ module _ {s : State} {h : History} {t : State} {k : History} (l : Labels s h t k
     theirs = shared-broken-peer (l .own .valid) (l .own .sixless) (l .theirs);
   }
 
-  labels-submitted : (m : List ℕ) (o : List (List ℕ)) → h .accepted ≡ k .secured ++ o → Labels (submitted s m) (accepts m h) t k
+  labels-submitted : (m : List ℕ) (o : List (List ℕ)) → acceptedIn h ≡ k .secured ++ o → isLeft (h .left) (length (h .accepted)) ≡ false → Labels (submitted s m) (accepts m h) t k
   unfolding submitted
-  labels-submitted m o e = record {
+  labels-submitted m o e n = record {
     own = tidy-submitted s (l .own) m;
     peer = l .peer;
-    ours = shared-accepted o m e (l .own .valid) (l .peer .sixless) (accepted-words (s .table) (l .own .valid) (submissionOf m)) (l .ours);
-    theirs = shared-accepted-peer o m e (l .own .valid) (accepted-words (s .table) (l .own .valid) (submissionOf m)) (l .theirs);
+    ours = shared-accepted o m e n (l .own .valid) (l .peer .sixless) (accepted-words (s .table) (l .own .valid) (submissionOf m)) (l .ours);
+    theirs = shared-accepted-peer o m e n (l .own .valid) (accepted-words (s .table) (l .own .valid) (submissionOf m)) (l .theirs);
+  }
+
+  labels-marked : (left : List ℕ) (o p : List (List ℕ)) → acceptedIn h ≡ k .secured ++ o → without left 0 (h .accepted) ≡ k .secured ++ p → noRequests o ≡ noRequests p → Labels s (withLeft left h) t k
+  labels-marked left o p e f r = record {
+    own = l .own;
+    peer = l .peer;
+    ours = shared-marked left o p e f r (l .ours);
+    theirs = shared-marked-peer left o p e f r (l .theirs);
   }
 
   labels-acked : (n a : ℕ) → Labels (acked s n a) (takes (take n (s .queue)) [] h) t k
@@ -84,7 +95,8 @@ labels-persist = record {
   swapped = labels-swap;
   same = λ l u words marks queue. labels-same l u words queue;
   ended = labels-broken;
-  accepted = labels-submitted;
+  accepted = λ l m o e n taken may. labels-submitted l m o e n;
+  marked = labels-marked;
   freed = labels-acked;
   carried = labels-taken;
 }

@@ -23,25 +23,34 @@ use Rattle.protocol.specs.ConnectionFailed.{connectionFailed}
 use Rattle.protocol.specs.KeepAlive.{aliveBytes, keepalive}
 use Rattle.protocol.specs.Open.{openBytes, openSession}
 use Rattle.protocol.specs.Phases.{isUp, issuedCount, mayOpen, sentOf, waitingFor, upWith}
-use Rattle.protocol.specs.Receive.{taken, ackOn, ftRule, receive, receivedPhase, receivedState}
-use Rattle.protocol.specs.Send.{numbered, queueNumber, sendNext, sentState}
+use Rattle.protocol.specs.Receive.{taken, ackOn, ftRule, receive, receivedPhase, receivedState, leftBefore}
+use Rattle.protocol.specs.Send.{numbered, queueNumber, sendNext, sentState, sendRule, sendRoom, sendDeed, placeSent}
 use Rattle.protocol.specs.State.{State, withIssued}
-use Rattle.protocol.specs.Step.{Step, settle, stepped, admitted}
-use Rattle.protocol.specs.Submit.{submit}
+use Rattle.protocol.specs.Step.{Step, settle, admitted, steppedPast}
+use Rattle.protocol.specs.Submit.{submit, submitRule}
 use Rattle.protocol.specs.TimePassed.{expired, timePassed}
 use Rattle.protocol.specs.Writer.{writer}
 use Rattle.protocol.proofs.Effects.{done-is}
 use Rattle.protocol.proofs.Leaving.{settle-cases, settle-leaves}
 use Rattle.protocol.proofs.Settling.{admitted-done}
-use Rattle.two_ends.specs.Calls.{accepts, letGo, securing, takes}
+use Rattle.protocol.proofs.SubmitCases.{done-last}
+use Rattle.two_ends.specs.Calls.{accepts, letGo, securing, takes, leavesOut}
+use Rattle.two_ends.specs.LeftOut.{isLeft}
 use Rattle.two_ends.specs.World.{History}
 use Rattle.two_ends.proofs.Delivering.{let-go}
-use Rattle.two_ends.proofs.Persisting.{Persists}
+use Rattle.two_ends.proofs.NoRequests.{acceptedIn, noRequests}
+use Rattle.two_ends.proofs.Persisting.{PersistsWhere, TakenIn}
+
+-- what Submit answered with Done the state takes
+taken-in : (s : State) (ph : Phase) (m : List ℕ) → isDone (admitted s ph (submitRule s ph m)) ≡ true → TakenIn s m
+taken-in s ph m d =
+    let last = done-last s ph m (done-is (submitRule s ph m) (admitted-done s ph (submitRule s ph m) d)) .0 in
+    record { kind = last .kind; label = last .label; accepted = last .unbarred .accepted; taken = last .taken }
 
 never : {P : Type 0} → false ≡ true → P
 never e = absurd (true≢false (sym e))
 
-module _ {R : State → History → State → History → Type 0} (c : Persists R) (now : State) (ph : Phase) (h : History) {t : State} {k : History} (l : R now h t k) where
+module _ {May : State → List ℕ → Type 0} {R : State → History → State → History → Type 0} (c : PersistsWhere May R) (now : State) (ph : Phase) (h : History) {t : State} {k : History} (l : R now h t k) where
   abbrev Leaves : State → Type 0
   Leaves s = s .kept ≡ true → R s h t k
 
@@ -60,10 +69,6 @@ module _ {R : State → History → State → History → Type 0} (c : Persists 
   unfolding openSession
   open-leaves id p q room = written (mayOpen ph) (waitingFor (proposedOf q)) (openBytes now id p q) room
 
-  pub send-leaves : (ask : Bool) (room : ℕ) → Leaves (sendNext now ph ask room .state)
-  unfolding sendNext sentState numbered
-  send-leaves ask room = settled _ _ (λ d. pick-all Leaves (ltb (sentOf ph) (issuedCount now)) (λ e. l) (λ e. c .same l (withIssued now (queueNumber now (sentOf ph))) refl refl refl))
-
   pub notice-leaves : Leaves (connectionFailed now ph .state)
   unfolding connectionFailed
   notice-leaves = settled _ _ (λ d e. c .ended l)
@@ -79,14 +84,28 @@ module _ {R : State → History → State → History → Type 0} (c : Persists 
   counted : (f : Step → History) (a : Answer) (d : Step) → (isDone a ≡ true → Counts f d) → Counts f (settle a now ph d)
   counted f a d does = settle-cases (Counts f) a now ph d (λ n e. rw n l) (λ n e. rw n (c .ended l)) (λ n r e. never e) does
 
-  pub submit-leaves : (m : List ℕ) (o : List (List ℕ)) → h .accepted ≡ k .secured ++ o → Counts (λ x. accepts m h) (submit now ph m)
+  pub submit-leaves : (m : List ℕ) (o : List (List ℕ)) → acceptedIn h ≡ k .secured ++ o → isLeft (h .left) (length (h .accepted)) ≡ false → May now m → Counts (λ x. accepts m h) (submit now ph m)
   unfolding submit
-  submit-leaves m o e = counted (λ x. accepts m h) _ _ (λ d kept. c .accepted l m o e)
+  submit-leaves m o e n may = counted (λ x. accepts m h) _ _ (λ d kept. c .accepted l m o e n (taken-in now ph m d) may)
+
+  -- what a Send leaves out are Requests: of what the peer has not secured, o before and p after, the rest is the same
+  pub send-leaves : (ask : Bool) (room : ℕ)
+      → (isDone (admitted now ph (sendRule now ph (sendRoom now ph ask room))) ≡ true
+      → (o : List (List ℕ)) × (p : List (List ℕ)) × (acceptedIn h ≡ k .secured ++ o) × (acceptedIn (leavesOut (sentOf ph) (sendDeed now ph ask) h) ≡ k .secured ++ p) × (noRequests o ≡ noRequests p))
+      → Counts (λ x. leavesOut (sentOf ph) x h) (sendNext now ph ask room)
+  unfolding sendNext sentState numbered
+  send-leaves ask room out =
+      counted (λ x. leavesOut (sentOf ph) x h) (admitted now ph (sendRule now ph (sendRoom now ph ask room))) (sendDeed now ph ask) (λ d kept.
+      let q = out d in
+      let place = placeSent now ph in
+      pick-all (λ (s : State). R s (leavesOut (sentOf ph) (sendDeed now ph ask) h) t k) (ltb place (issuedCount now))
+      (c .marked l _ (q .0) (q .1) (q .2) (q .3) (q .4))
+      (c .same (c .marked l _ (q .0) (q .1) (q .2) (q .3) (q .4)) (withIssued now (queueNumber now place)) refl refl refl))
 
 -- ---- a message is delivered in UpFT
-module _ {R : State → History → State → History → Type 0} (c : Persists R) (now : State) (sent : ℕ) (h : History) {t : State} {k : History} (l : R now h t k) where
+module _ {May : State → List ℕ → Type 0} {R : State → History → State → History → Type 0} (c : PersistsWhere May R) (now : State) (re : Bool) (sent : ℕ) (h : History) {t : State} {k : History} (l : R now h t k) where
   abbrev up : Phase
-  up = upWith sent
+  up = upWith re sent
 
   -- the history after the message m
   abbrev heard : List ℕ → Step → History
@@ -96,12 +115,12 @@ module _ {R : State → History → State → History → Type 0} (c : Persists 
   Takes m = Counts c now up h l (heard m) (receive now up m)
 
   abbrev does : Message → Step
-  does g = stepped Answer.Done (receivedState now g) (receivedPhase now sent g) []
+  does g = steppedPast (leftBefore now up g) Answer.Done (receivedState now g) (receivedPhase now up g) []
 
   -- one that is taken: its ACK lets the oldest j go
   module _ (m : List ℕ) (g : Message) (read : readingOf m ≡ Reading.Whole g) (j : ℕ) (acks : ackOn now g ≡ Ack.Releases j) (few : j ≤ length (now .queue))
       (got : List (List ℕ)) (secures : securing m ≡ got) where
-    is : receive now up m ≡ settle (admitted now up (ftRule now g)) now up (does g)
+    is : receive now up m ≡ settle (admitted now up (ftRule now re g)) now up (does g)
     unfolding receive
     is = rw read
 
@@ -109,8 +128,8 @@ module _ {R : State → History → State → History → Type 0} (c : Persists 
     unfolding receivedState taken acked
     gone = let-go now (does g) j few (rw acks)
 
-    pub taking : (ftRule now g ≡ Answer.Done → R (receivedState now g) (takes (take j (now .queue)) got h) t k) → Takes m
+    pub taking : (ftRule now re g ≡ Answer.Done → R (receivedState now g) (takes (take j (now .queue)) got h) t k) → Takes m
     taking right =
         rw is
-        (counted c now up h l (heard m) (admitted now up (ftRule now g)) (does g) (λ t kept.
-        rw (gone, secures) (right (done-is (ftRule now g) (admitted-done now up (ftRule now g) t)))))
+        (counted c now up h l (heard m) (admitted now up (ftRule now re g)) (does g) (λ t kept.
+        rw (gone, secures) (right (done-is (ftRule now re g) (admitted-done now up (ftRule now re g) t)))))

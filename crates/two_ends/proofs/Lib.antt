@@ -1,9 +1,11 @@
 -- the circle, one direction, and what lies on a line
 pub mod Positions
 pub mod Half
+pub mod Gaps
 pub mod Books
 pub mod Lines
 pub mod Direction
+pub mod Passing
 pub mod Freeing
 pub mod Octets
 pub mod Packets
@@ -36,6 +38,8 @@ pub mod Delivered
 pub mod Begun
 pub mod Room
 pub mod Theorem
+pub mod Before
+pub mod Omitted
 -- when a state is released, and that a world that has not lasted does not last again
 pub mod Staying
 pub mod Monotone
@@ -49,7 +53,11 @@ pub mod Codes
 pub mod Agreeing
 pub mod Acking
 pub mod Getting
+pub mod NoRequests
 pub mod Sharing
+pub mod Crossing
+pub mod Allowing
+pub mod Fitting
 -- what persists between the two ends, over every change of one and over every run; the labels do
 pub mod Persisting
 pub mod Labels
@@ -62,6 +70,9 @@ pub mod Stopping
 pub mod Answering
 pub mod Listing
 pub mod Giving
+-- and where the owners keep a rule for a label
+pub mod Matching
+pub mod Matches
 -- steady owners
 pub mod Saying
 pub mod Steady

@@ -12,9 +12,9 @@ use Rattle.protocol.specs.Send.{sendNext}
 use Rattle.protocol.specs.Step.{Step}
 use Rattle.protocol.specs.Submit.{submit}
 use Rattle.protocol.specs.TimePassed.{timePassed}
-use Rattle.two_ends.specs.Calls.{accepts, disconnected, called, counts, keeps, plainly, put, wrote}
+use Rattle.two_ends.specs.Calls.{accepts, disconnected, called, counts, keeps, plainly, put, sentHistory, replaced}
 use Rattle.two_ends.specs.Runs.{Event, act, breaks, delivers, keepalives, notices, opens, passes, restarts, run, sends, eventAt, submits}
-use Rattle.two_ends.specs.World.{End, Lasts, World, swap}
+use Rattle.two_ends.specs.World.{End, Lasts, World, swap, History}
 use Rattle.two_ends.proofs.Acts.{by-delivery, by-open, by-plain, by-submit, by-write, lasted}
 use Rattle.two_ends.proofs.Worlds.{next}
 
@@ -31,15 +31,15 @@ module _ (w : World) where
   plain : (x : Step) → Lasted (plainly w x)
   plain x = by-plain Lasted broken-lasted w x (called-lasted (called (w .a) x (w .a .history)) (w .ab) (w .ba))
 
-  written : (x : Step) → Lasted (wrote w x)
-  written x = by-write Lasted broken-lasted w x (called-lasted (called (w .a) x (w .a .history)) (put (w .a .joined) (w .ab) x) (w .ba))
+  written : (x : Step) (h : History) → Lasted (replaced w (called (w .a) x h) (put (w .a .joined) (w .ab) x) (w .ba))
+  written x h = by-write Lasted broken-lasted w x h (called-lasted (called (w .a) x h) (put (w .a .joined) (w .ab) x) (w .ba))
 
   act-lasted : (v : Event) → Lasted (act w v)
   act-lasted (submits m) =
       let x = submit (w .a .state) (w .a .phase) m in
       by-submit Lasted broken-lasted w m x (called-lasted (called (w .a) x (counts (w .a) x (accepts m (w .a .history)))) (w .ab) (w .ba))
-  act-lasted (sends ask room) = written (sendNext (w .a .state) (w .a .phase) ask room)
-  act-lasted (keepalives id room) = written (keepalive (w .a .state) (w .a .phase) id room)
+  act-lasted (sends ask room) = let x = sendNext (w .a .state) (w .a .phase) ask room in written x (sentHistory (w .a) x)
+  act-lasted (keepalives id room) = written (keepalive (w .a .state) (w .a .phase) id room) (w .a .history)
   act-lasted (opens id p t room) =
       let x = openSession (w .a .state) (w .a .phase) id p t room in
       let k = called-lasted (called (w .a) x (w .a .history)) (w .ab) (w .ba) in

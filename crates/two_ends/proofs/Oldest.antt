@@ -37,13 +37,13 @@ module _ (Q : End → List ℕ → List (List ℕ) → Type 0) (b : End) (ab : L
         → Inv (ended now (waitingFor t) true true h) b ab ba pa (again id p seconds a ∷ qs)
         → Q (ended now (waitingFor t) true true h) (bytesOf (again id p seconds a)) (map bytesOf qs)
     -- a KeepAlive
-    pub alives : (now : State) (sent : ℕ) (h : History) (id : MessageId) (n : FtNumber) (qs : List Packet) {ba : List (List ℕ)} {pa : List Packet}
-        → Inv (ended now (upWith sent) true true h) b ab ba pa (alive id n ∷ qs)
-        → Q (ended now (upWith sent) true true h) (bytesOf (alive id n)) (map bytesOf qs)
+    pub alives : (now : State) (re : Bool) (sent : ℕ) (h : History) (id : MessageId) (n : FtNumber) (qs : List Packet) {ba : List (List ℕ)} {pa : List Packet}
+        → Inv (ended now (upWith re sent) true true h) b ab ba pa (alive id n ∷ qs)
+        → Q (ended now (upWith re sent) true true h) (bytesOf (alive id n)) (map bytesOf qs)
     -- a message with its number
-    pub carries : (now : State) (sent : ℕ) (h : History) (m : List ℕ) (n : FtNumber) (ack : FtField) (qs : List Packet) {ba : List (List ℕ)} {pa : List Packet}
-        → Inv (ended now (upWith sent) true true h) b ab ba pa (carried m n ack ∷ qs)
-        → Q (ended now (upWith sent) true true h) (bytesOf (carried m n ack)) (map bytesOf qs)
+    pub carries : (now : State) (re : Bool) (sent : ℕ) (h : History) (m : List ℕ) (n : FtNumber) (ack : FtField) (qs : List Packet) {ba : List (List ℕ)} {pa : List Packet}
+        → Inv (ended now (upWith re sent) true true h) b ab ba pa (carried m n ack ∷ qs)
+        → Q (ended now (upWith re sent) true true h) (bytesOf (carried m n ack)) (map bytesOf qs)
 
   module _ (c : Oldests) (now : State) (h : History) {ba : List (List ℕ)} {pa qs : List Packet} where
     init-case : (t : ℕ) (bg : Bool) (q : Packet) → Headed bg (now .kept) (q ∷ qs) → Inv (ended now (waitingFor t) true bg h) b ab ba pa (q ∷ qs)
@@ -55,12 +55,12 @@ module _ (Q : End → List ℕ → List (List ℕ) → Type 0) (b : End) (ab : L
     init-case t bg (alive id n) w i = absurd w
     init-case t bg (carried m n ack) w i = absurd w
 
-    message-case : (sent : ℕ) (q : Packet) → NoInit (q ∷ qs) → Inv (ended now (upWith sent) true true h) b ab ba pa (q ∷ qs)
-        → Q (ended now (upWith sent) true true h) (bytesOf q) (map bytesOf qs)
-    message-case sent (first id p seconds ack) none i = absurd none
-    message-case sent (again id p seconds a) none i = absurd none
-    message-case sent (alive id n) none i = c .alives now sent h id n qs i
-    message-case sent (carried m n ack) none i = c .carries now sent h m n ack qs i
+    message-case : (re : Bool) (sent : ℕ) (q : Packet) → NoInit (q ∷ qs) → Inv (ended now (upWith re sent) true true h) b ab ba pa (q ∷ qs)
+        → Q (ended now (upWith re sent) true true h) (bytesOf q) (map bytesOf qs)
+    message-case re sent (first id p seconds ack) none i = absurd none
+    message-case re sent (again id p seconds a) none i = absurd none
+    message-case re sent (alive id n) none i = c .alives now re sent h id n qs i
+    message-case re sent (carried m n ack) none i = c .carries now re sent h m n ack qs i
 
   module _ (c : Oldests) (now : State) (h : History) {m : List ℕ} {rest ba : List (List ℕ)} {pa ps : List Packet} {q : Packet} {qs : List Packet} (o : Oldest m rest ps q qs) where
     init-oldest : (t : ℕ) (bg : Bool) → Inv (ended now (waitingFor t) true bg h) b ab ba pa ps → Q (ended now (waitingFor t) true bg h) m rest
@@ -68,10 +68,10 @@ module _ (Q : End → List ℕ → List (List ℕ) → Type 0) (b : End) (ab : L
         let j = rw (o .is) at i in
         rw (o .bytes, o .line) (init-case c now h t bg q (headed (b .joined) bg (now .kept) q qs (j .back .shape)) j)
 
-    message-oldest : (sent : ℕ) → Inv (ended now (upWith sent) true true h) b ab ba pa ps → Q (ended now (upWith sent) true true h) m rest
-    message-oldest sent i =
+    message-oldest : (re : Bool) (sent : ℕ) → Inv (ended now (upWith re sent) true true h) b ab ba pa ps → Q (ended now (upWith re sent) true true h) m rest
+    message-oldest re sent i =
         let j = rw (o .is) at i in
-        rw (o .bytes, o .line) (message-case c now h sent q (up-reads (b .joined) true (now .kept) qs q (j .back .shape)) j)
+        rw (o .bytes, o .line) (message-case c now h re sent q (up-reads (b .joined) true (now .kept) qs q (j .back .shape)) j)
 
   module _ (c : Oldests) (now : State) (h : History) (m : List ℕ) (rest : List (List ℕ)) where
     by-phase : (ph : Phase) (jo bg : Bool) → jo ≡ true → Some (ended now ph jo bg h) b ab (m ∷ rest) → Q (ended now ph jo bg h) m rest
@@ -79,7 +79,7 @@ module _ (Q : End → List ℕ → List (List ℕ) → Type 0) (b : End) (ab : L
     by-phase Phase.Idle true bg on s = never (sym (s .2 .own .linked refl))
     by-phase (Phase.InitWait v) true bg on s = init-oldest c now h (oldest m rest (s .1) (s .2 .lineB) .2) (v .timeout) bg (s .2)
     by-phase (Phase.UpFT u) true false on s = never (sym (s .2 .own .waiting refl .waits))
-    by-phase (Phase.UpFT u) true true on s = message-oldest c now h (oldest m rest (s .1) (s .2 .lineB) .2) (u .sent) (s .2)
+    by-phase (Phase.UpFT u) true true on s = message-oldest c now h (oldest m rest (s .1) (s .2 .lineB) .2) (u .resumed) (u .sent) (s .2)
     by-phase Phase.UpPlain true bg on s = never (sym (s .2 .own .linked refl))
     by-phase Phase.Failed true bg on s = never (sym (s .2 .own .linked refl))
 

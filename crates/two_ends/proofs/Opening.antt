@@ -80,6 +80,7 @@ module _ (now : State) (h : History) (id : MessageId) (p : OwnParameters) (t : P
             peer = i .peer;
             out = dir-open now (now .kept) (proposedOf t) h id p (init-fits now id p t widths seconds small) (rw none at (i .out));
             back = dir-open-peer now (now .kept) (proposedOf t) h id p (rw none at (i .back));
+            agree = i .agree;
           },
         ),
       )

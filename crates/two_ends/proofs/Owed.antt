@@ -1,9 +1,9 @@
--- A label that is withdrawing or releasing has its message in the store. Assumes nothing.
+-- A label of code 2, 9 or 5 has its Withdraw or Release in the store. Assumes nothing.
 use Prim.Native.Nat.{ℕ}
 use mathlib.Core.Bool.{Bool, true, false, true≢false}
 use mathlib.Core.List.{List, [], _∷_, _++_}
 use mathlib.Core.Logic.{_⊎_, inl, inr, ⊎-elim, _≢_}
-use mathlib.Core.Path.{_≡_, refl, sym, _∙_}
+use mathlib.Core.Path.{_≡_, refl, sym}
 use native.Mathlib.Omega.{arith}
 use borrow.Author.Tests.{eq-eqb}
 use Rattle.octets.specs.Pick.{pick}
@@ -20,14 +20,14 @@ use Rattle.message.specs.declared.Submission.{Submission}
 use Rattle.message.specs.Kinds.{kindNumber}
 use Rattle.message.specs.Storable.{bears}
 use Rattle.message.specs.Submission.{submissionOf}
-use Rattle.label_meaning.specs.Event.{LabelEvent, Accepted, Received, Broken, afterEvent, Moves, given, withdrawn, released, returned, withdraw-acked, release-acked, taken, taken-again, taken-bare, asked-back, bare-withdrawn, given-back, withdrawn-back, bare-lost, Ended}
+use Rattle.label_meaning.specs.Event.{LabelEvent, Accepted, Received, Broken, afterEvent, Moves, given, withdrawn, released, returned, withdraw-acked, back-acked, release-acked, taken, taken-again, taken-bare, asked-back, bare-withdrawn, given-back, withdrawn-back, acked-back, bare-lost, Ended}
 use Rattle.label_meaning.proofs.Meaning.{valid-means}
 use Rattle.label_meaning.proofs.Moved.{every-move}
 use Rattle.protocol.specs.declared.LabelEffect.{LabelEffect}
 use Rattle.protocol.specs.Held.{isHeld}
 use Rattle.protocol.specs.Labels.{effectLabels}
 use Rattle.protocol.specs.State.{noTable}
-use Rattle.two_ends.specs.Labels.{Due, withdrawal, release, dueSide, dueCode, dueMessage, dueKind, Owed}
+use Rattle.two_ends.specs.Labels.{Due, withdrawal, release, dueSide, IsDue, dueMessage, dueKind, Owed}
 use Rattle.two_ends.proofs.Accepting.{AcceptedWords, mapping-accepted, withdraw-accepted, release-accepted, codes-kept}
 use Rattle.two_ends.proofs.Sixless.{none-code}
 
@@ -48,17 +48,24 @@ held-last kind l (x ∷ q) m e = pick-all (λ (b : Bool). b ≡ true) (bears (su
 
 -- ---- no labels
 pub none-owed : Owed (noTable .words) []
-none-owed withdrawal l z = let zero : codeAt (noTable .words) (dueSide withdrawal) l ≡ 0 = none-code (dueSide withdrawal) l in absurd (omega arith)
+none-owed withdrawal l z =
+    let zero : codeAt (noTable .words) (dueSide withdrawal) l ≡ 0 = none-code (dueSide withdrawal) l in
+    ⊎-elim (λ (two : codeAt (noTable .words) (dueSide withdrawal) l ≡ 2). absurd (omega arith)) (λ (nine : codeAt (noTable .words) (dueSide withdrawal) l ≡ 9). absurd (omega arith)) z
 none-owed release l z = let zero : codeAt (noTable .words) (dueSide release) l ≡ 0 = none-code (dueSide release) l in absurd (omega arith)
 
 -- ---- only an accepted Withdraw or Release leads to these codes
-due-move : (due : Due) {e : LabelEvent} {l c d : ℕ} → Moves e (dueSide due) l c d → d ≡ dueCode due → e ≡ Accepted (dueMessage due) l
-due-move withdrawal given z = absurd (omega arith)
-due-move withdrawal withdrawn z = refl
-due-move withdrawal withdraw-acked z = absurd (omega arith)
-due-move withdrawal (given-back t) z = absurd (omega arith)
-due-move withdrawal (withdrawn-back t) z = absurd (omega arith)
-due-move release released z = refl
+pub neither : {P : Type 0} {d : ℕ} → d ≢ 2 → d ≢ 9 → IsDue withdrawal d → P
+neither {d = d} two nine z = ⊎-elim (λ (e : d ≡ 2). absurd (two e)) (λ (e : d ≡ 9). absurd (nine e)) z
+
+due-move : (due : Due) {e : LabelEvent} {l c d : ℕ} → Moves e (dueSide due) l c d → IsDue due d → IsDue due c ⊎ (e ≡ Accepted (dueMessage due) l)
+due-move withdrawal given z = neither (λ e. omega arith) (λ e. omega arith) z
+due-move withdrawal withdrawn z = inr refl
+due-move withdrawal withdraw-acked z = neither (λ e. omega arith) (λ e. omega arith) z
+due-move withdrawal back-acked z = neither (λ e. omega arith) (λ e. omega arith) z
+due-move withdrawal (given-back t) z = neither (λ e. omega arith) (λ e. omega arith) z
+due-move withdrawal (withdrawn-back t) z = inl (inl refl)
+due-move withdrawal (acked-back t) z = neither (λ e. omega arith) (λ e. omega arith) z
+due-move release released z = inr refl
 due-move release returned z = absurd (omega arith)
 due-move release release-acked z = absurd (omega arith)
 due-move release taken z = absurd (omega arith)
@@ -68,12 +75,12 @@ due-move release (asked-back t) z = absurd (omega arith)
 due-move release (bare-withdrawn t) z = absurd (omega arith)
 due-move release bare-lost z = absurd (omega arith)
 
-pub due-step : (ls : List ℕ) → validOf ls ≡ true → (e : LabelEvent) (due : Due) (l : ℕ) → codeAt (afterEvent ls e) (dueSide due) l ≡ dueCode due
-    → (codeAt ls (dueSide due) l ≡ dueCode due) ⊎ (e ≡ Accepted (dueMessage due) l)
+pub due-step : (ls : List ℕ) → validOf ls ≡ true → (e : LabelEvent) (due : Due) (l : ℕ) → IsDue due (codeAt (afterEvent ls e) (dueSide due) l)
+    → IsDue due (codeAt ls (dueSide due) l) ⊎ (e ≡ Accepted (dueMessage due) l)
 due-step ls v e due l z =
     ⊎-elim
-    (λ (same : codeAt (afterEvent ls e) (dueSide due) l ≡ codeAt ls (dueSide due) l). inl (sym same ∙ z))
-    (λ (move : Moves e (dueSide due) l (codeAt ls (dueSide due) l) (codeAt (afterEvent ls e) (dueSide due) l)). inr (due-move due move z))
+    (λ (same : codeAt (afterEvent ls e) (dueSide due) l ≡ codeAt ls (dueSide due) l). inl (rw same at z))
+    (λ (move : Moves e (dueSide due) l (codeAt ls (dueSide due) l) (codeAt (afterEvent ls e) (dueSide due) l)). due-move due move z)
     (every-move ls (valid-means ls v) e (dueSide due) l)
 
 -- ---- a connection ends, a message is received
@@ -82,7 +89,7 @@ module _ (ls : List ℕ) (q : List (List ℕ)) (v : validOf ls ≡ true) (o : Ow
   else-owed : (e : LabelEvent) → ((m : LabelMessage) (l : ℕ) → e ≢ Accepted m l) → Owed (afterEvent ls e) q
   else-owed e other due l z =
       ⊎-elim
-      (λ (same : codeAt ls (dueSide due) l ≡ dueCode due). o due l same)
+      (λ (same : IsDue due (codeAt ls (dueSide due) l)). o due l same)
       (λ (is : e ≡ Accepted (dueMessage due) l). absurd (other (dueMessage due) l is))
       (due-step ls v e due l z)
 
@@ -100,7 +107,7 @@ accept-by : (ls : List ℕ) (q : List (List ℕ)) (m : List ℕ) → validOf ls 
     → ((due : Due) → message ≡ dueMessage due → bears (submissionOf m) (dueKind due) label ≡ true) → Owed (afterEvent ls (Accepted message label)) (q ++ (m ∷ []))
 accept-by ls q m v o message label is due l z =
     ⊎-elim
-    (λ (same : codeAt ls (dueSide due) l ≡ dueCode due). held-more (dueKind due) l q (m ∷ []) (o due l same))
+    (λ (same : IsDue due (codeAt ls (dueSide due) l)). held-more (dueKind due) l q (m ∷ []) (o due l same))
     (λ (e : Accepted message label ≡ Accepted (dueMessage due) l).
     let same : message ≡ dueMessage due = cc in
     let at : label ≡ l = cc in
@@ -128,4 +135,4 @@ pub accepted-owed : (ls : List ℕ) (q : List (List ℕ)) (m : List ℕ) → val
 accepted-owed ls q m v o e (mapping-accepted {k}) = accept-by ls q m v o Mapping k (λ due f. wrong-due due f)
 accepted-owed ls q m v o e (withdraw-accepted {k}) = accept-by ls q m v o Withdraw k (λ due f. rw e (bears-due Kind.Withdraw k due (withdraw-due due f)))
 accepted-owed ls q m v o e (release-accepted {k}) = accept-by ls q m v o Release k (λ due f. rw e (bears-due Kind.Release k due (release-due due f)))
-accepted-owed ls q m v o e (codes-kept same) = λ due l z. held-more (dueKind due) l q (m ∷ []) (o due l (sym (same (dueSide due) l) ∙ z))
+accepted-owed ls q m v o e (codes-kept same) = λ due l z. held-more (dueKind due) l q (m ∷ []) (o due l (rw (same (dueSide due) l) at z))

@@ -1,4 +1,4 @@
--- An acknowledgement that lets a Withdraw or Release go frees its label. Assumes nothing.
+-- An acknowledgement that lets a Withdraw or Release go is what its label waited for. Assumes nothing.
 use Prim.Native.Nat.{ℕ, zero, suc}
 use mathlib.Core.Bool.{true, false, true≢false}
 use mathlib.Core.List.{List, [], _∷_}
@@ -11,28 +11,37 @@ use borrow.Author.Tests.{eqb-true, eqb-false}
 use Rattle.octets.proofs.Choice.{by-test, both-true}
 use Rattle.label_list.specs.declared.LabelMessage.{LabelMessage}
 use Rattle.label_list.specs.declared.LabelMessage.the-variants.{Withdraw, Release}
+use Rattle.label_list.specs.declared.Side.the-variants.{Given}
 use Rattle.label_list.specs.Valid.{validOf}
 use Rattle.label_events.specs.Change.{codeAt}
 use Rattle.message.specs.declared.Submission.{Submission}
 use Rattle.message.specs.Kinds.{kindNumber}
 use Rattle.message.specs.Storable.{bears, kindIn, labelIn}
 use Rattle.message.specs.Submission.{submissionOf}
-use Rattle.label_meaning.specs.Event.{Accepted, Acked, afterEvent, withdraw-acked, release-acked}
+use Rattle.label_meaning.specs.Event.{Accepted, Acked, afterEvent, withdraw-acked, back-acked, release-acked}
 use Rattle.label_meaning.proofs.Life.{move-happens}
 use Rattle.label_meaning.proofs.Meaning.{valid-means}
 use Rattle.protocol.specs.Acked.{releasedKind, releasedLabels}
 use Rattle.protocol.specs.Held.{isHeld}
 use Rattle.protocol.proofs.Words.{released-valid}
-use Rattle.two_ends.specs.Labels.{Due, withdrawal, release, dueSide, dueCode, dueMessage, dueKind, Owed}
-use Rattle.two_ends.proofs.Owed.{due-step}
+use Rattle.two_ends.specs.Labels.{Due, withdrawal, release, dueSide, IsDue, dueMessage, dueKind, Owed}
+use Rattle.two_ends.proofs.Owed.{due-step, neither}
 
 held-tail : (kind l : ℕ) (m : List ℕ) (q : List (List ℕ)) → bears (submissionOf m) kind l ≡ false → isHeld kind l (m ∷ q) ≡ true → isHeld kind l q ≡ true
 unfolding isHeld
 held-tail kind l m q n h = rw n at h
 
--- the acknowledgement of what is due frees the label
-paid : (ls : List ℕ) → validOf ls ≡ true → (due : Due) (l : ℕ) → codeAt ls (dueSide due) l ≡ dueCode due → codeAt (afterEvent ls (Acked (dueMessage due) l)) (dueSide due) l ≡ dueCode due → ⊥
-paid ls v withdrawal l two z = let free = move-happens ls (valid-means ls v) withdraw-acked (omega arith) two in omega arith
+-- after the acknowledgement of what is due the label waits for it no more
+paid : (ls : List ℕ) → validOf ls ≡ true → (due : Due) (l : ℕ) → IsDue due (codeAt ls (dueSide due) l) → IsDue due (codeAt (afterEvent ls (Acked (dueMessage due) l)) (dueSide due) l) → ⊥
+paid ls v withdrawal l was z =
+    ⊎-elim
+    (λ (two : codeAt ls Given l ≡ 2).
+    let eight = move-happens ls (valid-means ls v) withdraw-acked (λ e. omega arith) two in
+    neither (λ e. omega arith) (λ e. omega arith) z)
+    (λ (nine : codeAt ls Given l ≡ 9).
+    let free = move-happens ls (valid-means ls v) back-acked (λ e. omega arith) nine in
+    neither (λ e. omega arith) (λ e. omega arith) z)
+    was
 paid ls v release l five z = let free = move-happens ls (valid-means ls v) release-acked (omega arith) five in omega arith
 
 -- ---- a message that is due was let go
@@ -41,7 +50,7 @@ module _ (ls : List ℕ) (m : List ℕ) (q : List (List ℕ)) (v : validOf ls �
       → ((due : Due) (l : ℕ) → bears (submissionOf m) (dueKind due) l ≡ true → (message ≡ dueMessage due) × (label ≡ l)) → Owed (afterEvent ls (Acked message label)) q
   pay message label is due l z =
       ⊎-elim
-      (λ (same : codeAt ls (dueSide due) l ≡ dueCode due).
+      (λ (same : IsDue due (codeAt ls (dueSide due) l)).
       by-test (bears (submissionOf m) (dueKind due) l)
       (λ t. let p = is due l t in absurd (paid ls v due l same (rw (p .0, p .1) at z)))
       (λ n. held-tail (dueKind due) l m q n (o due l same)))

@@ -5,9 +5,10 @@ use mathlib.Core.List.{List}
 use mathlib.Core.Path.{_≡_, refl}
 use Rattle.octets.specs.Pick.{pick, both}
 use Rattle.protocol.specs.Answers.{isDone}
+use Rattle.protocol.specs.Phases.{sentOf}
 use Rattle.protocol.specs.Step.{Step}
 use Rattle.protocol.proofs.Quiet.{Quiet}
-use Rattle.two_ends.specs.Calls.{called, put, counts}
+use Rattle.two_ends.specs.Calls.{called, put, counts, sentHistory, leavesOut}
 use Rattle.two_ends.specs.World.{History, End}
 use Rattle.two_ends.proofs.Invariant.{Some}
 use Rattle.two_ends.proofs.Worlds.{same-end, settled-same, Settled}
@@ -32,6 +33,9 @@ module _ (a : End) (x : Step) (q : Quiet (a .state) (a .phase) x) {b : End} {ab 
 
   pub quietly-counts : (h : History) → Settled (called a x (counts a x h)) b ab ba
   quietly-counts h = settled-same (same-end a x (counts a x h) (q .state) (q .phase) (counts-still a x h (q .still))) s
+
+  pub quietly-sent : Settled (called a x (sentHistory a x)) b (put (a .joined) ab x) ba
+  quietly-sent = rw (put-still (a .joined) ab x (q .still)) (quietly-counts (leavesOut (sentOf (a .phase)) x (a .history)))
 
   pub quietly-puts : (jo : Bool) → Settled (called a x (a .history)) b (put jo ab x) ba
   quietly-puts jo = rw (put-still jo ab x (q .still)) quietly

@@ -18,9 +18,9 @@ use Rattle.protocol.specs.Acked.{ackBorne, acked}
 use Rattle.protocol.specs.Answers.{answerNumber}
 use Rattle.protocol.specs.Cases.{Case}
 use Rattle.protocol.specs.Phases.{phaseFits, issuedCount, countOf, upWith}
-use Rattle.protocol.specs.Receive.{ackOn, taken, receivedState, receive, ftRule, receivedPhase}
+use Rattle.protocol.specs.Receive.{ackOn, taken, receivedState, receive, ftRule, receivedPhase, leftBefore}
 use Rattle.protocol.specs.State.{State}
-use Rattle.protocol.specs.Step.{Step, releasedWith, stepped, settle}
+use Rattle.protocol.specs.Step.{Step, releasedWith, settle, steppedPast}
 use Rattle.protocol.proofs.Cases.{cases}
 use Rattle.protocol.proofs.Settling.{answered-failed, answered-released, admitted-is, settle-does, settle-answer}
 use Rattle.two_ends.specs.Calls.{keeps, took, takes, securing}
@@ -38,25 +38,25 @@ use Rattle.two_ends.proofs.Takes.{dir-took}
 use Rattle.two_ends.proofs.Worlds.{ended, Settled, kept-one}
 
 -- an end that is up and keeps its state is in a phase that the state allows
-pub fits-up : (now : State) (h : History) (sent : ℕ) {up : Bool} {y : Rcv (List ℕ)} {dat : List (ℕ × List ℕ)} {acks : List ℕ} → now .kept ≡ true
-    → Half (sndOf now h) sent up y dat acks → phaseFits (upWith sent) now ≡ true
+pub fits-up : (now : State) (h : History) (re : Bool) (sent : ℕ) {up jo new : Bool} {y : Rcv (List ℕ)} {dat : List (ℕ × List ℕ)} {acks : List ℕ} → now .kept ≡ true
+    → Half (sndOf now h) sent up jo new y dat acks → phaseFits (upWith re sent) now ≡ true
 unfolding phaseFits issuedCount
-fits-up now h sent kept p =
+fits-up now h re sent kept p =
     let w : countOf (stepsOf (now .released .0) (now .issued .0)) ≡ p .i - p .r = window (p .books) in
     rw (kept, w) (le-leb sent (p .i - p .r) (omega (arith, p .sentI)))
 
-module _ (now : State) (sent : ℕ) (m : List ℕ) (g : Message) (read : readingOf m ≡ Reading.Whole g) where
+module _ (now : State) (re : Bool) (sent : ℕ) (m : List ℕ) (g : Message) (read : readingOf m ≡ Reading.Whole g) where
   abbrev ph : Phase
-  ph = upWith sent
+  ph = upWith re sent
 
   abbrev x : Step
   x = receive now ph m
 
   abbrev rule : Answer
-  rule = ftRule now g
+  rule = ftRule now re g
 
   abbrev does : Step
-  does = stepped Answer.Done (receivedState now g) (receivedPhase now sent g) []
+  does = steppedPast (leftBefore now ph g) Answer.Done (receivedState now g) (receivedPhase now ph g) []
 
   -- ---- what the call leaves
   pub judged : Case now ph (Reading.Whole g) rule
@@ -66,7 +66,7 @@ module _ (now : State) (sent : ℕ) (m : List ℕ) (g : Message) (read : reading
       (i : Inv (ended now ph true true h) b ab ba pa (q ∷ qs)) where
     is : x ≡ settle rule now ph does
     unfolding receive
-    is = rw (admitted-is now ph (fits-up now h sent (kept-one (i .own)) (i .out .half)), read)
+    is = rw (admitted-is now ph (fits-up now h re sent (kept-one (i .own)) (i .out .half)), read)
 
     -- it answers what the rule says
     pub rule-answers : x .answer ≡ rule
@@ -86,7 +86,7 @@ module _ (now : State) (sent : ℕ) (m : List ℕ) (g : Message) (read : reading
 
     -- taken
     module _ (j : ℕ) (acks : ackOn now g ≡ Ack.Releases j)
-        (f : Freed (sndOf now h) sent (rcvOf (sideOf b .state) (b .history)) (datas pa) (acksOf qs) (ackBorne now (g .ack)) j) where
+        (f : Freed (sndOf now h) sent re (rcvOf (sideOf b .state) (b .history)) (datas pa) (acksOf qs) (ackBorne now (g .ack)) j) where
       abbrev s : State
       s = receivedState now g
 
@@ -99,12 +99,12 @@ module _ (now : State) (sent : ℕ) (m : List ℕ) (g : Message) (read : reading
       received-kept = refl
 
       pub takes-it : (got : List (List ℕ)) → securing m ≡ got → rule ≡ Answer.Done
-          → Dir (sideOf b) (side s (s .kept) (upWith (sent - j)) true true (takes (take j (now .queue)) got h)) qs pa
+          → Dir (sideOf b) (side s (s .kept) (upWith re (sent - j)) true true (takes (take j (now .queue)) got h)) qs pa
           → Settled (took (ended now ph true true h) m x) b ab (map bytesOf qs)
       takes-it got secured e back =
           let d : x ≡ does = is ∙ ap (λ (z : Answer). settle z now ph does) e ∙ settle-does Answer.Done now ph does refl in
           let gone = let-go now does j (f .few) received-queue in
-          let own : Ready (ended s (upWith (sent - j)) true true (takes (take j (now .queue)) got h)) = record {
+          let own : Ready (ended s (upWith re (sent - j)) true true (takes (take j (now .queue)) got h)) = record {
             few = omega (arith, ap length received-queue, length-drop j (now .queue), i .own .few);
             possible = refl;
             keeping = received-kept ∙ i .own .keeping;
@@ -123,8 +123,9 @@ module _ (now : State) (sent : ℕ) (m : List ℕ) (g : Message) (read : reading
                 lineB = refl;
                 own = own;
                 peer = i .peer;
-                out = dir-took now sent h g j acks got qs f (i .out);
+                out = dir-took now re sent h g j acks got qs f (i .out);
                 back = back;
+                agree = i .agree;
               },
             ),
           ))

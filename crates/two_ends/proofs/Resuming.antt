@@ -41,23 +41,23 @@ module _ (now : State) (t : ℕ) (h : History) (id : MessageId) (p : OwnParamete
 
   module _ {b : End} {ab ba : List (List ℕ)} {pa qs : List Packet} (i : Inv (ended now (waitingFor t) true true h) b ab ba pa (again id p seconds a ∷ qs)) where
     -- its ACK is right; the session is resumed, or its parameters are others
-    pub again-start : (j : ℕ) × Freed (sndOf now h) 0 (rcvOf (sideOf b .state) (b .history)) (datas pa) (acksOf qs) (a .0) j
+    pub again-start : (j : ℕ) × Freed (sndOf now h) 0 true (rcvOf (sideOf b .state) (b .history)) (datas pa) (acksOf qs) (a .0) j
         × ((initStart now (waitingFor t) m₂ ≡ Start.Resumed ts j a) ⊎ (initStart now (waitingFor t) m₂ ≡ Start.Refused Answer.ParametersChanged))
     again-start =
-        let free = half-init (i .out .half) in
+        let free = half-init true (λ r i l few. tt) (i .out .half) in
         (free .0, free .1, starts-again now t id p seconds a (free .0) (i .back .fines .0) (kept-one (i .own)) (free .1 .right))
 
-    pub again-begins : (j : ℕ) → initStart now (waitingFor t) m₂ ≡ Start.Resumed ts j a → initReceived now (waitingFor t) m₂ ≡ stepped Answer.Done (resumed now ts j (a .0)) (upWith 0) []
-    again-begins j e = begins now t m₂ (resumed now ts j (a .0)) (rw e) (rw e) (rw e)
+    pub again-begins : (j : ℕ) → initStart now (waitingFor t) m₂ ≡ Start.Resumed ts j a → initReceived now (waitingFor t) m₂ ≡ stepped Answer.Done (resumed now ts j (a .0)) (upWith true 0) []
+    again-begins j e = begins now t m₂ (resumed now ts j (a .0)) (rw e) (rw e) true (rw e)
 
-    resumes : (j : ℕ) → Freed (sndOf now h) 0 (rcvOf (sideOf b .state) (b .history)) (datas pa) (acksOf qs) (a .0) j → initStart now (waitingFor t) m₂ ≡ Start.Resumed ts j a
+    resumes : (j : ℕ) → Freed (sndOf now h) 0 true (rcvOf (sideOf b .state) (b .history)) (datas pa) (acksOf qs) (a .0) j → initStart now (waitingFor t) m₂ ≡ Start.Resumed ts j a
         → Settled (greetedBy now t true h (again id p seconds a)) b ab (map bytesOf qs)
     unfolding resumed acked
     resumes j free e =
         let s : State = resumed now ts j (a .0) in
         let d = again-begins j e in
-        let gone = let-go now (stepped Answer.Done s (upWith 0) []) j (free .few) refl in
-        let own : Ready (ended s (upWith 0) true true (takes (take j (now .queue)) [] h)) = record {
+        let gone = let-go now (stepped Answer.Done s (upWith true 0) []) j (free .few) refl in
+        let own : Ready (ended s (upWith true 0) true true (takes (take j (now .queue)) [] h)) = record {
           few = omega (arith, length-drop j (now .queue), i .own .few);
           possible = refl;
           keeping = i .own .keeping;
@@ -78,6 +78,7 @@ module _ (now : State) (t : ℕ) (h : History) (id : MessageId) (p : OwnParamete
               peer = i .peer;
               out = dir-resume now t h a ts j id p seconds free (i .out);
               back = dir-resume-peer now t h a ts j id p seconds (i .back);
+              agree = i .agree;
             },
           ),
         ))

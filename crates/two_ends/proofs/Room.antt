@@ -20,7 +20,7 @@ use Rattle.protocol.specs.Submit.{submit}
 use Rattle.protocol.specs.TimePassed.{timePassed}
 use Rattle.protocol.proofs.Few.{few-held}
 use Rattle.protocol.proofs.Passing.{full-passes, passes-done, passes-full}
-use Rattle.two_ends.specs.Calls.{accepts, disconnected, called, counts}
+use Rattle.two_ends.specs.Calls.{accepts, disconnected, called, counts, sentHistory}
 use Rattle.two_ends.specs.Demand.{RefusedAt64}
 use Rattle.two_ends.specs.Runs.{Event, submits, sends, keepalives, opens, passes, delivers, breaks, notices, restarts, act, eventAt, run}
 use Rattle.two_ends.specs.Start.{Fit, Opener, start}
@@ -52,8 +52,8 @@ module _ (w : World) (f : Fews w) where
   act-few : (v : Event) → Fews (act w v)
   unfolding step
   act-few (submits m) = by-submit Fews broken-few w m (submit now ph m) (call-few (Calls.submits m) 0)
-  act-few (sends ask room) = by-write Fews broken-few w (sendNext now ph ask room) (call-few (Calls.sends ask) room)
-  act-few (keepalives id room) = by-write Fews broken-few w (keepalive now ph id room) (call-few (Calls.keeps-alive id) room)
+  act-few (sends ask room) = by-write Fews broken-few w (sendNext now ph ask room) (sentHistory (w .a) (sendNext now ph ask room)) (call-few (Calls.sends ask) room)
+  act-few (keepalives id room) = by-write Fews broken-few w (keepalive now ph id room) (w .a .history) (call-few (Calls.keeps-alive id) room)
   act-few (opens id p t room) = by-open Fews broken-few w (openSession now ph id p t room) (call-few (Calls.opens id p t) room) (call-few (Calls.opens id p t) room)
   act-few (passes elapsed) = by-plain Fews broken-few w (timePassed now ph elapsed) (call-few (Calls.passes elapsed) 0)
   act-few delivers =

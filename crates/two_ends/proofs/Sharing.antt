@@ -1,34 +1,41 @@
 -- The labels of the two ends with what is under way between them, after each event at one end. Assumes nothing.
-use Prim.Native.Nat.{ℕ}
-use mathlib.Core.Bool.{true}
+use Prim.Native.Nat.{ℕ, _+_}
+use mathlib.Core.Bool.{true, false}
 use mathlib.Core.List.{List, [], _∷_, _++_, append-nil, append-assoc}
 use mathlib.Core.Path.{_≡_, refl, sym, ap, _∙_}
+use native.Mathlib.Omega.{arith}
+use lib.ListN.{length}
 use Rattle.label_list.specs.declared.Found.{Found}
-use Rattle.label_list.specs.declared.Side.the-variants.{Given}
+use Rattle.label_list.specs.declared.Side.the-variants.{Given, Used}
 use Rattle.label_list.specs.declared.SweepRule.the-variants.{AfterBreak}
 use Rattle.label_list.specs.Sweep.{sweptOf}
 use Rattle.label_list.specs.Valid.{validOf}
 use Rattle.label_events.specs.declared.Reception.{Reception}
+use Rattle.label_events.specs.Change.{codeAt}
 use Rattle.message.specs.declared.Kind.{Kind}
 use Rattle.message.specs.declared.Submission.{Submission}
 use Rattle.message.specs.Submission.{submissionOf}
 use Rattle.protocol.specs.declared.LabelEffect.{LabelEffect}
 use Rattle.protocol.specs.Acked.{releasedLabels}
+use Rattle.protocol.specs.Held.{isHeld}
 use Rattle.protocol.specs.Labels.{effectReception, effectLabels}
 use Rattle.protocol.specs.State.{noTable}
 use Rattle.protocol.proofs.Words.{released-valid}
-use Rattle.two_ends.specs.Agree.{Agree}
+use Rattle.two_ends.specs.Agree.{Agree, codeAfter}
 use Rattle.two_ends.specs.Calls.{accepts, takes}
+use Rattle.two_ends.specs.LeftOut.{isLeft, without}
 use Rattle.two_ends.specs.World.{History}
 use Rattle.two_ends.proofs.Accepting.{AcceptedWords}
 use Rattle.two_ends.proofs.Acking.{none-given, ack-giver, ack-user, broken-giver, broken-user}
 use Rattle.two_ends.proofs.Agreeing.{accept-giver, accept-user}
+use Rattle.two_ends.proofs.Gaps.{without-append}
 use Rattle.two_ends.proofs.Getting.{Says, take-giver, take-user}
+use Rattle.two_ends.proofs.NoRequests.{acceptedIn, noRequests, withLeft, noRequests-code, noRequests-held}
 use Rattle.two_ends.proofs.Sixless.{NoSix, none-code}
 
 -- the words and the history of the giver, then those of the user: they agree, whatever the one has accepted and the other not secured
 pub record Shared (xl : List ℕ) (xh : History) (yl : List ℕ) (yh : History) : Type 0 where
-  pub agree : (out back : List (List ℕ)) → xh .accepted ≡ yh .secured ++ out → yh .accepted ≡ xh .secured ++ back → Agree xl yl out back
+  pub agree : (out back : List (List ℕ)) → acceptedIn xh ≡ yh .secured ++ out → acceptedIn yh ≡ xh .secured ++ back → Agree xl yl out back
 
 -- ---- the start
 pub shared-none : (yl : List ℕ) (xh yh : History) → Shared (noTable .words) xh yl yh
@@ -71,12 +78,37 @@ pub cancel : (xs ys zs : List (List ℕ)) → xs ++ ys ≡ xs ++ zs → ys ≡ z
 cancel [] ys zs e = e
 cancel (x ∷ xs) ys zs e = let t : xs ++ ys ≡ xs ++ zs = cc in cancel xs ys zs t
 
-newest : (acc sec o out : List (List ℕ)) (m : List ℕ) → acc ≡ sec ++ o → acc ++ (m ∷ []) ≡ sec ++ out → out ≡ o ++ (m ∷ [])
-newest acc sec o out m e p = sym (cancel sec (o ++ (m ∷ [])) out (sym (append-assoc sec o (m ∷ [])) ∙ ap (λ (l : List (List ℕ)). l ++ (m ∷ [])) (sym e) ∙ p))
+accepted-in : (h : History) (m : List ℕ) → isLeft (h .left) (length (h .accepted)) ≡ false → acceptedIn (accepts m h) ≡ acceptedIn h ++ (m ∷ [])
+accepted-in h m n = without-append (h .left) 0 (h .accepted) (m ∷ []) ∙ (let at : 0 + length (h .accepted) ≡ length (h .accepted) = omega arith in rw (at, n))
+
+pub newest : (h : History) (sec o out : List (List ℕ)) (m : List ℕ) → isLeft (h .left) (length (h .accepted)) ≡ false → acceptedIn h ≡ sec ++ o → acceptedIn (accepts m h) ≡ sec ++ out → out ≡ o ++ (m ∷ [])
+newest h sec o out m n e p =
+    sym (cancel sec (o ++ (m ∷ [])) out (sym (append-assoc sec o (m ∷ [])) ∙ ap (λ (l : List (List ℕ)). l ++ (m ∷ [])) (sym e) ∙ sym (accepted-in h m n) ∙ p))
 
 module _ {xl : List ℕ} {xh : History} {yl : List ℕ} {yh : History} (o : List (List ℕ)) (m : List ℕ) {after : List ℕ} where
-  pub shared-accepted : xh .accepted ≡ yh .secured ++ o → validOf xl ≡ true → NoSix yl → AcceptedWords xl (submissionOf m) after → Shared xl xh yl yh → Shared after (accepts m xh) yl yh
-  shared-accepted e v n w s = record { agree = λ out back p q. rw (newest (xh .accepted) (yh .secured) o out m e p) (accept-giver xl yl o back (s .agree o back e q) m v n refl w) }
+  pub shared-accepted : acceptedIn xh ≡ yh .secured ++ o → isLeft (xh .left) (length (xh .accepted)) ≡ false → validOf xl ≡ true → NoSix yl → AcceptedWords xl (submissionOf m) after → Shared xl xh yl yh → Shared after (accepts m xh) yl yh
+  shared-accepted e u v n w s = record { agree = λ out back p q. rw (newest xh (yh .secured) o out m u e p) (accept-giver xl yl o back (s .agree o back e q) m v n refl w) }
 
-  pub shared-accepted-peer : yh .accepted ≡ xh .secured ++ o → validOf yl ≡ true → AcceptedWords yl (submissionOf m) after → Shared xl xh yl yh → Shared xl xh after (accepts m yh)
-  shared-accepted-peer e v w s = record { agree = λ out back p q. rw (newest (yh .accepted) (xh .secured) o back m e q) (accept-user xl yl out o (s .agree out o p e) m v refl w) }
+  pub shared-accepted-peer : acceptedIn yh ≡ xh .secured ++ o → isLeft (yh .left) (length (yh .accepted)) ≡ false → validOf yl ≡ true → AcceptedWords yl (submissionOf m) after → Shared xl xh yl yh → Shared xl xh after (accepts m yh)
+  shared-accepted-peer e u v w s = record { agree = λ out back p q. rw (newest yh (xh .secured) o back m u e q) (accept-user xl yl out o (s .agree out o p e) m v refl w) }
+
+-- ---- Requests are left out: they move no label
+pub same-rest : (n sec out : List (List ℕ)) {whole : List (List ℕ)} → whole ≡ sec ++ n → whole ≡ sec ++ out → n ≡ out
+same-rest n sec out e p = cancel sec n out (sym e ∙ p)
+
+module _ {xl : List ℕ} {xh : History} {yl : List ℕ} {yh : History} (left : List ℕ) (o n : List (List ℕ)) where
+  pub shared-marked : acceptedIn xh ≡ yh .secured ++ o → without left 0 (xh .accepted) ≡ yh .secured ++ n → noRequests o ≡ noRequests n → Shared xl xh yl yh → Shared xl (withLeft left xh) yl yh
+  shared-marked e f r s = record {
+    agree = λ out back p q l may g none.
+        let is : n ≡ out = same-rest n (yh .secured) out f p in
+        let code : (c : ℕ) → codeAfter l c o ≡ codeAfter l c out = λ c. sym (noRequests-code l c o) ∙ ap (codeAfter l c) r ∙ noRequests-code l c n ∙ ap (codeAfter l c) is in
+        rw (code (codeAt yl Used l)) at (s .agree o back e q l may g none);
+  }
+
+  pub shared-marked-peer : acceptedIn yh ≡ xh .secured ++ o → without left 0 (yh .accepted) ≡ xh .secured ++ n → noRequests o ≡ noRequests n → Shared xl xh yl yh → Shared xl xh yl (withLeft left yh)
+  shared-marked-peer e f r s = record {
+    agree = λ out back p q l may g none.
+        let is : n ≡ back = same-rest n (xh .secured) back f q in
+        let held : isHeld 3 l o ≡ isHeld 3 l back = sym (noRequests-held l o) ∙ ap (isHeld 3 l) r ∙ noRequests-held l n ∙ ap (isHeld 3 l) is in
+        s .agree out o p e l may g (held ∙ none);
+  }

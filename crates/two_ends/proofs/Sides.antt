@@ -36,7 +36,7 @@ module _ {x y : Side} {to fro : List Packet} (d : Dir x y to fro) (begun : y .be
 
   -- and the sender has failed, or its peer
   pub dir-failed : Dir (failed x) (lost y) [] []
-  dir-failed = record { half = half-again (d .half); shape = (refl, refl, begun); fines = tt }
+  dir-failed = record { half = half-again (d .half) false false; shape = (refl, refl, begun); fines = tt }
 
   pub dir-failed-peer : Dir (lost x) (failed y) [] []
   dir-failed-peer = record { half = half-lost (d .half); shape = (refl, refl, begun); fines = tt }
@@ -44,7 +44,7 @@ module _ {x y : Side} {to fro : List Packet} (d : Dir x y to fro) (begun : y .be
 -- ---- an end that is not on the connection fails
 module _ (s : State) (k : Bool) (ph : Phase) (bg : Bool) (h : History) {y : Side} {to fro : List Packet} where
   pub dir-rest : Dir (side s k ph false bg h) y to fro → Dir (failed (side s k ph false bg h)) y to fro
-  dir-rest d = record { half = half-rest (d .half); shape = d .shape; fines = d .fines }
+  dir-rest d = record { half = half-rest false false (d .half); shape = d .shape; fines = d .fines }
 
   pub dir-rest-peer : Dir y (side s k ph false bg h) fro to → Dir y (failed (side s k ph false bg h)) fro to
   dir-rest-peer d = record { half = d .half; shape = d .shape; fines = d .fines }
@@ -72,24 +72,24 @@ shape-snoc true bg k ps p n h = noinit-snoc ps p h n
 shape-snoc false bg k ps p n h = headed-snoc bg k ps p n h
 
 -- ---- a KeepAlive
-module _ (s : State) (k : Bool) (sent : ℕ) (bg : Bool) (h : History) (id : MessageId) {y : Side} {to fro : List Packet} where
-  pub dir-alive : Fine (alive id (s .secured)) → Dir (side s k (upWith sent) true bg h) y to fro
-      → Dir (side s k (upWith sent) true bg h) y (to ++ (alive id (s .secured) ∷ [])) fro
+module _ (s : State) (k re : Bool) (sent : ℕ) (bg : Bool) (h : History) (id : MessageId) {y : Side} {to fro : List Packet} where
+  pub dir-alive : Fine (alive id (s .secured)) → Dir (side s k (upWith re sent) true bg h) y to fro
+      → Dir (side s k (upWith re sent) true bg h) y (to ++ (alive id (s .secured) ∷ [])) fro
   dir-alive f d = record {
     half = rw (datas-append to (alive id (s .secured) ∷ []), append-nil (datas to)) (d .half);
     shape = shape-snoc (live y) (y .begun) (y .kept) to (alive id (s .secured)) tt (d .shape);
     fines = fines-snoc to (alive id (s .secured)) (d .fines) f;
   }
 
-  pub dir-alive-peer : Dir y (side s k (upWith sent) true bg h) fro to
-      → Dir y (side s k (upWith sent) true bg h) fro (to ++ (alive id (s .secured) ∷ []))
+  pub dir-alive-peer : Dir y (side s k (upWith re sent) true bg h) fro to
+      → Dir y (side s k (upWith re sent) true bg h) fro (to ++ (alive id (s .secured) ∷ []))
   dir-alive-peer d = record { half = rw (acks-append to (alive id (s .secured) ∷ [])) (half-ack-out (d .half)); shape = d .shape; fines = d .fines }
 
 -- ---- an end opens
 module _ (s : State) (k : Bool) (t : ℕ) (h : History) (id : MessageId) (p : OwnParameters) {y : Side} {fro : List Packet} where
   pub dir-open : Fine (again id p t (s .secured)) → Dir (side s k Phase.Failed false true h) y [] fro
       → Dir (side s k (waitingFor t) true true h) y (again id p t (s .secured) ∷ []) fro
-  dir-open f d = record { half = d .half; shape = headed (live y) (d .shape .1); fines = (f, tt) }
+  dir-open f d = record { half = half-rest true false (d .half); shape = headed (live y) (d .shape .1); fines = (f, tt) }
     where
       headed : (up : Bool) → up ≡ false → Shape true up (y .begun) (y .kept) (again id p t (s .secured) ∷ [])
       headed true e = let z : _≡_ {A = ℕ} 0 1 = cc in absurd (omega arith)

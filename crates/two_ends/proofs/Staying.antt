@@ -30,7 +30,7 @@ use Rattle.protocol.specs.TimePassed.{timePassed}
 use Rattle.protocol.proofs.Begins.{changed as changed-init}
 use Rattle.protocol.proofs.Moves.{Moves, alive-moves, notice-moves, open-moves, receive-frees, restore-moves, send-moves, submit-moves, time-moves}
 use Rattle.two_ends.specs.Answers.{answerTo}
-use Rattle.two_ends.specs.Calls.{accepts, disconnected, called, counts, keeps, plainly, put, wrote, on}
+use Rattle.two_ends.specs.Calls.{accepts, disconnected, called, counts, keeps, plainly, put, on, replaced, sentHistory}
 use Rattle.two_ends.specs.Runs.{AllProperEvents, Event, act, breaks, delivers, keepalives, notices, opens, passes, restarts, run, sends, eventAt, submits}
 use Rattle.two_ends.specs.Start.{Afresh, Fit, Opener, start}
 use Rattle.two_ends.specs.Staying.{Stays, Releasing, ReleasingAt, NoneReleases}
@@ -80,16 +80,16 @@ module _ (b : End) (ab : List (List ℕ)) where
       (λ (e : initStart now (waitingFor t) m ≡ Start.Refused Answer.ParametersChanged). absurd (low (rw (changed-init now t m e) (omega arith))))
       (st .2)
 
-  taken-holds : (now : State) (sent : ℕ) (h : History) (m : List ℕ) {q : Packet} {qs : List Packet} {ba : List (List ℕ)} {pa : List Packet} → Inv (ended now (upWith sent) true true h) b ab ba pa (q ∷ qs)
-      → (30 ≤ answerNumber (receive now (upWith sent) m .answer) → ⊥) → Holds (ended now (upWith sent) true true h) m
-  taken-holds now sent h m i low = record { begun = refl; keeping = receive-frees now (upWith sent) m low .1 .kept ∙ kept-one (i .own); same = λ u k. k }
+  taken-holds : (now : State) (re : Bool) (sent : ℕ) (h : History) (m : List ℕ) {q : Packet} {qs : List Packet} {ba : List (List ℕ)} {pa : List Packet} → Inv (ended now (upWith re sent) true true h) b ab ba pa (q ∷ qs)
+      → (30 ≤ answerNumber (receive now (upWith re sent) m .answer) → ⊥) → Holds (ended now (upWith re sent) true true h) m
+  taken-holds now re sent h m i low = record { begun = refl; keeping = receive-frees now (upWith re sent) m low .1 .kept ∙ kept-one (i .own); same = λ u k. k }
 
   each : Oldests Mildly b ab
   each = record {
     firsts = λ now t h id p seconds ack qs lead i g. absurd (true≢false (sym g));
     agains = λ now t h id p seconds a qs i. resumed-holds now t h id p seconds a i;
-    alives = λ now sent h id n qs i g. taken-holds now sent h (bytesOf (alive id n)) i;
-    carries = λ now sent h m n ack qs i g. taken-holds now sent h (bytesOf (carried m n ack)) i;
+    alives = λ now re sent h id n qs i g. taken-holds now re sent h (bytesOf (alive id n)) i;
+    carries = λ now re sent h m n ack qs i g. taken-holds now re sent h (bytesOf (carried m n ack)) i;
   }
 
 -- ---- every event
@@ -110,8 +110,8 @@ module _ (w : World) (g : Good w) (s : Stays w) where
   called-stays : (x : Step) (h : History) (ab ba : List (List ℕ)) → x .state .kept ≡ now .kept → Stays (next w (called (w .a) x h) ab ba)
   called-stays x h ab ba k = next-stays (called (w .a) x h) ab ba (s .ours) k
 
-  write-stays : (x : Step) → x .state .kept ≡ now .kept → Stays (wrote w x)
-  write-stays x k = by-write Stays broken-stays w x (called-stays x (w .a .history) (put (w .a .joined) (w .ab) x) (w .ba) k)
+  write-stays : (x : Step) (h : History) → x .state .kept ≡ now .kept → Stays (replaced w (called (w .a) x h) (put (w .a .joined) (w .ab) x) (w .ba))
+  write-stays x h k = by-write Stays broken-stays w x h (called-stays x h (put (w .a .joined) (w .ab) x) (w .ba) k)
 
   plain-stays : (x : Step) → x .state .kept ≡ now .kept → Stays (plainly w x)
   plain-stays x k = by-plain Stays broken-stays w x (called-stays x (w .a .history) (w .ab) (w .ba) k)
@@ -124,8 +124,8 @@ module _ (w : World) (g : Good w) (s : Stays w) where
   act-stays (submits m) n =
       let x = submit now ph m in
       by-submit Stays broken-stays w m x (called-stays x (counts (w .a) x (accepts m (w .a .history))) (w .ab) (w .ba) (submit-kept m))
-  act-stays (sends ask room) n = write-stays (sendNext now ph ask room) (send-moves now ph ask room .kept)
-  act-stays (keepalives id room) n = write-stays (keepalive now ph id room) (alive-moves now ph id room .kept)
+  act-stays (sends ask room) n = write-stays (sendNext now ph ask room) (sentHistory (w .a) (sendNext now ph ask room)) (send-moves now ph ask room .kept)
+  act-stays (keepalives id room) n = write-stays (keepalive now ph id room) (w .a .history) (alive-moves now ph id room .kept)
   act-stays (opens id p t room) n =
       let x = openSession now ph id p t room in
       let k = open-moves now ph id p t room .kept in

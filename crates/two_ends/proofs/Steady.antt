@@ -16,10 +16,10 @@ use Rattle.protocol.specs.declared.Phase.{Phase}
 use Rattle.protocol.specs.Answers.{isDone}
 use Rattle.protocol.specs.KeepAlive.{aliveAck, aliveBytes, keepalive}
 use Rattle.protocol.specs.Open.{keptAck, openBytes, openSession}
-use Rattle.protocol.specs.Phases.{awaits, isUp, isUpFT, mayOpen, sentOf, waitingFor}
-use Rattle.protocol.specs.Send.{ackAsked, nextMessage, queueNumber, sendBytes, sendNext, sendRule}
+use Rattle.protocol.specs.Phases.{awaits, isUp, isUpFT, mayOpen, waitingFor}
+use Rattle.protocol.specs.Send.{placeSent, queueMessage, queueNumber, ackAsked, sendBytes, sendDeed, sendRoom, sendRule, sendNext}
 use Rattle.protocol.specs.State.{State}
-use Rattle.protocol.specs.Step.{Step, admitted, roomFor}
+use Rattle.protocol.specs.Step.{Step, admitted}
 use Rattle.protocol.specs.Submit.{submit}
 use Rattle.protocol.proofs.Leaving.{settle-cases}
 use Rattle.protocol.proofs.Moves.{Moves, alive-moves, open-moves, send-moves, submit-moves}
@@ -27,7 +27,7 @@ use Rattle.protocol.proofs.Quiet.{Quiet}
 use Rattle.protocol.proofs.Sends.{Sendable, sendable}
 use Rattle.protocol.proofs.Settling.{admitted-done}
 use Rattle.protocol.proofs.Writers.{Wrote, writer-says}
-use Rattle.two_ends.specs.Calls.{accepts, disconnected, called, counts, on, opened, plainly, put, offered, wrote}
+use Rattle.two_ends.specs.Calls.{accepts, disconnected, called, counts, on, opened, plainly, put, offered, wrote, replaced, sent, sentHistory}
 use Rattle.two_ends.specs.Runs.{Seconds, Widths}
 use Rattle.two_ends.specs.Steady.{Mild}
 use Rattle.two_ends.specs.World.{End, History, Lasts, World}
@@ -37,7 +37,7 @@ use Rattle.two_ends.proofs.Direction.{half-secured}
 use Rattle.two_ends.proofs.Invariant.{Good, Some, Waiting}
 use Rattle.two_ends.proofs.Opening.{seconds-small}
 use Rattle.two_ends.proofs.Saying.{All, alive-says, all-append, all-at, all-drop, init-says, Says, carried-says}
-use Rattle.two_ends.proofs.Sending.{does, sends-fine}
+use Rattle.two_ends.proofs.Sending.{sends-fine}
 use Rattle.two_ends.proofs.Worlds.{begun-else, ended, next}
 
 -- ---- an end whose peer's owner has these parameters: they are stored, and no message of the store bears a Status with E set
@@ -99,13 +99,14 @@ alive-fits s l Phase.Failed = tt
 
 -- what Send next sends is a message of the store, with its number
 sent-says : (o : OwnParameters) (now : State) (ph : Phase) (jo bg : Bool) (h : History) (ask : Bool) {b : End} {ab ba : List (List ℕ)} → Sendable now ph → bg ≡ true
-    → Some (ended now ph jo bg h) b ab ba → All Mild (now .queue) → Says o (sendBytes now (sentOf ph) ask)
-unfolding sendBytes
+    → Some (ended now ph jo bg h) b ab ba → All Mild (now .queue) → Says o (sendBytes now (placeSent now ph) ask)
+unfolding sendBytes placeSent
 sent-says o now Phase.Idle jo bg h ask d g s mild = absurd (true≢false (sym (d .up)))
 sent-says o now (Phase.InitWait v) jo bg h ask d g s mild = absurd (true≢false (sym (d .up)))
 sent-says o now (Phase.UpFT u) jo true h ask d g s mild =
-    let f = sends-fine now (u .sent) h ask (d .some) (s .2) in
-    carried-says o (nextMessage now (u .sent)) (f .0 .storable) (all-at Mild (u .sent) (now .queue) (d .some) mild) (queueNumber now (u .sent)) (ackAsked ask now) (f .1) (f .2)
+    let place = placeSent now (Phase.UpFT u) in
+    let f = sends-fine now (u .resumed) (u .sent) h ask (d .place) (s .2) in
+    carried-says o (queueMessage now place) (f .0 .storable) (all-at Mild place (now .queue) (d .place) mild) (queueNumber now place) (ackAsked ask now) (f .1) (f .2)
 sent-says o now (Phase.UpFT u) jo false h ask d g s mild = absurd (true≢false (sym g))
 sent-says o now Phase.UpPlain jo bg h ask d g s mild = absurd (true≢false (sym (d .up)))
 sent-says o now Phase.Failed jo bg h ask d g s mild = absurd (true≢false (sym (d .up)))
@@ -134,10 +135,11 @@ module _ (oa ob : OwnParameters) (w : World) (g : Good w) (k : Lasts w) (s : Ste
   pub plain-steady : (x : Step) → Moves now (x .state) 0 [] → Steadies oa ob (plainly w x)
   plain-steady x m = by-plain (Steadies oa ob) (broken-steady oa ob) w x (by-next (called (w .a) x (w .a .history)) (w .ab) (knows x (w .a .history) m) (s .ab))
 
-  write-steady : (x : Step) → Moves now (x .state) 0 [] → (isDone (x .answer) ≡ true → Says oa (x .output)) → Steadies oa ob (wrote w x)
-  write-steady x m f =
-      by-write (Steadies oa ob) (broken-steady oa ob) w x
-      (by-next (called (w .a) x (w .a .history)) (put (w .a .joined) (w .ab) x) (knows x (w .a .history) m) (put-says oa (w .a .joined) (w .ab) x (s .ab) f))
+  write-steady : (x : Step) (h : History) → Moves now (x .state) 0 [] → (isDone (x .answer) ≡ true → Says oa (x .output))
+      → Steadies oa ob (replaced w (called (w .a) x h) (put (w .a .joined) (w .ab) x) (w .ba))
+  write-steady x h m f =
+      by-write (Steadies oa ob) (broken-steady oa ob) w x h
+      (by-next (called (w .a) x h) (put (w .a .joined) (w .ab) x) (knows x h m) (put-says oa (w .a .joined) (w .ab) x (s .ab) f))
 
   pub submit-steady : (m : List ℕ) → Mild m → Steadies oa ob (offered w m (submit now ph m))
   submit-steady m mild =
@@ -154,19 +156,19 @@ module _ (oa ob : OwnParameters) (w : World) (g : Good w) (k : Lasts w) (s : Ste
   pub alive-steady : (id : MessageId) (room : ℕ) → id .0 < 4294967296 → Steadies oa ob (wrote w (keepalive now ph id room))
   unfolding keepalive
   alive-steady id room fits =
-      write-steady (keepalive now ph id room) (alive-moves now ph id room)
+      write-steady (keepalive now ph id room) (w .a .history) (alive-moves now ph id room)
       (wrote-says oa now ph (isUp ph) ph (aliveBytes now ph id) (keepalive now ph id room) (writer-says now ph (isUp ph) ph (aliveBytes now ph id) room)
       (λ t. alive-says oa id (aliveAck ph (now .secured)) (omega arith) (alive-fits now (small (begun-by t (λ q. silent ph q .0))) ph)))
 
-  pub send-steady : (ask : Bool) (room : ℕ) → Steadies oa ob (wrote w (sendNext now ph ask room))
+  pub send-steady : (ask : Bool) (room : ℕ) → Steadies oa ob (sent w (sendNext now ph ask room))
   unfolding sendNext
   send-steady ask room =
-      let rule = sendRule now ph (roomFor (sendBytes now (sentOf ph) ask) room) in
-      write-steady (sendNext now ph ask room) (send-moves now ph ask room)
-      (settle-cases (λ (x : Step). isDone (x .answer) ≡ true → Says oa (x .output)) (admitted now ph rule) now ph (does now ph ask)
+      let rule = sendRule now ph (sendRoom now ph ask room) in
+      write-steady (sendNext now ph ask room) (sentHistory (w .a) (sendNext now ph ask room)) (send-moves now ph ask room)
+      (settle-cases (λ (x : Step). isDone (x .answer) ≡ true → Says oa (x .output)) (admitted now ph rule) now ph (sendDeed now ph ask)
       (λ n t. absurd (true≢false (sym t ∙ n))) (λ n t. absurd (true≢false (sym t ∙ n))) (λ n e t. absurd (true≢false (sym t ∙ n)))
       (λ t u.
-      let d = sendable now ph (roomFor (sendBytes now (sentOf ph) ask) room) (admitted-done now ph rule t) in
+      let d = sendable now ph (sendRoom now ph ask room) (admitted-done now ph rule t) in
       let b = begun-by (d .up) (λ q. silent ph q .2) in
       sent-says oa now ph (w .a .joined) (w .a .begun) (w .a .history) ask d b (g k) (s .a .mild b)))
 

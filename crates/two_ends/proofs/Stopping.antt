@@ -12,13 +12,16 @@ use Rattle.protocol.specs.Receive.{taken}
 use Rattle.protocol.specs.State.{Marks, State}
 use Rattle.protocol.specs.Submit.{acceptedMarks, submitted}
 use Rattle.two_ends.specs.Calls.{accepts, takes}
+use Rattle.two_ends.specs.Demand.{Safe, acceptedRead}
 use Rattle.two_ends.specs.Runs.{AllProperEvents, Event, run}
 use Rattle.two_ends.specs.Start.{Afresh, Fit, Opener, start}
 use Rattle.two_ends.specs.Stops.{Stops, stopBy, stopIn}
 use Rattle.two_ends.specs.World.{End, History, Lasts}
 use Rattle.two_ends.proofs.Invariant.{sideOf}
+use Rattle.two_ends.proofs.NoRequests.{noRequests-stop, noRequests-left}
 use Rattle.two_ends.proofs.Persisted.{persisted}
 use Rattle.two_ends.proofs.Persisting.{CarriedTo, Persists}
+use Rattle.two_ends.proofs.Theorem.{nothing-lost}
 
 stop-newest : (stop : Bool) (ms : List (List ℕ)) (m : List ℕ) → stopIn stop (ms ++ (m ∷ [])) ≡ stopBy (stopIn stop ms) (submissionOf m)
 stop-newest stop [] m = refl
@@ -65,16 +68,20 @@ marks-persist = record {
   swapped = λ l. (l .1, l .0);
   same = λ l u words marks queue. (marks-same (l .0) u marks, l .1);
   ended = λ l. (record { telling = l .0 .telling; told = l .0 .told }, l .1);
-  accepted = λ l m o e. (marks-accepted (l .0) m, l .1);
+  accepted = λ l m o e n taken may. (marks-accepted (l .0) m, l .1);
+  marked = λ l left o p e f r. (record { telling = l .0 .telling; told = l .0 .told }, l .1);
   freed = λ l n a. (marks-freed (l .0) n a, l .1);
   carried = λ l n a g m x. (marks-carried (l .0) n a g m x, l .1);
 }
 
-stops : (x y : End) → Remembers (sideOf x .state) (x .history) → Remembers (sideOf y .state) (y .history) → Stops x y
-stops x y r q =
+stops : (x y : End) → Remembers (sideOf x .state) (x .history) → Remembers (sideOf y .state) (y .history) → Safe x y → Stops x y
+stops x y r q s =
     let telling : x .begun ≡ true → x .state .marks .stopping ≡ stopIn false (x .history .accepted) = λ g. rw g at (r .telling) in
     let told : y .begun ≡ true → y .state .marks .stopped ≡ stopIn false (y .history .secured) = λ g. rw g at (q .told) in
-    record { telling = telling; told = told; agree = λ gx gy all. told gy ∙ ap (stopIn false) all ∙ sym (telling gx) }
+    let acc = x .history .accepted in
+    let same : stopIn false (acceptedRead x) ≡ stopIn false acc =
+    sym (noRequests-stop false (acceptedRead x)) ∙ ap (stopIn false) (noRequests-left (x .history .left) acc (s .only)) ∙ noRequests-stop false acc in
+    record { telling = telling; told = told; agree = λ gx gy all. told gy ∙ ap (stopIn false) all ∙ same ∙ sym (telling gx) }
 
 -- ---- THE THEOREM: over every run from such a start, in both directions, as long as neither end has released its state
 pub stops-remembered : (x y : Opener) → Fit x → Fit y → Afresh x y → (vs : List (Bool × Event)) → AllProperEvents vs → Lasts (run (start x y) vs)
@@ -82,4 +89,5 @@ pub stops-remembered : (x y : Opener) → Fit x → Fit y → Afresh x y → (vs
 stops-remembered x y fx fy f vs p k =
     let w = run (start x y) vs in
     let r = persisted marks-persist x y fx fy f vs p k in
-    (stops (w .a) (w .b) (r .0) (r .1), stops (w .b) (w .a) (r .1) (r .0))
+    let d = nothing-lost x y fx fy f vs p k in
+    (stops (w .a) (w .b) (r .0) (r .1) (d .there), stops (w .b) (w .a) (r .1) (r .0) (d .back))

@@ -62,6 +62,7 @@ module _ (now : State) (ph : Phase) (m : List ℕ) (done : Accepted now m) where
             peer = i .peer;
             out = dir-accept now (now .kept) ph jo true h m (done .room) (i .out);
             back = dir-accept-peer now (now .kept) ph jo true h m (i .back);
+            agree = i .agree;
           },
         ),
       )
@@ -76,7 +77,7 @@ module _ (now : State) (ph : Phase) (m : List ℕ) (done : Accepted now m) where
         waiting = λ q. record { on = v .on; waits = v .waits; nothing = v .nothing };
         linked = i .own .linked;
       } in
-      inl (ready-open own, (s .0, s .1, record { lineA = i .lineA; lineB = i .lineB; own = own; peer = i .peer; out = i .out; back = i .back }))
+      inl (ready-open own, (s .0, s .1, record { lineA = i .lineA; lineB = i .lineB; own = own; peer = i .peer; out = i .out; back = i .back; agree = i .agree }))
 
 pub at-submits : (w : World) (m : List ℕ) → Bytes m → Good w → Good (offered w m (submit (w .a .state) (w .a .phase) m))
 unfolding submit

@@ -2,7 +2,7 @@
 use Prim.Native.Nat.{ℕ, _-_}
 use mathlib.Core.Bool.{Bool, true, false}
 use mathlib.Core.List.{List, [], _∷_, append-nil}
-use mathlib.Core.Path.{_≡_}
+use mathlib.Core.Path.{_≡_, refl}
 use native.Mathlib.Omega.{arith}
 use lib.ListN.{take}
 use Rattle.ft_number.specs.declared.Ack.{Ack}
@@ -42,15 +42,15 @@ module _ (k : Bool) (t : ℕ) (terms : Terms) (k′ : Bool) where
   unbegun = side releasedState k (waitingFor t) true false noHistory
 
   abbrev begun : Side
-  begun = side (fresh terms) k′ (upWith 0) true true noHistory
+  begun = side (fresh terms) k′ (upWith false 0) true true noHistory
 
   module _ (id : MessageId) (p : OwnParameters) (seconds : ℕ) (ack : FtField) {y : Side} {to rest : List Packet} where
     pub dir-fresh : Dir unbegun y to (first id p seconds ack ∷ rest) → Dir begun y to rest
     unfolding fresh ackOf stepsOf
-    dir-fresh d = record { half = by (half-init (d .half)); shape = d .shape; fines = d .fines }
+    dir-fresh d = record { half = by (half-init {x = sndOf releasedState noHistory} false (λ r i l few. (omega arith, refl)) (d .half)); shape = d .shape; fines = d .fines }
       where
-        by : (j : ℕ) × Freed (sndOf releasedState noHistory) 0 (rcvOf (y .state) (y .history)) (datas to) (acksOf rest) 0 j
-            → Half (sndOf (fresh terms) noHistory) 0 true (rcvOf (y .state) (y .history)) (datas to) (acksOf rest)
+        by : (j : ℕ) × Freed (sndOf releasedState noHistory) 0 false (rcvOf (y .state) (y .history)) (datas to) (acksOf rest) 0 j
+            → Half (sndOf (fresh terms) noHistory) 0 true true false (rcvOf (y .state) (y .history)) (datas to) (acksOf rest)
         by f =
             let same : Ack.Releases 0 ≡ Ack.Releases (f .0) = f .1 .right in
             let z : f .0 ≡ 0 = cc in
@@ -70,10 +70,10 @@ module _ (s : State) (t : ℕ) (h : History) (a : FtNumber) (terms : Terms) (j :
   greeting = side s (s .kept) (waitingFor t) true true h
 
   abbrev greeted : Side
-  greeted = side (resumed s terms j (a .0)) (resumed s terms j (a .0) .kept) (upWith 0) true true (takes (take j (s .queue)) [] h)
+  greeted = side (resumed s terms j (a .0)) (resumed s terms j (a .0) .kept) (upWith true 0) true true (takes (take j (s .queue)) [] h)
 
   module _ (id : MessageId) (p : OwnParameters) (seconds : ℕ) {y : Side} {to rest : List Packet} where
-    pub dir-resume : Freed (sndOf s h) 0 (rcvOf (y .state) (y .history)) (datas to) (acksOf rest) (a .0) j
+    pub dir-resume : Freed (sndOf s h) 0 true (rcvOf (y .state) (y .history)) (datas to) (acksOf rest) (a .0) j
         → Dir greeting y to (again id p seconds a ∷ rest) → Dir greeted y to rest
     unfolding resumed acked
     dir-resume f d = let z : 0 - j ≡ 0 = omega arith in record { half = rw z at (f .half); shape = d .shape; fines = d .fines }
@@ -88,21 +88,21 @@ module _ (s : State) (t : ℕ) (h : History) (a : FtNumber) (terms : Terms) (j :
 
 -- ---- a message in UpFT
 -- what its ACK releases
-pub arrives : (s : State) (h : History) (sent : ℕ) (y : Side) (to rest : List Packet) (m : List ℕ) (n : FtNumber) (ack : FtField)
-    → Half (sndOf s h) sent true (rcvOf (y .state) (y .history)) (datas to) (acksOf (carried m n ack ∷ rest))
-    → (j : ℕ) × Freed (sndOf s h) sent (rcvOf (y .state) (y .history)) (datas to) (acksOf rest) (ackBorne s ack) j
-arrives s h sent y to rest m n FtField.Absent p = (0, half-none p)
-arrives s h sent y to rest m n (FtField.Number a) p = half-ack p
+pub arrives : (s : State) (h : History) (re : Bool) (sent : ℕ) (y : Side) (to rest : List Packet) (m : List ℕ) (n : FtNumber) (ack : FtField)
+    → Half (sndOf s h) sent true true re (rcvOf (y .state) (y .history)) (datas to) (acksOf (carried m n ack ∷ rest))
+    → (j : ℕ) × Freed (sndOf s h) sent re (rcvOf (y .state) (y .history)) (datas to) (acksOf rest) (ackBorne s ack) j
+arrives s h re sent y to rest m n FtField.Absent p = (0, half-none p)
+arrives s h re sent y to rest m n (FtField.Number a) p = half-ack p
 
-module _ (s : State) (sent : ℕ) (h : History) (g : Message) (j : ℕ) (acks : ackOn s g ≡ Ack.Releases j) where
+module _ (s : State) (re : Bool) (sent : ℕ) (h : History) (g : Message) (j : ℕ) (acks : ackOn s g ≡ Ack.Releases j) where
   abbrev taking : Side
-  taking = side s (s .kept) (upWith sent) true true h
+  taking = side s (s .kept) (upWith re sent) true true h
 
   abbrev took : List (List ℕ) → Side
-  took got = side (receivedState s g) (receivedState s g .kept) (upWith (sent - j)) true true (takes (take j (s .queue)) got h)
+  took got = side (receivedState s g) (receivedState s g .kept) (upWith re (sent - j)) true true (takes (take j (s .queue)) got h)
 
   module _ {y : Side} {to : List Packet} where
-    pub dir-took : (got : List (List ℕ)) (rest : List Packet) → Freed (sndOf s h) sent (rcvOf (y .state) (y .history)) (datas to) (acksOf rest) (ackBorne s (g .ack)) j
+    pub dir-took : (got : List (List ℕ)) (rest : List Packet) → Freed (sndOf s h) sent re (rcvOf (y .state) (y .history)) (datas to) (acksOf rest) (ackBorne s (g .ack)) j
         → {fro : List Packet} → Dir taking y to fro → Dir (took got) y to rest
     unfolding receivedState taken acked
     dir-took got rest f d = record { half = rw acks (f .half); shape = d .shape; fines = d .fines }

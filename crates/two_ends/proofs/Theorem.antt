@@ -1,5 +1,5 @@
 -- Over any run: nothing lost, nothing twice. Assumes nothing.
-use Prim.Native.Nat.{ℕ, _≤_}
+use Prim.Native.Nat.{ℕ, _≤_, _+_}
 use mathlib.Core.Bool.{Bool, true, false}
 use mathlib.Core.List.{List, [], _∷_, _++_}
 use mathlib.Core.Path.{_≡_, sym, ap, _∙_}
@@ -7,13 +7,15 @@ use native.Mathlib.Omega.{arith}
 use lib.ListN.{length, take, drop, length-append, take-append-drop}
 use lib.Seq.{take-take, length-take-le}
 use Rattle.protocol.specs.State.{State}
-use Rattle.two_ends.specs.Demand.{Opens, heldMessages, Safe, Demand}
+use Rattle.two_ends.specs.Demand.{Opens, heldMessages, Safe, Demand, letgoRead, heldRead, acceptedRead}
+use Rattle.two_ends.specs.LeftOut.{without}
 use Rattle.two_ends.specs.Runs.{Event, submits, sends, keepalives, opens, passes, delivers, breaks, notices, restarts, ProperEvent, act, eventAt, run, AllProperEvents}
 use Rattle.two_ends.specs.Start.{Opener, start, Fit, Afresh}
 use Rattle.two_ends.specs.World.{End, World, swap, Lasts}
 use Rattle.two_ends.proofs.Arriving.{f}
 use Rattle.two_ends.proofs.Begun.{at-start}
 use Rattle.two_ends.proofs.Delivered.{at-delivers}
+use Rattle.two_ends.proofs.Gaps.{without-append}
 use Rattle.two_ends.proofs.Invariant.{sideOf, Ready, Dir, Good}
 use Rattle.two_ends.proofs.Opening.{at-opens}
 use Rattle.two_ends.proofs.Packets.{Packet}
@@ -46,8 +48,11 @@ at-run w [] p g = g
 at-run w (v ∷ vs) p g = at-run (eventAt w (v .0) (v .1)) vs (p .1) (at-step w (v .0) (v .1) (p .0) g)
 
 -- ---- what it says of one direction
-opening : (n : ℕ) (l : List (List ℕ)) → Opens (take n l) l
-opening n l = record { rest = drop n l; whole = take-append-drop n l }
+pub opening : (left : List ℕ) (n : ℕ) (l : List (List ℕ)) → Opens (without left 0 (take n l)) (without left 0 l)
+opening left n l = record {
+  rest = without left (0 + length (take n l)) (drop n l);
+  whole = sym (without-append left 0 (take n l) (drop n l)) ∙ ap (without left 0) (take-append-drop n l);
+}
 
 -- the state that counts is that of an end that has begun
 begun-state : (x : End) → x .begun ≡ true → sideOf x .state ≡ x .state
@@ -62,16 +67,27 @@ safe {x} {y} r d =
     let p = d .half in
     let b = p .books in
     let acc = x .history .accepted in
+    let left = x .history .left in
     let rest : x .begun ≡ true → x .history .letgo ++ heldMessages x ≡ acc =
     λ g. rw (b .rel) (ap (λ (q : List (List ℕ)). take (p .r) acc ++ q) (ap (λ (s : State). s .queue) (sym (begun-state x g)) ∙ b .que) ∙ take-append-drop (p .r) acc) in
+    let read : x .begun ≡ true → letgoRead x ++ heldRead x ≡ acceptedRead x =
+    λ g. let at : 0 + length (x .history .letgo) ≡ length (x .history .letgo) = omega arith in
+    sym (rw at at (without-append left 0 (x .history .letgo) (heldMessages x))) ∙ ap (without left 0) (rest g) in
     record {
-      in-order = rw (b .sec) (opening (p .s) acc);
-      let-go = rw (b .sec, b .rel, ← (take-take (p .r) (p .s) acc (b .rs))) (opening (p .r) (take (p .s) acc));
-      rest-held = rest;
-      counts = λ g. ap length (sym (rest g)) ∙ length-append (x .history .letgo) (heldMessages x);
+      in-order = rw (b .sec) (opening left (p .s) acc);
+      let-go = rw (b .sec, b .rel, ← (take-take (p .r) (p .s) acc (b .rs))) (opening left (p .r) (take (p .s) acc));
+      rest-held = read;
+      counts = λ g. ap length (sym (read g)) ∙ length-append (letgoRead x) (heldRead x);
       at-most = r .few;
+      slots = rest;
+      only = λ j e. p .marks j e .1;
       released = λ g. ap (λ (s : State). s .released .0) (sym (begun-state x g)) ∙ by-length acc (p .r) (b .rel) (omega (arith, b .rs, b .si, b .ia)) (b .isR);
-      secured = λ g. ap (λ (s : State). s .secured .0) (sym (begun-state y g)) ∙ by-length acc (p .s) (b .sec) (omega (arith, b .si, b .ia)) (b .isS);
+      secured = λ g. record {
+        position = p .s;
+        within = omega (arith, b .si, b .ia);
+        number = ap (λ (s : State). s .secured .0) (sym (begun-state y g)) ∙ b .isS;
+        all = b .sec;
+      };
     }
 
 -- ---- THE THEOREM: over every run from such a start, as long as neither end has released its state

@@ -75,6 +75,7 @@ some-off s ga gb =
         peer = ready-off (i .peer) gb;
         out = dir-lost (i .out) gb;
         back = dir-lost (i .back) ga;
+        agree = ga ∙ sym gb;
       },
     )
 
@@ -88,7 +89,7 @@ pub at-swap : (w : World) → Good w → Good (swap w)
 at-swap w g k =
     let s = g k in
     let i = s .2 in
-    (s .1, s .0, record { lineA = i .lineB; lineB = i .lineA; own = i .peer; peer = i .own; out = i .back; back = i .out })
+    (s .1, s .0, record { lineA = i .lineB; lineB = i .lineA; own = i .peer; peer = i .own; out = i .back; back = i .out; agree = sym (i .agree) })
 
 -- ---- what a call leaves: the end is on the connection as before, or has closed it
 abbrev pub Settled : End → End → List (List ℕ) → List (List ℕ) → Type 0

@@ -53,8 +53,9 @@ module _ (now : State) (h : History) (id : MessageId) (small : id .0 < 429496729
             lineB = i .lineB;
             own = i .own;
             peer = i .peer;
-            out = dir-alive now (now .kept) (on .sent) true h id fine (i .out);
-            back = dir-alive-peer now (now .kept) (on .sent) true h id (i .back);
+            out = dir-alive now (now .kept) (on .resumed) (on .sent) true h id fine (i .out);
+            back = dir-alive-peer now (now .kept) (on .resumed) (on .sent) true h id (i .back);
+            agree = i .agree;
           },
         ),
       )

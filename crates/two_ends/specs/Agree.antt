@@ -37,9 +37,9 @@ abbrev pub codeAfter : ℕ → ℕ → List (List ℕ) → ℕ
 codeAfter l c [] = c
 codeAfter l c (m ∷ ms) = codeAfter l (codeBy l c (submissionOf m)) ms
 
--- given, or withdrawing; in use, or asked back
+-- given, or withdrawn and its Release has not come; in use, or asked back
 abbrev pub IsGiven : ℕ → Type 0
-IsGiven c = (c ≡ 1) ⊎ (c ≡ 2)
+IsGiven c = (c ≡ 1) ⊎ ((c ≡ 2) ⊎ (c ≡ 8))
 
 abbrev pub IsUsed : ℕ → Type 0
 IsUsed c = (c ≡ 3) ⊎ (c ≡ 4)
@@ -50,6 +50,6 @@ abbrev pub Agree : List ℕ → List ℕ → List (List ℕ) → List (List ℕ)
 Agree giver user out back =
     (l : ℕ) → listable l ≡ true → IsGiven (codeAt giver Given l) → isHeld 3 l back ≡ false → IsUsed (codeAfter l (codeAt user Used l) out)
 
--- every label that x lists as given or withdrawing is in use or asked back at y
+-- every label that x lists as given, or as withdrawn and not released, is in use or asked back at y
 abbrev pub InUse : End → End → Type 0
 InUse x y = (l : ℕ) → listable l ≡ true → IsGiven (codeAt (x .state .table .words) Given l) → IsUsed (codeAt (y .state .table .words) Used l)

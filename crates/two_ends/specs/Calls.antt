@@ -1,5 +1,5 @@
 -- What a call at the end a makes of the world: each is the protocol's own rule.
-use Prim.Native.Nat.{ℕ, _-_}
+use Prim.Native.Nat.{ℕ, _+_, _-_}
 use mathlib.Core.Bool.{Bool, true, false, not}
 use mathlib.Core.List.{List, [], _∷_, _++_}
 use lib.ListN.{length, take}
@@ -11,10 +11,11 @@ use Rattle.protocol.specs.declared.Start.{Start}
 use Rattle.protocol.specs.Answers.{isDone}
 use Rattle.protocol.specs.Init.{initStart, initReceived}
 use Rattle.protocol.specs.Labels.{isProtected}
-use Rattle.protocol.specs.Phases.{awaits, connected}
+use Rattle.protocol.specs.Phases.{awaits, connected, sentOf}
 use Rattle.protocol.specs.Receive.{receive}
 use Rattle.protocol.specs.State.{State}
 use Rattle.protocol.specs.Step.{Step}
+use Rattle.two_ends.specs.LeftOut.{positions}
 use Rattle.two_ends.specs.World.{History, End, World}
 
 -- ---- the connection
@@ -63,12 +64,27 @@ counts e x h = pick (both (e .begun) (isDone (x .answer))) h (e .history)
 
 -- ---- Submit: a message that is accepted
 abbrev pub accepts : List ℕ → History → History
-accepts m h = record { accepted = h .accepted ++ (m ∷ []); letgo = h .letgo; secured = h .secured }
+accepts m h = record { accepted = h .accepted ++ (m ∷ []); letgo = h .letgo; secured = h .secured; left = h .left }
 
 abbrev pub offered : World → List ℕ → Step → World
 offered w m x = replaced w (called (w .a) x (counts (w .a) x (accepts m (w .a .history)))) (w .ab) (w .ba)
 
--- ---- Send next, KeepAlive, Open
+-- ---- Send next: of the messages not counted as sent it leaves out as many of the oldest as it tells. The oldest held stands behind those let go
+abbrev pub leavesOut : ℕ → Step → History → History
+leavesOut sent x h = record {
+  accepted = h .accepted;
+  letgo = h .letgo;
+  secured = h .secured;
+  left = h .left ++ positions (length (h .letgo) + sent) (x .leftout);
+}
+
+abbrev pub sentHistory : End → Step → History
+sentHistory e x = counts e x (leavesOut (sentOf (e .phase)) x (e .history))
+
+abbrev pub sent : World → Step → World
+sent w x = replaced w (called (w .a) x (sentHistory (w .a) x)) (put (w .a .joined) (w .ab) x) (w .ba)
+
+-- ---- KeepAlive, Open
 abbrev pub wrote : World → Step → World
 wrote w x = replaced w (called (w .a) x (w .a .history)) (put (w .a .joined) (w .ab) x) (w .ba)
 
@@ -93,7 +109,7 @@ abbrev pub securing : List ℕ → List (List ℕ)
 securing m = pick (protects (readingOf m)) (payloadOf m ∷ []) []
 
 abbrev pub takes : List (List ℕ) → List (List ℕ) → History → History
-takes gone got h = record { accepted = h .accepted; letgo = h .letgo ++ gone; secured = h .secured ++ got }
+takes gone got h = record { accepted = h .accepted; letgo = h .letgo ++ gone; secured = h .secured ++ got; left = h .left }
 
 -- the peer's Init
 abbrev pub isFresh : Start → Bool

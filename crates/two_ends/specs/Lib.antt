@@ -1,11 +1,15 @@
+pub mod LeftOut
 pub mod World
 pub mod Calls
 pub mod Runs
 pub mod Start
 pub mod Demand
+pub mod Before
+pub mod Omitted
 pub mod Answers
 pub mod Staying
 pub mod Labels
 pub mod Steady
 pub mod Agree
+pub mod Match
 pub mod Stops

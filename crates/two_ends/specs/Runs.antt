@@ -13,7 +13,7 @@ use Rattle.protocol.specs.Open.{openSession}
 use Rattle.protocol.specs.Send.{sendNext}
 use Rattle.protocol.specs.Submit.{submit}
 use Rattle.protocol.specs.TimePassed.{timePassed}
-use Rattle.two_ends.specs.Calls.{disconnected, plainly, offered, wrote, opened, delivery}
+use Rattle.two_ends.specs.Calls.{disconnected, plainly, offered, sent, wrote, opened, delivery}
 use Rattle.two_ends.specs.World.{World, swap}
 
 -- at one end: every public call with whatever its owner gives, the oldest message delivered, the connection broken, and power lost
@@ -54,7 +54,7 @@ ProperEvent restarts = Unit {0}
 -- an event at the end a
 abbrev pub act : World → Event → World
 act w (submits m) = offered w m (submit (w .a .state) (w .a .phase) m)
-act w (sends ask room) = wrote w (sendNext (w .a .state) (w .a .phase) ask room)
+act w (sends ask room) = sent w (sendNext (w .a .state) (w .a .phase) ask room)
 act w (keepalives id room) = wrote w (keepalive (w .a .state) (w .a .phase) id room)
 act w (opens id p t room) = opened w (openSession (w .a .state) (w .a .phase) id p t room)
 act w (passes elapsed) = plainly w (timePassed (w .a .state) (w .a .phase) elapsed)

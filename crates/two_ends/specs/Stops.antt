@@ -7,6 +7,7 @@ use mathlib.Core.Path.{_≡_}
 use Rattle.message.specs.declared.Submission.{Submission}
 use Rattle.message.specs.Submission.{submissionOf}
 use Rattle.protocol.specs.Accepting.{stopAfter}
+use Rattle.two_ends.specs.Demand.{acceptedRead}
 use Rattle.two_ends.specs.World.{End}
 
 -- whether Requests are stopped after a message with that submission: 9 stops them, 6 lets them go on
@@ -27,4 +28,4 @@ pub record Stops (x y : End) : Type 0 where
   -- the peer's 2, "told so", is what it secured since then
   pub told : y .begun ≡ true → y .state .marks .stopped ≡ stopIn false (y .history .secured)
   -- so once every message has arrived the one is set where the other is
-  pub agree : x .begun ≡ true → y .begun ≡ true → y .history .secured ≡ x .history .accepted → y .state .marks .stopped ≡ x .state .marks .stopping
+  pub agree : x .begun ≡ true → y .begun ≡ true → y .history .secured ≡ acceptedRead x → y .state .marks .stopped ≡ x .state .marks .stopping

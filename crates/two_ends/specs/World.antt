@@ -6,14 +6,16 @@ use mathlib.Core.Path.{_≡_}
 use Rattle.protocol.specs.declared.Phase.{Phase}
 use Rattle.protocol.specs.State.{State}
 
--- the messages, as submitted: accepted to send, let go by an ACK, and secured of the peer's
+-- the messages, as submitted: accepted to send, let go by an ACK, and secured of the peer's; and those left out, that is that a Send has passed over: each by its
+-- position among the accepted
 pub record History : Type 0 where
   pub accepted : List (List ℕ)
   pub letgo : List (List ℕ)
   pub secured : List (List ℕ)
+  pub left : List ℕ
 
 abbrev pub noHistory : History
-noHistory = record { accepted = []; letgo = []; secured = [] }
+noHistory = record { accepted = []; letgo = []; secured = []; left = [] }
 
 -- a cabinet: its state, its phase, whether it is on the present connection, whether it has come to its own fresh UpFT, and its history since then
 pub record End : Type 0 where

@@ -7,10 +7,10 @@ use Rattle.protocol.specs.Submit.{submit}
 use Rattle.two_ends.specs.Staying.{Stays}
 use Rattle.two_ends.specs.World.{swap}
 use Rattle.two_ends_runs.specs.Breaks.{situation, halfOpen, halfOpen-ends, rejoined, rejoined-ends, over, over-begins, afresh, afresh-begins, exchange, exchanged, waits, waits-4, waits-5, returns, returns-4, returns-5}
-use Rattle.two_ends_runs.specs.Cabinets.{address}
-use Rattle.two_ends_runs.specs.Race.{race, labels, race-ends}
+use Rattle.two_ends_runs.specs.Cabinets.{address, mapping}
+use Rattle.two_ends_runs.specs.Race.{race, labels, race-ends, race-asked, race-asked-ends}
 use Rattle.two_ends_runs.specs.Tales.{ending, begin, again, again-ends, restart, restart-ends, early, early-ends, full, full-ends}
-use Rattle.two_ends_runs.specs.Withdrawal.{stages, asked, asked-codes, acked-first, acked-first-codes, released-first, released-first-codes}
+use Rattle.two_ends_runs.specs.Withdrawal.{stages, asked, asked-codes, acked-first, acked-first-codes, released-first, released-first-codes, acknowledged, mapped-anew, mapped-anew-codes, through}
 use Rattle.two_ends_runs.proofs.Opened.{everything}
 
 -- both are up, and nothing is held
@@ -33,6 +33,10 @@ early-is = refl
 pub race-is : labels race ≡ race-ends
 unfolding everything
 race-is = refl
+
+pub race-asked-is : labels race-asked ≡ race-asked-ends
+unfolding everything
+race-asked-is = refl
 
 -- the 64th is taken, the 65th refused
 pub sixty-four : ending (full 64) ≡ full-ends
@@ -87,3 +91,12 @@ acked-first-is = refl
 pub released-first-is : stages (begin []) (asked ++ released-first) ≡ asked-codes ++ released-first-codes
 unfolding everything
 released-first-is = refl
+
+-- a label that is withdrawn and acknowledged is not mapped anew (6) before the peer has given it back
+pub mapped-anew-refused : (let a = through (begin []) (asked ++ acknowledged) .a in submit (a .state) (a .phase) (mapping 3) .answer) ≡ Answer.LabelNotAllowed
+unfolding everything
+mapped-anew-refused = refl
+
+pub mapped-anew-is : stages (through (begin []) (asked ++ acknowledged)) mapped-anew ≡ mapped-anew-codes
+unfolding everything
+mapped-anew-is = refl

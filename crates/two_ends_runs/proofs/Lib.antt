@@ -3,3 +3,4 @@ pub mod Computed
 pub mod Media
 pub mod PowerCut
 pub mod Rounds
+pub mod Undone

@@ -5,6 +5,7 @@ use Rattle.octets.specs.Laid.{laid}
 use Rattle.ft_number.specs.Ack.{ackOf}
 use Rattle.ft_number.specs.Circle.{after, stepsOf}
 use Rattle.ft_number.specs.Timeout.{lesserOf}
+use Rattle.ft_number.specs.Turn.{numberTurn}
 use Rattle.label_list.specs.Counting.{counting}
 use Rattle.label_list.specs.Find.{any, findOf}
 use Rattle.label_list.specs.Protection.{barsProtection, codeProtection, needsProtection}
@@ -35,10 +36,11 @@ use Rattle.protocol.specs.Held.{isHeld}
 use Rattle.protocol.specs.Init.{bothSet, startOf, fresh, resumed, initReceived}
 use Rattle.protocol.specs.KeepAlive.{keepalive}
 use Rattle.protocol.specs.Labels.{labelEffect, protectionRule, answers, answeredAt}
+use Rattle.protocol.specs.LeftOut.{isAborted, passedOver}
 use Rattle.protocol.specs.Open.{keptAck, openSession}
 use Rattle.protocol.specs.Phases.{issuedCount, phaseFits}
 use Rattle.protocol.specs.Receive.{ackOn, ftRule, labelsRule, messageRule, taken, receivedState, receive}
-use Rattle.protocol.specs.Send.{queueNumber, ackAsked, sendBytes, sendRule, numbered, sentState, sendNext}
+use Rattle.protocol.specs.Send.{placeSent, queueNumber, ackAsked, sendBytes, sendRule, numbered, sentState, sendNext}
 use Rattle.protocol.specs.Step.{settle, admitted}
 use Rattle.protocol.specs.Submit.{kindRule, submitRule, submitted, submit}
 use Rattle.protocol.specs.TimePassed.{expired, timePassed}
@@ -46,5 +48,5 @@ use Rattle.protocol.specs.Writer.{writer}
 
 -- to unfold this is to unfold all of them
 unfoldable pub everything : ℕ
-unfolding laid fix steps ackOf after stepsOf lesserOf tlvOf fecAt fieldAt numberAt parametersAt partAt sessionAt notedOf tlvsOf turnOf walkOf kindOf messageOf placesOf readingOf typeOf bearsFt submissionOf raised keptOf payloadOf any findOf barsProtection codeProtection needsProtection codeAccepted codeAcked codeReceived codeSwept receivedSide sentSide wordSwept validOf validWord isFree onSide standsFor wordOf acceptedOf planOf ackedAt changeAt changed codeIn protectionOf receivedChange receivedWith endedAt roomAt askedPlan abortedPlan counting openAt isRequest idAt answers answeredAt idsAccepted effectOf issuedCount phaseFits isHeld settle admitted acceptedAs isBarred acked releasedKind releasedLabels kindRule submitRule submitted submit queueNumber ackAsked sendBytes sendRule numbered sentState sendNext labelEffect protectionRule bothSet startOf fresh resumed initReceived ackOn ftRule labelsRule messageRule taken receivedState receive connectionFailed expired timePassed writer keepalive keptAck openSession
+unfolding laid fix steps ackOf after stepsOf lesserOf tlvOf fecAt fieldAt numberAt parametersAt partAt sessionAt notedOf tlvsOf turnOf walkOf numberTurn kindOf messageOf placesOf readingOf typeOf bearsFt submissionOf raised keptOf payloadOf any findOf barsProtection codeProtection needsProtection codeAccepted codeAcked codeReceived codeSwept receivedSide sentSide wordSwept validOf validWord isFree onSide standsFor wordOf acceptedOf planOf ackedAt changeAt changed codeIn protectionOf receivedChange receivedWith endedAt roomAt askedPlan abortedPlan counting openAt isRequest idAt answers answeredAt idsAccepted effectOf issuedCount phaseFits isHeld settle admitted acceptedAs isBarred acked releasedKind releasedLabels kindRule submitRule submitted submit isAborted passedOver placeSent queueNumber ackAsked sendBytes sendRule numbered sentState sendNext labelEffect protectionRule bothSet startOf fresh resumed initReceived ackOn ftRule labelsRule messageRule taken receivedState receive connectionFailed expired timePassed writer keepalive keptAck openSession
 everything = 0

@@ -4,13 +4,16 @@ use mathlib.Core.Bool.{true, false}
 use mathlib.Core.List.{List, [], _∷_, _++_}
 use mathlib.Core.Path.{_≡_, refl, sym, ap, _∙_}
 use native.Mathlib.Omega.{arith}
-use borrow.Author.Tests.{eq-eqb, ne-eqb}
+use borrow.Author.Tests.{ne-eqb}
 use Rattle.octets.specs.Laid.{laid}
 use Rattle.ft_number.specs.declared.FtNumber.{FtNumber}
 use Rattle.ft_number.specs.declared.Steps.the-variants.{Count}
+use Rattle.ft_number.specs.declared.Turn.{Turn}
 use Rattle.ft_number.specs.Ack.{ackOf}
 use Rattle.ft_number.specs.Circle.{after, circle, next, stepsOf}
+use Rattle.ft_number.specs.Turn.{numberTurn}
 use Rattle.ft_number.proofs.Circle.{after-is, after-none, after-suc, steps-after}
+use Rattle.ft_number.proofs.Turns.{means-turn}
 use Rattle.label_list.specs.Counting.{counting}
 use Rattle.label_list.specs.Word.{isRequest}
 use Rattle.tlv.specs.declared.FtField.{FtField}
@@ -38,13 +41,14 @@ use Rattle.protocol.specs.Acked.{acked, releasedKind, releasedLabels}
 use Rattle.protocol.specs.Answers.{effectOf}
 use Rattle.protocol.specs.KeepAlive.{keepalive}
 use Rattle.protocol.specs.Labels.{labelEffect, protectionRule, answers, answeredAt}
+use Rattle.protocol.specs.LeftOut.{passedOver}
 use Rattle.protocol.specs.Phases.{issuedCount, phaseFits, upWith}
 use Rattle.protocol.specs.Receive.{ackOn, ftRule, labelsRule, messageRule, receivedState, taken, receive}
-use Rattle.protocol.specs.Send.{ackAsked, queueNumber, numbered, sendBytes, sendNext, sendRule, sentState}
+use Rattle.protocol.specs.Send.{ackAsked, placeSent, queueNumber, numbered, sendBytes, sendNext, sendRule, sentState}
 use Rattle.protocol.specs.State.{State, withQueue, withReleased}
 use Rattle.protocol.specs.Step.{Step, admitted, settle, stepped}
 use Rattle.protocol.specs.Submit.{kindRule, submit, submitRule, submitted}
-use Rattle.two_ends.specs.Calls.{offered, wrote}
+use Rattle.two_ends.specs.Calls.{offered, sent, wrote}
 use Rattle.two_ends.specs.Runs.{delivers, keepalives, run, sends, eventAt, submits}
 use Rattle.two_ends.specs.World.{World, swap}
 use Rattle.two_ends.proofs.Positions.{num-le}
@@ -75,10 +79,10 @@ unfolding everything
 plain-submits = refl
 
 -- a world in which both are up: a's state, what it has sent on this connection, accepted and let go, b's state and what it has secured, and the two lines
-abbrev up : State → ℕ → List (List ℕ) → List (List ℕ) → State → List (List ℕ) → List (List ℕ) → List (List ℕ) → World
+abbrev pub up : State → ℕ → List (List ℕ) → List (List ℕ) → State → List (List ℕ) → List (List ℕ) → List (List ℕ) → World
 up s sent accepted letgo t secured ab ba = record {
-  a = record { state = s; phase = upWith sent; joined = true; begun = true; history = record { accepted = accepted; letgo = letgo; secured = [] } };
-  b = record { state = t; phase = upWith 0; joined = true; begun = true; history = record { accepted = []; letgo = []; secured = secured } };
+  a = record { state = s; phase = upWith false sent; joined = true; begun = true; history = record { accepted = accepted; letgo = letgo; secured = []; left = [] } };
+  b = record { state = t; phase = upWith false 0; joined = true; begun = true; history = record { accepted = []; letgo = []; secured = secured; left = [] } };
   ab = ab;
   ba = ba;
   started = true;
@@ -86,7 +90,7 @@ up s sent accepted letgo t secured ab ba = record {
 }
 
 -- nothing is held or under way; b has secured all that a has sent, and the last of it had that number
-abbrev quietAt : ℕ → List (List ℕ) → World
+abbrev pub quietAt : ℕ → List (List ℕ) → World
 quietAt n before = up (keptWith n 0) 0 before before (keptWith 0 n) before [] []
 
 begins-quiet : begin [] ≡ quietAt 0 []
@@ -105,15 +109,15 @@ module _ (x : ℕ) (low : x ≤ circle) where
   steps-one = steps-after x 1 low (omega arith)
 
   -- ---- a accepts 7, and sends it
-  submits-it : submit (keptWith x 0) (upWith 0) (address 7) ≡ stepped Answer.Done (sender x x (address 7 ∷ [])) (upWith 0) []
+  submits-it : submit (keptWith x 0) (upWith false 0) (address 7) ≡ stepped Answer.Done (sender x x (address 7 ∷ [])) (upWith false 0) []
   unfolding submit settle admitted phaseFits issuedCount effectOf submitRule kindRule isBarred acceptedAs idsAccepted submitted counting isRequest
   submits-it = rw (steps-none, plain-submits)
 
   abbrev carried : List ℕ
   carried = protectedBytes (address 7) (number y) (FtField.Number (number 0))
 
-  sends-it : sendNext (sender x x (address 7 ∷ [])) (upWith 0) true room ≡ stepped Answer.Done (sender x y (address 7 ∷ [])) (upWith 1) carried
-  unfolding sendNext settle admitted phaseFits sendRule sendBytes queueNumber ackAsked sentState numbered effectOf issuedCount after raised laid
+  sends-it : sendNext (sender x x (address 7 ∷ [])) (upWith false 0) true room ≡ stepped Answer.Done (sender x y (address 7 ∷ [])) (upWith false 1) carried
+  unfolding sendNext settle admitted phaseFits sendRule sendBytes queueNumber ackAsked sentState numbered effectOf issuedCount after raised laid placeSent passedOver
   sends-it = rw steps-none
 
   -- ---- b takes it
@@ -129,22 +133,26 @@ module _ (x : ℕ) (low : x ≤ circle) where
   carried-payload =
       protected-payload (address 7) plain (number y) (FtField.Number (number 0)) plain-reads (record { session = refl; protection = refl; ack = refl }) (omega arith) (omega arith)
 
-  takes-it : receive (keptWith 0 x) (upWith 0) carried ≡ stepped Answer.Done (keptWith 0 y) (upWith 0) []
+  in-turn : numberTurn false x y ≡ Turn.InTurn 0
+  unfolding after
+  in-turn = means-turn false x 0 low (omega arith)
+
+  takes-it : receive (keptWith 0 x) (upWith false 0) carried ≡ stepped Answer.Done (keptWith 0 y) (upWith false 0) []
   unfolding receive settle admitted phaseFits issuedCount effectOf ftRule messageRule labelsRule protectionRule labelEffect kindOf ackOn ackOf stepsOf receivedState taken acked releasedLabels answers answeredAt endedAt counting isRequest
-  takes-it = rw (carried-reads, ne-eqb y 0 (omega arith), eq-eqb y y refl)
+  takes-it = rw (carried-reads, ne-eqb y 0 (omega arith), in-turn)
 
   -- ---- b acknowledges it, and a lets it go
   abbrev alive : List ℕ
   alive = keepaliveBytes id (FtField.Number (number y))
 
-  says-it : keepalive (keptWith 0 y) (upWith 0) id room ≡ stepped Answer.Done (keptWith 0 y) (upWith 0) alive
+  says-it : keepalive (keptWith 0 y) (upWith false 0) id room ≡ stepped Answer.Done (keptWith 0 y) (upWith false 0) alive
   unfolding everything
   says-it = refl
 
   alive-reads : readingOf alive ≡ Reading.Whole (keepaliveMessage id (FtField.Number (number y)))
   alive-reads = keepalive-reads id (FtField.Number (number y)) (omega arith) (omega arith)
 
-  lets-go : receive (sender x y (address 7 ∷ [])) (upWith 1) alive ≡ stepped Answer.Done (keptWith y 0) (upWith 0) []
+  lets-go : receive (sender x y (address 7 ∷ [])) (upWith false 1) alive ≡ stepped Answer.Done (keptWith y 0) (upWith false 0) []
   unfolding receive settle admitted phaseFits issuedCount effectOf ftRule messageRule labelsRule protectionRule labelEffect kindOf ackOn ackOf receivedState taken acked releasedLabels releasedKind answers answeredAt endedAt counting isRequest
   lets-go = rw (alive-reads, steps-one, plain-submits)
 
@@ -172,7 +180,7 @@ module _ (x : ℕ) (low : x ≤ circle) where
     accepts = ap (offered (quietAt x before) (address 7)) submits-it
 
     writes : eventAt w₁ true (sends true room) ≡ w₂
-    writes = ap (wrote w₁) sends-it
+    writes = ap (sent w₁) sends-it
 
     secures : eventAt w₂ false delivers ≡ w₃
     secures = rw (takes-it, carried-reads, carried-payload)
@@ -192,7 +200,7 @@ module _ (x : ℕ) (low : x ≤ circle) where
         ∙ releases
 
 -- ---- so many of them, from two new cabinets
-rounds-lead : (n : ℕ) → begin (rounds n) ≡ quietAt (after n 0) (sevens n)
+pub rounds-lead : (n : ℕ) → begin (rounds n) ≡ quietAt (after n 0) (sevens n)
 unfolding rounds sevens
 rounds-lead zero = rw (after-none 0) begins-quiet
 rounds-lead (suc n) =
@@ -201,7 +209,7 @@ rounds-lead (suc n) =
     ∙ one-round (after n 0) (num-le n) (sevens n)
     ∙ ap (λ (k : ℕ). quietAt k (sevens n ++ (address 7 ∷ []))) (sym (after-suc n 0))
 
-last-number : after 0xFFFFFFFE 0 ≡ 0xFFFFFFFE
+pub last-number : after 0xFFFFFFFE 0 ≡ 0xFFFFFFFE
 last-number = after-is 0xFFFFFFFE 0 (omega arith) (omega arith)
 
 crosses : (before : List (List ℕ)) → ending (run (quietAt 0xFFFFFFFE before) crossing) ≡ crossed before

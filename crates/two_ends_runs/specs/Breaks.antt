@@ -32,7 +32,7 @@ halfOpen =
 
 abbrev pub halfOpen-ends : Situation
 halfOpen-ends = record {
-  phase = upWith 2;
+  phase = upWith false 2;
   joined = false;
   kept = true;
   out = [];
@@ -177,4 +177,4 @@ abbrev pub returns-4 : Ending
 returns-4 = exchanged 7
 
 abbrev pub returns-5 : Situation
-returns-5 = record { phase = upWith 0; joined = true; kept = true; out = []; ending = gone }
+returns-5 = record { phase = upWith false 0; joined = true; kept = true; out = []; ending = gone }

@@ -26,6 +26,13 @@ withdraw n = labelled 2 n
 abbrev pub release : ℕ → List ℕ
 release n = labelled 3 n
 
+-- a Request with that message ID and an empty FEC, and an Abort of it with another
+abbrev pub request : ℕ → List ℕ
+request n = 4 ∷ 1 ∷ 0 ∷ 8 ∷ 0 ∷ 0 ∷ 0 ∷ n ∷ 1 ∷ 0 ∷ 0 ∷ 0 ∷ []
+
+abbrev pub abort : ℕ → ℕ → List ℕ
+abort n named = 4 ∷ 4 ∷ 0 ∷ 16 ∷ 0 ∷ 0 ∷ 0 ∷ n ∷ 1 ∷ 0 ∷ 0 ∷ 0 ∷ 6 ∷ 0 ∷ 0 ∷ 4 ∷ 0 ∷ 0 ∷ 0 ∷ named ∷ []
+
 -- room for the output of a writer
 abbrev pub room : ℕ
 room = 42

@@ -5,3 +5,4 @@ pub mod Breaks
 pub mod Withdrawal
 pub mod PowerCut
 pub mod Wrap
+pub mod Undone

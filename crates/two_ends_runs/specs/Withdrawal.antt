@@ -13,7 +13,7 @@ stages w [] = []
 stages w (vs ∷ rest) = labels (run w vs) ∷ stages (run w vs) rest
 
 -- with nothing under way: the code of 16 that a has given and that b uses, and what a and b hold
-abbrev codes : ℕ → ℕ → List (List ℕ) → List (List ℕ) → Labels
+abbrev pub codes : ℕ → ℕ → List (List ℕ) → List (List ℕ) → Labels
 codes given used held theirs = record { held = held; theirs = theirs; out = []; back = []; given = given; used = used; started = true; unreleased = true }
 
 -- a gives label 16, b uses it and acknowledges the Mapping; a withdraws it, and b is asked for it back
@@ -46,11 +46,11 @@ acked-first =
     ∷ (alive true ∷ deliver false ∷ [])
     ∷ []
 
--- "Released by ACK: Withdraw 2 becomes free"; "Release, .. 4 becomes free"; a Release of a label that is free, and its ACK, change nothing
+-- 02: "Free a withdrawn label at the second of Release and ACK. Codes 8 (the ACK) and 9 (the Release) say which one has come"; 01: "Release, .. 4 becomes free"
 abbrev pub acked-first-codes : List Labels
 acked-first-codes =
-    codes 0 4 [] []
-    ∷ codes 0 0 [] (release 3 ∷ [])
+    codes 8 4 [] []
+    ∷ codes 8 0 [] (release 3 ∷ [])
     ∷ codes 0 0 [] (release 3 ∷ [])
     ∷ codes 0 0 [] []
     ∷ []
@@ -64,11 +64,37 @@ released-first =
     ∷ (alive true ∷ deliver false ∷ [])
     ∷ []
 
--- "Release: 1, 2 become free": "the first of Release and ACK frees a withdrawn label"
 abbrev pub released-first-codes : List Labels
 released-first-codes =
     codes 2 0 (withdraw 2 ∷ []) (release 3 ∷ [])
-    ∷ codes 0 0 (withdraw 2 ∷ []) (release 3 ∷ [])
+    ∷ codes 9 0 (withdraw 2 ∷ []) (release 3 ∷ [])
     ∷ codes 0 0 [] (release 3 ∷ [])
     ∷ codes 0 0 [] []
     ∷ []
+
+-- ---- a label is mapped anew before the peer has given it back
+-- the ACK of the Withdraw has come, and a maps 16 again: it is refused (6). b releases 16; a maps it, and b uses it.
+-- Before 02's ticket 4 the ACK alone freed 16. The Mapping was taken, b stayed at 4, its Release freed what a had just given, and in the end neither listed 16, with every answer 0
+abbrev pub acknowledged : List (List (Bool × Event))
+acknowledged = (alive false ∷ deliver true ∷ []) ∷ []
+
+abbrev pub mapped-anew : List (List (Bool × Event))
+mapped-anew =
+    ((true, submits (mapping 3)) ∷ [])
+    ∷ ((false, submits (release 4)) ∷ send false ∷ deliver true ∷ [])
+    ∷ ((true, submits (mapping 5)) ∷ send true ∷ deliver false ∷ [])
+    ∷ (alive false ∷ deliver true ∷ [])
+    ∷ []
+
+abbrev pub mapped-anew-codes : List Labels
+mapped-anew-codes =
+    codes 8 4 [] []
+    ∷ codes 0 0 [] (release 4 ∷ [])
+    ∷ codes 1 3 (mapping 5 ∷ []) []
+    ∷ codes 1 3 [] []
+    ∷ []
+
+-- the world after these stages
+abbrev pub through : World → List (List (Bool × Event)) → World
+through w [] = w
+through w (vs ∷ rest) = through (run w vs) rest

@@ -11,10 +11,23 @@ pub const IMAGE_SIZE: usize = BLOCKS * BLOCK_SIZE;
 pub const BLOCK_SIZE: usize = 512;
 /// Block 0, 64 slots, and the block of the open Requests' message IDs.
 pub const BLOCKS: usize = 66;
+/// The most messages that are held, each in a slot of its own.
+pub const SLOTS: usize = 64;
+/// The label words.
+pub const PLACES: usize = 120;
 /// The block of the open Requests' message IDs, by its number.
 pub const REQUEST_BLOCK: usize = 65;
 /// The size of an image that a release without Requests stored: it lacks the last block.
 pub const IMAGE_SIZE_WITHOUT_REQUESTS: usize = REQUEST_BLOCK * BLOCK_SIZE;
+
+/// A byte of block 0 that says which end has told the other that it has no labels to give; it stays over a break.
+pub mod marks {
+    pub const AT: usize = 23;
+    /// The peer has told us: no new Requests.
+    pub const STOPPED: u8 = 2;
+    /// We have told the peer.
+    pub const STOPPING: u8 = 4;
+}
 
 /// The phases by their numbers.
 pub mod phase {
@@ -25,11 +38,35 @@ pub mod phase {
     pub const FAILED: u32 = 4;
 }
 
-/// The part of the state that is not in the image: the phase and, by phase, our proposed timeout or the count sent.
+/// The bits of [`Session::flags`]. One that the phase does not bear is not read, and written as 0.
+pub mod flags {
+    /// UpFT: both ends had kept their state when the connection began.
+    pub const RESUMED: u32 = 1;
+}
+
+/// The part of the state that is not in the image: the phase and, by phase, our proposed timeout or the count sent, and
+/// whether the connection is resumed.
 #[derive(Clone, Copy, Debug, Default, PartialEq, Eq)]
 pub struct Session {
     pub phase: u32,
     pub value: u32,
+    pub flags: u32,
+}
+
+impl Session {
+    /// A session with no flags.
+    pub const fn new(phase: u32, value: u32) -> Self {
+        Session { phase, value, flags: 0 }
+    }
+
+    /// UpFT on a resumed connection, with so many sent.
+    pub const fn resumed(sent: u32) -> Self {
+        Session { phase: phase::UP_FT, value: sent, flags: flags::RESUMED }
+    }
+
+    pub const fn is_resumed(&self) -> bool {
+        self.phase == phase::UP_FT && self.flags & flags::RESUMED != 0
+    }
 }
 
 /// What a call on an image did, and what its owner has to store.
@@ -43,6 +80,8 @@ pub struct Outcome {
     pub block0: u32,
     /// The blocks after the slots whose bytes changed, a bit each; see [`further`].
     pub further: u32,
+    /// Receive: numbers that the peer left out before this one; Send next: messages of ours that were passed over.
+    pub left_out: u32,
 }
 
 /// The bits of [`Outcome::further`].
@@ -70,7 +109,7 @@ pub struct Pdu {
     pub count: u32,
 }
 
-/// One message of a PDU, as a part of the PDU's bytes.
+/// One message of a PDU or of an image, as a part of its bytes.
 #[derive(Clone, Copy, Debug, Default, PartialEq, Eq)]
 pub struct Part {
     pub answer: u32,
@@ -120,11 +159,46 @@ pub struct Request {
     pub id: u32,
 }
 
+/// What an image holds: 0, or restore's refusal and all else 0.
+#[derive(Clone, Copy, Debug, Default, PartialEq, Eq)]
+pub struct Summary {
+    pub answer: u32,
+    pub block: u32,
+    pub kept: u32,
+    pub released: u32,
+    pub issued: u32,
+    pub secured: u32,
+    pub held: u32,
+    /// Those of the held that have no number yet.
+    pub pended: u32,
+    /// The words that are not free.
+    pub labels: u32,
+    /// Seconds, 0 for ever.
+    pub timeout: u32,
+    pub keepalive_time: u32,
+    pub max_pdu_length: u32,
+}
+
+/// All label words written, and how many of them are not free; or a refusal, and no word written.
+#[derive(Clone, Copy, Debug, Default, PartialEq, Eq)]
+pub struct Words {
+    pub answer: u32,
+    pub block: u32,
+    pub count: u32,
+}
+
 /// A stored image of an earlier size made one of this size: answer 0 and the blocks made, or 12 and none.
 #[derive(Clone, Copy, Debug, Default, PartialEq, Eq)]
 pub struct Extended {
     pub answer: u32,
     pub further: u32,
+}
+
+/// Whether a number may come next, and how many were left out before it: answer 0; or 20 or 30, and none.
+#[derive(Clone, Copy, Debug, Default, PartialEq, Eq)]
+pub struct Next {
+    pub answer: u32,
+    pub left_out: u32,
 }
 
 /// The signed distance of two FT numbers: answer 0, or 2 and no steps.
@@ -138,13 +212,13 @@ pub struct Distance {
 pub trait Cabinet {
     fn format(&self, image: &mut [u8]) -> Outcome;
     fn restore(&self, image: &mut [u8]) -> Outcome;
-    fn open(&self, image: &mut [u8], session: Session, opening: &Opening, out: &mut [u8]) -> Outcome;
+    fn open(&self, image: &[u8], session: Session, opening: &Opening, out: &mut [u8]) -> Outcome;
     fn init_received(&self, image: &mut [u8], session: Session, msg: &[u8]) -> Outcome;
     fn connection_failed(&self, image: &mut [u8], session: Session) -> Outcome;
     fn time_passed(&self, image: &mut [u8], session: Session, elapsed: u32) -> Outcome;
     fn submit(&self, image: &mut [u8], session: Session, msg: &[u8]) -> Outcome;
     fn send_next(&self, image: &mut [u8], session: Session, ack: bool, out: &mut [u8]) -> Outcome;
-    fn keepalive(&self, image: &mut [u8], session: Session, message_id: u32, out: &mut [u8]) -> Outcome;
+    fn keepalive(&self, image: &[u8], session: Session, message_id: u32, out: &mut [u8]) -> Outcome;
     fn receive(&self, image: &mut [u8], session: Session, msg: &[u8]) -> Outcome;
 
     fn pdu_open(&self, pdu: &[u8]) -> Pdu;
@@ -153,9 +227,15 @@ pub trait Cabinet {
 
     fn distance(&self, from: u32, to: u32) -> Distance;
     fn successor(&self, number: u32) -> u32;
+    /// Whether a protected message's number may come after the one secured last.
+    fn next_number(&self, secured: u32, number: u32, resumed: bool) -> Next;
     fn lesser_timeout(&self, a: u32, b: u32) -> u32;
     fn block_check(&self, block: &[u8]) -> u32;
     fn label(&self, image: &[u8], place: u32) -> u32;
     fn request_at(&self, image: &[u8], place: u32) -> Request;
+    fn summarize(&self, image: &[u8]) -> Summary;
+    fn labels(&self, image: &[u8], words: &mut [u32]) -> Words;
+    /// The message held at a place, 0 the oldest, as a part of the image.
+    fn held(&self, image: &[u8], place: u32) -> Part;
     fn extend(&self, image: &mut [u8], stored_len: usize) -> Extended;
 }

@@ -2,12 +2,13 @@
 
 #![allow(non_camel_case_types)]
 
-/// The phase and its value.
+/// The phase, its value and its flags.
 #[repr(C)]
 #[derive(Clone, Copy)]
 pub struct ldp_ft_session {
     pub phase: u32,
     pub value: u32,
+    pub flags: u32,
 }
 
 /// What a call on an image did, and what to store.
@@ -20,6 +21,7 @@ pub struct ldp_ft_outcome {
     pub slot: u32,
     pub block0: u32,
     pub further: u32,
+    pub left_out: u32,
 }
 
 /// A whole PDU judged.
@@ -29,7 +31,7 @@ pub struct ldp_ft_pdu {
     pub count: u32,
 }
 
-/// One message as a part of its PDU.
+/// One message as a part of its PDU, or of the image that holds it.
 #[repr(C)]
 pub struct ldp_ft_part {
     pub answer: u32,
@@ -73,6 +75,38 @@ pub struct ldp_ft_extended {
     pub further: u32,
 }
 
+/// What an image holds, in numbers.
+#[repr(C)]
+pub struct ldp_ft_summary {
+    pub answer: u32,
+    pub block: u32,
+    pub kept: u32,
+    pub released: u32,
+    pub issued: u32,
+    pub secured: u32,
+    pub held: u32,
+    pub pended: u32,
+    pub labels: u32,
+    pub timeout: u32,
+    pub keepalive_time: u32,
+    pub max_pdu_length: u32,
+}
+
+/// All label words written.
+#[repr(C)]
+pub struct ldp_ft_words {
+    pub answer: u32,
+    pub block: u32,
+    pub count: u32,
+}
+
+/// Whether a number may come next, and how many were left out before it.
+#[repr(C)]
+pub struct ldp_ft_next {
+    pub answer: u32,
+    pub left_out: u32,
+}
+
 /// The signed distance of two FT numbers.
 #[repr(C)]
 pub struct ldp_ft_distance_result {
@@ -84,7 +118,7 @@ extern "C" {
     pub fn ldp_ft_format(image: *mut u8, image_len: usize) -> ldp_ft_outcome;
     pub fn ldp_ft_restore(image: *mut u8, image_len: usize) -> ldp_ft_outcome;
     pub fn ldp_ft_open(
-        image: *mut u8,
+        image: *const u8,
         image_len: usize,
         s: ldp_ft_session,
         message_id: u32,
@@ -123,7 +157,7 @@ extern "C" {
         out_len: usize,
     ) -> ldp_ft_outcome;
     pub fn ldp_ft_keepalive(
-        image: *mut u8,
+        image: *const u8,
         image_len: usize,
         s: ldp_ft_session,
         message_id: u32,
@@ -142,9 +176,13 @@ extern "C" {
     pub fn ldp_ft_message_read(msg: *const u8, msg_len: usize) -> ldp_ft_message;
     pub fn ldp_ft_distance(from: u32, to: u32) -> ldp_ft_distance_result;
     pub fn ldp_ft_successor(number: u32) -> u32;
+    pub fn ldp_ft_next_number(secured: u32, number: u32, resumed: bool) -> ldp_ft_next;
     pub fn ldp_ft_lesser_timeout(a: u32, b: u32) -> u32;
     pub fn ldp_ft_block_check(block: *const u8, block_len: usize) -> u32;
     pub fn ldp_ft_label(image: *const u8, image_len: usize, place: u32) -> u32;
     pub fn ldp_ft_request_at(image: *const u8, image_len: usize, place: u32) -> ldp_ft_request;
+    pub fn ldp_ft_summarize(image: *const u8, image_len: usize) -> ldp_ft_summary;
+    pub fn ldp_ft_labels(image: *const u8, image_len: usize, words: *mut u32, words_len: usize) -> ldp_ft_words;
+    pub fn ldp_ft_held(image: *const u8, image_len: usize, place: u32) -> ldp_ft_part;
     pub fn ldp_ft_extend(image: *mut u8, image_len: usize, stored_len: usize) -> ldp_ft_extended;
 }

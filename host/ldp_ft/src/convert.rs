@@ -1,7 +1,7 @@
 //! Results as C has them and as Rust has them, both ways, field by field.
 
 use crate::abi::*;
-use cabinet::{Distance, Extended, Message, Outcome, Part, Pdu, Request, Session};
+use cabinet::{Distance, Extended, Message, Next, Outcome, Part, Pdu, Request, Session, Summary, Words};
 
 /// Conversions between two structs with the same fields.
 macro_rules! same_fields {
@@ -20,12 +20,18 @@ macro_rules! same_fields {
     };
 }
 
-same_fields!(Session, ldp_ft_session: phase, value);
+same_fields!(Session, ldp_ft_session: phase, value, flags);
 same_fields!(Pdu, ldp_ft_pdu: answer, count);
 same_fields!(Part, ldp_ft_part: answer, start, end);
+same_fields!(Next, ldp_ft_next: answer, left_out);
 same_fields!(Distance, ldp_ft_distance_result: answer, steps);
 same_fields!(Request, ldp_ft_request: open, id);
 same_fields!(Extended, ldp_ft_extended: answer, further);
+same_fields!(Words, ldp_ft_words: answer, block, count);
+same_fields!(
+    Summary, ldp_ft_summary:
+    answer, block, kept, released, issued, secured, held, pended, labels, timeout, keepalive_time, max_pdu_length
+);
 
 impl From<ldp_ft_outcome> for Outcome {
     fn from(c: ldp_ft_outcome) -> Self {
@@ -37,6 +43,7 @@ impl From<ldp_ft_outcome> for Outcome {
             slot: c.slot,
             block0: c.block0,
             further: c.further,
+            left_out: c.left_out,
         }
     }
 }
@@ -51,6 +58,7 @@ impl From<Outcome> for ldp_ft_outcome {
             slot: rust.slot,
             block0: rust.block0,
             further: rust.further,
+            left_out: rust.left_out,
         }
     }
 }

@@ -4,7 +4,9 @@ pub mod abi;
 mod convert;
 
 use abi::*;
-use cabinet::{Cabinet, Distance, Extended, Message, Opening, Outcome, Part, Pdu, Request, Session};
+use cabinet::{
+    Cabinet, Distance, Extended, Message, Next, Opening, Outcome, Part, Pdu, Request, Session, Summary, Words,
+};
 use core::ptr::{null, null_mut};
 
 /// The library. Every function of the boundary takes every input, keeps nothing and touches only the slices it is
@@ -14,7 +16,7 @@ use core::ptr::{null, null_mut};
 pub struct Library;
 
 /// Where a slice starts; null for an empty one, as C has it.
-fn start(slice: &[u8]) -> *const u8 {
+fn start<T>(slice: &[T]) -> *const T {
     if slice.is_empty() {
         null()
     } else {
@@ -23,7 +25,7 @@ fn start(slice: &[u8]) -> *const u8 {
 }
 
 /// Where a slice to be written starts.
-fn start_mut(slice: &mut [u8]) -> *mut u8 {
+fn start_mut<T>(slice: &mut [T]) -> *mut T {
     if slice.is_empty() {
         null_mut()
     } else {
@@ -42,11 +44,11 @@ impl Cabinet for Library {
         unsafe { ldp_ft_restore(start_mut(image), image.len()) }.into()
     }
 
-    fn open(&self, image: &mut [u8], session: Session, opening: &Opening, out: &mut [u8]) -> Outcome {
-        // SAFETY: two whole slices that do not overlap, lent for the call.
+    fn open(&self, image: &[u8], session: Session, opening: &Opening, out: &mut [u8]) -> Outcome {
+        // SAFETY: two whole slices that do not overlap, lent for the call; the image is only read.
         unsafe {
             ldp_ft_open(
-                start_mut(image),
+                start(image),
                 image.len(),
                 session.into(),
                 opening.message_id,
@@ -90,12 +92,10 @@ impl Cabinet for Library {
             .into()
     }
 
-    fn keepalive(&self, image: &mut [u8], session: Session, message_id: u32, out: &mut [u8]) -> Outcome {
+    fn keepalive(&self, image: &[u8], session: Session, message_id: u32, out: &mut [u8]) -> Outcome {
         // SAFETY: as for `open`.
-        unsafe {
-            ldp_ft_keepalive(start_mut(image), image.len(), session.into(), message_id, start_mut(out), out.len())
-        }
-        .into()
+        unsafe { ldp_ft_keepalive(start(image), image.len(), session.into(), message_id, start_mut(out), out.len()) }
+            .into()
     }
 
     fn receive(&self, image: &mut [u8], session: Session, msg: &[u8]) -> Outcome {
@@ -128,6 +128,11 @@ impl Cabinet for Library {
         unsafe { ldp_ft_successor(number) }
     }
 
+    fn next_number(&self, secured: u32, number: u32, resumed: bool) -> Next {
+        // SAFETY: numbers only.
+        unsafe { ldp_ft_next_number(secured, number, resumed) }.into()
+    }
+
     fn lesser_timeout(&self, a: u32, b: u32) -> u32 {
         // SAFETY: numbers only.
         unsafe { ldp_ft_lesser_timeout(a, b) }
@@ -146,6 +151,21 @@ impl Cabinet for Library {
     fn request_at(&self, image: &[u8], place: u32) -> Request {
         // SAFETY: as for `label`.
         unsafe { ldp_ft_request_at(start(image), image.len(), place) }.into()
+    }
+
+    fn summarize(&self, image: &[u8]) -> Summary {
+        // SAFETY: as for `label`.
+        unsafe { ldp_ft_summarize(start(image), image.len()) }.into()
+    }
+
+    fn labels(&self, image: &[u8], words: &mut [u32]) -> Words {
+        // SAFETY: two whole slices that do not overlap, lent for the call; the image is only read.
+        unsafe { ldp_ft_labels(start(image), image.len(), start_mut(words), words.len()) }.into()
+    }
+
+    fn held(&self, image: &[u8], place: u32) -> Part {
+        // SAFETY: as for `label`.
+        unsafe { ldp_ft_held(start(image), image.len(), place) }.into()
     }
 
     fn extend(&self, image: &mut [u8], stored_len: usize) -> Extended {

@@ -4,12 +4,13 @@ use crate::check::{self, COVERED};
 use crate::message::{self, kinds};
 use crate::octets::{all_zero, be16, be32, put16, put32};
 use crate::{labels, number, requests};
-use cabinet::{further, BLOCK_SIZE, IMAGE_SIZE, REQUEST_BLOCK};
+use cabinet::{further, marks, BLOCK_SIZE, IMAGE_SIZE, PLACES, REQUEST_BLOCK, SLOTS};
+use core::ops::Range;
 
-pub const SLOTS: usize = 64;
 pub const SHORTEST: usize = 8;
 pub const LONGEST: usize = 480;
 const VERSION: u32 = 1;
+const ALL_MARKS: u8 = marks::STOPPED | marks::STOPPING;
 
 /// Places in block 0.
 mod at {
@@ -20,19 +21,10 @@ mod at {
     pub const HELD: usize = 18;
     pub const TIMEOUT: usize = 20;
     pub const KEPT: usize = 22;
-    pub const MARKS: usize = 23;
+    pub const MARKS: usize = cabinet::marks::AT;
     pub const KEEPALIVE_TIME: usize = 24;
     pub const MAX_PDU_LENGTH: usize = 26;
     pub const LABELS: usize = 28;
-}
-
-/// Marks that stay over a break.
-pub mod marks {
-    /// The peer has told us that it has no labels: no new Requests.
-    pub const STOPPED: u8 = 2;
-    /// We have told the peer so.
-    pub const STOPPING: u8 = 4;
-    pub const ALL: u8 = STOPPED | STOPPING;
 }
 
 /// Places in a slot.
@@ -45,7 +37,7 @@ mod slot_at {
 }
 
 /// The bytes of the Requests' IDs in their block.
-const IDS: usize = 4 * labels::PLACES;
+const IDS: usize = 4 * PLACES;
 
 /// An answer that changes nothing, with the block it names.
 #[derive(Clone, Copy, Debug)]
@@ -64,6 +56,7 @@ impl Refusal {
 #[derive(Clone, Copy)]
 pub struct Head {
     pub released: u32,
+    pub issued: u32,
     pub secured: u32,
     pub first: usize,
     pub held: usize,
@@ -81,6 +74,7 @@ impl Head {
     fn read(block: &[u8], numbered: u32) -> Self {
         Head {
             released: be32(block, at::RELEASED),
+            issued: be32(block, at::ISSUED),
             secured: be32(block, at::SECURED),
             first: usize::from(be16(block, at::FIRST)),
             held: usize::from(be16(block, at::HELD)),
@@ -119,7 +113,7 @@ pub fn examine(image: &[u8]) -> Result<Head, Refusal> {
 
 /// The steps from released to issued, where every field of block 0 is in its range.
 fn judge_fields(block: &[u8]) -> Option<u32> {
-    if be32(block, 0) != VERSION || block[at::KEPT] > 1 || block[at::MARKS] & !marks::ALL != 0 {
+    if be32(block, 0) != VERSION || block[at::KEPT] > 1 || block[at::MARKS] & !ALL_MARKS != 0 {
         return None;
     }
     if block[at::KEPT] == 0 {
@@ -183,10 +177,15 @@ pub fn slot_label(slot: &[u8]) -> u32 {
     be32(slot, slot_at::LABEL)
 }
 
+/// Where the message lies in a live slot.
+pub fn message_place(slot: &[u8]) -> Range<usize> {
+    let length = usize::from(be16(slot, slot_at::LENGTH));
+    slot_at::MESSAGE..slot_at::MESSAGE + length
+}
+
 /// The message in a live slot.
 pub fn slot_message(slot: &[u8]) -> &[u8] {
-    let length = usize::from(be16(slot, slot_at::LENGTH));
-    &slot[slot_at::MESSAGE..slot_at::MESSAGE + length]
+    &slot[message_place(slot)]
 }
 
 /// Writes a message of at most 480 bytes to a slot, whole.
@@ -231,12 +230,6 @@ pub fn write_no_ids(image: &mut [u8; IMAGE_SIZE]) -> u32 {
 /// The bytes of the label list in block 0.
 pub fn list(block: &[u8]) -> &[u8] {
     &block[at::LABELS..COVERED]
-}
-
-/// The label word at a place of an image that passes the checks; none where there is no such place.
-pub fn word_at(image: &[u8], place: u32) -> Option<u32> {
-    examine(image).ok().filter(|_| (place as usize) < labels::PLACES)?;
-    Some(labels::word(list(slot(image, 0)), place as usize))
 }
 
 /// Block 0 while it is rewritten: a copy that goes back as a whole, or not at all.

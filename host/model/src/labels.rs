@@ -1,13 +1,11 @@
 //! The label list: 120 words of label + 1,048,576 x code in block 0, read and rewritten word by word.
 //!
-//! Codes: 1 given, 2 withdrawing (our side); 3 using, 4 asked back, 5 releasing, 6 using without protection (theirs).
-//! Code 7 is an open Request: it has no label and stands on no side.
+//! Codes: 1 given, 2 withdrawing, 8 withdrawn and the ACK has come, 9 withdrawn and the Release has come (our side);
+//! 3 using, 4 asked back, 5 releasing, 6 using without protection (theirs). Code 7 is an open Request: it has no label
+//! and stands on no side.
 
 use crate::message::kinds;
 use crate::octets::{all_zero, be32, put32};
-use core::ops::RangeInclusive;
-
-pub const PLACES: usize = 120;
 
 pub const GIVEN: u32 = 1;
 pub const WITHDRAWING: u32 = 2;
@@ -15,6 +13,8 @@ pub const USING: u32 = 3;
 pub const ASKED_BACK: u32 = 4;
 pub const RELEASING: u32 = 5;
 pub const UNPROTECTED: u32 = 6;
+pub const ACKED: u32 = 8;
+pub const RELEASED: u32 = 9;
 
 /// The word of an open Request: code 7, and 0 for a label.
 pub const REQUEST: u32 = 7 << CODE_SHIFT;
@@ -42,7 +42,7 @@ fn compose(label: u32, code: u32) -> u32 {
 /// The side of a label with this code; none for a word that lists no label.
 fn side_of(code: u32) -> Option<Side> {
     match code {
-        GIVEN..=WITHDRAWING => Some(Side::Ours),
+        GIVEN..=WITHDRAWING | ACKED..=RELEASED => Some(Side::Ours),
         USING..=UNPROTECTED => Some(Side::Theirs),
         _ => None,
     }
@@ -67,8 +67,8 @@ pub fn words(list: &[u8]) -> impl Iterator<Item = u32> + '_ {
     list.chunks_exact(4).map(|bytes| be32(bytes, 0))
 }
 
-/// True where each word is free, an open Request, or a listed label with a code 1 to 6, and no label stands twice on a
-/// side.
+/// True where each word is free, an open Request, or a listed label with a code of a side, and no label stands twice on
+/// it.
 pub fn is_sound(list: &[u8]) -> bool {
     if all_zero(list) {
         return true;
@@ -193,18 +193,19 @@ pub fn side_receiving(kind: u32) -> Side {
     }
 }
 
-/// True where any word has a code among those given.
-pub fn any_code(list: &[u8], codes: RangeInclusive<u32>) -> bool {
-    words(list).fold(false, |any, word| any | codes.contains(&(word >> CODE_SHIFT)))
+/// True where a label with this code is not to be touched without protection: all but those used without it.
+pub fn is_protected(code: u32, side: Side) -> bool {
+    code != UNPROTECTED && side_of(code) == Some(side)
 }
 
-/// Frees the word of a label that has this very code, if there is one.
-fn free(list: &mut [u8], label: u32, code: u32) {
-    let wanted = compose(label, code);
-    let place = words(list).position(|word| word == wanted);
-    if let Some(place) = place {
-        set_word(list, place, 0);
-    }
+/// True where any word has this code.
+pub fn any_code(list: &[u8], code: u32) -> bool {
+    words(list).fold(false, |any, word| any | (word >> CODE_SHIFT == code))
+}
+
+/// True where any word of a side is not to be touched without protection.
+pub fn any_protected(list: &[u8], side: Side) -> bool {
+    words(list).fold(false, |any, word| any | is_protected(word >> CODE_SHIFT, side))
 }
 
 /// Frees every word of a code.
@@ -216,11 +217,16 @@ pub fn free_all(list: &mut [u8], code: u32) {
     }
 }
 
-/// A message of ours was released by ACK: a withdrawn or released label is free now; other codes stay.
+/// A message of ours was released by ACK: a released label is free now, and a withdrawn one whose Release has come; a
+/// withdrawn one whose Release has not come waits for it. Other codes stay.
 pub fn acknowledged(list: &mut [u8], kind: u32, label: u32) {
-    match kind {
-        kinds::WITHDRAW => free(list, label, WITHDRAWING),
-        kinds::RELEASE => free(list, label, RELEASING),
+    if !matches!(kind, kinds::WITHDRAW | kinds::RELEASE) {
+        return;
+    }
+    let entry = Entry::find(list, label, side_sending(kind));
+    match (kind, entry.code) {
+        (kinds::WITHDRAW, WITHDRAWING) => _ = entry.set(list, ACKED),
+        (kinds::WITHDRAW, RELEASED) | (kinds::RELEASE, RELEASING) => entry.free(list),
         _ => {}
     }
 }
@@ -275,15 +281,23 @@ pub fn withdraw_all_received(list: &mut [u8]) {
     }
 }
 
-/// A Release of a label came in.
+/// A Release of a label came in: one that is withdrawing waits for the ACK.
 pub fn release_received(list: &mut [u8], entry: &Entry) {
-    if entry.code != 0 {
-        entry.free(list);
+    match entry.code {
+        GIVEN | ACKED => entry.free(list),
+        WITHDRAWING => _ = entry.set(list, RELEASED),
+        _ => {}
     }
 }
 
 /// A Release of every label came in.
 pub fn release_all_received(list: &mut [u8]) {
-    free_all(list, GIVEN);
-    free_all(list, WITHDRAWING);
+    for bytes in list.chunks_exact_mut(4) {
+        let word = be32(bytes, 0);
+        match word >> CODE_SHIFT {
+            GIVEN | ACKED => bytes.fill(0),
+            WITHDRAWING => put32(bytes, 0, compose(word & LABEL_MASK, RELEASED)),
+            _ => {}
+        }
+    }
 }

@@ -12,12 +12,16 @@ mod message;
 mod number;
 mod octets;
 mod pdu;
+mod reading;
 mod receive;
 mod requests;
+mod send;
 mod session;
 mod write;
 
-use cabinet::{Cabinet, Distance, Extended, Message, Opening, Outcome, Part, Pdu, Request, Session};
+use cabinet::{
+    Cabinet, Distance, Extended, Message, Next, Opening, Outcome, Part, Pdu, Request, Session, Summary, Words,
+};
 
 /// True where the model was compiled with no vector instructions.
 pub const WITHOUT_VECTORS: bool = cfg!(without_vectors);
@@ -35,7 +39,7 @@ impl Cabinet for Model {
         session::restore(image)
     }
 
-    fn open(&self, image: &mut [u8], session: Session, opening: &Opening, out: &mut [u8]) -> Outcome {
+    fn open(&self, image: &[u8], session: Session, opening: &Opening, out: &mut [u8]) -> Outcome {
         session::open(image, session, opening, out).unwrap_or_else(|refusal| refusal.outcome(session))
     }
 
@@ -56,10 +60,10 @@ impl Cabinet for Model {
     }
 
     fn send_next(&self, image: &mut [u8], session: Session, ack: bool, out: &mut [u8]) -> Outcome {
-        session::send_next(image, session, ack, out).unwrap_or_else(|refusal| refusal.outcome(session))
+        send::send_next(image, session, ack, out).unwrap_or_else(|refusal| refusal.outcome(session))
     }
 
-    fn keepalive(&self, image: &mut [u8], session: Session, message_id: u32, out: &mut [u8]) -> Outcome {
+    fn keepalive(&self, image: &[u8], session: Session, message_id: u32, out: &mut [u8]) -> Outcome {
         session::keepalive(image, session, message_id, out).unwrap_or_else(|refusal| refusal.outcome(session))
     }
 
@@ -87,6 +91,10 @@ impl Cabinet for Model {
         number::successor(from)
     }
 
+    fn next_number(&self, secured: u32, number: u32, resumed: bool) -> Next {
+        number::next(secured, number, resumed)
+    }
+
     fn lesser_timeout(&self, a: u32, b: u32) -> u32 {
         number::lesser_timeout(a, b)
     }
@@ -96,14 +104,23 @@ impl Cabinet for Model {
     }
 
     fn label(&self, image: &[u8], place: u32) -> u32 {
-        image::word_at(image, place).unwrap_or(u32::MAX)
+        reading::word_at(image, place).unwrap_or(u32::MAX)
     }
 
     fn request_at(&self, image: &[u8], place: u32) -> Request {
-        match image::word_at(image, place) {
-            Some(labels::REQUEST) => Request { open: 1, id: labels::word(image::ids(image), place as usize) },
-            _ => Request { open: 0, id: 0 },
-        }
+        reading::request_at(image, place)
+    }
+
+    fn summarize(&self, image: &[u8]) -> Summary {
+        reading::summarize(image)
+    }
+
+    fn labels(&self, image: &[u8], words: &mut [u32]) -> Words {
+        reading::labels(image, words)
+    }
+
+    fn held(&self, image: &[u8], place: u32) -> Part {
+        reading::held(image, place)
     }
 
     fn extend(&self, image: &mut [u8], stored_len: usize) -> Extended {

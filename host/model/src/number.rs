@@ -1,9 +1,11 @@
 //! FT numbers on their circle 1 to 0xFFFFFFFF, with 0 for "none"; the lesser of two timeouts.
 
-use cabinet::Distance;
+use cabinet::{Distance, Next};
 
 /// The circle's size, which is also its largest number.
 const CIRCLE: u32 = u32::MAX;
+/// On a resumed connection a peer may leave out messages; its next number is at most so many steps ahead.
+const FARTHEST: u32 = 64;
 
 pub fn successor(number: u32) -> u32 {
     if number == CIRCLE {
@@ -31,6 +33,18 @@ pub fn advance(number: u32, by: u32) -> u32 {
         by - room
     } else {
         number + by
+    }
+}
+
+/// Whether a number may come after the one secured last, and how many were left out before it.
+pub fn next(secured: u32, number: u32, resumed: bool) -> Next {
+    if number == 0 {
+        return Next { answer: 30, left_out: 0 };
+    }
+    let farthest = if resumed { FARTHEST } else { 1 };
+    match steps(secured, number) {
+        Some(ahead) if (1..=farthest).contains(&ahead) => Next { answer: 0, left_out: ahead - 1 },
+        _ => Next { answer: 20, left_out: 0 },
     }
 }
 

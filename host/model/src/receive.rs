@@ -1,11 +1,11 @@
 //! Receive: the ACK acts first, then the message, judged by the labels as the ACK leaves them.
 
-use crate::image::{self, marks, Draft, Head, Refusal};
+use crate::image::{self, Draft, Head, Refusal};
 use crate::labels::{self, Entry};
 use crate::message::{self, kinds, types};
-use crate::session::{apply_ack, break_off, enter, release_state, session_in};
+use crate::session::{apply_ack, break_off, enter, release_state, up};
 use crate::{number, requests};
-use cabinet::{has, phase, Message, Outcome, Session};
+use cabinet::{has, marks, phase, Message, Outcome, Session};
 
 pub fn receive(image: &mut [u8], session: Session, msg: &[u8]) -> Result<Outcome, Refusal> {
     let head = enter(image, session, &[phase::UP_FT, phase::UP_PLAIN])?;
@@ -19,11 +19,12 @@ pub fn receive(image: &mut [u8], session: Session, msg: &[u8]) -> Result<Outcome
         return Ok(receive_plain(image, &read));
     }
     let mut draft = Draft::of(image);
-    Ok(match accept(&mut draft, image, &head, &read, msg) {
-        Ok(released) => {
+    let resumed = session.is_resumed();
+    Ok(match accept(&mut draft, image, &head, resumed, &read, msg) {
+        Ok(Accepted { released, left_out }) => {
             let sent = session.value.saturating_sub(released);
             let block0 = draft.store(image);
-            Outcome { session: session_in(phase::UP_FT, sent), block0, ..Outcome::default() }
+            Outcome { session: up(sent, resumed), block0, left_out, ..Outcome::default() }
         }
         Err(answer) if answer < 30 => break_off(image, head.kept, answer),
         Err(answer) => release_state(image, answer, phase::IDLE),
@@ -35,7 +36,7 @@ fn receive_plain(image: &mut [u8], read: &Message) -> Outcome {
     if read.has & has::FT != 0 {
         release_state(image, 31, phase::IDLE)
     } else {
-        Outcome { session: session_in(phase::UP_PLAIN, 0), ..Outcome::default() }
+        Outcome { session: Session::new(phase::UP_PLAIN, 0), ..Outcome::default() }
     }
 }
 
@@ -61,10 +62,23 @@ impl Target {
     }
 }
 
-/// Applies ACK and message to the draft and gives the number of messages released; or the answer that refuses it.
-fn accept(draft: &mut Draft, image: &[u8], head: &Head, read: &Message, msg: &[u8]) -> Result<u32, u32> {
-    let protected = read.has & has::FT_PROTECTION != 0;
-    if protected && read.number == 0 {
+/// Of a message that was accepted: how many of ours it released, and how many the peer left out before it.
+struct Accepted {
+    released: u32,
+    left_out: u32,
+}
+
+/// Applies ACK and message to the draft; or gives the answer that refuses it.
+fn accept(
+    draft: &mut Draft,
+    image: &[u8],
+    head: &Head,
+    resumed: bool,
+    read: &Message,
+    msg: &[u8],
+) -> Result<Accepted, u32> {
+    let number = (read.has & has::FT_PROTECTION != 0).then_some(read.number);
+    if number == Some(0) {
         return Err(30);
     }
     let mut released = 0;
@@ -72,25 +86,31 @@ fn accept(draft: &mut Draft, image: &[u8], head: &Head, read: &Message, msg: &[u
         released = apply_ack(draft, image, head, read.ack).ok_or(34u32)?;
     }
     let target = Target::of(read, msg, draft.list());
+    let protected = number.is_some();
     if !protected && needs_protection(draft.list(), read.kind, &target) {
         return Err(33);
     }
     if protected && forbids_protection(read.kind, &target) {
         return Err(32);
     }
-    if protected && read.number != number::successor(head.secured) {
-        return Err(20);
-    }
-    if protected {
-        draft.set_secured(read.number);
-    }
+    let left_out = number.map_or(Ok(0), |number| secure(draft, head.secured, number, resumed))?;
     draft.mark_resources(read.kind, marks::STOPPED);
     let ended = end_request(draft.list_mut(), image, read);
     if take_labels(draft.list_mut(), read.kind, target, ended, protected) {
-        Ok(released)
+        Ok(Accepted { released, left_out })
     } else {
         Err(21)
     }
+}
+
+/// Moves the secured number to one that may come next; how many were left out before it, or 20.
+fn secure(draft: &mut Draft, secured: u32, number: u32, resumed: bool) -> Result<u32, u32> {
+    let next = number::next(secured, number, resumed);
+    if next.answer != 0 {
+        return Err(next.answer);
+    }
+    draft.set_secured(number);
+    Ok(next.left_out)
 }
 
 /// Frees the word of the Request that the message answers, and gives its place.
@@ -102,14 +122,13 @@ fn end_request(list: &mut [u8], image: &[u8], read: &Message) -> Option<usize> {
 
 /// Answer 33: the message touches something that is protected.
 fn needs_protection(list: &[u8], kind: u32, target: &Target) -> bool {
-    let codes = match kind {
-        kinds::ADDRESS | kinds::ADDRESS_WITHDRAW | kinds::RESOURCES_AVAILABLE => return true,
-        kinds::RELEASE => labels::GIVEN..=labels::WITHDRAWING,
-        _ => labels::USING..=labels::RELEASING,
-    };
+    if matches!(kind, kinds::ADDRESS | kinds::ADDRESS_WITHDRAW | kinds::RESOURCES_AVAILABLE) {
+        return true;
+    }
+    let side = labels::side_receiving(kind);
     match target {
-        Target::Named(entry) => codes.contains(&entry.code),
-        Target::All => labels::any_code(list, codes),
+        Target::Named(entry) => labels::is_protected(entry.code, side),
+        Target::All => labels::any_protected(list, side),
         Target::None => false,
     }
 }

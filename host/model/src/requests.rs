@@ -2,7 +2,8 @@
 //!
 //! An ID counts only beside such a word; the others are what earlier Requests left.
 
-use crate::labels::{word, words, Seen, PLACES, REQUEST};
+use crate::labels::{word, words, Seen, REQUEST};
+use cabinet::PLACES;
 
 /// The place of the open Request that has an ID.
 pub fn find(list: &[u8], ids: &[u8], id: u32) -> Option<usize> {

@@ -1,11 +1,12 @@
-//! The session's calls but receive: each examines the image, judges the phase, and stores block 0 last.
+//! The session's calls but send next and receive: each examines the image, judges the phase, and stores block 0 last.
 
-use crate::image::{self, marks, Draft, Head, Refusal};
+use crate::image::{self, Draft, Head, Refusal};
 use crate::labels::{self, Entry};
 use crate::message::{self, kinds, types};
 use crate::{number, requests, write};
 use cabinet::{
-    further, has, phase, Extended, Message, Opening, Outcome, Session, IMAGE_SIZE, IMAGE_SIZE_WITHOUT_REQUESTS,
+    further, has, marks, phase, Extended, Message, Opening, Outcome, Session, IMAGE_SIZE, IMAGE_SIZE_WITHOUT_REQUESTS,
+    SLOTS,
 };
 
 const DEFAULT_PROPOSAL: u16 = 30;
@@ -17,14 +18,23 @@ impl Refusal {
     }
 }
 
-/// The session after a call: the value counts in InitWait and UpFT only.
-pub fn session_in(phase: u32, value: u32) -> Session {
-    let bears_value = phase == phase::INIT_WAIT || phase == phase::UP_FT;
-    Session { phase, value: if bears_value { value } else { 0 } }
+/// UpFT with so many sent.
+pub fn up(sent: u32, resumed: bool) -> Session {
+    if resumed {
+        Session::resumed(sent)
+    } else {
+        Session::new(phase::UP_FT, sent)
+    }
 }
 
+/// Done, in the phase as it was: the value counts in InitWait and UpFT only, the flags in UpFT only.
 fn done(session: Session) -> Outcome {
-    Outcome { session: session_in(session.phase, session.value), ..Outcome::default() }
+    let session = match session.phase {
+        phase::UP_FT => up(session.value, session.is_resumed()),
+        phase::INIT_WAIT => Session::new(phase::INIT_WAIT, session.value),
+        phase => Session::new(phase, 0),
+    };
+    Outcome { session, ..Outcome::default() }
 }
 
 /// Examines the image and admits the phases of a call, where the image does not rule them out.
@@ -50,8 +60,8 @@ fn is_possible(session: Session, head: &Head) -> bool {
 /// As connection failed: unprotected labels are freed; Failed where state is kept, else Idle.
 pub fn break_off(image: &mut [u8], kept: bool, answer: u32) -> Outcome {
     let phase = if kept { phase::FAILED } else { phase::IDLE };
-    let mut outcome = Outcome { answer, session: session_in(phase, 0), ..Outcome::default() };
-    if labels::any_code(image::list(image::slot(image, 0)), labels::UNPROTECTED..=labels::UNPROTECTED) {
+    let mut outcome = Outcome { answer, session: Session::new(phase, 0), ..Outcome::default() };
+    if labels::any_code(image::list(image::slot(image, 0)), labels::UNPROTECTED) {
         let mut draft = Draft::of(image);
         labels::free_all(draft.list_mut(), labels::UNPROTECTED);
         outcome.block0 = draft.store(image);
@@ -62,7 +72,7 @@ pub fn break_off(image: &mut [u8], kept: bool, answer: u32) -> Outcome {
 /// State released, in the phase given.
 pub fn release_state(image: &mut [u8], answer: u32, phase: u32) -> Outcome {
     let block0 = Draft::released().store(image);
-    Outcome { answer, session: session_in(phase, 0), block0, ..Outcome::default() }
+    Outcome { answer, session: Session::new(phase, 0), block0, ..Outcome::default() }
 }
 
 /// Applies an ACK to the draft and gives the number of messages released; none at a sequence error.
@@ -106,7 +116,7 @@ pub fn open(image: &[u8], session: Session, opening: &Opening, out: &mut [u8]) -
     let out = out.get_mut(..length).ok_or(Refusal::of(9))?;
     let proposal = opening.proposal.unwrap_or(DEFAULT_PROPOSAL);
     write::init(out, opening, proposal, ack);
-    let session = session_in(phase::INIT_WAIT, u32::from(proposal));
+    let session = Session::new(phase::INIT_WAIT, u32::from(proposal));
     Ok(Outcome { session, length: length as u32, ..Outcome::default() })
 }
 
@@ -115,14 +125,15 @@ pub fn init_received(image: &mut [u8], session: Session, msg: &[u8]) -> Result<O
     let Some(init) = message::read(msg).filter(|init| init.message_type == types::INITIALIZATION) else {
         return Ok(break_off(image, head.kept, 22));
     };
-    let resumes = init.reconnect == 1;
-    if init.has & has::PARAMETERS == 0 || (resumes && init.has & has::FT_ACK == 0) {
+    let peer_resumes = init.reconnect == 1;
+    if init.has & has::PARAMETERS == 0 || (peer_resumes && init.has & has::FT_ACK == 0) {
         return Ok(break_off(image, head.kept, 23));
     }
     if init.has & has::FT_SESSION == 0 {
         return Ok(release_state(image, 0, phase::UP_PLAIN));
     }
-    let draft = if head.kept && resumes {
+    let resumes = head.kept && peer_resumes;
+    let draft = if resumes {
         resumed(image, &head, &init)
     } else {
         Ok(Draft::fresh(init.keepalive_time as u16, init.max_pdu_length as u16))
@@ -131,7 +142,7 @@ pub fn init_received(image: &mut [u8], session: Session, msg: &[u8]) -> Result<O
         Ok(mut draft) => {
             draft.set_timeout(number::lesser_timeout(session.value, init.timeout) as u16);
             let block0 = draft.store(image);
-            Outcome { session: session_in(phase::UP_FT, 0), block0, ..Outcome::default() }
+            Outcome { session: up(0, resumes), block0, ..Outcome::default() }
         }
         Err(answer) => release_state(image, answer, phase::IDLE),
     })
@@ -214,7 +225,7 @@ fn judge_submission(image: &[u8], head: &Head, phase: u32, read: &Message) -> Re
         kinds::ABORT => Change::Abort(requests::find(list, image::ids(image), read.request_id).ok_or(Refusal::of(6))?),
         _ => Change::None,
     };
-    if head.held == image::SLOTS {
+    if head.held == SLOTS {
         return Err(Refusal::of(7));
     }
     Ok(change)
@@ -253,27 +264,6 @@ fn is_held(image: &[u8], head: &Head, read: &Message) -> bool {
             let slot = image::slot(image, head.block_of(after));
             image::slot_kind(slot) == read.kind && image::slot_label(slot) == read.label
         })
-}
-
-pub fn send_next(image: &mut [u8], session: Session, ack: bool, out: &mut [u8]) -> Result<Outcome, Refusal> {
-    let head = enter(image, session, &[phase::UP_FT])?;
-    let sent = session.value;
-    if sent as usize == head.held {
-        return Err(Refusal::of(8));
-    }
-    let msg = image::slot_message(image::slot(image, head.block_of(sent as usize)));
-    let length = msg.len() + write::FT_TLV * if ack { 2 } else { 1 };
-    let out = out.get_mut(..length).ok_or(Refusal::of(9))?;
-    let number = number::advance(head.released, sent + 1);
-    write::protected(out, msg, number, ack.then_some(head.secured));
-    let block0 = if sent == head.numbered {
-        let mut draft = Draft::of(image);
-        draft.set_issued(number);
-        draft.store(image)
-    } else {
-        0
-    };
-    Ok(Outcome { session: session_in(phase::UP_FT, sent + 1), length: length as u32, block0, ..Outcome::default() })
 }
 
 pub fn keepalive(image: &[u8], session: Session, message_id: u32, out: &mut [u8]) -> Result<Outcome, Refusal> {

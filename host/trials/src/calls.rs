@@ -2,11 +2,9 @@
 
 use crate::guarded::Guarded;
 use cabinet::{
-    further, Cabinet, Distance, Extended, Message, Opening, Outcome, Part, Pdu, Request, Session, REQUEST_BLOCK,
+    flags, further, phase, Cabinet, Distance, Extended, Message, Next, Opening, Outcome, Part, Pdu, Request, Session,
+    Summary, Words, PLACES, REQUEST_BLOCK,
 };
-
-/// The byte that fills output before a call.
-const UNWRITTEN: u8 = 0x5A;
 
 /// A call and what its owner gives, but the image.
 #[derive(Clone, Debug)]
@@ -26,10 +24,14 @@ pub enum Call {
     MessageRead { msg: Vec<u8> },
     Distance { from: u32, to: u32 },
     Successor { number: u32 },
+    NextNumber { secured: u32, number: u32, resumed: bool },
     LesserTimeout { a: u32, b: u32 },
     BlockCheck { block: Vec<u8> },
     Label { place: u32 },
     RequestAt { place: u32 },
+    Summarize,
+    Labels { room: usize },
+    Held { place: u32 },
     Extend { stored_len: usize },
 }
 
@@ -51,17 +53,30 @@ impl Call {
             Call::MessageRead { .. } => "message_read",
             Call::Distance { .. } => "distance",
             Call::Successor { .. } => "successor",
+            Call::NextNumber { .. } => "next_number",
             Call::LesserTimeout { .. } => "lesser_timeout",
             Call::BlockCheck { .. } => "block_check",
             Call::Label { .. } => "label",
             Call::RequestAt { .. } => "request_at",
+            Call::Summarize => "summarize",
+            Call::Labels { .. } => "labels",
+            Call::Held { .. } => "held",
             Call::Extend { .. } => "extend",
         }
     }
 
+    /// The bytes of output that are lent.
     fn room(&self) -> usize {
         match self {
             Call::Open { room, .. } | Call::SendNext { room, .. } | Call::Keepalive { room, .. } => *room,
+            _ => 0,
+        }
+    }
+
+    /// The words that are lent.
+    fn room_for_words(&self) -> usize {
+        match self {
+            Call::Labels { room } => *room,
             _ => 0,
         }
     }
@@ -88,9 +103,12 @@ pub enum Returned {
     Part(Part),
     Message(Message),
     Distance(Distance),
+    Next(Next),
     Number(u32),
     NumberOrRefused(u32),
     Request(Request),
+    Summary(Summary),
+    Words(Words),
     Extended(Extended),
 }
 
@@ -103,34 +121,58 @@ impl Returned {
             Returned::Part(part) => part.answer,
             Returned::Message(message) => message.answer,
             Returned::Distance(distance) => distance.answer,
+            Returned::Next(next) => next.answer,
             Returned::Number(_) => 0,
             Returned::NumberOrRefused(number) => u32::from(*number == u32::MAX),
             Returned::Request(request) => u32::from(request.open != 1),
+            Returned::Summary(summary) => summary.answer,
+            Returned::Words(words) => words.answer,
             Returned::Extended(extended) => extended.answer,
         }
     }
+
+    /// How many messages were left out, of a call that tells it.
+    pub fn left_out(&self) -> u32 {
+        match self {
+            Returned::Outcome(outcome) => outcome.left_out,
+            Returned::Next(next) => next.left_out,
+            _ => 0,
+        }
+    }
+}
+
+/// What is lent to a call; most calls look at some of it only.
+pub struct Lent<'a> {
+    pub image: &'a mut [u8],
+    pub input: &'a [u8],
+    pub out: &'a mut [u8],
+    pub words: &'a mut [u32],
 }
 
 /// All that can be seen after a call.
 #[derive(Clone, Debug, PartialEq, Eq)]
 pub struct Observed {
     pub returned: Returned,
-    pub image: Guarded,
-    pub output: Guarded,
-    pub input: Guarded,
+    pub image: Guarded<u8>,
+    pub output: Guarded<u8>,
+    pub input: Guarded<u8>,
+    pub words: Guarded<u32>,
 }
 
 /// Makes a call on a copy of the image.
 pub fn make(cabinet: &dyn Cabinet, image: &[u8], call: &Call, alignment: usize) -> Observed {
     let mut image = Guarded::new(image, alignment);
-    let mut output = Guarded::new(&vec![UNWRITTEN; call.room()], alignment / 2);
+    let mut output = Guarded::unwritten(call.room(), alignment / 2);
+    let mut words = Guarded::unwritten(call.room_for_words(), alignment);
     let input = Guarded::new(call.input(), alignment + 3);
-    let returned = invoke(cabinet, call, image.lend(), input.content(), output.lend());
-    Observed { returned, image, output, input }
+    let lent = Lent { image: image.lend(), input: input.content(), out: output.lend(), words: words.lend() };
+    let returned = invoke(cabinet, call, lent);
+    Observed { returned, image, output, input, words }
 }
 
-/// Makes a call on the bytes lent.
-pub fn invoke(cabinet: &dyn Cabinet, call: &Call, image: &mut [u8], input: &[u8], out: &mut [u8]) -> Returned {
+/// Makes a call on what is lent.
+pub fn invoke(cabinet: &dyn Cabinet, call: &Call, lent: Lent) -> Returned {
+    let Lent { image, input, out, words } = lent;
     match *call {
         Call::Format => Returned::Outcome(cabinet.format(image)),
         Call::Restore => Returned::Outcome(cabinet.restore(image)),
@@ -149,19 +191,24 @@ pub fn invoke(cabinet: &dyn Cabinet, call: &Call, image: &mut [u8], input: &[u8]
         Call::MessageRead { .. } => Returned::Message(cabinet.message_read(input)),
         Call::Distance { from, to } => Returned::Distance(cabinet.distance(from, to)),
         Call::Successor { number } => Returned::Number(cabinet.successor(number)),
+        Call::NextNumber { secured, number, resumed } => Returned::Next(cabinet.next_number(secured, number, resumed)),
         Call::LesserTimeout { a, b } => Returned::Number(cabinet.lesser_timeout(a, b)),
         Call::BlockCheck { .. } => Returned::NumberOrRefused(cabinet.block_check(input)),
         Call::Label { place } => Returned::NumberOrRefused(cabinet.label(image, place)),
         Call::RequestAt { place } => Returned::Request(cabinet.request_at(image, place)),
+        Call::Summarize => Returned::Summary(cabinet.summarize(image)),
+        Call::Labels { .. } => Returned::Words(cabinet.labels(image, words)),
+        Call::Held { place } => Returned::Part(cabinet.held(image, place)),
         Call::Extend { stored_len } => Returned::Extended(cabinet.extend(image, stored_len)),
     }
 }
 
-/// What is wrong with an observation whatever it was compared with: a touched guard, a changed input, output that was
-/// written on a refusal or past its length, a block changed that the outcome does not name.
+/// What is wrong with an observation whatever it was compared with: a touched guard, a changed input, output or words
+/// written on a refusal or past their length, a block changed that the outcome does not name.
 pub fn misconduct(before: &[u8], call: &Call, seen: &Observed) -> Option<&'static str> {
-    if !(seen.image.is_intact() && seen.output.is_intact() && seen.input.is_intact()) {
-        return Some("a guard byte was touched");
+    let bytes_intact = [&seen.image, &seen.output, &seen.input].iter().all(|bytes| bytes.is_intact());
+    if !(bytes_intact && seen.words.is_intact()) {
+        return Some("a guard was touched");
     }
     if seen.input.content() != call.input() {
         return Some("the input was changed");
@@ -171,16 +218,31 @@ pub fn misconduct(before: &[u8], call: &Call, seen: &Observed) -> Option<&'stati
         Returned::Extended(extended) => Outcome { further: extended.further, ..Outcome::default() },
         _ => Outcome::default(),
     };
-    let written = outcome.length as usize;
-    if seen.output.content().iter().skip(written).any(|byte| *byte != UNWRITTEN) {
+    if !seen.output.is_unwritten_after(outcome.length as usize) {
         return Some("output was written past its length");
+    }
+    let words = if seen.returned.answer() == 0 { PLACES } else { 0 };
+    if !seen.words.is_unwritten_after(words) {
+        return Some("words were written on a refusal, or past the list");
     }
     let formatted = matches!(call, Call::Format) && outcome.answer == 0;
     let extended = matches!(call, Call::Extend { .. });
     if !formatted && changed_unnamed(before, seen.image.content(), &outcome, extended) {
         return Some("block0, further or slot does not tell what changed");
     }
-    None
+    told_in_vain(call, &outcome)
+}
+
+/// A flag of a session that does not bear it, or messages left out by a call that leaves out none.
+fn told_in_vain(call: &Call, outcome: &Outcome) -> Option<&'static str> {
+    let Outcome { answer, session, left_out, .. } = *outcome;
+    let borne = if session.phase == phase::UP_FT { flags::RESUMED } else { 0 };
+    let as_given = (1..20).contains(&answer);
+    if !as_given && session.flags & !borne != 0 {
+        return Some("a flag is set that the phase does not bear");
+    }
+    let leaves_out = answer == 0 && matches!(call, Call::Receive { .. } | Call::SendNext { .. });
+    (!leaves_out && left_out != 0).then_some("messages left out where none can be")
 }
 
 /// Slots and what an extension makes are named whether or not their bytes were the same.

@@ -8,7 +8,7 @@ use crate::generate::damage::{
 };
 use crate::stored::{check, seal, word, Queued, Stored, NO_LABEL, REQUEST, STOPPED, STOPPING};
 use crate::wire::{prefix, types, Message, NO_RESOURCES};
-use cabinet::{phase, Opening, Session, REQUEST_BLOCK};
+use cabinet::{phase, Opening, Part, Session, Summary, Words, PLACES, REQUEST_BLOCK};
 
 /// An image and how it is refused.
 pub struct Crafted {
@@ -17,6 +17,20 @@ pub struct Crafted {
     pub kept: bool,
     pub answer: u32,
     pub block: u32,
+}
+
+impl Crafted {
+    /// True where a call returned the refusal that is due, and nothing beside it.
+    fn is_refused_by(&self, returned: Returned) -> bool {
+        let (answer, block) = (self.answer, self.block);
+        match returned {
+            Returned::Outcome(outcome) => (outcome.answer, outcome.block) == (answer, block),
+            Returned::Summary(summary) => summary == Summary { answer, block, ..Summary::default() },
+            Returned::Words(words) => words == Words { answer, block, count: 0 },
+            Returned::Part(part) => part == Part { answer, start: 0, end: 0 },
+            returned => returned.answer() == 1,
+        }
+    }
 }
 
 /// A kept state with a Mapping in its first slot, an Address message in its second, and a ring that wraps.
@@ -68,7 +82,7 @@ pub fn sound() -> Vec<Stored> {
 
 /// Every call that examines an image, with inputs that a sound image would take.
 pub fn calls_on_images(kept: bool) -> Vec<Call> {
-    let at = |when_kept, otherwise| Session { phase: if kept { when_kept } else { otherwise }, value: 0 };
+    let at = |when_kept, otherwise| Session::new(if kept { when_kept } else { otherwise }, 0);
     let up = at(phase::UP_FT, phase::UP_PLAIN);
     let down = at(phase::FAILED, phase::IDLE);
     let waiting = at(phase::INIT_WAIT, phase::INIT_WAIT);
@@ -86,6 +100,9 @@ pub fn calls_on_images(kept: bool) -> Vec<Call> {
         Call::Receive { session: up, msg: address },
         Call::Label { place: 0 },
         Call::RequestAt { place: 0 },
+        Call::Summarize,
+        Call::Labels { room: PLACES },
+        Call::Held { place: 0 },
     ]
 }
 
@@ -193,11 +210,7 @@ fn of_wrong_sizes() -> Vec<Crafted> {
 pub fn check_refused(run: &mut Run, crafted: &Crafted) -> Result<(), String> {
     for call in calls_on_images(crafted.kept) {
         let seen = run.call(&crafted.image, &call).map_err(|difference| format!("{}: {difference:?}", crafted.why))?;
-        let right = match seen.returned {
-            Returned::Outcome(outcome) => (outcome.answer, outcome.block) == (crafted.answer, crafted.block),
-            returned => returned.answer() == 1,
-        };
-        if !right || seen.image.content() != crafted.image {
+        if !crafted.is_refused_by(seen.returned) || seen.image.content() != crafted.image {
             return Err(format!("{}: {} returned {:?}", crafted.why, call.name(), seen.returned));
         }
     }

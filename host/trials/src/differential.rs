@@ -21,17 +21,19 @@ impl fmt::Debug for Difference {
     fn fmt(&self, f: &mut fmt::Formatter) -> fmt::Result {
         let image = places(self.reference.image.content(), self.tested.image.content());
         let output = places(self.reference.output.content(), self.tested.output.content());
+        let words = places(self.reference.words.content(), self.tested.words.content());
         writeln!(f, "{}", self.what)?;
         writeln!(f, "  call      {:?}", self.call)?;
         writeln!(f, "  reference {:?}", self.reference.returned)?;
         writeln!(f, "  tested    {:?}", self.tested.returned)?;
         writeln!(f, "  image bytes that differ (place, reference, tested) {image:?}")?;
-        write!(f, "  output bytes that differ {output:?}")
+        writeln!(f, "  output bytes that differ {output:?}")?;
+        write!(f, "  words that differ {words:?}")
     }
 }
 
-/// The first places where two byte strings differ.
-fn places(a: &[u8], b: &[u8]) -> Vec<(usize, u8, u8)> {
+/// The first places where two buffers differ.
+fn places<T: Copy + PartialEq>(a: &[T], b: &[T]) -> Vec<(usize, T, T)> {
     let pairs = a.iter().zip(b).enumerate();
     pairs.filter(|(_, (a, b))| a != b).map(|(at, (a, b))| (at, *a, *b)).take(16).collect()
 }
@@ -105,7 +107,7 @@ impl<'a> Run<'a> {
     pub fn call(&mut self, image: &[u8], call: &Call) -> Result<Observed, Box<Difference>> {
         let alignment = self.random.below(8);
         let seen = compare(self.reference, self.tested, image, call, alignment)?;
-        self.coverage.note(call.name(), seen.returned.answer());
+        self.coverage.note(call.name(), &seen.returned);
         Ok(seen)
     }
 }

@@ -1,4 +1,6 @@
-//! Trials of the session library from outside: differential tests, crash tests, benchmarks and a working pair.
+//! Trials of the session library from outside: differential tests, crash tests and benchmarks.
+
+pub use support::{store, wire};
 
 pub mod calls;
 pub mod coverage;
@@ -7,9 +9,6 @@ pub mod crash;
 pub mod differential;
 pub mod generate;
 pub mod guarded;
-pub mod options;
 pub mod random;
-pub mod store;
 pub mod stored;
 pub mod under_test;
-pub mod wire;

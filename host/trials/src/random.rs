@@ -49,6 +49,13 @@ impl Random {
         values[self.below(values.len())]
     }
 
+    /// Puts the values into another order.
+    pub fn shuffle<T>(&mut self, values: &mut [T]) {
+        for last in (1..values.len()).rev() {
+            values.swap(last, self.below(last + 1));
+        }
+    }
+
     pub fn bytes(&mut self, length: usize) -> Vec<u8> {
         (0..length).map(|_| self.u8()).collect()
     }

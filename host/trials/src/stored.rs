@@ -1,15 +1,14 @@
 //! Stored images as the trials write and read them: plain records laid out and read back by the paper's words.
 
+pub use cabinet::marks::{STOPPED, STOPPING};
+pub use cabinet::{PLACES, SLOTS};
+
+use crate::wire::{message_id, request_id};
 use cabinet::{BLOCK_SIZE, IMAGE_SIZE, REQUEST_BLOCK};
 
-pub const SLOTS: usize = 64;
-pub const PLACES: usize = 120;
 pub const NO_LABEL: u32 = u32::MAX;
 /// The word of an open Request: code 7, label part 0.
 pub const REQUEST: u32 = 7 << 20;
-/// Byte 23: the peer has told us that it has no labels to give, and we have told the peer.
-pub const STOPPED: u8 = 2;
-pub const STOPPING: u8 = 4;
 
 /// A message in the send store, with the kind and label that its slot shows.
 #[derive(Clone, Debug, PartialEq, Eq)]
@@ -108,6 +107,22 @@ impl Stored {
         self
     }
 
+    /// How many of the held messages have a number.
+    pub fn numbered(&self) -> usize {
+        steps_between(self.released, self.issued) as usize
+    }
+
+    /// How many messages a Send passes over, with so many sent, word for word as the paper has it: those with a number,
+    /// one after another, that are Requests whose Abort is held behind them.
+    pub fn left_out_from(&self, sent: usize) -> usize {
+        let names = |abort: &Queued, request: &Queued| request_id(&abort.bytes) == Some(message_id(&request.bytes));
+        let is_left_out = |place: &usize| {
+            let (request, behind) = (&self.queue[*place], &self.queue[place + 1..]);
+            request.kind == 7 && behind.iter().any(|abort| abort.kind == 8 && names(abort, request))
+        };
+        (sent..self.numbered()).take_while(is_left_out).count()
+    }
+
     /// The block of the message that stands so many after the oldest held.
     pub fn block_of(&self, after: usize) -> usize {
         1 + (usize::from(self.first) + after) % SLOTS
@@ -196,4 +211,9 @@ pub fn steps_after(number: u32, steps: u64) -> u32 {
     let circle = u64::from(u32::MAX);
     let zero_based = (u64::from(number) + steps - 1) % circle;
     zero_based as u32 + 1
+}
+
+/// The steps from one number to another that is not behind it on the circle.
+pub fn steps_between(from: u32, to: u32) -> u32 {
+    to.wrapping_sub(from) - u32::from(to < from)
 }

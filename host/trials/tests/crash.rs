@@ -1,12 +1,13 @@
 //! Crash trials in the gate: at least 10,000 power cuts, with the third demand asserted after every step.
 
 use model::Model;
-use trials::crash::{run, run_asking, Cut, Tally, CUTS};
+use trials::crash::{run, run_asking, run_leaving_out, Cut, Tally, CUTS};
 use trials::under_test::UnderTest;
 
 const SEED: u64 = 0xCAB;
 const CUTS_IN_GATE: u64 = 24_000;
 const CUTS_BEFORE_BLOCK_0: u64 = 10_000;
+const LEFT_OUT: u64 = 5_000;
 
 #[test]
 fn nothing_is_lost_and_nothing_comes_twice_over_power_cuts() {
@@ -18,6 +19,7 @@ fn nothing_is_lost_and_nothing_comes_twice_over_power_cuts() {
     assert_eq!(tally.worlds, tally.drained, "each world ends with everything arrived");
     assert_eq!(tally.most_held, 64, "the ring was full");
     assert!(tally.full > 0, "a submission was refused for room");
+    assert!(tally.given >= 100 && tally.withdrawn >= 100, "labels of both kinds at the end");
     for cut in CUTS {
         assert!(tally.cuts_in("submit", cut) >= 100, "submit cut at {cut:?}");
     }
@@ -38,6 +40,20 @@ fn a_cut_between_block_65_and_block_0_leaves_the_state_before() {
     for (ends, count) in [("aborted", tally.aborted), ("answered", tally.answered), ("stopped", tally.stopped)] {
         assert!(count >= 500, "{count} Requests {ends}");
     }
+    assert_eq!(tally.worlds, tally.drained, "each world ends with everything arrived");
+}
+
+/// 02, ticket 3: "Demand 3 then reads accepted, let go and held messages without those left out; these keep their slots
+/// until an ACK passes them, and the bound of 64 and the refusal for room count them".
+#[test]
+fn what_is_left_out_is_all_that_does_not_arrive() {
+    let mut tally = Tally::default();
+    run_leaving_out([&UnderTest, &UnderTest], SEED + 3, LEFT_OUT, &mut tally).unwrap();
+    println!("{tally}");
+    assert!(tally.left_out >= LEFT_OUT, "Requests left out");
+    assert!(tally.passed_over > tally.left_out, "some were passed over on more than one connection");
+    assert!(tally.full > 0, "a submission was refused for room");
+    assert_eq!(tally.accepted, tally.secured + tally.left_out, "accepted is secured and left out");
     assert_eq!(tally.worlds, tally.drained, "each world ends with everything arrived");
 }
 

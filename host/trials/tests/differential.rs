@@ -18,6 +18,11 @@ fn generated_calls_are_answered_alike_and_reach_every_answer() {
     println!("{}", run.coverage);
     assert_eq!(run.coverage.missing(), [], "answers that no call reached");
     assert_eq!(run.coverage.unexpected(), [], "answers that the call does not have");
+    for (call, most) in [("receive", 63), ("next_number", 63), ("send_next", 32)] {
+        for left_out in [0, 1, most] {
+            assert!(run.coverage.left_out(call, left_out) > 0, "{call} with {left_out} left out");
+        }
+    }
 }
 
 #[test]
@@ -90,6 +95,9 @@ fn numbers_and_timeouts_agree_over_the_ends_of_their_ranges() {
         run.call(&[], &Call::Successor { number: *a }).unwrap();
         for b in &ends {
             run.call(&[], &Call::Distance { from: *a, to: *b }).unwrap();
+            for resumed in [true, false] {
+                run.call(&[], &Call::NextNumber { secured: *a, number: *b, resumed }).unwrap();
+            }
             run.call(&[], &Call::LesserTimeout { a: *a, b: *b }).unwrap();
         }
     }

@@ -14,6 +14,10 @@ const USING: u32 = 3;
 const ASKED_BACK: u32 = 4;
 const RELEASING: u32 = 5;
 const UNPROTECTED: u32 = 6;
+const ACKED: u32 = 8;
+const RELEASED: u32 = 9;
+/// The codes of labels that we gave.
+const OURS: [u32; 4] = [GIVEN, WITHDRAWING, ACKED, RELEASED];
 
 fn both() -> [&'static dyn Cabinet; 2] {
     [&UnderTest, &Model]
@@ -23,7 +27,7 @@ fn both() -> [&'static dyn Cabinet; 2] {
 fn listing(code: u32) -> Stored {
     let mut stored = Stored { secured: 10, kept: true, ..Stored::idle() };
     stored.labels[3] = if code == FREE { 0 } else { word(LABEL, code) };
-    stored.labels[0] = word(LABEL, if code == FREE || code > 2 { GIVEN } else { USING });
+    stored.labels[0] = word(LABEL, if OURS.contains(&code) { USING } else { GIVEN });
     stored
 }
 
@@ -52,19 +56,22 @@ fn assert_each(what: &str, table: &[(u32, Expected)], run: impl Fn(&dyn Cabinet,
 
 fn submitted(cabinet: &dyn Cabinet, stored: Stored, message_type: u16) -> Expected {
     let mut image = stored.image(0);
-    let session = Session { phase: phase::FAILED, value: 0 };
+    let session = Session::new(phase::FAILED, 0);
     let outcome = cabinet.submit(&mut image, session, &about(message_type).bytes());
     (outcome.answer, code_after(&stored, &image))
 }
 
 #[test]
 fn accepted_for_sending() {
-    let mapping = [(FREE, (0, GIVEN)), (GIVEN, (0, GIVEN)), (WITHDRAWING, (6, WITHDRAWING))];
+    let withdrawn = [WITHDRAWING, ACKED, RELEASED].map(|code| (code, (6, code)));
+    let mapping = [(FREE, (0, GIVEN)), (GIVEN, (0, GIVEN))];
     // A label that is absent on our side stands on theirs; the other way round for a Release.
     let absent = |code| if code == FREE { their_side_only() } else { listing(code) };
     assert_each("Mapping", &mapping, |cabinet, code| submitted(cabinet, absent(code), types::MAPPING));
-    let withdraw = [(FREE, (6, FREE)), (GIVEN, (0, WITHDRAWING)), (WITHDRAWING, (6, WITHDRAWING))];
+    assert_each("Mapping", &withdrawn, |cabinet, code| submitted(cabinet, listing(code), types::MAPPING));
+    let withdraw = [(FREE, (6, FREE)), (GIVEN, (0, WITHDRAWING))];
     assert_each("Withdraw", &withdraw, |cabinet, code| submitted(cabinet, absent(code), types::WITHDRAW));
+    assert_each("Withdraw", &withdrawn, |cabinet, code| submitted(cabinet, listing(code), types::WITHDRAW));
     let release = [
         (FREE, (6, FREE)),
         (USING, (0, RELEASING)),
@@ -87,17 +94,18 @@ fn acknowledged(cabinet: &dyn Cabinet, code: u32, message_type: u16, kind: u8) -
     let queue = vec![Queued { kind, label: LABEL, bytes: about(message_type).bytes() }];
     let stored = Stored { issued: 1, queue, ..listing(code) };
     let mut image = stored.image(0);
-    let session = Session { phase: phase::UP_FT, value: 1 };
+    let session = Session::new(phase::UP_FT, 1);
     let outcome = cabinet.receive(&mut image, session, &Message::new(types::KEEPALIVE, 1).ack(1).bytes());
-    assert_eq!(outcome.session, Session { phase: phase::UP_FT, value: 0 });
+    assert_eq!(outcome.session, Session::new(phase::UP_FT, 0));
     (outcome.answer, code_after(&stored, &image))
 }
 
 #[test]
 fn released_by_ack() {
-    let mapping = [(GIVEN, (0, GIVEN)), (WITHDRAWING, (0, WITHDRAWING))];
+    let mapping = OURS.map(|code| (code, (0, code)));
     assert_each("Mapping", &mapping, |cabinet, code| acknowledged(cabinet, code, types::MAPPING, 1));
-    let withdraw = [(GIVEN, (0, GIVEN)), (WITHDRAWING, (0, FREE))];
+    // 02, ticket 4: "Free a withdrawn label at the second of Release and ACK."
+    let withdraw = [(GIVEN, (0, GIVEN)), (WITHDRAWING, (0, ACKED)), (ACKED, (0, ACKED)), (RELEASED, (0, FREE))];
     assert_each("Withdraw", &withdraw, |cabinet, code| acknowledged(cabinet, code, types::WITHDRAW, 2));
     let stays = [USING, ASKED_BACK, UNPROTECTED].map(|code| (code, (0, code)));
     assert_each("Release", &stays, |cabinet, code| acknowledged(cabinet, code, types::RELEASE, 3));
@@ -108,7 +116,7 @@ fn released_by_ack() {
 fn receive(cabinet: &dyn Cabinet, stored: &Stored, message: Message, protected: bool) -> (Outcome, Vec<u8>) {
     let message = if protected { message.protection(11) } else { message };
     let mut image = stored.image(0);
-    let session = Session { phase: phase::UP_FT, value: 0 };
+    let session = Session::new(phase::UP_FT, 0);
     let outcome = cabinet.receive(&mut image, session, &message.bytes());
     (outcome, image)
 }
@@ -122,6 +130,22 @@ fn received(cabinet: &dyn Cabinet, stored: Stored, message: Message, protected: 
     }
     assert_eq!(Stored::read(&image).secured, if protected { 11 } else { 10 });
     (outcome.answer, code_after(&stored, &image))
+}
+
+/// The ACK of a held Withdraw and a Release of its label in one message: the ACK acts first, and 33 judges the label as it
+/// leaves it.
+#[test]
+fn ack_and_release_in_one_message() {
+    for cabinet in both() {
+        for (code, protected, expected) in
+            [(WITHDRAWING, true, (0, FREE)), (WITHDRAWING, false, (33, FREE)), (RELEASED, false, (0, FREE))]
+        {
+            let queue = vec![Queued { kind: 2, label: LABEL, bytes: about(types::WITHDRAW).bytes() }];
+            let stored = Stored { issued: 1, queue, ..listing(code) };
+            let message = about(types::RELEASE).ack(1);
+            assert_eq!(received(cabinet, stored, message, protected), expected, "code {code}, protected {protected}");
+        }
+    }
 }
 
 #[test]
@@ -167,10 +191,17 @@ fn withdraw_received() {
 #[test]
 fn release_received() {
     let absent = |code| if code == FREE { their_side_only() } else { listing(code) };
-    let protected = [(FREE, (0, FREE)), (GIVEN, (0, FREE)), (WITHDRAWING, (0, FREE))];
+    let protected = [
+        (FREE, (0, FREE)),
+        (GIVEN, (0, FREE)),
+        (WITHDRAWING, (0, RELEASED)),
+        (ACKED, (0, FREE)),
+        (RELEASED, (0, RELEASED)),
+    ];
     assert_each("protected", &protected, |c, code| received(c, absent(code), about(types::RELEASE), true));
-    let bare = [(FREE, (0, FREE)), (GIVEN, (33, FREE)), (WITHDRAWING, (33, FREE))];
-    assert_each("unprotected", &bare, |c, code| received(c, absent(code), about(types::RELEASE), false));
+    assert_each("unprotected", &[(FREE, (0, FREE))], |c, code| received(c, absent(code), about(types::RELEASE), false));
+    let bare = OURS.map(|code| (code, (33, FREE)));
+    assert_each("unprotected", &bare, |c, code| received(c, listing(code), about(types::RELEASE), false));
 }
 
 /// A state that lists one label for each code given.
@@ -198,22 +229,22 @@ fn codes_after(message_type: u16, fec: &[u8], codes: &[u32], protected: bool) ->
 
 #[test]
 fn wildcards_act_on_every_label() {
-    let all = [1, 2, 3, 4, 5, 6];
-    assert_eq!(codes_after(types::WITHDRAW, WILDCARD, &all, true), (0, vec![1, 2, 4, 4, 5, 0]));
-    assert_eq!(codes_after(types::RELEASE, WILDCARD, &all, true), (0, vec![0, 0, 3, 4, 5, 6]));
-    assert_eq!(codes_after(types::WITHDRAW, WILDCARD, &[1, 2, 6, 6], false), (0, vec![1, 2, 0, 0]));
+    let all = [1, 2, 3, 4, 5, 6, 8, 9];
+    assert_eq!(codes_after(types::WITHDRAW, WILDCARD, &all, true), (0, vec![1, 2, 4, 4, 5, 0, 8, 9]));
+    assert_eq!(codes_after(types::RELEASE, WILDCARD, &all, true), (0, vec![0, 9, 3, 4, 5, 6, 0, 9]));
+    assert_eq!(codes_after(types::WITHDRAW, WILDCARD, &[1, 2, 6, 6, 8, 9], false), (0, vec![1, 2, 0, 0, 8, 9]));
     assert_eq!(codes_after(types::RELEASE, WILDCARD, &[3, 4, 5, 6], false), (0, vec![3, 4, 5, 6]));
     for code in [USING, ASKED_BACK, RELEASING] {
         assert_eq!(codes_after(types::WITHDRAW, WILDCARD, &[6, code], false).0, 33);
     }
-    for code in [GIVEN, WITHDRAWING] {
+    for code in OURS {
         assert_eq!(codes_after(types::RELEASE, WILDCARD, &[6, code], false).0, 33);
     }
 }
 
 #[test]
 fn another_fec_without_a_label_changes_nothing() {
-    let all = [1, 2, 3, 4, 5, 6];
+    let all = [1, 2, 3, 4, 5, 6, 8, 9];
     for fec in [&prefix(1)[..], &[], &[1, 1], &[2]] {
         for message_type in [types::WITHDRAW, types::RELEASE] {
             for protected in [true, false] {

@@ -11,10 +11,10 @@ fn both() -> [&'static dyn Cabinet; 2] {
 }
 
 fn up(sent: u32) -> Session {
-    Session { phase: phase::UP_FT, value: sent }
+    Session::new(phase::UP_FT, sent)
 }
 
-const FAILED: Session = Session { phase: phase::FAILED, value: 0 };
+const FAILED: Session = Session::new(phase::FAILED, 0);
 
 fn mapping(label: u32) -> Vec<u8> {
     Message::new(types::MAPPING, label).fec(&prefix(label as u16)).label(label).bytes()
@@ -70,13 +70,13 @@ fn p8_and_p9_distances() {
 #[test]
 fn p10_init_with_reconnect() {
     for cabinet in both() {
-        let mut image = Stored { secured: 9, ..holding(0, 0, 0) }.image(0);
+        let image = Stored { secured: 9, ..holding(0, 0, 0) }.image(0);
         let mut out = [0; 64];
         let opening = Opening { proposal: Some(5), ..Opening::default() };
-        let outcome = cabinet.open(&mut image, FAILED, &opening, &mut out);
+        let outcome = cabinet.open(&image, FAILED, &opening, &mut out);
         assert_eq!((outcome.answer, outcome.length), (0, 42));
         assert_eq!(out[26..42], [0x85, 3, 0, 4, 0x80, 0, 0, 5, 5, 4, 0, 4, 0, 0, 0, 9]);
-        assert_eq!(outcome.session, Session { phase: phase::INIT_WAIT, value: 5 });
+        assert_eq!(outcome.session, Session::new(phase::INIT_WAIT, 5));
     }
 }
 
@@ -117,7 +117,7 @@ fn without_a_proposal_29_keeps_and_30_releases() {
             let mut image = vec![0; IMAGE_SIZE];
             let mut out = [0; 64];
             cabinet.format(&mut image);
-            let opened = cabinet.open(&mut image, Session::default(), &Opening::default(), &mut out);
+            let opened = cabinet.open(&image, Session::default(), &Opening::default(), &mut out);
             assert_eq!(out[26..34], [0x85, 3, 0, 4, 0, 0, 0, 30]);
             let init = Message::new(types::INITIALIZATION, 1).parameters(30, 4096).ft_session(false, peers).bytes();
             assert_eq!(cabinet.init_received(&mut image, opened.session, &init).session, up(0));
@@ -163,7 +163,7 @@ fn a_fresh_session_from_a_new_image() {
         let mut out = [0; 64];
         let formatted = cabinet.format(&mut image);
         assert_eq!((formatted.block0, formatted.further, formatted.slot), (1, further::REQUESTS, 0));
-        let opened = cabinet.open(&mut image, Session::default(), &Opening::default(), &mut out);
+        let opened = cabinet.open(&image, Session::default(), &Opening::default(), &mut out);
         assert_eq!((opened.answer, opened.length, opened.session.value), (0, 34, 30));
         let init = Message::new(types::INITIALIZATION, 1).parameters(30, 4096).ft_session(true, 0).ack(8).bytes();
         let outcome = cabinet.init_received(&mut image, opened.session, &init);
@@ -222,12 +222,12 @@ fn requests_and_aborts_are_read() {
 #[test]
 fn on_demand_is_bit_a_of_our_init() {
     for cabinet in both() {
-        let mut image = holding(0, 0, 0).image(0);
+        let image = holding(0, 0, 0).image(0);
         let before = image.clone();
         for (on_demand, byte) in [(true, 0x80), (false, 0)] {
             let mut out = [0; 64];
             let opening = Opening { keepalive_time: 30, max_pdu_length: 4096, on_demand, ..Opening::default() };
-            assert_eq!(cabinet.open(&mut image, FAILED, &opening, &mut out).length, 42);
+            assert_eq!(cabinet.open(&image, FAILED, &opening, &mut out).length, 42);
             assert_eq!(out[8..20], [5, 0, 0, 14, 0, 1, 0, 30, byte, 0, 0x10, 0]);
         }
         assert_eq!(image, before);

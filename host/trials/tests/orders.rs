@@ -11,7 +11,7 @@ fn both() -> [&'static dyn Cabinet; 2] {
 }
 
 fn in_phase(phase: u32) -> Session {
-    Session { phase, value: 0 }
+    Session::new(phase, 0)
 }
 
 /// A kept state that has secured 10 and lists labels with the codes given, from label 700 on.
@@ -75,7 +75,11 @@ fn labels_are_judged_as_the_ack_leaves_them() {
     let withdrawn = holding(&[2], types::WITHDRAW, 2, 700);
     let release = || Message::new(types::RELEASE, 1).fec(&prefix(1)).label(700);
     assert_received(&withdrawn, phase::UP_FT, release(), 33);
-    assert_received(&withdrawn, phase::UP_FT, release().ack(1), 0);
+    // its own ACK makes 8 of 2, which is not to be touched either; of 9, whose Release has come, it frees the label
+    assert_received(&withdrawn, phase::UP_FT, release().ack(1), 33);
+    let released = holding(&[9], types::WITHDRAW, 2, 700);
+    assert_received(&released, phase::UP_FT, release(), 33);
+    assert_received(&released, phase::UP_FT, release().ack(1), 0);
     let mut full = holding(&[3; 120], types::RELEASE, 3, 700);
     full.labels[0] = word(700, 5);
     assert_received(&full, phase::UP_FT, mapping(16).protection(11), 21);
@@ -88,7 +92,7 @@ fn after_20_to_23_the_ack_is_unapplied_and_unprotected_labels_are_free() {
         let stored = holding(&[2, 6], types::WITHDRAW, 2, 700);
         let mut image = stored.image(0);
         let out_of_turn = mapping(16).protection(12).ack(1).bytes();
-        let outcome = cabinet.receive(&mut image, Session { phase: phase::UP_FT, value: 1 }, &out_of_turn);
+        let outcome = cabinet.receive(&mut image, Session::new(phase::UP_FT, 1), &out_of_turn);
         assert_eq!((outcome.answer, outcome.session, outcome.block0), (20, in_phase(phase::FAILED), 1));
         let mut expected = stored;
         expected.labels[1] = 0;
@@ -220,17 +224,17 @@ fn writers() {
             cabinet.send_next(&mut stored.image(0), session, false, &mut vec![0; room]).answer
         };
         let one = holding(&[1], types::MAPPING, 1, 700);
-        let up = |value| Session { phase: phase::UP_FT, value };
+        let up = |value| Session::new(phase::UP_FT, value);
         assert_eq!(send(&one, up(2), 0), 1);
         assert_eq!(send(&one, up(1), 0), 8);
         assert_eq!(send(&one, up(0), 35), 9);
         assert_eq!(send(&one, up(0), 36), 0);
         let open = |phase, room: usize| {
-            cabinet.open(&mut one.image(0), in_phase(phase), &Opening::default(), &mut vec![0; room]).answer
+            cabinet.open(&one.image(0), in_phase(phase), &Opening::default(), &mut vec![0; room]).answer
         };
         assert_eq!([open(phase::IDLE, 0), open(phase::FAILED, 41), open(phase::FAILED, 42)], [1, 9, 0]);
         let keepalive =
-            |phase, room: usize| cabinet.keepalive(&mut one.image(0), in_phase(phase), 1, &mut vec![0; room]).answer;
+            |phase, room: usize| cabinet.keepalive(&one.image(0), in_phase(phase), 1, &mut vec![0; room]).answer;
         assert_eq!(
             [keepalive(phase::UP_PLAIN, 0), keepalive(phase::UP_FT, 15), keepalive(phase::UP_FT, 16)],
             [1, 9, 0]
@@ -244,7 +248,7 @@ fn init_received() {
     let init = || Message::new(types::INITIALIZATION, 1);
     let assert_answer = |stored: &Stored, message: Message, answer: u32| {
         for cabinet in both() {
-            let session = Session { phase: phase::INIT_WAIT, value: 5 };
+            let session = Session::new(phase::INIT_WAIT, 5);
             let outcome = cabinet.init_received(&mut stored.image(0), session, &message.bytes());
             assert_eq!(outcome.answer, answer, "{message:?}");
         }

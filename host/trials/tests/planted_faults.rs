@@ -2,6 +2,7 @@
 
 mod planted;
 
+use cabinet::Cabinet;
 use model::Model;
 use planted::{Fault, Planted, ALL};
 use trials::crafted;
@@ -11,6 +12,7 @@ use trials::differential::Run;
 const SEED: u64 = 0x1_D9F7;
 const CALLS: u64 = 250_000;
 const CUTS: u64 = 20_000;
+const LEFT_OUT: u64 = 2_000;
 
 /// A fault in how zero sums are stored, which generated images are too few to meet.
 const CRAFTED_ONLY: Fault = Fault::TakesBothZeros;
@@ -37,6 +39,15 @@ fn the_crafted_images_find_planted_faults() {
     }
 }
 
+/// Runs a crash trial with a cabinet that has the fault, for each of the faults; each must be found.
+fn assert_found(faults: &[Fault], trial: impl Fn([&dyn Cabinet; 2], &mut Tally) -> Result<(), String>) {
+    for fault in faults {
+        let mut tally = Tally::default();
+        let found = trial([&Planted(*fault), &Model], &mut tally);
+        println!("{fault:?} after {} steps: {}", tally.steps, found.expect_err(&format!("{fault:?} was not found")));
+    }
+}
+
 #[test]
 fn the_crash_trials_find_planted_faults() {
     let faults = [
@@ -58,10 +69,22 @@ fn the_crash_trials_find_planted_faults() {
         Fault::BreakEndsRequests,
         Fault::BreakForgetsMarks,
     ];
-    for fault in faults {
-        let tested = Planted(fault);
-        let mut tally = Tally::default();
-        let found = crash::run([&tested, &Model], SEED, CUTS, &mut tally);
-        println!("{fault:?} after {} steps: {}", tally.steps, found.expect_err(&format!("{fault:?} was not found")));
-    }
+    assert_found(&faults, |cabinets, tally| crash::run(cabinets, SEED, CUTS, tally));
+}
+
+/// Those that no connection between two such ends shows are the differential run's: a jump of 65, and jumps unresumed.
+#[test]
+fn the_crash_trials_find_what_is_wrongly_left_out() {
+    let faults = [
+        Fault::LeavesOutPended,
+        Fault::LeavesOutByEarlierAbort,
+        Fault::LeavesOutByAnyAbort,
+        Fault::LeavesOutNone,
+        Fault::LeavesOutOneOnly,
+        Fault::CountsPassedOverUnsent,
+        Fault::HidesLeftOut,
+        Fault::SecuresByOne,
+        Fault::ForgetsResumed,
+    ];
+    assert_found(&faults, |cabinets, tally| crash::run_leaving_out(cabinets, SEED, LEFT_OUT, tally));
 }

@@ -6,7 +6,7 @@ use trials::stored::{word, Queued, Stored, NO_LABEL, REQUEST, STOPPED, STOPPING}
 use trials::under_test::UnderTest;
 use trials::wire::{prefix, types, Message, NO_RESOURCES, RESOURCES_AVAILABLE, WILDCARD};
 
-const UP: Session = Session { phase: phase::UP_FT, value: 0 };
+const UP: Session = Session::new(phase::UP_FT, 0);
 const LABEL: u32 = 700;
 
 fn both() -> [&'static dyn Cabinet; 2] {
@@ -222,7 +222,7 @@ fn the_marks_follow_what_was_told() {
 /// In UpPlain messages are passed on, and nothing is remembered of them.
 #[test]
 fn without_fault_tolerance_nothing_is_remembered() {
-    let plain = Session { phase: phase::UP_PLAIN, value: 0 };
+    let plain = Session::new(phase::UP_PLAIN, 0);
     for cabinet in both() {
         for message in
             [notification(NO_RESOURCES, 0), notification(RESOURCES_AVAILABLE, 0), mapping(LABEL).request_id(0)]

@@ -7,7 +7,7 @@ use trials::stored::{word, Stored, REQUEST, STOPPED};
 use trials::under_test::UnderTest;
 use trials::wire::{prefix, types, Message};
 
-const FAILED: Session = Session { phase: phase::FAILED, value: 0 };
+const FAILED: Session = Session::new(phase::FAILED, 0);
 
 fn both() -> [&'static dyn Cabinet; 2] {
     [&UnderTest, &Model]
@@ -40,7 +40,7 @@ fn with_only_the_slot_stored_restore_gives_the_state_before_the_call() {
     }
 }
 
-const UP: Session = Session { phase: phase::UP_FT, value: 0 };
+const UP: Session = Session::new(phase::UP_FT, 0);
 
 fn request(id: u32) -> Vec<u8> {
     Message::new(types::REQUEST, id).fec(&prefix(1)).bytes()
@@ -100,7 +100,7 @@ fn a_release_forgets_requests_and_marks_and_leaves_block_65() {
     let stopped = || Stored { marks: STOPPED, ..asking() };
     for cabinet in both() {
         let mut image = stopped().image(0xEE);
-        let waiting = Session { phase: phase::INIT_WAIT, value: 5 };
+        let waiting = Session::new(phase::INIT_WAIT, 5);
         let fresh = cabinet.init_received(&mut image, waiting, &init);
         assert_eq!((fresh.answer, fresh.session, fresh.further), (0, UP, 0));
         let after = Stored::read(&image);
@@ -131,7 +131,7 @@ fn block_0_is_named_only_where_its_bytes_change() {
         assert_eq!(cabinet.restore(&mut image).block0, 0);
         assert_eq!(cabinet.time_passed(&mut image, FAILED, 4).block0, 0);
         assert_eq!(cabinet.time_passed(&mut image, FAILED, 5).block0, 1);
-        let plain = Session { phase: phase::UP_PLAIN, value: 0 };
+        let plain = Session::new(phase::UP_PLAIN, 0);
         let fatal = Message::new(types::NOTIFICATION, 1).status(0x8000_0001).bytes();
         let ended = cabinet.receive(&mut image, plain, &fatal);
         assert_eq!((ended.answer, ended.block0), (36, 0));

@@ -1,6 +1,6 @@
 -- `image_report::report_of` meets its contract, by the laws of its answers. Assumes nothing.
 use borrow.Author.Needs.{needs}
-use Rattle.image_report.proofs.Counted.{report-sound, report-counts, report-refusal}
+use Rattle.image_report.proofs.Reported.{report-sound, report-counts, report-refusal}
 use Rattle.image_report.proofs.report_of.Statement.{statement}
 use Rattle.image_report.proofs.report_of.Tie as tie
 

@@ -5,10 +5,10 @@ use Rattle.label_table.proofs.row.Statement.{statement}
 use Rattle.label_table.proofs.row.Tie as tie
 
 abbrev Inv-loop : tie.InvT-loop
-Inv-loop event full code₀ t4 code = code ≤ 8
+Inv-loop event full code₀ t4 code = code ≤ 10
 
 abbrev μ-loop : tie.MeasureT-loop
-μ-loop event full code₀ t4 code = 8 - code
+μ-loop event full code₀ t4 code = 10 - code
 
 pub row-spec : {M : Type 1} → statement M
 row-spec =

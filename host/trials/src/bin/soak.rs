@@ -5,18 +5,33 @@
 use model::Model;
 use std::process::ExitCode;
 use std::time::{Duration, Instant};
+use support::options::{Known, Options};
 use trials::crash::{self, Tally};
 use trials::differential::Run;
-use trials::options::Options;
 use trials::under_test::UnderTest;
 
 const CALLS_IN_ROUND: u64 = 100_000;
 const CUTS_IN_ROUND: u64 = 2_000;
+const LEFT_OUT_IN_ROUND: u64 = 500;
+
+const KNOWN: Known = Known { flags: &[], values: &["seconds", "seed"], files: 0 };
 
 fn main() -> ExitCode {
-    let options = Options::of_program(&["seconds", "seed"]);
-    let end = Instant::now() + Duration::from_secs(options.number("seconds", 600));
-    let first = options.number("seed", 1);
+    let options = Options::read(&KNOWN, std::env::args_os().skip(1)).and_then(|options| {
+        Ok((options.number("seconds", 600, 0..=u64::from(u32::MAX))?, options.number("seed", 1, 0..=u64::MAX)?))
+    });
+    match options {
+        Ok((seconds, seed)) => soak(Duration::from_secs(seconds), seed),
+        Err(what) => {
+            eprintln!("soak: {what}");
+            ExitCode::from(2)
+        }
+    }
+}
+
+/// Rounds until the time is over.
+fn soak(time: Duration, first: u64) -> ExitCode {
+    let end = Instant::now() + time;
     let (mut calls, mut tally) = (0, Tally::default());
     let mut seed = first;
     while Instant::now() < end {
@@ -25,7 +40,11 @@ fn main() -> ExitCode {
             return ExitCode::FAILURE;
         }
         calls += CALLS_IN_ROUND;
-        println!("seed {seed}: {calls} calls alike, {} cuts over {} steps", tally.all_cuts(), tally.steps);
+        let Tally { steps, left_out, .. } = tally;
+        println!(
+            "seed {seed}: {calls} calls alike, {} cuts and {left_out} left out over {steps} steps",
+            tally.all_cuts()
+        );
         seed += 1;
     }
     println!("{tally}");
@@ -37,5 +56,7 @@ fn round(seed: u64, tally: &mut Tally) -> Result<(), String> {
     let mut run = Run::new(&Model, &UnderTest, seed);
     run.calls(CALLS_IN_ROUND).map_err(|difference| format!("{difference:?}"))?;
     let cuts = tally.all_cuts() + CUTS_IN_ROUND;
-    crash::run([&UnderTest, &UnderTest], seed, cuts, tally)
+    crash::run([&UnderTest, &UnderTest], seed, cuts, tally)?;
+    let left_out = tally.left_out + LEFT_OUT_IN_ROUND;
+    crash::run_leaving_out([&UnderTest, &UnderTest], seed, left_out, tally)
 }

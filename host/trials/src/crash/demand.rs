@@ -1,9 +1,13 @@
-//! The third demand, asserted from the bytes of both stores and the trial's own history.
+//! The third demand, asserted from the bytes of both stores and the trial's own history: accepted, let go and held are
+//! read without those that a Send has passed over, which keep their slots until an ACK passes them.
 
 use super::end::End;
+use super::lists::{check_agreed, check_withdrawing};
 use super::owner::Habits;
 use super::requests::tell_none;
-use crate::stored::{steps_after, u32_at, Stored, SLOTS, STOPPED, STOPPING};
+use super::require;
+use super::tally::Tally;
+use crate::stored::{steps_after, steps_between, Stored, SLOTS, STOPPED, STOPPING};
 
 /// What both ends have in their stores.
 pub struct Stores([Stored; 2]);
@@ -31,36 +35,29 @@ impl Stores {
             check_direction(&ends[sender], &self.0[sender], &ends[receiver], &self.0[receiver])
                 .map_err(|what| format!("from end {sender} to end {receiver}: {what}"))?;
             check_requests(&ends[sender], &self.0[sender]).map_err(|what| format!("at end {sender}: {what}"))?;
-            if !habits.releases {
-                check_withdrawing(&self.0[sender])?;
-            }
+            check_withdrawing(&self.0[sender], habits).map_err(|what| format!("at end {sender}: {what}"))?;
         }
         Ok(())
     }
 }
 
-fn require(holds: bool, what: &str) -> Result<(), String> {
-    if holds {
-        Ok(())
-    } else {
-        Err(what.to_string())
-    }
-}
-
 /// What the sender accepted, let go and holds, and what the receiver secured.
 fn check_direction(sender: &End, sent: &Stored, receiver: &End, received: &Stored) -> Result<(), String> {
-    let (accepted, secured, held) = (&sender.accepted, &receiver.secured, &sent.queue);
-    require(held.len() <= SLOTS, "more than 64 held")?;
+    let (accepted, held) = (&sender.accepted, &sent.queue);
+    require(held.len() <= SLOTS, "more than 64 held, those left out among them")?;
     require(held.len() <= accepted.len(), "more held than accepted")?;
     let let_go = accepted.len() - held.len();
     let released = steps_after(sender.base, let_go as u64);
     require(sent.released == released, "accepted is not let go plus held")?;
-    let number = steps_after(sender.base, secured.len() as u64);
-    require(received.secured == number, "the secured number does not count what was secured")?;
-    require(accepted.starts_with(secured), "secured is not an opening part of accepted")?;
-    require(let_go <= secured.len(), "let go is not an opening part of secured")?;
     let rest = accepted[let_go..].iter().eq(held.iter().map(|queued| &queued.bytes));
-    require(rest, "the store does not hold exactly the rest")
+    require(rest, "the store does not hold exactly the rest, each in its slot")?;
+    let taken = steps_between(sender.base, received.secured) as usize;
+    require(taken <= accepted.len(), "the secured number is past those accepted")?;
+    let last_sent = taken.checked_sub(1).is_none_or(|last| !sender.left_out.contains(&last));
+    require(last_sent, "the secured number is that of a message left out")?;
+    let opening = sender.due(taken).eq(&receiver.secured);
+    require(opening, "secured is not the opening part of accepted, without those left out, that its number tells")?;
+    require(let_go <= taken, "let go, without those left out, is not an opening part of secured")
 }
 
 /// A Request is open from its acceptance until its Abort is accepted or an answer secured; whether Requests are stopped
@@ -80,35 +77,13 @@ pub fn check_undone(before: &[u8], after: &[u8]) -> Result<(), String> {
     require(same, "a call cut before block 0 has changed the state")
 }
 
-/// Where nobody releases labels, a label is withdrawing exactly as long as its Withdraw is held.
-fn check_withdrawing(stored: &Stored) -> Result<(), String> {
-    let held = |label: u32| stored.queue.iter().any(|queued| queued.kind == 2 && queued.label == label);
-    let withdrawing = |label: u32| stored.labels.contains(&(label | 2 << 20));
-    let kept = stored.labels.iter().filter(|word| *word >> 20 == 2).all(|word| held(word & 0xF_FFFF));
-    let none_free = stored.queue.iter().filter(|queued| queued.kind == 2).all(|queued| withdrawing(queued.label));
-    require(kept && none_free, "withdrawing labels are not those whose Withdraw is held")
-}
-
-/// Once everything has arrived: all accepted is secured, and where nobody releases labels the two lists agree.
-pub fn check_drained(ends: &[End; 2], habits: &Habits) -> Result<(), String> {
+/// Once everything has arrived: all accepted is secured, but for those left out, and the two lists agree.
+pub fn check_drained(ends: &[End; 2], habits: &Habits, tally: &mut Tally) -> Result<(), String> {
     for (sender, receiver) in [(0, 1), (1, 0)] {
-        require(ends[sender].accepted == ends[receiver].secured, "not all that was accepted arrived")?;
-        if !habits.releases {
-            check_lists(&ends[sender].image, &ends[receiver].image)?;
-        }
+        let arrived = ends[sender].due(usize::MAX).eq(&ends[receiver].secured);
+        require(arrived, "not all arrived that was accepted and not left out")?;
+        let [giver, user] = [sender, receiver].map(|end| Stored::read(&ends[end].image));
+        check_agreed(&giver, &user, habits, tally)?;
     }
     Ok(())
-}
-
-/// What the giver lists as given the user has in use or was asked back; what it has in use is given.
-fn check_lists(giver: &[u8], user: &[u8]) -> Result<(), String> {
-    let words = |image: &[u8]| (0..120).map(|place| u32_at(image, 28 + 4 * place)).collect::<Vec<u32>>();
-    let (giver, user) = (words(giver), words(user));
-    let has = |list: &[u32], label: u32, code: u32| list.contains(&(label | code << 20));
-    let of_code = |list: &[u32], code: u32| -> Vec<u32> {
-        list.iter().filter(|word| *word >> 20 == code).map(|word| word & 0xF_FFFF).collect()
-    };
-    let known = of_code(&giver, 1).into_iter().all(|label| has(&user, label, 3) || has(&user, label, 4));
-    let true_use = of_code(&user, 3).into_iter().all(|label| has(&giver, label, 1));
-    require(known && true_use && of_code(&giver, 2).is_empty(), "the label lists do not agree")
 }

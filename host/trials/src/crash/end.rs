@@ -2,7 +2,7 @@
 
 use super::requests;
 use super::tally::Cut;
-use crate::calls::{invoke, Call, Returned};
+use crate::calls::{invoke, Call, Lent, Returned};
 use crate::store::Store;
 use crate::stored::Stored;
 use cabinet::{phase, Cabinet, Outcome, Session};
@@ -21,6 +21,8 @@ pub struct End<'a> {
     pub session: Session,
     /// Messages accepted to send, as submitted, since the fresh start.
     pub accepted: Vec<Vec<u8>>,
+    /// The places among them of those that a Send has passed over.
+    pub left_out: BTreeSet<usize>,
     /// Messages secured from the other end, without FT TLVs, since the fresh start.
     pub secured: Vec<Vec<u8>>,
     /// The IDs of our Requests that are neither aborted nor answered, by that history.
@@ -45,6 +47,7 @@ impl<'a> End<'a> {
             image,
             session: Session::default(),
             accepted: Vec::new(),
+            left_out: BTreeSet::new(),
             secured: Vec::new(),
             open: BTreeSet::new(),
             base: 0,
@@ -56,13 +59,20 @@ impl<'a> End<'a> {
     /// Forgets the history: a session begins afresh.
     pub fn begin(&mut self) {
         (self.accepted, self.secured) = (Vec::new(), Vec::new());
-        (self.open, self.base) = (BTreeSet::new(), 0);
+        (self.left_out, self.open) = (BTreeSet::new(), BTreeSet::new());
+        self.base = 0;
     }
 
     /// Notes a message that was accepted for sending.
     pub fn note_accepted(&mut self, msg: Vec<u8>) {
         requests::accepted(&mut self.open, &msg);
         self.accepted.push(msg);
+    }
+
+    /// The first so many of the accepted, without those left out.
+    pub fn due(&self, so_many: usize) -> impl Iterator<Item = &Vec<u8>> {
+        let places = self.accepted.iter().take(so_many).enumerate();
+        places.filter(|(place, _)| !self.left_out.contains(place)).map(|(_, msg)| msg)
     }
 
     /// Notes a message that was secured from the other end.
@@ -75,7 +85,8 @@ impl<'a> End<'a> {
     pub fn call(&mut self, call: &Call) -> Done {
         let mut output = vec![0; ROOM];
         let input = call.input().to_vec();
-        let returned = invoke(self.cabinet, call, &mut self.image, &input, &mut output);
+        let lent = Lent { image: &mut self.image, input: &input, out: &mut output, words: &mut [] };
+        let returned = invoke(self.cabinet, call, lent);
         let outcome = match returned {
             Returned::Outcome(outcome) => outcome,
             _ => Outcome::default(),

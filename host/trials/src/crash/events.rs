@@ -1,10 +1,11 @@
 //! The events of a world: what may befall an end in a step, and the calls that its owner makes then.
 
-use super::end::End;
+use super::end::{Done, End};
 use super::owner::{self, Known};
+use super::require;
 use super::world::World;
 use crate::calls::Call;
-use crate::stored::{u16_at, Stored, SLOTS};
+use crate::stored::{steps_between, u16_at, u32_at, Stored, SLOTS};
 use crate::wire::{protection_number, without_ft};
 use cabinet::{phase, Opening};
 
@@ -66,7 +67,7 @@ impl World<'_, '_> {
         let known = Known { stored: &stored, session, secured: &self.ends[end].secured };
         let msg = owner::submission(&mut self.random, &self.habits, &known, self.serial);
         let made = self.perform(end, &Call::Submit { session, msg: msg.clone() })?;
-        match made.map(|outcome| outcome.answer) {
+        match made.map(|done| done.outcome.answer) {
             Some(0) => {
                 let open = self.ends[end].open.len();
                 self.ends[end].note_accepted(msg);
@@ -84,9 +85,19 @@ impl World<'_, '_> {
 
     pub fn send(&mut self, end: usize) -> Result<(), String> {
         let session = self.ends[end].session;
+        let stored = Stored::read(&self.ends[end].image);
         let ack = self.random.percent(50);
-        let made = self.perform(end, &Call::SendNext { session, ack, room: 0 })?;
-        self.tally.sent += u64::from(made.is_some_and(|outcome| outcome.answer == 0));
+        let Some(done) = self.perform(end, &Call::SendNext { session, ack, room: 0 })? else { return Ok(()) };
+        let all_sent = session.value as usize == stored.queue.len();
+        require(done.outcome.answer != 8 || all_sent, "nothing is unsent, and something was not sent")?;
+        if done.outcome.answer != 0 {
+            return Ok(());
+        }
+        let marked = self.ends[end].left_out.len();
+        self.ends[end].note_sent(&stored, session.value, &done)?;
+        self.tally.sent += 1;
+        self.tally.left_out += (self.ends[end].left_out.len() - marked) as u64;
+        self.tally.passed_over += u64::from(done.outcome.left_out);
         Ok(())
     }
 
@@ -110,19 +121,33 @@ impl World<'_, '_> {
         } else {
             Call::Receive { session, msg: msg.clone() }
         };
-        let Some(outcome) = self.perform(end, &call)? else { return Ok(()) };
+        let secured = u32_at(&self.ends[end].image, 12);
+        let Some(Done { outcome, .. }) = self.perform(end, &call)? else { return Ok(()) };
         if outcome.answer != 0 {
             return Err(format!("{} answered {}", call.name(), outcome.answer));
         }
         if waits {
-            self.tally.resumed += 1;
-        } else if protection_number(&msg).is_some() {
-            let open = self.ends[end].open.len();
-            self.ends[end].note_secured(without_ft(&msg));
-            self.tally.secured += 1;
-            self.tally.answered += u64::from(self.ends[end].open.len() < open);
+            self.tally.resumed += u64::from(self.begun);
+            return require(
+                outcome.session.is_resumed() == self.begun,
+                "resumed is not that both ends kept their state",
+            );
         }
+        let left_out = protection_number(&msg).map_or(0, |number| steps_between(secured, number).wrapping_sub(1));
+        require(outcome.left_out == left_out, "the receiver does not count the numbers left out")?;
+        self.note_delivered(end, &msg);
         Ok(())
+    }
+
+    /// A message that was delivered and has a number is secured.
+    fn note_delivered(&mut self, end: usize, msg: &[u8]) {
+        if protection_number(msg).is_none() {
+            return;
+        }
+        let open = self.ends[end].open.len();
+        self.ends[end].note_secured(without_ft(msg));
+        self.tally.secured += 1;
+        self.tally.answered += u64::from(self.ends[end].open.len() < open);
     }
 
     /// A broken connection is noticed, a new one is made once both ends are down, and each end opens it.

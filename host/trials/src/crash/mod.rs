@@ -4,10 +4,20 @@
 mod demand;
 mod end;
 mod events;
+mod left_out;
+mod lists;
 mod owner;
 mod requests;
 mod tally;
 mod world;
 
 pub use tally::{Cut, Tally, CUTS};
-pub use world::{run, run_asking};
+pub use world::{run, run_asking, run_leaving_out};
+
+fn require(holds: bool, what: &str) -> Result<(), String> {
+    if holds {
+        Ok(())
+    } else {
+        Err(what.to_string())
+    }
+}

@@ -39,9 +39,15 @@ pub struct Tally {
     /// Requests refused because they are stopped.
     pub stopped: u64,
     pub sent: u64,
+    /// Messages that were left out, each once, and how often Sends passed over them.
+    pub left_out: u64,
+    pub passed_over: u64,
     pub full: u64,
     pub most_held: usize,
     pub drained: u64,
+    /// Labels that both ends list alike once everything has arrived: given and in use, withdrawn and asked back.
+    pub given: u64,
+    pub withdrawn: u64,
 }
 
 impl Tally {
@@ -72,6 +78,8 @@ impl fmt::Display for Tally {
         writeln!(f, "{} accepted, {} sent, {} secured", self.accepted, self.sent, self.secured)?;
         let Tally { asked, aborted, answered, stopped, .. } = self;
         writeln!(f, "{asked} Requests, {aborted} aborted, {answered} answered, {stopped} refused while stopped")?;
+        writeln!(f, "{} left out, passed over {} times", self.left_out, self.passed_over)?;
+        writeln!(f, "at the end {} labels given, {} withdrawn and asked back", self.given, self.withdrawn)?;
         write!(f, "{} refused at 64 held, at most {} held, {} worlds drained", self.full, self.most_held, self.drained)
     }
 }

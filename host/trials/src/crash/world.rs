@@ -3,6 +3,7 @@
 use super::demand::{check_drained, check_undone, Stores};
 use super::end::{Done, End};
 use super::owner::Habits;
+use super::require;
 use super::tally::{Cut, Tally, CUTS};
 use crate::calls::Call;
 use crate::random::Random;
@@ -25,6 +26,11 @@ pub fn run(cabinets: [&dyn Cabinet; 2], seed: u64, cuts: u64, tally: &mut Tally)
 /// Runs worlds of owners that ask for labels, until so many cuts fell between block 65 and block 0.
 pub fn run_asking(cabinets: [&dyn Cabinet; 2], seed: u64, cuts: u64, tally: &mut Tally) -> Result<(), String> {
     worlds(cabinets, seed, Habits::asking, |tally| tally.cuts_in("submit", Cut::BeforeBlock0) < cuts, tally)
+}
+
+/// Runs worlds of owners that abort what they have asked for, until so many Requests were left out.
+pub fn run_leaving_out(cabinets: [&dyn Cabinet; 2], seed: u64, count: u64, tally: &mut Tally) -> Result<(), String> {
+    worlds(cabinets, seed, Habits::aborting, |tally| tally.left_out < count, tally)
 }
 
 fn worlds(
@@ -57,6 +63,8 @@ pub struct World<'a, 't> {
     /// Messages on their way to each end.
     pub lines: [VecDeque<Vec<u8>>; 2],
     pub connected: bool,
+    /// Both ends have come up once: from now on both keep their state.
+    pub begun: bool,
     pub random: Random,
     pub habits: Habits,
     pub serial: u32,
@@ -67,7 +75,7 @@ impl<'a, 't> World<'a, 't> {
     fn new(ends: [End<'a>; 2], mut random: Random, habits: fn(&mut Random) -> Habits, tally: &'t mut Tally) -> Self {
         let habits = habits(&mut random);
         let lines = [VecDeque::new(), VecDeque::new()];
-        World { ends, lines, connected: false, random, habits, serial: 0, tally }
+        World { ends, lines, connected: false, begun: false, random, habits, serial: 0, tally }
     }
 
     /// A fresh start, steps by chance, and a quiet end in which everything arrives.
@@ -89,6 +97,10 @@ impl<'a, 't> World<'a, 't> {
         let stores = Stores::read(&self.ends)?;
         let most = (0..2).map(|end| stores.of(end).queue.len()).max().unwrap_or(0);
         self.tally.most_held = self.tally.most_held.max(most);
+        let [first, second] = &self.ends;
+        let both_up = self.connected && first.is_up() && second.is_up();
+        let agree = first.session.is_resumed() == second.session.is_resumed();
+        require(!both_up || agree, "the ends do not agree on whether their connection is resumed")?;
         stores.check(&self.ends, &self.habits)
     }
 
@@ -113,7 +125,7 @@ impl<'a, 't> World<'a, 't> {
         }
         self.deliver(1)?;
         self.start_late()?;
-        self.habits.cuts = cuts;
+        (self.habits.cuts, self.begun) = (cuts, true);
         self.check()
     }
 
@@ -141,14 +153,14 @@ impl<'a, 't> World<'a, 't> {
     }
 
     /// Makes a call and stores what it names, or is cut before the end of that; none where it counts as not made.
-    pub fn perform(&mut self, end: usize, call: &Call) -> Result<Option<Outcome>, String> {
+    pub fn perform(&mut self, end: usize, call: &Call) -> Result<Option<Done>, String> {
         let before = self.ends[end].image.clone();
-        let Done { outcome, output } = self.ends[end].call(call);
-        let cut = self.choose_cut(&outcome);
+        let done = self.ends[end].call(call);
+        let cut = self.choose_cut(&done.outcome);
         let reached = cut.unwrap_or(Cut::All);
-        self.ends[end].store_until(&outcome, reached).map_err(text)?;
-        if reached == Cut::All && !output.is_empty() && self.connected {
-            self.lines[1 - end].push_back(output);
+        self.ends[end].store_until(&done.outcome, reached).map_err(text)?;
+        if reached == Cut::All && !done.output.is_empty() && self.connected {
+            self.lines[1 - end].push_back(done.output.clone());
         }
         let made = reached >= Cut::NoOutput;
         if let Some(cut) = cut {
@@ -158,7 +170,7 @@ impl<'a, 't> World<'a, 't> {
                 check_undone(&before, &self.ends[end].image)?;
             }
         }
-        Ok(made.then_some(outcome))
+        Ok(made.then_some(done))
     }
 
     /// A store point at which the power is cut, at times. The points are those that the call has: one without a slot, or
@@ -205,7 +217,7 @@ impl<'a, 't> World<'a, 't> {
         for _ in 0..DRAIN_STEPS {
             if self.ends.iter().all(|end| u16_at(&end.image, 18) == 0) {
                 self.tally.drained += 1;
-                return check_drained(&self.ends, &self.habits);
+                return check_drained(&self.ends, &self.habits, self.tally);
             }
             for end in 0..2 {
                 self.reconnect(end)?;

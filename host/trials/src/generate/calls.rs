@@ -3,27 +3,21 @@
 use super::{malformed, messages, states};
 use crate::calls::Call;
 use crate::random::Random;
-use crate::stored::{Stored, REQUEST};
-use cabinet::{phase, Opening, Session};
+use crate::stored::{steps_after, Stored, REQUEST};
+use cabinet::{flags, phase, Opening, Session};
 
 const EDGES: [u32; 9] = [0, 1, 2, 0x7FFF_FFFF, 0x8000_0000, 0x8000_0001, 0xFFFF_FFFD, 0xFFFF_FFFE, 0xFFFF_FFFF];
-
-/// How many of the held messages have a number.
-fn numbered(stored: &Stored) -> u32 {
-    let ahead = stored.issued.wrapping_sub(stored.released);
-    let wrapped = stored.issued < stored.released;
-    ahead - u32::from(wrapped)
-}
 
 /// A session in one of the phases given, mostly one that the image allows.
 fn session(random: &mut Random, stored: &Stored, phases: &[u32]) -> Session {
     let phase = if random.percent(90) { random.pick(phases) } else { random.pick(&[0, 1, 2, 3, 4, 5, 6, u32::MAX]) };
     let value = match phase {
         phase::UP_FT => match random.below(20) {
-            0 => numbered(stored) + 1,
+            0 => stored.numbered() as u32 + 1,
             1 => random.u32(),
-            2..=6 => numbered(stored),
-            _ => random.between(0, numbered(stored) as usize) as u32,
+            2..=6 => stored.numbered() as u32,
+            7..=11 => 0,
+            _ => random.between(0, stored.numbered()) as u32,
         },
         phase::INIT_WAIT => match random.below(20) {
             0 => 65_536,
@@ -32,7 +26,17 @@ fn session(random: &mut Random, stored: &Stored, phases: &[u32]) -> Session {
         },
         _ => random.pick(&[0, 0, 7, u32::MAX]),
     };
-    Session { phase, value }
+    Session { phase, value, flags: flags(random) }
+}
+
+/// Resumed or not in most cases, at times with bits that no phase bears.
+fn flags(random: &mut Random) -> u32 {
+    match random.below(10) {
+        0..=3 => 0,
+        4..=7 => flags::RESUMED,
+        8 => random.u32(),
+        _ => random.pick(&[2, 3, u32::MAX, u32::MAX - 1]),
+    }
 }
 
 /// The phases among those given that the state allows, or all of them where it allows none.
@@ -90,24 +94,40 @@ pub fn on_image(random: &mut Random, stored: &Stored) -> Call {
             session: session(random, &[phase::INIT_WAIT, phase::UP_FT, phase::FAILED]),
             msg: messages::submission(random, stored),
         },
-        56..=65 => Call::SendNext {
+        56..=70 => Call::SendNext {
             session: session(random, &[phase::UP_FT]),
             ack: random.percent(50),
             room: random.pick(&[0, 15, 16, 24, 36, 44, 487, 488, 495, 496, 500, 500, 500]),
         },
-        66..=70 => Call::Keepalive {
+        71..=73 => Call::Keepalive {
             session: session(random, &[phase::UP_FT, phase::UP_PLAIN]),
             message_id: random.u32(),
             room: random.pick(&[0, 7, 8, 9, 15, 16, 17, 40]),
         },
-        71..=97 => Call::Receive {
+        74..=95 => Call::Receive {
             session: session(random, &[phase::UP_FT, phase::UP_PLAIN]),
             msg: messages::received(random, stored),
         },
-        98 => Call::Label { place: place(random, stored) },
-        _ if random.percent(70) => Call::RequestAt { place: place(random, stored) },
+        _ => look(random, stored),
+    }
+}
+
+/// A call that shows what an image holds, or makes it longer before anybody looks.
+fn look(random: &mut Random, stored: &Stored) -> Call {
+    match random.below(8) {
+        0 => Call::Label { place: place(random, stored) },
+        1 => Call::RequestAt { place: place(random, stored) },
+        2..=3 => Call::Summarize,
+        4..=5 => Call::Labels { room: random.pick(&[0, 1, 119, 120, 120, 120, 121, 200]) },
+        6 => Call::Held { place: place_held(random, stored) },
         _ => Call::Extend { stored_len: random.pick(&[33_280, 33_280, 33_280, 33_792, 33_279, 0, usize::MAX]) },
     }
+}
+
+/// A place of the send store: one of those held in many cases, the one after the last, or one that it does not have.
+fn place_held(random: &mut Random, stored: &Stored) -> u32 {
+    let held = stored.queue.len() as u32;
+    random.pick(&[0, held / 2, held.saturating_sub(1), held, held + 1, 63, 64, u32::MAX])
 }
 
 /// A place of the label list, one of an open Request in many cases, or one that it does not have.
@@ -126,7 +146,7 @@ fn edge(random: &mut Random) -> u32 {
 
 /// A call that reads no image.
 pub fn pure(random: &mut Random, stored: &Stored) -> Call {
-    match random.below(10) {
+    match random.below(12) {
         0..=1 => Call::PduOpen { pdu: malformed::pdu(random, stored) },
         2..=3 => {
             let pdu = malformed::pdu(random, stored);
@@ -137,6 +157,11 @@ pub fn pure(random: &mut Random, stored: &Stored) -> Call {
         6 => Call::Distance { from: edge(random), to: edge(random) },
         7 => Call::Successor { number: edge(random) },
         8 => Call::LesserTimeout { a: edge(random), b: edge(random) },
+        9..=10 => {
+            let (secured, resumed) = (edge(random), random.percent(70));
+            let (ahead, other) = (steps_after(secured, random.between(0, 70) as u64), edge(random));
+            Call::NextNumber { secured, number: random.pick(&[ahead, ahead, ahead, other, 0]), resumed }
+        }
         _ => {
             let length = random.pick(&[0, 507, 508, 509, 512, 512, 512, 600]);
             let fill = random.pick(&[0x00, 0xFF, 0x80]);

@@ -58,8 +58,17 @@ pub const KEPT_FAULTS: &[FieldFault] = &[
     fault("code 0 with a label", |b| put_word(b, 119, 16)),
     fault("code 0 with label 1", |b| put_word(b, 0, 1)),
     fault("code 7 with a label", |b| put_word(b, 60, word(500_000, 7))),
-    fault("code 8", |b| put_word(b, 60, word(500_000, 8))),
+    fault("code 10", |b| put_word(b, 60, word(500_000, 10))),
     fault("code 8 without a label", |b| put_word(b, 60, word(0, 8))),
+    fault("code 9 with label 15", |b| put_word(b, 60, word(15, 9))),
+    fault("label given and withdrawn", |b| {
+        put_word(b, 0, word(500_000, 1));
+        put_word(b, 119, word(500_000, 8));
+    }),
+    fault("label twice withdrawn", |b| {
+        put_word(b, 0, word(500_000, 9));
+        put_word(b, 119, word(500_000, 8));
+    }),
     fault("code 4095", |b| put_word(b, 60, word(500_000, 4095))),
     fault("label 15 given", |b| put_word(b, 3, word(15, 1))),
     fault("label 0 used", |b| put_word(b, 3, word(0, 3))),

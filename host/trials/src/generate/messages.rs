@@ -59,7 +59,7 @@ fn label(random: &mut Random, stored: &Stored, codes: &[u32]) -> u32 {
 }
 
 fn codes_for(random: &mut Random, message_type: u16, sending: bool) -> &'static [u32] {
-    let ours: [&[u32]; 4] = [&[1], &[2], &[1, 2], &[]];
+    let ours: [&[u32]; 6] = [&[1], &[2], &[8], &[9], &[1, 2, 8, 9], &[]];
     let theirs: [&[u32]; 6] = [&[3], &[4], &[5], &[6], &[3, 4, 5, 6], &[]];
     if (message_type == types::RELEASE) == sending {
         random.pick(&theirs)
@@ -137,7 +137,7 @@ pub fn queued(random: &mut Random, stored: &Stored) -> Queued {
     let mut label = NO_LABEL;
     match kind {
         1..=3 => {
-            let code: &[u32] = [&[1], &[2], &[5]][usize::from(kind) - 1];
+            let code: &[u32] = [&[1][..], &[2, 9], &[5]][usize::from(kind) - 1];
             label = self::label(random, stored, code);
             message = message.fec(&fec(random)).label(label);
         }
@@ -146,37 +146,33 @@ pub fn queued(random: &mut Random, stored: &Stored) -> Queued {
         _ => message = body(random, stored, message_type, true),
     }
     if random.percent(20) {
-        message = message.label_beside(random, kind);
+        message = with_label_beside(random, message, kind);
     }
     let length = random.pick(&[0, 0, 0, 40, 77, 479, 480]);
     Queued { kind, label, bytes: message.padded_to(length).bytes() }
 }
 
-impl Message {
-    /// Kinds without a label may bear one that counts for nothing.
-    fn label_beside(self, random: &mut Random, kind: u8) -> Self {
-        if kind > 3 {
-            self.label(random.below(1_048_576) as u32)
-        } else {
-            self
-        }
+/// Kinds without a label may bear one that counts for nothing.
+fn with_label_beside(random: &mut Random, message: Message, kind: u8) -> Message {
+    if kind > 3 {
+        message.label(random.below(1_048_576) as u32)
+    } else {
+        message
     }
+}
 
-    /// Sets bits that a reader ignores, on the message and on its TLVs.
-    fn with_ignored_bits(mut self, random: &mut Random) -> Self {
-        self.message_type |= random.pick(&[0, 0x8000]);
-        for (tlv_type, _) in &mut self.tlvs {
-            *tlv_type |= random.pick(&[0, 0x4000, 0x8000, 0xC000]);
-        }
-        self
+/// Sets bits that a reader ignores, on the message and on its TLVs.
+pub(super) fn with_ignored_bits(random: &mut Random, mut message: Message) -> Message {
+    message.message_type |= random.pick(&[0, 0x8000]);
+    for (tlv_type, _) in &mut message.tlvs {
+        *tlv_type |= random.pick(&[0, 0x4000, 0x8000, 0xC000]);
     }
+    message
+}
 
-    fn shuffled(mut self, random: &mut Random) -> Self {
-        for last in (1..self.tlvs.len()).rev() {
-            self.tlvs.swap(last, random.below(last + 1));
-        }
-        self
-    }
+pub(super) fn shuffled(random: &mut Random, mut message: Message) -> Message {
+    random.shuffle(&mut message.tlvs);
+    message
 }
 
 fn any_type(random: &mut Random) -> u16 {
@@ -226,13 +222,16 @@ pub fn received(random: &mut Random, stored: &Stored) -> Vec<u8> {
     finished(random, message)
 }
 
+/// The number that is due in most cases; of a peer that leaves out messages, one of those after it, near the end of them
+/// at times; or another.
 fn protection(random: &mut Random, stored: &Stored) -> u32 {
     match random.below(20) {
         0 => 0,
         1 => stored.secured,
-        2 => steps_after(stored.secured, 2),
-        3 => random.u32(),
-        4 => stored.secured.wrapping_add(1),
+        2 => random.u32(),
+        3 => stored.secured.wrapping_add(1),
+        4..=6 => steps_after(stored.secured, random.between(1, 70) as u64),
+        7..=8 => steps_after(stored.secured, random.pick(&[2, 63, 64, 65])),
         _ => steps_after(stored.secured, 1),
     }
 }
@@ -298,10 +297,10 @@ pub fn any(random: &mut Random, stored: &Stored) -> Vec<u8> {
 /// Bits that are ignored, another order of TLVs, and faults, each at times.
 fn finished(random: &mut Random, mut message: Message) -> Vec<u8> {
     if random.percent(15) {
-        message = message.with_ignored_bits(random);
+        message = with_ignored_bits(random, message);
     }
     if random.percent(15) {
-        message = message.shuffled(random);
+        message = shuffled(random, message);
     }
     if random.percent(6) {
         return malformed::message(random, message);

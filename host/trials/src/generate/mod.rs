@@ -4,4 +4,5 @@ pub mod calls;
 pub mod damage;
 pub mod malformed;
 pub mod messages;
+pub mod pairs;
 pub mod states;

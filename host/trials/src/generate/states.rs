@@ -1,6 +1,6 @@
 //! Stored states that pass every check: numbers near wrap-around, empty and full rings, empty and full label lists.
 
-use super::messages;
+use super::{messages, pairs};
 use crate::random::Random;
 use crate::stored::{steps_after, word, Stored, PLACES, REQUEST, STOPPED, STOPPING};
 use std::collections::HashSet;
@@ -9,6 +9,9 @@ const NUMBERS: [u32; 11] =
     [0, 0, 1, 2, 40, 0x7FFF_FFFF, 0x8000_0000, 0xFFFF_FFC0, 0xFFFF_FFF0, 0xFFFF_FFFE, 0xFFFF_FFFF];
 const HELD: [usize; 12] = [0, 0, 0, 1, 1, 2, 3, 8, 30, 63, 64, 64];
 const LISTED: [usize; 11] = [0, 1, 2, 4, 10, 30, 90, 119, 119, 120, 120];
+/// The codes of labels, and those of labels that we gave.
+const CODES: [u32; 8] = [1, 2, 3, 4, 5, 6, 8, 9];
+const OURS: [u32; 4] = [1, 2, 8, 9];
 const OPEN: [usize; 9] = [0, 0, 0, 1, 2, 5, 20, 100, 120];
 const TIMEOUTS: [u16; 6] = [0, 0, 1, 5, 600, 65_535];
 
@@ -77,7 +80,11 @@ pub fn state(random: &mut Random) -> Stored {
         ids,
         queue: Vec::new(),
     };
-    stored.queue = (0..held).map(|_| messages::queued(random, &stored)).collect();
+    stored.queue = if random.percent(35) {
+        pairs::queue(random, &stored, held)
+    } else {
+        (0..held).map(|_| messages::queued(random, &stored)).collect()
+    };
     stored
 }
 
@@ -88,9 +95,9 @@ fn label_list(random: &mut Random) -> [u32; PLACES] {
     let mut list = [0; PLACES];
     let listed = random.pick(&LISTED);
     while places.len() > PLACES - listed {
-        let code = random.between(1, 6) as u32;
+        let code = random.pick(&CODES);
         let label = label(random);
-        if seen.insert((label, code <= 2)) {
+        if seen.insert((label, OURS.contains(&code))) {
             let place = places.swap_remove(random.below(places.len()));
             list[place] = word(label, code);
         }

@@ -91,9 +91,59 @@ pub enum Fault {
     ExtendsAnySize,
     /// Bit A is never set.
     NeverOnDemand,
+    /// The summary says of everything held that it has no number.
+    CountsHeldAsPended,
+    /// The summary does not count open Requests among the words in use.
+    CountsNoRequests,
+    /// The words of a refused image are counted too.
+    CountsWhenRefused,
+    /// Too few words are lent, and they are filled all the same.
+    FillsShortWords,
+    /// A word after the last is written.
+    WritesPastWords,
+    /// Too few words are refused before the image is judged.
+    AsksRoomFirst,
+    /// The message held is looked up from the first slot, not from the oldest.
+    CountsFromFirstSlot,
+    /// The place after the newest held shows what its slot bears.
+    ShowsDeadSlot,
+    /// The message held is shown with what stands before it in its slot.
+    ShowsWholeSlot,
+    /// A Request is left out though it has no number yet.
+    LeavesOutPended,
+    /// A Request is left out by an Abort of its ID that is held before it.
+    LeavesOutByEarlierAbort,
+    /// A Request is left out by an Abort of another ID.
+    LeavesOutByAnyAbort,
+    /// Everything held is sent again.
+    LeavesOutNone,
+    /// Of several Requests one after another the first alone is left out.
+    LeavesOutOneOnly,
+    /// Requests are left out on a resumed connection alone.
+    LeavesOutWhereResumed,
+    /// Those that a Send passes over do not count as sent.
+    CountsPassedOverUnsent,
+    /// Send next does not say that it left out messages.
+    HidesLeftOut,
+    /// With too little room those passed over count as sent all the same.
+    PassesOverWhenRefused,
+    /// A number 65 steps ahead is taken.
+    TakesJumpOf65,
+    /// Numbers may be left out on a connection that is not resumed.
+    JumpsUnresumed,
+    /// After a jump the secured number is one more than it was.
+    SecuresByOne,
+    /// A resumed connection counts as a fresh one.
+    ForgetsResumed,
+    /// Flags that the phase does not bear are handed back.
+    KeepsFlags,
+    /// The next number is judged as on a resumed connection.
+    NextIsAlwaysResumed,
+    /// The next number zero is 20.
+    NextZeroIsOutOfTurn,
 }
 
-pub const ALL: [Fault; 44] = [
+pub const ALL: [Fault; 69] = [
     Fault::FreesOnWithdraw,
     Fault::WrapsToZero,
     Fault::ZeroTimeoutIsNoWait,
@@ -138,4 +188,29 @@ pub const ALL: [Fault; 44] = [
     Fault::ShowsClosedRequest,
     Fault::ExtendsAnySize,
     Fault::NeverOnDemand,
+    Fault::CountsHeldAsPended,
+    Fault::CountsNoRequests,
+    Fault::CountsWhenRefused,
+    Fault::FillsShortWords,
+    Fault::WritesPastWords,
+    Fault::AsksRoomFirst,
+    Fault::CountsFromFirstSlot,
+    Fault::ShowsDeadSlot,
+    Fault::ShowsWholeSlot,
+    Fault::LeavesOutPended,
+    Fault::LeavesOutByEarlierAbort,
+    Fault::LeavesOutByAnyAbort,
+    Fault::LeavesOutNone,
+    Fault::LeavesOutOneOnly,
+    Fault::LeavesOutWhereResumed,
+    Fault::CountsPassedOverUnsent,
+    Fault::HidesLeftOut,
+    Fault::PassesOverWhenRefused,
+    Fault::TakesJumpOf65,
+    Fault::JumpsUnresumed,
+    Fault::SecuresByOne,
+    Fault::ForgetsResumed,
+    Fault::KeepsFlags,
+    Fault::NextIsAlwaysResumed,
+    Fault::NextZeroIsOutOfTurn,
 ];

@@ -1,16 +1,18 @@
 //! Cabinets with one fault planted in each: the tests must find every one of them.
 
 mod faults;
+mod left_out;
+mod reading;
 mod requests;
 
 pub use faults::{Fault, ALL};
 
 use cabinet::{
-    phase, Cabinet, Distance, Extended, Message, Opening, Outcome, Part, Pdu, Request, Session,
+    phase, Cabinet, Distance, Extended, Message, Next, Opening, Outcome, Part, Pdu, Request, Session, Summary, Words,
     IMAGE_SIZE_WITHOUT_REQUESTS, REQUEST_BLOCK,
 };
 use model::Model;
-use trials::stored::{check, seal, steps_after, u16_at, u32_at, word, Stored};
+use trials::stored::{seal, steps_after, u32_at, word, Stored};
 use trials::wire;
 
 /// The model with a fault.
@@ -20,11 +22,6 @@ pub struct Planted(pub Fault);
 fn put(image: &mut [u8], at: usize, bytes: &[u8]) {
     image[at..at + bytes.len()].copy_from_slice(bytes);
     seal(image, 0);
-}
-
-fn is_bad(image: &[u8], block: usize) -> bool {
-    let block = &image[block * 512..][..512];
-    check(block) != (u16_at(block, 508), u16_at(block, 510))
 }
 
 /// Moves a word that a call added from the first free place to the last.
@@ -40,39 +37,6 @@ fn move_added_word(before: &[u8], image: &mut [u8]) {
 }
 
 impl Planted {
-    fn restore_outcome(&self, image: &mut [u8]) -> Outcome {
-        let mut outcome = Model.restore(image);
-        match self.0 {
-            Fault::NamesNoBlock => outcome.block = 0,
-            Fault::ChecksDeadSlots if outcome.answer == 0 && (1..65).any(|block| is_bad(image, block)) => {
-                outcome.answer = 10;
-            }
-            Fault::SkipsPadding if outcome.answer == 11 && (1..65).contains(&outcome.block) => {
-                let mut mended = image.to_vec();
-                let slot = outcome.block as usize * 512;
-                let end = slot + (8 + usize::from(u16_at(image, slot))).min(508);
-                mended[end..slot + 508].fill(0);
-                seal(&mut mended, outcome.block as usize);
-                outcome = Model.restore(&mut mended);
-            }
-            Fault::TakesBothZeros if outcome.answer == 10 && outcome.block == 0 => {
-                let mut mended = image.to_vec();
-                for at in [508, 510] {
-                    if mended[at..at + 2] == [255, 255] {
-                        mended[at..at + 2].fill(0);
-                    }
-                }
-                outcome = Model.restore(&mut mended);
-            }
-            Fault::CountsAllIds if outcome.answer == 0 && requests::repeats_id(image) => {
-                outcome = Outcome { answer: 11, block: REQUEST_BLOCK as u32, ..Outcome::default() };
-            }
-            _ if outcome.block as usize == REQUEST_BLOCK => self.wrong_refusal(image, &mut outcome),
-            _ => {}
-        }
-        outcome
-    }
-
     /// What submit does wrong after it accepted a message.
     fn after_submission(&self, before: &[u8], image: &mut [u8], given: Session, outcome: &mut Outcome) {
         let stored = Stored::read(image);
@@ -131,12 +95,12 @@ impl Cabinet for Planted {
 
     fn restore(&self, image: &mut [u8]) -> Outcome {
         let before = image.to_vec();
-        let mut outcome = self.restore_outcome(image);
+        let mut outcome = self.wrong_judgement(image);
         self.after_break(&before, image, &mut outcome);
         outcome
     }
 
-    fn open(&self, image: &mut [u8], session: Session, opening: &Opening, out: &mut [u8]) -> Outcome {
+    fn open(&self, image: &[u8], session: Session, opening: &Opening, out: &mut [u8]) -> Outcome {
         let unknown = self.0 == Fault::TakesUnknownPhase && session.phase > phase::FAILED;
         let session = if unknown { Session::default() } else { session };
         let opening = Opening { on_demand: opening.on_demand && self.0 != Fault::NeverOnDemand, ..*opening };
@@ -151,6 +115,7 @@ impl Cabinet for Planted {
         let before = image.to_vec();
         let mut outcome = Model.init_received(image, session, msg);
         let resumed = outcome.session.phase == phase::UP_FT && before[22] == 1;
+        outcome.session = self.wrong_flags(session, outcome.session);
         match self.0 {
             Fault::CountSurvivesBreak if resumed => {
                 let stored = Stored::read(image);
@@ -193,7 +158,7 @@ impl Cabinet for Planted {
     }
 
     fn send_next(&self, image: &mut [u8], session: Session, ack: bool, out: &mut [u8]) -> Outcome {
-        let outcome = Model.send_next(image, session, ack, out);
+        let outcome = self.wrong_send(image, session, ack, out);
         let length = outcome.length as usize;
         match self.0 {
             Fault::WritesPastOutput if outcome.answer == 0 && length < out.len() => out[length] = 0,
@@ -207,7 +172,7 @@ impl Cabinet for Planted {
         outcome
     }
 
-    fn keepalive(&self, image: &mut [u8], session: Session, message_id: u32, out: &mut [u8]) -> Outcome {
+    fn keepalive(&self, image: &[u8], session: Session, message_id: u32, out: &mut [u8]) -> Outcome {
         let mut outcome = Model.keepalive(image, session, message_id, out);
         match self.0 {
             Fault::AckAhead if outcome.length == 16 => {
@@ -224,7 +189,7 @@ impl Cabinet for Planted {
         let before = image.to_vec();
         let all = self.acknowledged_as_all(image, msg);
         let msg = if self.0 == Fault::ZeroAckIsAll { &all } else { msg };
-        let mut outcome = Model.receive(image, session, &self.read_wrongly(msg));
+        let mut outcome = self.wrong_turn(image, session, &self.read_wrongly(msg));
         let accepted = outcome.answer == 0 && session.phase == phase::UP_FT;
         if accepted {
             self.wrong_reception(&before, image, &mut outcome);
@@ -271,6 +236,10 @@ impl Cabinet for Planted {
         }
     }
 
+    fn next_number(&self, secured: u32, number: u32, resumed: bool) -> Next {
+        self.wrong_next(secured, number, resumed)
+    }
+
     fn lesser_timeout(&self, a: u32, b: u32) -> u32 {
         if self.0 == Fault::LesserOfZeroIsZero {
             a.min(b)
@@ -293,6 +262,18 @@ impl Cabinet for Planted {
             request.id = u32_at(image, REQUEST_BLOCK * 512 + 4 * place as usize);
         }
         request
+    }
+
+    fn summarize(&self, image: &[u8]) -> Summary {
+        self.wrong_summary(image)
+    }
+
+    fn labels(&self, image: &[u8], words: &mut [u32]) -> Words {
+        self.wrong_words(image, words)
+    }
+
+    fn held(&self, image: &[u8], place: u32) -> Part {
+        self.wrong_part(image, place)
     }
 
     fn extend(&self, image: &mut [u8], stored_len: usize) -> Extended {

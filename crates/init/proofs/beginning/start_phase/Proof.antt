@@ -9,9 +9,11 @@ start-phase-spec =
     (λ c. search needs)
     (λ c. search needs)
     (λ c. search needs)
+    (λ c κs. search needs)
+    (λ c. search needs)
+    (λ c κs. search needs)
     (λ c. search needs)
     (λ c. search needs)
-    (λ c. search needs)
-    (λ c. simp (c .enum-told3 .given .1))
-    (λ c. simp (c .enum-told4 .given .1)) in
+    (λ c. simp (c .before .enum-told3 .given .1) (c .up-ft .ensures))
+    (λ c. simp (c .before .enum-told4 .given .1) (c .up-ft2 .ensures)) in
     tie.close answers

@@ -1,9 +1,6 @@
-use mathlib.Core.Path.{sym}
-use native.Mathlib.Omega.{arith}
 use borrow.Author.Needs.{needs}
 use borrow.Author.Tests.{ne-eqb}
 use Rattle.label_list.specs.Rules.{codeReceived}
-use Rattle.label_list.proofs.Standing.{within-in, within-below, within-above}
 use Rattle.label_list.proofs.rules.code_received.Statement.{statement}
 use Rattle.label_list.proofs.rules.code_received.Tie as tie
 
@@ -22,7 +19,8 @@ code-received-spec =
     (λ c. rw (c .before .enum-told2 .given .1, c .match4 .keys1))
     (λ c. rw (c .before .enum-told2 .given .1, c .match4 .keys2))
     (λ c. simp (c .before .enum-told2 .given .1, ne-eqb _ _ (c .match4 .rest .0 .1), ne-eqb _ _ (c .match4 .rest .1)))
-    (λ c. simp (c .before .before .enum-told3 .given .1, sym (within-in 1 2 (c .before .before .before .before .args .code) (omega arith) (omega arith))))
-    (λ c. simp (c .before .enum-told3 .given .1, sym (within-below 1 2 (c .before .before .before .args .code) (omega arith))))
-    (λ c. simp (c .before .before .enum-told3 .given .1, sym (within-above 1 2 (c .before .before .before .before .args .code) (omega arith) (omega arith)))) in
+    (λ c. rw (c .before .enum-told3 .given .1, c .match5 .keys1))
+    (λ c. rw (c .before .enum-told3 .given .1, c .match5 .keys2))
+    (λ c. rw (c .before .enum-told3 .given .1, c .match5 .keys3))
+    (λ c. simp (c .before .enum-told3 .given .1, ne-eqb _ _ (c .match5 .rest .0 .0 .1), ne-eqb _ _ (c .match5 .rest .0 .1), ne-eqb _ _ (c .match5 .rest .1))) in
     tie.close answers

@@ -13,8 +13,8 @@ phase-given-spec =
     (λ c κs. search needs)
     (λ c. rw (c .match .keys1))
     (λ c. rw (c .before .match .keys2) (c .awaiting .ensures))
-    (λ c. rw (c .match .keys3))
+    (λ c. rw (c .before .match .keys3))
     (λ c. rw (c .match .keys4))
     (λ c. rw (c .match .keys5))
-    (λ c. lookup-absent Given.Unknown (phases (c .before .args .s .value)) (c .before .args .s .phase) (search needs)) in
+    (λ c. lookup-absent Given.Unknown (phases (c .before .args .s .value) (c .before .args .s .flags)) (c .before .args .s .phase) (search needs)) in
     tie.close answers

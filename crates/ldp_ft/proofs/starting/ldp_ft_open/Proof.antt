@@ -16,8 +16,6 @@ ldp-ft-open-spec =
     (λ c. search needs)
     (λ c κs. search needs)
     (λ c. search needs)
-    (λ c. search needs)
-    (λ c. called-known _ _ _ _ (c .before .before .before .before .before .before .before .before .before .phase-given .ensures) (c .before .before .before .before .before .before .before .phase .given .1) (rw (c .before .before .before .before .before .before .before .before .before .before .proposal-of .ensures) at (c .before .before .before .open-session .ensures)) (c .outcome-numbers .ensures))
-    (λ c. search needs)
-    (λ c. called-unknown _ _ _ _ (c .before .before .before .before .phase-given .ensures) (c .before .before .enum-told .given .1) (c .refuse-unknown .ensures)) in
+    (λ c. called-known _ _ _ _ (c .before .before .before .before .before .before .before .before .phase-given .ensures) (c .before .before .before .before .before .before .phase .given .1) (rw (c .before .before .before .before .before .before .before .before .before .proposal-of .ensures) at (c .before .before .before .open-session .ensures)) (c .outcome-numbers .ensures))
+    (λ c. called-unknown _ _ _ _ (c .before .before .before .phase-given .ensures) (c .before .enum-told .given .1) (c .refuse-unknown .ensures)) in
     tie.close answers

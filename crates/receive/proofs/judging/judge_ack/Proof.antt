@@ -13,8 +13,9 @@ judge-ack-spec =
     (λ c. search needs)
     (λ c. search needs)
     (λ c κs. (c .before .before .before .before .before .before .before .before .pre .0, ack-within _ (c .before .before .before .before .before .before .before .before .args .g) (c .before .before .before .before .before .before .before .before .pre .0) (ack-told _ _ (c .before .before .before .before .before .before .before .before .pre .1) (c .before .before .before .before .acknowledge .ensures) (c .before .before .before .before .before .ack-borne .ensures)) (c .before .before .k .given .1), c .before .before .before .before .before .before .before .before .pre .2))
-    (λ c κs. (c .before .before .before .before .before .before .before .before .before .before .before .before .pre .0 .size, search needs))
-    (λ c. ack-error _ _ (ack-told _ _ (c .before .before .before .before .before .before .pre .1) (c .before .before .acknowledge .ensures) (c .before .before .before .ack-borne .ensures)) (c .enum-told .given .1))
+    (λ c κs. search needs)
+    (λ c κs. (c .before .before .before .before .before .before .before .before .before .before .before .before .before .pre .0 .size, search needs))
+    (λ c. ack-error _ _ _ (ack-told _ _ (c .before .before .before .before .before .before .pre .1) (c .before .before .acknowledge .ensures) (c .before .before .before .ack-borne .ensures)) (c .enum-told .given .1))
     (λ c. search needs)
-    (λ c. ack-right _ _ (ack-told _ _ (c .before .before .before .before .before .before .before .before .before .before .before .before .before .before .before .pre .1) (c .before .before .before .before .before .before .before .before .before .before .before .acknowledge .ensures) (c .before .before .before .before .before .before .before .before .before .before .before .before .ack-borne .ensures)) (ap (λ (y : Header). y .secured) (c .before .before .before .before .before .before .before .before .before .before .before .before .before .before .before .pre .1)) (c .before .before .before .before .before .before .before .before .before .k .given .1) (c .before .before .before .before .before .before .load-acked .ensures) (c .before .before .judge-labels .ensures)) in
+    (λ c. ack-right _ _ _ (ack-told _ _ (c .before .before .before .before .before .before .before .before .before .before .before .before .before .before .before .before .pre .1) (c .before .before .before .before .before .before .before .before .before .before .before .before .acknowledge .ensures) (c .before .before .before .before .before .before .before .before .before .before .before .before .before .ack-borne .ensures)) (ap (λ (y : Header). y .secured) (c .before .before .before .before .before .before .before .before .before .before .before .before .before .before .before .before .pre .1)) (c .before .before .before .turn-borne .ensures) (c .before .before .before .before .before .before .before .before .before .before .k .given .1) (c .before .before .before .before .before .before .before .load-acked .ensures) (c .before .before .judge-labels .ensures)) in
     tie.close answers

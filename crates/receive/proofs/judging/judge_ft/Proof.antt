@@ -8,12 +8,12 @@ pub judge-ft-spec : {M : Type 1} → statement M
 judge-ft-spec =
     let answers = tie.spec
     (λ c κs. search needs)
-    (λ c. ft-refused _ _ refl (ft-is _ _ (message-init _ _ (c .before .is-init .ensures) (c .if1 .taken))))
+    (λ c. ft-refused _ _ _ refl (ft-is _ _ _ (message-init _ _ (c .before .is-init .ensures) (c .if1 .taken))))
     (λ c κs. search needs)
-    (λ c. ft-refused _ _ refl (ft-is _ _ (message-fatal _ _ (c .before .before .before .is-init .ensures) (c .before .before .if1 .left) (c .before .is-fatal .ensures) (c .if2 .taken))))
+    (λ c. ft-refused _ _ _ refl (ft-is _ _ _ (message-fatal _ _ (c .before .before .before .is-init .ensures) (c .before .before .if1 .left) (c .before .is-fatal .ensures) (c .if2 .taken))))
     (λ c κs. search needs)
-    (λ c. ft-refused _ _ refl (ft-zero _ _ (c .before .before .before .before .before .is-init .ensures) (c .before .before .before .before .if1 .left) (c .before .before .before .is-fatal .ensures) (c .before .before .if2 .left) (c .before .is-zero .ensures) (c .if3 .taken)))
+    (λ c. ft-refused _ _ _ refl (ft-zero _ _ _ (c .before .before .before .before .before .is-init .ensures) (c .before .before .before .before .if1 .left) (c .before .before .before .is-fatal .ensures) (c .before .before .if2 .left) (c .before .is-zero .ensures) (c .if3 .taken)))
     (λ c κs. search needs)
     (λ c. search needs)
-    (λ c. (ft-rest _ _ (c .before .before .before .before .before .before .before .before .before .is-init .ensures) (c .before .before .before .before .before .before .before .before .if1 .left) (c .before .before .before .before .before .before .before .is-fatal .ensures) (c .before .before .before .before .before .before .if2 .left) (c .before .before .before .before .before .is-zero .ensures) (c .before .before .before .before .if3 .left) (c .before .before .judge-ack .ensures .0), c .before .before .judge-ack .ensures .1)) in
+    (λ c. (ft-rest _ _ _ (c .before .before .before .before .before .before .before .before .before .is-init .ensures) (c .before .before .before .before .before .before .before .before .if1 .left) (c .before .before .before .before .before .before .before .is-fatal .ensures) (c .before .before .before .before .before .before .if2 .left) (c .before .before .before .before .before .is-zero .ensures) (c .before .before .before .before .if3 .left) (c .before .before .judge-ack .ensures .0), c .before .before .judge-ack .ensures .1)) in
     tie.close answers

@@ -8,8 +8,10 @@ take-ft-spec =
     let answers = tie.spec
     (λ c κs. search needs)
     (λ c κs. search needs)
-    (λ c κs. (c .before .before .before .before .before .before .pre, c .before .before .header-of .ensures, count-read _ _ (c .before .before .header-of .ensures) (c .before .ack-count .ensures)))
+    (λ c κs. search needs)
+    (λ c κs. (c .before .before .before .before .before .before .before .pre, c .before .before .before .header-of .ensures, count-read _ _ (c .before .before .before .header-of .ensures) (c .before .before .ack-count .ensures)))
+    (λ c κs. search needs)
     (λ c κs. search needs)
     (λ c. search needs)
-    (λ c. take-is _ _ _ (c .before .before .before .before .before .before .before .before .before .before .pre .sound .size) (c .before .before .before .before .before .before .header-of .ensures) (c .before .before .before .before .before .ack-count .ensures) (c .before .before .before .store-taken .ensures) (c .lowered .ensures)) in
+    (λ c. take-is _ _ _ (c .before .before .before .before .before .before .before .before .before .before .before .before .pre .sound .size) (c .before .before .before .before .before .before .before .before .header-of .ensures) (c .before .before .before .before .before .before .before .ack-count .ensures) (c .before .before .before .before .before .before .turn-borne .ensures) (c .before .before .before .before .store-taken .ensures) (c .before .lowered .ensures) (c .turn-gap .ensures)) in
     tie.close answers

@@ -1,9 +1,9 @@
 //! What is measured: every call at 0, 8 and 64 held, short messages and long ones, label list empty and nearly full.
 
-use cabinet::{phase, Opening, Session};
+use cabinet::{phase, Opening, Session, PLACES};
 use trials::calls::Call;
 use trials::coverage::ANSWERS;
-use trials::stored::{word, Queued, Stored, REQUEST};
+use trials::stored::{word, Queued, Stored, NO_LABEL, REQUEST};
 use trials::wire::{self, prefix, types, Message};
 
 const LONG: usize = 480;
@@ -88,10 +88,6 @@ fn mapping(label: u32) -> Message {
     Message::new(types::MAPPING, label).fec(&prefix(label as u16)).label(label)
 }
 
-fn at(phase: u32, value: u32) -> Session {
-    Session { phase, value }
-}
-
 /// All rows.
 pub fn all() -> Vec<Case> {
     let mut cases = Vec::new();
@@ -109,6 +105,7 @@ pub fn all() -> Vec<Case> {
     for held in [0, 8, 63] {
         cases.extend(about_requests(Fill { held, length: 0, listed: 0, open: OPEN }));
     }
+    cases.extend(leaving_out());
     cases.extend(pure());
     cases.sort_by_key(|case| order(&case.call));
     cases
@@ -127,22 +124,26 @@ fn case(fill: Fill, about: &'static str, call: Call) -> Case {
 
 /// Calls that are given no message.
 fn without_message(fill: Fill) -> Vec<Case> {
-    let up = at(phase::UP_FT, 0);
+    let up = Session::new(phase::UP_FT, 0);
     let all = 100 + fill.held as u32;
+    let newest = fill.held.saturating_sub(1) as u32;
     let init = |ack| Message::new(types::INITIALIZATION, 1).parameters(30, 4096).ft_session(true, 5).ack(ack).bytes();
-    let wait = at(phase::INIT_WAIT, 5);
+    let wait = Session::new(phase::INIT_WAIT, 5);
     let opening =
         Opening { message_id: 1, keepalive_time: 30, max_pdu_length: 4096, proposal: Some(5), ..Opening::default() };
     let keepalive = Message::new(types::KEEPALIVE, 1).ack(all).bytes();
     let mut cases = vec![
         case(fill, "", Call::Restore),
-        case(fill, "", Call::Open { session: at(phase::FAILED, 0), opening, room: 64 }),
+        case(fill, "", Call::Open { session: Session::new(phase::FAILED, 0), opening, room: 64 }),
         case(fill, "resumes, releases none", Call::InitReceived { session: wait, msg: init(100) }),
         case(fill, "", Call::ConnectionFailed { session: up }),
-        case(fill, "too early", Call::TimePassed { session: at(phase::FAILED, 0), elapsed: 4 }),
+        case(fill, "too early", Call::TimePassed { session: Session::new(phase::FAILED, 0), elapsed: 4 }),
         case(fill, "", Call::Keepalive { session: up, message_id: 1, room: 16 }),
         case(fill, "KeepAlive, ACK of all", Call::Receive { session: up, msg: keepalive }),
         case(fill, "", Call::Label { place: 60 }),
+        case(fill, "", Call::Summarize),
+        case(fill, "", Call::Labels { room: PLACES }),
+        case(fill, if fill.held == 0 { "none held" } else { "the newest" }, Call::Held { place: newest }),
     ];
     if fill.held > 0 {
         cases.push(case(fill, "sent before", Call::SendNext { session: up, ack: true, room: 500 }));
@@ -157,11 +158,15 @@ fn without_message(fill: Fill) -> Vec<Case> {
 fn with_message(fill: Fill) -> Vec<Case> {
     let new = mapping(900_000).padded_to(fill.length);
     let received = mapping(900_000).protection(51).ack(100).padded_to(fill.length);
-    let submit = Call::Submit { session: at(phase::FAILED, 0), msg: new.bytes() };
+    let submit = Call::Submit { session: Session::new(phase::FAILED, 0), msg: new.bytes() };
     let about = if fill.held == 64 { "refused with 7" } else { "Mapping" };
     let mut cases = vec![
         case(fill, about, submit.clone()),
-        case(fill, "Mapping, protected", Call::Receive { session: at(phase::UP_FT, 0), msg: received.bytes() }),
+        case(
+            fill,
+            "Mapping, protected",
+            Call::Receive { session: Session::new(phase::UP_FT, 0), msg: received.bytes() },
+        ),
     ];
     if fill.held == 64 {
         cases.push(case(Fill { held: 63, ..fill }, "Mapping, the 64th", submit));
@@ -171,10 +176,10 @@ fn with_message(fill: Fill) -> Vec<Case> {
 
 /// Requests, their Aborts and their answers, with 100 open; the last of them is the one that ends.
 fn about_requests(fill: Fill) -> Vec<Case> {
-    let up = at(phase::UP_FT, 0);
+    let up = Session::new(phase::UP_FT, 0);
     let last = request_at(fill.open - 1);
-    let request = Message::new(types::REQUEST, 9).fec(&prefix(9)).bytes();
-    let abort = Message::new(types::ABORT, 9).fec(&prefix(9)).request_id(last).bytes();
+    let request = asking(types::REQUEST, 9).bytes();
+    let abort = asking(types::ABORT, 9).request_id(last).bytes();
     let answer = mapping(900_000).request_id(last).protection(51).ack(100).bytes();
     let refusal = Message::new(types::NOTIFICATION, 9).status_of(0x0D, last).protection(51).ack(100).bytes();
     vec![
@@ -185,6 +190,32 @@ fn about_requests(fill: Fill) -> Vec<Case> {
         case(fill, "Notification, answers", Call::Receive { session: up, msg: refusal }),
         case(fill, "", Call::RequestAt { place: 60 }),
     ]
+}
+
+/// Send next of a store full of Requests, or of half as many with their Aborts behind them, in the same order or the other
+/// way round; and a message after as many as can be left out.
+fn leaving_out() -> Vec<Case> {
+    let fill = Fill { held: 64, length: 0, listed: 0, open: 0 };
+    let request = |id: u32| Queued { kind: 7, label: NO_LABEL, bytes: asking(types::REQUEST, id).bytes() };
+    let abort = |id: u32| Queued { kind: 8, label: NO_LABEL, bytes: asking(types::ABORT, 99).request_id(id).bytes() };
+    let send = |about, queue: Vec<Queued>| {
+        let call = Call::SendNext { session: Session::resumed(0), ack: true, room: 500 };
+        Case { image: Stored { queue, ..fill.stored() }.image(0), ..case(fill, about, call) }
+    };
+    let in_order = (0..32).map(request).chain((0..32).map(abort)).collect();
+    let in_other_order = (0..32).map(request).chain((0..32).rev().map(abort)).collect();
+    let jump = mapping(900_000).protection(50 + 64).ack(100).bytes();
+    vec![
+        send("32 left out, in order", in_order),
+        send("32 left out, the other way", in_other_order),
+        send("a Request, no Abort", (0..64).map(request).collect()),
+        case(fill, "Mapping, after 63 left out", Call::Receive { session: Session::resumed(0), msg: jump }),
+    ]
+}
+
+/// A Request, or an Abort that names none yet.
+fn asking(message_type: u16, id: u32) -> Message {
+    Message::new(message_type, id).fec(&prefix(9))
 }
 
 fn pure_case(about: &'static str, call: Call, must_read: usize) -> Case {
@@ -209,6 +240,7 @@ fn pure() -> Vec<Case> {
         pure_case("Mapping, 480 bytes", Call::MessageRead { msg: long.bytes() }, long.length()),
         pure_case("", Call::Distance { from: 0xFFFF_FFF0, to: 16 }, 0),
         pure_case("", Call::Successor { number: 27 }, 0),
+        pure_case("63 left out", Call::NextNumber { secured: 0xFFFF_FFF0, number: 49, resumed: true }, 0),
         pure_case("", Call::LesserTimeout { a: 0, b: 5 }, 0),
         pure_case("", Call::BlockCheck { block: long.bytes().into_iter().cycle().take(512).collect() }, 508),
     ]

@@ -1,10 +1,10 @@
 //! Timing: the subjects take turns within each round; a round's ratio is of times measured next to each other.
 
 use crate::cases::Case;
-use cabinet::{Cabinet, REQUEST_BLOCK};
+use cabinet::{Cabinet, PLACES, REQUEST_BLOCK};
 use std::hint::black_box;
 use std::time::{Duration, Instant};
-use trials::calls::{invoke, Returned};
+use trials::calls::{invoke, Lent, Returned};
 
 /// Images that one timed batch works on, one call each.
 const BATCH: usize = 16;
@@ -59,6 +59,7 @@ struct Bench<'a> {
     case: &'a Case,
     images: Vec<Vec<u8>>,
     out: Vec<u8>,
+    words: [u32; PLACES],
     /// The blocks that a call changes.
     changed: Vec<usize>,
 }
@@ -66,9 +67,10 @@ struct Bench<'a> {
 impl<'a> Bench<'a> {
     fn new(case: &'a Case, cabinet: &dyn Cabinet) -> Self {
         let images = vec![case.image.clone(); BATCH];
-        let mut bench = Bench { case, images, out: vec![0; ROOM], changed: vec![0] };
-        let mut image = case.image.clone();
-        let returned = invoke(cabinet, &case.call, &mut image, case.call.input(), &mut bench.out);
+        let mut bench = Bench { case, images, out: vec![0; ROOM], words: [0; PLACES], changed: vec![0] };
+        let (mut image, input) = (case.image.clone(), case.call.input());
+        let lent = Lent { image: &mut image, input, out: &mut bench.out, words: &mut bench.words };
+        let returned = invoke(cabinet, &case.call, lent);
         if let Returned::Outcome(outcome) = returned {
             bench.changed.extend((outcome.slot > 0).then_some(outcome.slot as usize));
             bench.changed.extend((outcome.further > 0).then_some(REQUEST_BLOCK));
@@ -92,7 +94,8 @@ impl<'a> Bench<'a> {
         let input = self.case.call.input();
         let start = Instant::now();
         for image in &mut self.images {
-            black_box(invoke(cabinet, black_box(&self.case.call), image, input, &mut self.out));
+            let lent = Lent { image, input, out: &mut self.out, words: &mut self.words };
+            black_box(invoke(cabinet, black_box(&self.case.call), lent));
         }
         start.elapsed()
     }

@@ -1,0 +1,21 @@
+-- `ldp_ft::contents::whole_summary` meets its contract. Assumes nothing.
+use mathlib.Core.Path.{refl}
+use native.Mathlib.Omega.{arith}
+use borrow.Author.Needs.{needs}
+use Rattle.ldp_ft.specs.Contents.{wholeSummary}
+use Rattle.ldp_ft.proofs.contents.whole_summary.Statement.{statement}
+use Rattle.ldp_ft.proofs.contents.whole_summary.Tie as tie
+
+pub whole-summary-spec : {M : Type 1} → statement M
+unfolding wholeSummary
+whole-summary-spec =
+    let answers = tie.spec
+    (λ c. search needs)
+    (λ c. search needs)
+    (λ c. search needs)
+    (λ c. search needs)
+    (λ c. search needs)
+    (λ c. omega (arith, c .struct-known6))
+    (λ c. omega (arith, c .struct-known7))
+    (λ c. refl) in
+    tie.close answers

@@ -1,0 +1,16 @@
+-- `ldp_ft::numbers::ldp_ft_next_number` meets its contract. Assumes nothing.
+use borrow.Author.Needs.{needs}
+use Rattle.ldp_ft.proofs.numbers.ldp_ft_next_number.Statement.{statement}
+use Rattle.ldp_ft.proofs.numbers.ldp_ft_next_number.Tie as tie
+
+pub ldp-ft-next-number-spec : {M : Type 1} → statement M
+ldp-ft-next-number-spec =
+    let answers = tie.spec
+    (λ c κs. search needs)
+    (λ c. search needs)
+    (λ c. search needs)
+    (λ c. search needs)
+    (λ c. rw (← c .before .before .before .judge-turn .ensures, c .before .k .given .1))
+    (λ c. rw (← c .before .before .judge-turn .ensures, c .enum-told .given .1))
+    (λ c. rw (← c .before .before .judge-turn .ensures, c .enum-told2 .given .1)) in
+    tie.close answers

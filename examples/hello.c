@@ -1,0 +1,72 @@
+#include "hello.h"
+
+#include <arpa/inet.h>
+#include <fcntl.h>
+#include <netinet/in.h>
+#include <string.h>
+#include <sys/socket.h>
+#include <unistd.h>
+
+#define ALL_ROUTERS 0xE0000002u /* 224.0.0.2 */
+#define COMMON_HELLO_TLV 0x0400
+#define TRANSPORT_TLV 0x0401
+#define HOLD_TIME 15 /* seconds */
+
+int hello_begin(hello *h, uint32_t interface_address) {
+    const int on = 1;
+    const unsigned char ttl = 1, off = 0;
+    struct sockaddr_in any = socket_place(INADDR_ANY, LDP_PORT);
+    struct in_addr ours;
+    struct ip_mreq group;
+    ours.s_addr = htonl(interface_address);
+    group.imr_multiaddr.s_addr = htonl(ALL_ROUTERS);
+    group.imr_interface = ours;
+    h->send_at = 0;
+    h->lost_at = NEVER;
+    h->fd = socket(AF_INET, SOCK_DGRAM, 0);
+    if (h->fd < 0) return 0;
+    fcntl(h->fd, F_SETFL, O_NONBLOCK);
+    return setsockopt(h->fd, SOL_SOCKET, SO_REUSEADDR, &on, sizeof on) == 0 && bind(h->fd, (struct sockaddr *)&any, sizeof any) == 0 &&
+           setsockopt(h->fd, IPPROTO_IP, IP_ADD_MEMBERSHIP, &group, sizeof group) == 0 &&
+           setsockopt(h->fd, IPPROTO_IP, IP_MULTICAST_IF, &ours, sizeof ours) == 0 &&
+           setsockopt(h->fd, IPPROTO_IP, IP_MULTICAST_TTL, &ttl, sizeof ttl) == 0 &&
+           setsockopt(h->fd, IPPROTO_IP, IP_MULTICAST_LOOP, &off, sizeof off) == 0;
+}
+
+void hello_send(hello *h, uint32_t our_lsr) {
+    uint8_t pdu[LDP_FT_PDU_HEADER + 24];
+    struct sockaddr_in all = socket_place(ALL_ROUTERS, LDP_PORT);
+    wire_put_header(pdu, 24, our_lsr);
+    uint8_t *at = wire_put_message(pdu + LDP_FT_PDU_HEADER, LDP_FT_TYPE_HELLO, 16, 0);
+    at = wire_put_tlv(at, COMMON_HELLO_TLV, 4);
+    wire_put16(at, HOLD_TIME);
+    wire_put16(at + 2, 0);
+    at = wire_put_tlv(at + 4, TRANSPORT_TLV, 4);
+    wire_put32(at, our_lsr);
+    /* a Hello that does not leave is made good by the next */
+    (void)sendto(h->fd, pdu, sizeof pdu, 0, (struct sockaddr *)&all, sizeof all);
+    h->send_at = now() + HOLD_TIME * 1000 / 3;
+}
+
+/* The transport address of a Hello, or its sender's where it names none. The PDU has been judged, so each length is looked at once. */
+static uint32_t transport_of(const uint8_t *msg, size_t length, uint32_t sender) {
+    for (size_t at = 8; at + 4 <= length; at += 4 + wire_get16(msg + at + 2)) {
+        int is_transport = (wire_get16(msg + at) & 0x3FFF) == TRANSPORT_TLV && wire_get16(msg + at + 2) == 4;
+        if (is_transport && at + 8 <= length) return wire_get32(msg + at + 4);
+    }
+    return sender;
+}
+
+void hello_read(hello *h, uint32_t peer_lsr) {
+    uint8_t pdu[1500];
+    struct sockaddr_in from;
+    socklen_t from_length = sizeof from;
+    ssize_t n = recvfrom(h->fd, pdu, sizeof pdu, 0, (struct sockaddr *)&from, &from_length);
+    if (n < 0 || ldp_ft_pdu_open(pdu, (size_t)n).answer != LDP_FT_DONE || wire_get32(pdu + 4) != peer_lsr) return;
+    ldp_ft_part part = ldp_ft_pdu_message(pdu, (size_t)n, LDP_FT_PDU_HEADER);
+    ldp_ft_message m = ldp_ft_message_read(pdu + part.start, part.end - part.start);
+    if (part.answer != LDP_FT_DONE || m.answer != LDP_FT_DONE || m.type != LDP_FT_TYPE_HELLO) return;
+    if (h->lost_at == NEVER) say("a Hello of the peer's has come");
+    h->transport = transport_of(pdu + part.start, part.end - part.start, ntohl(from.sin_addr.s_addr));
+    h->lost_at = now() + HOLD_TIME * 1000;
+}

@@ -1,0 +1,189 @@
+/* What we want the peer to have, held against what the image lists: whatever is not yet so is submitted, again and again until it is. So a cabinet
+   needs no memory of how far it came, neither after a break nor after a release. What a label leads to is not kept here: a cabinet that
+   switches packets stores that too, before it stores block 0. */
+#include "cabinet.h"
+
+#include "ldp_ft_text.h"
+
+#include <string.h>
+
+/* The wildcard FEC: beside a label it means that label, whatever FEC it was given for. */
+static const uint8_t every_fec[1] = {1};
+
+static int is_ours(uint32_t code) {
+    return code == LDP_FT_CODE_GIVEN || code == LDP_FT_CODE_WITHDRAWING || code == LDP_FT_CODE_WITHDRAWN_ACKED || code == LDP_FT_CODE_WITHDRAWN_RELEASED;
+}
+
+/* The code of a label of ours; LDP_FT_CODE_FREE where it is not listed. */
+static uint32_t our_code(const uint32_t words[LDP_FT_LABEL_WORDS], uint32_t label) {
+    for (size_t i = 0; i < LDP_FT_LABEL_WORDS; i++) {
+        if (is_ours(LDP_FT_WORD_CODE(words[i])) && LDP_FT_WORD_LABEL(words[i]) == label) return LDP_FT_WORD_CODE(words[i]);
+    }
+    return LDP_FT_CODE_FREE;
+}
+
+static offer *find(cabinet *c, uint32_t label) {
+    for (size_t i = 0; i < c->offer_count; i++) {
+        if (c->offers[i].label == label) return &c->offers[i];
+    }
+    return NULL;
+}
+
+/* A Mapping or a Withdraw. */
+static size_t write_offer(cabinet *c, uint8_t *msg, uint32_t type, const offer *o) {
+    return wire_label_message(msg, type, cabinet_new_id(c), o->fec, o->fec_len, o->label);
+}
+
+/* ---- with fault tolerance ---- */
+
+static void reconcile_offer(cabinet *c, offer *o, uint32_t code) {
+    uint8_t msg[LDP_FT_MESSAGE_MAX];
+    if (!o->taken_back && !o->released && code == LDP_FT_CODE_FREE) cabinet_submit(c, msg, write_offer(c, msg, LDP_FT_TYPE_MAPPING, o));
+    if (o->taken_back && code == LDP_FT_CODE_GIVEN) cabinet_submit(c, msg, write_offer(c, msg, LDP_FT_TYPE_WITHDRAW, o));
+}
+
+/* A label that the peer asked back is released. */
+static void release_asked_back(cabinet *c, const uint32_t words[LDP_FT_LABEL_WORDS]) {
+    uint8_t msg[LDP_FT_MESSAGE_MAX];
+    for (size_t i = 0; i < LDP_FT_LABEL_WORDS; i++) {
+        if (LDP_FT_WORD_CODE(words[i]) != LDP_FT_CODE_ASKED_BACK) continue;
+        cabinet_submit(c, msg, wire_label_message(msg, LDP_FT_TYPE_RELEASE, cabinet_new_id(c), every_fec, sizeof every_fec, LDP_FT_WORD_LABEL(words[i])));
+    }
+}
+
+static void reconcile_kept(cabinet *c) {
+    uint32_t words[LDP_FT_LABEL_WORDS] = {0};
+    ldp_ft_labels(c->store.image, sizeof c->store.image, words, LDP_FT_LABEL_WORDS);
+    for (size_t i = 0; i < c->offer_count; i++) reconcile_offer(c, &c->offers[i], our_code(words, c->offers[i].label));
+    release_asked_back(c, words);
+}
+
+/* ---- a plain peer ---- */
+
+static void reconcile_plain(cabinet *c) {
+    uint8_t msg[LDP_FT_MESSAGE_MAX];
+    for (size_t i = 0; i < c->offer_count; i++) {
+        offer *o = &c->offers[i];
+        if (o->sent != o->taken_back) continue;
+        cabinet_send_message(c, msg, write_offer(c, msg, o->sent ? LDP_FT_TYPE_WITHDRAW : LDP_FT_TYPE_MAPPING, o));
+        o->sent = !o->sent;
+    }
+}
+
+static void plain_mapping(cabinet *c, uint32_t label, const char *fec) {
+    if (c->binding_count == LDP_FT_LABEL_WORDS) return;
+    plain_binding *b = &c->bindings[c->binding_count++];
+    b->label = label;
+    memcpy(b->fec, fec, sizeof b->fec);
+}
+
+static void plain_withdraw(cabinet *c, uint32_t label, const char *fec) {
+    size_t left = 0;
+    for (size_t i = 0; i < c->binding_count; i++) {
+        plain_binding b = c->bindings[i];
+        if (b.label == label && strcmp(b.fec, fec) == 0) continue;
+        c->bindings[left++] = b;
+    }
+    c->binding_count = left;
+}
+
+/* The Release that answers a Withdraw names the same FEC and label. */
+static void answer_withdraw(cabinet *c, ldp_ft_message m, const uint8_t *msg) {
+    uint8_t release[LDP_FT_MESSAGE_MAX];
+    size_t fec_len = m.fec_end - m.fec_start;
+    if (fec_len > sizeof release - 23) return;
+    cabinet_send_message(c, release, wire_label_message(release, LDP_FT_TYPE_RELEASE, cabinet_new_id(c), msg + m.fec_start, fec_len, m.label));
+}
+
+static void act_plain(cabinet *c, ldp_ft_message m, const uint8_t *msg, const char *fec) {
+    if (m.kind == LDP_FT_KIND_MAPPING) plain_mapping(c, m.label, fec);
+    if (m.kind != LDP_FT_KIND_WITHDRAW || (m.has & LDP_FT_HAS_LABEL) == 0) return;
+    plain_withdraw(c, m.label, fec);
+    answer_withdraw(c, m, msg);
+}
+
+/* ---- both ---- */
+
+/* A label that was taken back and is free may be given again: it is forgotten. */
+static void forget_free(cabinet *c) {
+    size_t left = 0;
+    for (size_t i = 0; i < c->offer_count; i++) {
+        offer o = c->offers[i];
+        if (!o.taken_back || o.free_at > now()) c->offers[left++] = o;
+    }
+    c->offer_count = left;
+}
+
+void labels_reconcile(cabinet *c) {
+    if (c->session.phase == LDP_FT_UP_FT || c->session.phase == LDP_FT_FAILED) reconcile_kept(c);
+    if (c->session.phase == LDP_FT_UP_PLAIN) reconcile_plain(c);
+}
+
+void labels_give(cabinet *c, uint32_t label, wire_prefix prefix) {
+    offer o = {.label = label, .free_at = NEVER};
+    o.fec_len = wire_fec(o.fec, prefix);
+    forget_free(c);
+    if (label < LDP_FT_LABEL_FIRST || label > LDP_FT_LABEL_LAST || find(c, label) != NULL || c->offer_count == LDP_FT_LABEL_WORDS) {
+        say("give: label %u is none that can be given now", (unsigned)label);
+        return;
+    }
+    c->offers[c->offer_count++] = o;
+    labels_reconcile(c);
+}
+
+/* A label that was given before this program began: its FEC is not known. */
+static offer *find_listed(cabinet *c, uint32_t label) {
+    uint32_t words[LDP_FT_LABEL_WORDS] = {0};
+    ldp_ft_labels(c->store.image, sizeof c->store.image, words, LDP_FT_LABEL_WORDS);
+    if (our_code(words, label) != LDP_FT_CODE_GIVEN || c->offer_count == LDP_FT_LABEL_WORDS) return NULL;
+    c->offers[c->offer_count] = (offer){.label = label, .fec = {every_fec[0]}, .fec_len = sizeof every_fec, .free_at = NEVER};
+    return &c->offers[c->offer_count++];
+}
+
+void labels_take_back(cabinet *c, uint32_t label) {
+    offer *o = find(c, label);
+    if (o == NULL) o = find_listed(c, label);
+    if (o == NULL) {
+        say("withdraw: label %u is not given", (unsigned)label);
+        return;
+    }
+    o->taken_back = 1;
+    labels_reconcile(c);
+}
+
+void labels_act(cabinet *c, ldp_ft_message m, const uint8_t *msg) {
+    char fec[WIRE_PREFIX_TEXT] = "";
+    if ((m.has & LDP_FT_HAS_FEC) != 0) wire_fec_text(msg + m.fec_start, m.fec_end - m.fec_start, fec);
+    if (m.type == LDP_FT_TYPE_KEEPALIVE) return;
+    if ((m.has & LDP_FT_HAS_LABEL) != 0) say("received %s: label %u, %s", ldp_ft_type_text(m.type), (unsigned)m.label, fec);
+    else say("received %s%s%s", ldp_ft_type_text(m.type), fec[0] == 0 ? "" : ": ", fec);
+    offer *o = m.kind == LDP_FT_KIND_RELEASE ? find(c, m.label) : NULL;
+    if (o != NULL) {
+        o->released = 1;
+        o->free_at = now();
+    }
+    if (c->session.phase == LDP_FT_UP_PLAIN) act_plain(c, m, msg, fec);
+}
+
+/* A label that was being taken back may be in use at the peer until the timeout has passed; with a timeout of zero this program does not give it again. */
+void labels_begin_anew(cabinet *c) {
+    for (size_t i = 0; i < c->offer_count; i++) {
+        offer *o = &c->offers[i];
+        o->released = 0;
+        o->sent = 0;
+        if (o->taken_back && o->free_at == NEVER && c->timeout != 0) o->free_at = now() + c->timeout;
+    }
+}
+
+static void print_bindings(const cabinet *c) {
+    for (size_t i = 0; i < c->binding_count; i++) say("label %u of the plain peer, %s", (unsigned)c->bindings[i].label, c->bindings[i].fec);
+}
+
+void labels_print(const cabinet *c) {
+    for (uint32_t i = 0; i < LDP_FT_LABEL_WORDS; i++) {
+        uint32_t word = ldp_ft_label(c->store.image, sizeof c->store.image, i);
+        if (word != 0) say("label %u %s", (unsigned)LDP_FT_WORD_LABEL(word), ldp_ft_code_text(LDP_FT_WORD_CODE(word)));
+    }
+    print_bindings(c);
+    say("labels end");
+}

@@ -1,0 +1,91 @@
+/* A file whose blocks are written whole, in place and one by one. That a block of 512 bytes is written whole or not at all is what sectors of disks
+   give; a medium that does not must keep two copies of a block, or a journal. */
+#include "store.h"
+
+#include "ldp_ft_text.h"
+
+#include <errno.h>
+#include <fcntl.h>
+#include <libgen.h>
+#include <stdio.h>
+#include <stdlib.h>
+#include <string.h>
+#include <unistd.h>
+
+/* A cabinet that cannot store must not speak. */
+static void give_up(const char *what, const char *why) {
+    fprintf(stderr, "cabinet: %s: %s\n", what, why);
+    exit(3);
+}
+
+static void check(int done, const char *what) {
+    if (!done) give_up(what, strerror(errno));
+}
+
+static void write_block(store *s, uint32_t block) {
+    off_t at = (off_t)block * LDP_FT_BLOCK_SIZE;
+    check(pwrite(s->file, s->image + at, LDP_FT_BLOCK_SIZE, at) == LDP_FT_BLOCK_SIZE, "store");
+    check(fdatasync(s->file) == 0, "store");
+}
+
+void store_outcome(store *s, ldp_ft_outcome o) {
+    if (o.slot != 0) write_block(s, o.slot);
+    if ((o.further & LDP_FT_FURTHER_REQUESTS) != 0) write_block(s, LDP_FT_REQUEST_BLOCK);
+    if (o.block0 != 0) write_block(s, 0);
+}
+
+/* The file gets its name when all of it is there: a power cut leaves no half image. */
+static void create(store *s, const char *path) {
+    char new_path[4096], folder[4096];
+    check(snprintf(new_path, sizeof new_path, "%s.new", path) < (int)sizeof new_path, "path of the store");
+    snprintf(folder, sizeof folder, "%s", path);
+    ldp_ft_format(s->image, sizeof s->image);
+    s->file = open(new_path, O_RDWR | O_CREAT | O_TRUNC, 0600);
+    check(s->file >= 0, new_path);
+    check(write(s->file, s->image, sizeof s->image) == (ssize_t)sizeof s->image, new_path);
+    check(fsync(s->file) == 0 && rename(new_path, path) == 0, path);
+    int directory = open(dirname(folder), O_RDONLY);
+    check(directory >= 0 && fsync(directory) == 0, folder);
+    close(directory);
+}
+
+static size_t read_file(int file, uint8_t image[LDP_FT_IMAGE_SIZE]) {
+    size_t length = 0;
+    for (;;) {
+        ssize_t n = pread(file, image + length, LDP_FT_IMAGE_SIZE - length, (off_t)length);
+        check(n >= 0, "read the store");
+        if (n == 0) return length;
+        length += (size_t)n;
+    }
+}
+
+/* An earlier release stored fewer blocks. */
+static size_t extend(store *s, size_t length) {
+    ldp_ft_extended e = ldp_ft_extend(s->image, sizeof s->image, length);
+    if (e.answer != LDP_FT_DONE) return length;
+    write_block(s, LDP_FT_REQUEST_BLOCK);
+    return sizeof s->image;
+}
+
+ldp_ft_session store_begin(store *s, const char *path) {
+    s->file = open(path, O_RDWR);
+    if (s->file < 0 && errno == ENOENT) create(s, path);
+    check(s->file >= 0, path);
+    size_t length = read_file(s->file, s->image);
+    if (length < sizeof s->image) length = extend(s, length);
+    ldp_ft_outcome o = ldp_ft_restore(s->image, length);
+    if (o.answer != LDP_FT_DONE) {
+        fprintf(stderr, "cabinet: block %u of the store:\n", (unsigned)o.block);
+        give_up(path, ldp_ft_answer_text(o.answer));
+    }
+    store_outcome(s, o);
+    return o.session;
+}
+
+size_t store_read(const char *path, uint8_t image[LDP_FT_IMAGE_SIZE]) {
+    int file = open(path, O_RDONLY);
+    if (file < 0) return 0;
+    size_t length = read_file(file, image);
+    close(file);
+    return length;
+}

@@ -1,0 +1,70 @@
+//! How a cabinet's process comes to its connection and loses it.
+
+use super::cabinet_process::{Process, ROOM};
+use cabinet::{phase, Cabinet, Opening};
+use ldp_ft::Library;
+use std::io;
+use std::time::{Duration, Instant};
+
+const RETRY: Duration = Duration::from_millis(30);
+/// Seconds for which state is kept over a break.
+const TIMEOUT: u16 = 60;
+
+impl Process {
+    /// Cuts the connection. What is sent on it from now on does not leave.
+    pub fn cut(&mut self) {
+        self.cut_by = None;
+        if let Some(link) = &self.link {
+            link.cut();
+            self.say("cuts the connection");
+        }
+    }
+
+    /// Waits for a connection and opens the session on it; or notices that too much time has passed.
+    pub fn connect(&mut self, now: Instant) -> io::Result<()> {
+        if now < self.next_try {
+            std::thread::sleep(Duration::from_millis(2));
+            return Ok(());
+        }
+        self.next_try = now + RETRY;
+        if self.session.phase == phase::FAILED {
+            let elapsed = self.broken_at.elapsed().as_secs() as u32;
+            let outcome = Library.time_passed(&mut self.image, self.session, elapsed);
+            self.keep(&outcome, None)?;
+        }
+        let Some(mut link) = self.way.connection(&self.port_file) else { return Ok(()) };
+        let opening = Opening {
+            message_id: 0,
+            keepalive_time: 30,
+            max_pdu_length: 4096,
+            receiver_lsr: self.lsr ^ 3,
+            receiver_space: 0,
+            proposal: Some(TIMEOUT),
+            on_demand: self.on_demand,
+        };
+        let mut out = [0; ROOM];
+        let outcome = Library.open(&self.image, self.session, &opening, &mut out);
+        self.keep(&outcome, None)?;
+        let init = out[..outcome.length as usize].to_vec();
+        if link.send(self.lsr, &[init]).is_ok() {
+            self.link = Some(link);
+        } else {
+            self.lose_connection()?;
+        }
+        Ok(())
+    }
+
+    pub fn lose_connection(&mut self) -> io::Result<()> {
+        self.link = None;
+        let (now, phase) = (Instant::now(), self.session.phase);
+        (self.broken_at, self.next_try) = (now, now + RETRY);
+        let outcome = Library.connection_failed(&mut self.image, self.session);
+        if outcome.answer == 0 {
+            self.keep(&outcome, None)?;
+        }
+        if phase == phase::UP_FT {
+            self.say(&format!("connection broken: {} held", self.summary().held));
+        }
+        Ok(())
+    }
+}

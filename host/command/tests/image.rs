@@ -1,0 +1,191 @@
+//! `ldp-ft image` on good images, on refused ones, and on anything.
+
+mod tool;
+
+use cabinet::{IMAGE_SIZE, REQUEST_BLOCK};
+use command::image::report;
+use std::fs;
+use tool::{is_json, repository, run_on, run_unread, stderr, stdout};
+use trials::crafted::{self, asking, two_held};
+use trials::generate::{damage, states};
+use trials::random::Random;
+use trials::stored::{seal, Stored, STOPPED, STOPPING};
+
+/// The text of a sound image.
+fn words(stored: &Stored) -> String {
+    let output = run_on(&["image", "-"], &stored.image(0xD1));
+    assert_eq!(output.status.code(), Some(0));
+    stdout(&output)
+}
+
+/// The text of a refused image.
+fn refusal(image: &[u8]) -> String {
+    let output = run_on(&["image", "-"], image);
+    assert_eq!((output.status.code(), stderr(&output).as_str()), (Some(1), ""));
+    stdout(&output)
+}
+
+#[test]
+fn labels_messages_and_what_was_agreed() {
+    assert_eq!(
+        words(&two_held()),
+        "released 4294967294\nissued 4294967295\nsecured 7\nheld 2\npended 1\nlabels 2\n\
+         state is kept over a break for 5 seconds\n\
+         the peer's KeepAlive time is 30 s, its maximum PDU length 4096\n\
+         Requests are not stopped\n\
+         label 16: ours, given (code 1)\n\
+         label 17: the peer's, using without protection (code 6)\n\
+         holds number 4294967295: Label Mapping 0x0400 ID 1: FEC 10.0.0.1/32, label 16, \
+         TLV 0x3e01 unknown TLV (length 4)\n\
+         holds pended: Address 0x0300 ID 2\n"
+    );
+}
+
+#[test]
+fn requests_and_both_marks() {
+    assert_eq!(
+        words(&asking()),
+        "released 0\nissued 0\nsecured 0\nheld 2\npended 2\nlabels 5\n\
+         state is kept over a break for ever\n\
+         the peer's KeepAlive time is 0 s, its maximum PDU length 0\n\
+         Requests are stopped both ways: neither end has label resources\n\
+         label 16: ours, given (code 1)\n\
+         Request 5 is open\nRequest 0 is open\nRequest 4294967295 is open\nRequest 6 is open\n\
+         holds pended: Label Abort Request 0x0404 ID 8: FEC 10.0.0.1/32, for Request 4\n\
+         holds pended: Notification 0x0001 ID 9: status 0x0000000e No Label Resources (about message 77)\n"
+    );
+    let stopped = words(&Stored { marks: STOPPED, ..two_held() });
+    assert!(stopped.contains("\nRequests are stopped: the peer has no label resources\n"));
+    let stopping = words(&Stored { marks: STOPPING, ..two_held() });
+    assert!(stopping.contains("\nRequests of the peer are stopped: it was told that we have no label resources\n"));
+}
+
+#[test]
+fn every_label_code_and_a_second() {
+    let mut stored = Stored { timeout: 1, ..two_held() };
+    for code in [1, 2, 3, 4, 5, 6, 8, 9] {
+        stored.labels[code] = trials::stored::word(100 + code as u32, code as u32);
+    }
+    let text = words(&stored);
+    for line in [
+        "label 101: ours, given (code 1)",
+        "label 102: ours, withdrawing (code 2)",
+        "label 103: the peer's, using (code 3)",
+        "label 104: the peer's, asked back (code 4)",
+        "label 105: the peer's, releasing (code 5)",
+        "label 106: the peer's, using without protection (code 6)",
+        "label 108: ours, withdrawn and acknowledged (code 8)",
+        "label 109: ours, withdrawn and released (code 9)",
+        "state is kept over a break for 1 second",
+    ] {
+        assert!(text.lines().any(|printed| printed == line), "{line}\n{text}");
+    }
+}
+
+#[test]
+fn nothing_kept() {
+    let text = words(&Stored::idle());
+    assert_eq!(text, "released 0\nissued 0\nsecured 0\nheld 0\npended 0\nlabels 0\nno state is kept\n");
+}
+
+#[test]
+fn refusals_in_words() {
+    let sound = two_held().image(0xD1);
+    let mut bad_check = sound.clone();
+    bad_check[64 * 512 + 20] ^= 1;
+    let text = refusal(&bad_check);
+    assert!(text.starts_with("refused 10 block 64: the check of block 64 (a message held) is wrong: 0x"), "{text}");
+    let mut bad_field = sound.clone();
+    bad_field[22] = 2;
+    seal(&mut bad_field, 0);
+    assert_eq!(
+        refusal(&bad_field),
+        "refused 11 block 0: a field of block 0 (the session's numbers and its label list) is out of its range; \
+         its check is right\n"
+    );
+    let mut bad_ids = sound.clone();
+    bad_ids[REQUEST_BLOCK * 512 + 500] = 1;
+    seal(&mut bad_ids, REQUEST_BLOCK);
+    assert!(refusal(&bad_ids).contains("a field of block 65 (the message IDs of open Requests)"));
+    assert_eq!(refusal(&sound[..100]), "refused 12 block 0: it has 100 bytes, and an image has 33792\n");
+    assert_eq!(refusal(&[]), "refused 12 block 0: it has 0 bytes, and an image has 33792\n");
+    assert!(refusal(&sound[..33_280]).contains("earlier release"));
+    assert!(refusal(&[sound, vec![0; 5]].concat()).contains("more than the 33792 bytes"));
+}
+
+/// The image printer's cases, made from the paper's words: each with the lines that stand under its name.
+fn printers_cases() -> Vec<(String, String)> {
+    let names = fs::read_to_string(repository("crates/print_image_cases/args")).unwrap();
+    let printed = fs::read_to_string(repository("crates/print_image_cases/stdout")).unwrap();
+    let names: Vec<&str> = names.lines().collect();
+    let mut cases: Vec<(String, String)> = Vec::new();
+    for line in printed.lines() {
+        let begins_next = names.get(cases.len()) == Some(&line);
+        match cases.last_mut() {
+            Some((_, text)) if !begins_next => *text += &format!("{line}\n"),
+            _ => cases.push((line.to_string(), String::new())),
+        }
+    }
+    assert_eq!(cases.len(), names.len());
+    cases
+}
+
+#[test]
+fn it_says_what_the_image_printer_says() {
+    for (name, printed) in printers_cases() {
+        let image = fs::read(repository("crates/print_image_cases/data").join(&name)).unwrap();
+        let report = report(&image, false);
+        let begins = printed.trim_end();
+        assert!(report.text.starts_with(begins), "{name}: {begins}\n{}", report.text);
+        assert_eq!(report.refused, printed.starts_with("refused"), "{name}");
+    }
+}
+
+#[test]
+fn for_scripts() {
+    let output = run_on(&["image", "--json", "-"], &two_held().image(0xD1));
+    assert_eq!(
+        stdout(&output),
+        "{\"answer\":0,\"kept\":true,\"released\":4294967294,\"issued\":4294967295,\"secured\":7,\"held\":2,\
+         \"pended\":1,\"labels\":2,\"timeout_seconds\":5,\"keepalive_time\":30,\"max_pdu_length\":4096,\
+         \"stopped_by_peer\":false,\"stopped_by_us\":false,\"label_words\":[\
+         {\"label\":16,\"code\":1,\"meaning\":\"ours, given\"},\
+         {\"label\":17,\"code\":6,\"meaning\":\"the peer's, using without protection\"}],\"open_requests\":[],\
+         \"messages\":[{\"number\":4294967295,\"type\":1024,\"name\":\"Label Mapping\",\"id\":1,\"malformed\":false,\
+         \"fec\":[\"10.0.0.1/32\"],\"label\":16,\
+         \"other_tlvs\":[{\"type\":15873,\"name\":\"unknown TLV\",\"length\":4}]},\
+         {\"number\":null,\"type\":768,\"name\":\"Address\",\"id\":2,\"malformed\":false}]}\n"
+    );
+    let output = run_on(&["image", "--json", "-"], b"abc");
+    assert_eq!(output.status.code(), Some(1));
+    assert_eq!(stdout(&output), "{\"answer\":12,\"block\":0,\"refused\":\"it has 3 bytes, and an image has 33792\"}\n");
+}
+
+#[test]
+fn nobody_reads_it() {
+    for (image, status) in [(two_held().image(0), 0), (vec![7; 9], 1)] {
+        let output = run_unread(&["image", "-"], &image);
+        assert_eq!((output.status.code(), stderr(&output).as_str()), (Some(status), ""));
+    }
+}
+
+#[test]
+fn any_image_is_reported() {
+    let mut random = Random::new(0x1_D9F7);
+    for _ in 0..3_000 {
+        let stored = states::state(&mut random);
+        let image = damage::image(&mut random, &stored);
+        let text = report(&image, false);
+        let json = report(&image, true);
+        assert!(!text.text.is_empty() && text.refused == json.refused);
+        assert!(is_json(&json.text), "{}", json.text);
+    }
+    for crafted in crafted::images() {
+        let text = report(&crafted.image, false).text;
+        let begins = format!("refused {} block {}: ", crafted.answer, crafted.block);
+        assert!(text.starts_with(&begins), "{}: {text}", crafted.why);
+    }
+    for length in [0, 1, 511, 512, 513, IMAGE_SIZE - 1, IMAGE_SIZE, IMAGE_SIZE + 1] {
+        assert!(report(&random.bytes(length), false).refused);
+    }
+}
