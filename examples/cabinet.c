@@ -45,7 +45,7 @@ static void close_connection(cabinet *c) {
 /* The agreed timeout of the state that is kept, if one is: it is asked for when that state is gone. */
 static void remember_timeout(cabinet *c) {
     ldp_ft_summary s = ldp_ft_summarize(c->store.image, sizeof c->store.image);
-    if (s.kept == 1) c->timeout = (int64_t)s.timeout * SECOND;
+    if (s.kept == 1) c->timeout = s.timeout;
 }
 
 /* Where state is kept the agreed timeout counts, from when the session was up last: a connection on which no Init came does not begin it anew. */
@@ -136,7 +136,7 @@ void cabinet_send_held(cabinet *c) {
 
 static void write_init(cabinet *c) {
     ldp_ft_outcome o = ldp_ft_open(c->store.image, sizeof c->store.image, c->session, cabinet_new_id(c), c->settings.keepalive_time, MAX_PDU_LENGTH,
-                                   c->settings.peer_lsr, 0, true, c->settings.proposal, false, c->init, sizeof c->init);
+                                   c->settings.peer_lsr, 0, true, c->settings.proposal, false, c->settings.published, c->init, sizeof c->init);
     if (!settle(c, o, "open")) return;
     c->init_length = o.length;
     c->release_at = NEVER; /* time passes in Failed alone */
@@ -183,6 +183,7 @@ static void come_up(cabinet *c, ldp_ft_message m) {
     c->failed_at = NEVER;
     c->silent_at = now() + c->agreed;
     say("up %s%s, KeepAlive time %u s", ldp_ft_phase_text(c->session.phase), resumed ? ", resumed" : "", (unsigned)seconds);
+    if ((m.has & LDP_FT_HAS_FT_SESSION) != 0) say("the peer's FT Session has the %s form", m.published == 1 ? "published" : "draft's");
     send_init(c);
     send_keepalive(c);
     if (!resumed) begin_anew(c);
@@ -252,10 +253,12 @@ void cabinet_read(cabinet *c) {
 
 /* ---- timers ---- */
 
+/* Our clock counts milliseconds, as ldp_ft_time_passed does; more than it has bits for is as long as any timeout. */
 static void release_in_time(cabinet *c) {
-    uint32_t elapsed = (uint32_t)((now() - c->failed_at) / SECOND);
+    int64_t elapsed = now() - c->failed_at;
+    uint32_t milliseconds = elapsed < UINT32_MAX ? (uint32_t)elapsed : UINT32_MAX;
     c->release_at = NEVER;
-    if (!settle(c, ldp_ft_time_passed(c->store.image, sizeof c->store.image, c->session, elapsed), "time passed")) return;
+    if (!settle(c, ldp_ft_time_passed(c->store.image, sizeof c->store.image, c->session, milliseconds), "time passed")) return;
     say("the agreed timeout is over: all labels are given up");
     labels_begin_anew(c);
 }

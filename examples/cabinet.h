@@ -35,7 +35,8 @@ typedef struct {
 typedef struct {
     uint32_t our_lsr, peer_lsr; /* router IDs; label space 0 */
     uint16_t keepalive_time;    /* seconds, ours; the same at every open */
-    uint16_t proposal;          /* seconds for which we propose to keep the state */
+    int published;              /* 1: our Init is in the form of RFC 3479, 0: in the draft's */
+    uint32_t proposal;          /* for how long we propose to keep the state: milliseconds in the published form, else seconds */
 } cabinet_settings;
 
 typedef struct {

@@ -1,6 +1,6 @@
 #!/usr/bin/env bash
-# loopback.sh CABINET: two cabinets in two processes on 127.0.0.1 exchange labels while the connection is cut and each of them is killed and begins again from its
-# store; both label lists are then as they must be. Ends by itself in seconds.
+# loopback.sh CABINET: two cabinets in two processes on 127.0.0.1, one with the draft's form of FT Session and one with the published form, exchange labels while the
+# connection is cut and each of them is killed and begins again from its store; both label lists are then as they must be. Ends by itself in seconds.
 set -euo pipefail
 cabinet=$1
 work=$(mktemp -d)
@@ -30,16 +30,17 @@ until_so() {
     done
 }
 
-# start NAME OUR-LSR PEER-LSR HOW: with its console at a descriptor of this script; KeepAlive time 3 s, timeout 30 s
+# start NAME OUR-LSR PEER-LSR HOW TIMEOUT FORM: with its console at a descriptor of this script; KeepAlive time 3 s
 start() {
     local name=$1 console
-    "$cabinet" "$work/$name.image" "$2" "$3" "$4" 127.0.0.1 "$port" 3 30 <"$work/$name.console" >>"$work/$name.log" 2>&1 &
+    "$cabinet" "$work/$name.image" "$2" "$3" "$4" 127.0.0.1 "$port" 3 "$5" "$6" <"$work/$name.console" >>"$work/$name.log" 2>&1 &
     pid[$name]=$!
     exec {console}>"$work/$name.console"
     printf -v "console_$name" '%s' "$console"
 }
-start_a() { start a 10.255.0.1 10.255.0.2 listen; }
-start_b() { start b 10.255.0.2 10.255.0.1 connect; }
+# a proposes 30 seconds, b 20,500 milliseconds: both keep the lesser
+start_a() { start a 10.255.0.1 10.255.0.2 listen 30 draft; }
+start_b() { start b 10.255.0.2 10.255.0.1 connect 20500 published; }
 
 tell() { local console="console_$1"; echo "$2" >&"${!console}"; }
 give() { local label; for label in $(seq "$2" "$3"); do tell "$1" "give $label 10.$((label / 256)).$((label % 256)).0/24"; done; }
@@ -91,9 +92,12 @@ until_so "labels after the power cuts" holds a "$(labels 100 134 given; labels 2
 for label in 100 101 102; do tell a "withdraw $label"; done
 until_so "labels of a at the end" holds a "$(labels 103 134 given; labels 200 229 using)"
 until_so "labels of b at the end" holds b "$(labels 103 134 using; labels 200 229 given)"
+said a "FT Session has the published form" 4 || fail "a was not always sent the published form"
+said b "FT Session has the draft's form" 4 || fail "b was not always sent the draft's form"
 for name in a b; do
+    [[ $(stored "$name") == *" timeout 20500 ms"* ]] || fail "$name keeps its state for another time: $(stored "$name" | head -n 1)"
     tell "$name" quit
     wait "${pid[$name]}" || fail "$name did not end well"
     unset "pid[$name]"
 done
-echo "loopback.sh: 65 labels given, 3 of them taken back, over one cut and two power cuts; a: $(stored a | head -n 1); both lists as expected"
+echo "loopback.sh: both forms, 65 labels given, 3 of them taken back, over one cut and two power cuts; a: $(stored a | head -n 1); both lists as expected"

@@ -12,8 +12,9 @@
 #include <unistd.h>
 
 static const char usage[] =
-    "usage: cabinet STORE OUR-LSR PEER-LSR (listen ADDRESS PORT | connect ADDRESS PORT | hello INTERFACE-ADDRESS) [KEEPALIVE-TIME [TIMEOUT]]\n"
+    "usage: cabinet STORE OUR-LSR PEER-LSR (listen ADDRESS PORT | connect ADDRESS PORT | hello INTERFACE-ADDRESS) [KEEPALIVE-TIME [TIMEOUT [FORM]]]\n"
     "       cabinet show STORE\n"
+    "FORM is that of FT Session in our Init: draft, with TIMEOUT in seconds, or published, with TIMEOUT in milliseconds. A STORE of an earlier release is converted.\n"
     "PORT 0 listens on one that is free and prints it. hello: discovery on UDP port 646, TCP port 646 between the LSR identifiers.\n"
     "Console: give LABEL PREFIX/LENGTH, withdraw LABEL, ask PREFIX/LENGTH, abort REQUEST, labels, cut, quit\n";
 
@@ -51,6 +52,14 @@ static uint16_t number_of(const char *text) {
     uint32_t number = number_in(text, 65535);
     if (number > 65535) refuse("a number is one from 0 to 65535");
     return (uint16_t)number;
+}
+
+/* The timeout that we propose, in the unit of the form that bears it. */
+static void set_proposal(cabinet_settings *s, const char *timeout, const char *form) {
+    s->published = strcmp(form, "published") == 0;
+    if (!s->published && strcmp(form, "draft") != 0) refuse("a form is draft or published");
+    s->proposal = number_in(timeout, UINT32_MAX - 1);
+    if (s->proposal == UINT32_MAX || (!s->published && s->proposal > 65535)) refuse("a timeout is a number, in the draft's form up to 65535");
 }
 
 /* ---- the console ---- */
@@ -206,10 +215,10 @@ int main(int argc, char **argv) {
     if (argc == 3 && strcmp(argv[1], "show") == 0) return show(argv[2]);
     if (argc < 6) refuse("too few words");
     int named = strcmp(argv[4], "hello") == 0 ? 6 : 7; /* so many words say where the peer is */
-    if (argc < named || argc > named + 2) refuse("too few words, or too many");
-    cabinet_settings settings = {address_of(argv[2]), address_of(argv[3]), 15, 30};
+    if (argc < named || argc > named + 3) refuse("too few words, or too many");
+    cabinet_settings settings = {address_of(argv[2]), address_of(argv[3]), 15, 0, 30};
     if (argc > named) settings.keepalive_time = number_of(argv[named]);
-    if (argc > named + 1) settings.proposal = number_of(argv[named + 1]);
+    if (argc > named + 1) set_proposal(&settings, argv[named + 1], argc > named + 2 ? argv[named + 2] : "draft");
     if (settings.keepalive_time == 0) refuse("a KeepAlive time is not zero");
     cabinet_begin(&the_cabinet, argv[1], settings);
     set_route(&the_cabinet, &r, argv + 4, named - 4);

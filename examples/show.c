@@ -24,12 +24,16 @@ int show(const char *path) {
         printf("%s: cannot be read, or is empty\n", path);
         return 1;
     }
+    if (length >= 4 && store_is_version_1(image)) {
+        printf("%s: an image of version 1; the cabinet converts it when it begins with it\n", path);
+        return 1;
+    }
     ldp_ft_summary s = ldp_ft_summarize(image, length);
     if (s.answer != LDP_FT_DONE || ldp_ft_labels(image, sizeof image, words, LDP_FT_LABEL_WORDS).answer != LDP_FT_DONE) {
         printf("%s: %s, block %u\n", path, ldp_ft_answer_text(s.answer), (unsigned)s.block);
         return 1;
     }
-    printf("kept %u, released %u, issued %u, secured %u, held %u, pended %u, labels %u, timeout %u s\n", (unsigned)s.kept, (unsigned)s.released,
+    printf("kept %u, released %u, issued %u, secured %u, held %u, pended %u, labels %u, timeout %u ms\n", (unsigned)s.kept, (unsigned)s.released,
            (unsigned)s.issued, (unsigned)s.secured, (unsigned)s.held, (unsigned)s.pended, (unsigned)s.labels, (unsigned)s.timeout);
     for (size_t i = 0; i < LDP_FT_LABEL_WORDS; i++) {
         if (words[i] != 0) printf("label %u %s\n", (unsigned)LDP_FT_WORD_LABEL(words[i]), ldp_ft_code_text(LDP_FT_WORD_CODE(words[i])));

@@ -59,12 +59,33 @@ static size_t read_file(int file, uint8_t image[LDP_FT_IMAGE_SIZE]) {
     }
 }
 
-/* An earlier release stored fewer blocks. */
+static void refuse_image(const char *path, uint32_t answer, uint32_t block) {
+    fprintf(stderr, "cabinet: block %u of the store:\n", (unsigned)block);
+    give_up(path, ldp_ft_answer_text(answer));
+}
+
+/* The first release stored fewer blocks. */
 static size_t extend(store *s, size_t length) {
     ldp_ft_extended e = ldp_ft_extend(s->image, sizeof s->image, length);
     if (e.answer != LDP_FT_DONE) return length;
     write_block(s, LDP_FT_REQUEST_BLOCK);
     return sizeof s->image;
+}
+
+int store_is_version_1(const uint8_t image[LDP_FT_IMAGE_SIZE]) {
+    static const uint8_t version_1[4] = {0, 0, 0, 1};
+    return memcmp(image, version_1, sizeof version_1) == 0;
+}
+
+/* Releases before 3.0.0 stored version 1. It is converted into a second buffer, and block 0, which alone differs, is stored: a power cut before that leaves
+   the image of version 1, which is converted the next time. With 16 the last of its 120 label words is in use: the earlier release has to give it up. */
+static void convert(store *s, const char *path) {
+    static uint8_t converted[LDP_FT_IMAGE_SIZE];
+    ldp_ft_converted c = ldp_ft_convert_forward(s->image, sizeof s->image, converted, sizeof converted);
+    if (c.answer != LDP_FT_DONE) refuse_image(path, c.answer, c.block);
+    memcpy(s->image, converted, sizeof s->image);
+    write_block(s, 0);
+    printf("converted %s from version 1 to version 2\n", path);
 }
 
 ldp_ft_session store_begin(store *s, const char *path) {
@@ -73,11 +94,9 @@ ldp_ft_session store_begin(store *s, const char *path) {
     check(s->file >= 0, path);
     size_t length = read_file(s->file, s->image);
     if (length < sizeof s->image) length = extend(s, length);
+    if (length == sizeof s->image && store_is_version_1(s->image)) convert(s, path);
     ldp_ft_outcome o = ldp_ft_restore(s->image, length);
-    if (o.answer != LDP_FT_DONE) {
-        fprintf(stderr, "cabinet: block %u of the store:\n", (unsigned)o.block);
-        give_up(path, ldp_ft_answer_text(o.answer));
-    }
+    if (o.answer != LDP_FT_DONE) refuse_image(path, o.answer, o.block);
     store_outcome(s, o);
     return o.session;
 }

@@ -9,12 +9,15 @@ typedef struct {
     int file;
 } store;
 
-/* Begins with what the file holds, also what an earlier release left there, or with a new image where there is no file. Gives the session to
-   begin with; ends the program with status 3 where the file cannot be used: whether to give its labels up is not the program's to say. */
+/* Begins with what the file holds, or with a new image where there is no file; what an earlier release left there is extended and converted. Gives the
+   session to begin with; ends the program with status 3 where the file cannot be used: whether to give its labels up is not the program's to say. */
 ldp_ft_session store_begin(store *s, const char *path);
 
 /* Stores what an outcome tells, each block on the medium before the next is written. Output may leave when it returns. */
 void store_outcome(store *s, ldp_ft_outcome o);
+
+/* True where an image of an earlier release is of version 1. */
+int store_is_version_1(const uint8_t image[LDP_FT_IMAGE_SIZE]);
 
 /* Reads a file's image to be looked at; the bytes that there are, at most an image's. */
 size_t store_read(const char *path, uint8_t image[LDP_FT_IMAGE_SIZE]);

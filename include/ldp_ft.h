@@ -1,10 +1,18 @@
 /*
- * ldp_ft.h: the fault-tolerant LDP session of a cabinet (RFC 3036 with draft-ietf-mpls-ldp-ft-02), one session with one peer.
+ * ldp_ft.h: the fault-tolerant LDP session of a cabinet (RFC 3036 with draft-ietf-mpls-ldp-ft-02 or RFC 3479), one session with one peer.
  * ldp_ft_text.h has the numbers below in words; examples/ has a cabinet that uses all of this.
+ *
+ * WHAT CHANGED IN 3.0.0
+ *   - ALL TIMEOUTS ARE MILLISECONDS. `elapsed` of ldp_ft_time_passed has the type that it had: a caller that still gives seconds COMPILES, and
+ *     keeps the state a thousand times too long. So are the value of INIT_WAIT and `timeout` of ldp_ft_summary. KeepAlive times stay seconds.
+ *   - ldp_ft_open has one parameter more, `published`, and a `proposal` of 32 bits: our Init in the form of RFC 3479 with a proposal in
+ *     milliseconds, or in the draft's with one in seconds. It needs LDP_FT_INIT_ROOM 50 bytes of room, not 42.
+ *   - ldp_ft_message has `published` at its end: it says in which unit its `timeout` is.
+ *   - The image has version 2, with 119 label words. A STORED IMAGE OF 2.x IS ANSWERED WITH 11 IN BLOCK 0 until it is converted (10).
  *
  *   1 The library and its owner        5 What to do after an answer          9 Messages that are left out
  *   2 What the owner keeps             6 A plain peer, and other messages   10 An image of an earlier release
- *   3 What to store, and when          7 Labels
+ *   3 What to store, and when          7 Labels                             11 The two forms of FT Session
  *   4 A connection, from begin to end  8 Asking for labels
  *
  * 1 THE LIBRARY AND ITS OWNER
@@ -70,8 +78,8 @@
  *
  * 5 WHAT TO DO AFTER AN ANSWER
  *   0         store (3), then send `length` bytes of output if there are any
- *   1 to 15   nothing has changed, there is nothing to store, and the connection stays. 10, 11, 12: the image is not to be used; read the stored one
- *             again, and where that is refused too ldp_ft_format is what is left.
+ *   1 to 16   nothing has changed, there is nothing to store, and the connection stays. 10, 11, 12: the image is not to be used; read the stored one
+ *             again, and where that is refused too, also by the converter (10), ldp_ft_format is what is left.
  *             4 of a PDU: the two ends no longer agree on where a message starts. Call ldp_ft_connection_failed (where our Init is written), store,
  *             close, connect again: the peer sends again what we have not acknowledged
  *   20 to 23  the peer broke the protocol; the session is now as after ldp_ft_connection_failed, which is not called again. Store, close, connect
@@ -93,7 +101,7 @@
  * a message bears no FT TLV, has no number, is not sent again, and changes nothing in the image.
  *
  * 7 LABELS
- * The image lists up to 120 labels, each with a code; a label may stand once among ours and once among the peer's.
+ * The image lists up to 119 labels, each with a code; a label may stand once among ours and once among the peer's.
  *
  *   code                      ldp_ft_submit allows         it becomes, by what happens
  *   -  no word                Mapping: 1                   Mapping received: 3 with a number, 6 without
@@ -121,7 +129,7 @@
  * submitted, they are answered with 6.
  *
  * 8 ASKING FOR LABELS (downstream on demand)
- * A Label Request is submitted as other messages are, in UP_FT. It is then open: its message ID stands beside one of the 120 label
+ * A Label Request is submitted as other messages are, in UP_FT. It is then open: its message ID stands beside one of the 119 label
  * words (ldp_ft_request_at), over breaks and power cuts, until exactly one of these
  *   - the Label Abort Request that names its ID is submitted and answered with 0
  *   - a Label Mapping that names its ID (Label Request Message ID TLV) is received; the label takes the
@@ -147,9 +155,31 @@
  *               that is not resumed only the number that follows is taken.
  * ldp_ft_next_number is the rule for the peer's numbers by itself.
  *
- * 10 AN IMAGE OF AN EARLIER RELEASE (65 blocks, 33,280 bytes)
- * Read it to the start of a buffer of LDP_FT_IMAGE_SIZE bytes, call ldp_ft_extend with stored_len LDP_FT_EARLIER_IMAGE_SIZE, store block 65,
- * and go on with ldp_ft_restore. No label is lost. Without this ldp_ft_restore answers 12.
+ * 10 AN IMAGE OF AN EARLIER RELEASE
+ * This release stores version 2: the agreed timeout in milliseconds, 119 label words. Releases before 3.0.0 stored version 1: seconds, 120 words;
+ * the first of them 65 blocks, 33,280 bytes. After power-up with a stored image of version 1 (its first four bytes are 0, 0, 0, 1), in this order:
+ *   1. Only where 33,280 bytes are stored: read them to the start of a buffer of LDP_FT_IMAGE_SIZE bytes, call ldp_ft_extend with stored_len
+ *      LDP_FT_EARLIER_IMAGE_SIZE, and store block 65.
+ *   2. ldp_ft_convert_forward, into a second buffer of LDP_FT_IMAGE_SIZE bytes. With 0 that is the image from now on.
+ *   3. Store its block 0, whole. No other block differs, so this is all; storing the whole image does as well, with block 0 last.
+ *   4. ldp_ft_restore, and go on with ldp_ft_open: the session resumes with its peer. No label and no message held is lost.
+ * A cut before 3 is done leaves the image of version 1: begin again with 1. After 3 it is of version 2: begin with 4.
+ *
+ * Where ldp_ft_convert_forward answers 16 the last of the 120 label words is in use, and version 2 has no place for it. The image stays as it
+ * is. Put the earlier release back in, and let that word become free: have its label released, or withdrawn; of an open Request, abort it (a
+ * Mapping that answers it takes the word). It is not taken again while another word is free, for the first free one is taken. Then upgrade.
+ * Or give the state up: ldp_ft_format, and both ends begin anew.
+ *
+ * The way back, for a cabinet that gets an earlier release again: ldp_ft_convert_back, and store block 0. It answers 16 where the agreed timeout
+ * is not whole seconds up to 65,535: propose whole seconds, and the next Init that is taken stores the lesser of both. An image that went back
+ * and forth, or forth and back, has the bytes that it had.
+ *
+ * 11 THE TWO FORMS OF FT SESSION
+ * The draft's FT Session has 4 bytes and a timeout in seconds, that of RFC 3479 has 12 bytes and a reconnect timeout in milliseconds. The library
+ * reads both, known by their length; of the published one the R bit and the reconnect timeout alone. 0 is for ever in both. It writes the one
+ * that ldp_ft_open is told to, at each open anew; the published one with S alone of its new flags and with recovery time 0. The two ends may write
+ * different ones, and another on the next connection: a second counts 1,000 milliseconds, and both agree on the same time. A peer that
+ * knows one form alone is to be sent that one. Nothing else of RFC 3479 is done: no check-pointing, no recovery time, no cork.
  */
 #ifndef LDP_FT_H
 #define LDP_FT_H
@@ -165,8 +195,8 @@ extern "C" {
 /* ---- names for numbers ---- */
 
 /* The version of this header and of the library that it belongs to. A shared object of another major number is not compatible. */
-#define LDP_FT_VERSION_MAJOR 2
-#define LDP_FT_VERSION_MINOR 1
+#define LDP_FT_VERSION_MAJOR 3
+#define LDP_FT_VERSION_MINOR 0
 #define LDP_FT_VERSION_PATCH 0
 
 /* The image. */
@@ -174,15 +204,15 @@ extern "C" {
 #define LDP_FT_BLOCKS 66                /* block 0, 64 slots, and block 65 with the message IDs of open Requests */
 #define LDP_FT_SLOTS 64                 /* so many messages are held at most; slot s is block s + 1 */
 #define LDP_FT_REQUEST_BLOCK 65
-#define LDP_FT_LABEL_WORDS 120
+#define LDP_FT_LABEL_WORDS 119
 #define LDP_FT_IMAGE_SIZE 33792         /* 66 blocks */
-#define LDP_FT_EARLIER_IMAGE_SIZE 33280 /* 65 blocks */
+#define LDP_FT_EARLIER_IMAGE_SIZE 33280 /* 65 blocks, of version 1 */
 
 /* Bytes of messages. */
 #define LDP_FT_MESSAGE_MIN 8       /* a message that is submitted has so many at least */
 #define LDP_FT_MESSAGE_MAX 480     /* and so many at most */
 #define LDP_FT_SEND_ROOM 496       /* room that is enough for ldp_ft_send_next */
-#define LDP_FT_INIT_ROOM 42        /* .. for ldp_ft_open */
+#define LDP_FT_INIT_ROOM 50        /* .. for ldp_ft_open */
 #define LDP_FT_KEEPALIVE_ROOM 16   /* .. for ldp_ft_keepalive */
 #define LDP_FT_PDU_HEADER 10       /* the header of a PDU: the first message starts behind it */
 #define LDP_FT_DEFAULT_MAX_PDU 4096 /* what a maximum PDU length from 0 to 255 means */
@@ -192,7 +222,7 @@ extern "C" {
 #define LDP_FT_LABEL_LAST 1048575 /* the greatest that there is */
 #define LDP_FT_NONE 0xFFFFFFFFu   /* ldp_ft_label, ldp_ft_block_check: there is no such word, there is no check */
 
-/* Bytes of stack that no call exceeds. Most is used by ldp_ft_receive: 3,224, as counted by tests/c/stack.py along the calls in the disassembly. */
+/* Bytes of stack that no call exceeds. Most is used by ldp_ft_receive: 3,320, as counted by tests/c/stack.py along the calls in the disassembly. */
 #define LDP_FT_STACK 4096
 
 /* The phases. */
@@ -202,7 +232,7 @@ extern "C" {
 #define LDP_FT_UP_PLAIN 3  /* up, without it: the peer's Init bore no FT Session; nothing is kept */
 #define LDP_FT_FAILED 4    /* no connection, state is kept for the agreed timeout */
 
-/* The answers. 1 to 15: nothing has changed; image, output and session are as they were given. */
+/* The answers. 1 to 16: nothing has changed; image, output and session are as they were given. */
 #define LDP_FT_DONE 0
 #define LDP_FT_WRONG_PHASE 1            /* the call may not come in this phase; or no such phase; or the image rules it out: UpFT or Failed
                                            where no state is kept, Idle or UpPlain where it is, UpFT with more sent than have a
@@ -219,18 +249,21 @@ extern "C" {
 #define LDP_FT_NOTHING_UNSENT 8         /* ldp_ft_send_next: all that is held has been sent on this connection; ldp_ft_held: none is held there */
 #define LDP_FT_OUTPUT_TOO_SHORT 9       /* the output is too short; exact room is enough */
 #define LDP_FT_BAD_BLOCK 10             /* the check of block `block` is wrong: the image is not to be used */
-#define LDP_FT_BAD_FIELD 11             /* a field of block `block` is out of its range: the image is not to be used */
+#define LDP_FT_BAD_FIELD 11             /* a field of block `block` is out of its range: the image is not to be used; in block 0 also one of another
+                                           version than 2 (10) */
 #define LDP_FT_WRONG_SIZE 12            /* the image does not have LDP_FT_IMAGE_SIZE bytes */
-#define LDP_FT_NO_LABEL_WORD 13         /* ldp_ft_submit: a Mapping of a new label or a Request, and all 120 label words are in use */
+#define LDP_FT_NO_LABEL_WORD 13         /* ldp_ft_submit: a Mapping of a new label or a Request, and all 119 label words are in use */
 #define LDP_FT_REQUESTS_STOPPED 14      /* ldp_ft_submit: a Request, and the peer has said 'No Label Resources' (8) */
 #define LDP_FT_REQUEST_OUTSIDE_UP_FT 15 /* ldp_ft_submit: a Request, and the session is not UP_FT; submit it when it is */
+#define LDP_FT_NOT_CONVERTIBLE 16       /* the converter: forward, the last of the 120 label words is in use; back, the agreed timeout is not whole
+                                           seconds up to 65,535 (10) */
 
 /* From here on: the session is as after ldp_ft_connection_failed, Failed where state is kept, else Idle. Nothing of the message was taken,
    its acknowledgement neither. */
 #define LDP_FT_FAILS_FROM 20
 #define LDP_FT_OUT_OF_TURN 20         /* a protected message bears neither the number that follows the last one taken nor, on a resumed
                                          connection, one of the 63 after it (9) */
-#define LDP_FT_NO_WORD_FOR_MAPPING 21 /* a Mapping of a new label was received that answers no open Request, and all 120 label words are in use */
+#define LDP_FT_NO_WORD_FOR_MAPPING 21 /* a Mapping of a new label was received that answers no open Request, and all 119 label words are in use */
 #define LDP_FT_MALFORMED_RECEIVED 22  /* a malformed message, or an Init on a session that is up, or no Init where one is awaited */
 #define LDP_FT_BAD_INIT 23            /* an Init without parameters, or one that asks to resume and bears no acknowledgement */
 
@@ -285,11 +318,11 @@ extern "C" {
 #define LDP_FT_WORD_CODE(word) ((word) >> 20)
 
 /* The phase.
-   Its value: in INIT_WAIT our proposed timeout in seconds (0 to 65,535); in UP_FT how many of the messages held, from the oldest on, were sent on
-   this connection or left out: ldp_ft_send_next raises it by one and those that it passes over, an acknowledgement lowers it by what it
-   releases, not below 0. In every other phase it is not read, and written as 0.
+   Its value: in INIT_WAIT our proposed timeout in MILLISECONDS, any number, 0 for ever; in UP_FT how many of the messages held, from the oldest
+   on, were sent on this connection or left out: ldp_ft_send_next raises it by one and those that it passes over, an acknowledgement
+   lowers it by what it releases, not below 0. In every other phase it is not read, and written as 0.
    Its flags: in UP_FT LDP_FT_RESUMED, or 0. Bits that the phase does not bear are not read, and written as 0.
-   A phase above 4, or INIT_WAIT with a value above 65,535, is answered with 1 where 1 is due. */
+   A phase above 4 is answered with 1 where 1 is due. */
 typedef struct ldp_ft_session {
     uint32_t phase;
     uint32_t value;
@@ -301,7 +334,7 @@ typedef struct ldp_ft_session {
 typedef struct ldp_ft_outcome {
     uint32_t answer;        /* one of those above; 0 done */
     uint32_t block;         /* the block that answers 10 and 11 name, else 0 */
-    ldp_ft_session session; /* the session afterwards; on answers 1 to 15 as given, all three numbers */
+    ldp_ft_session session; /* the session afterwards; on answers 1 to 16 as given, all three numbers */
     uint32_t length;        /* bytes written to out, from its start, else 0; no byte after them is touched */
     uint32_t slot;          /* block of the slot that the call wrote (1 to 64), also where its bytes were the same: store it first; 0 none */
     uint32_t block0;        /* 1: block 0's bytes changed, store it last, before output leaves; 0: they did not */
@@ -321,7 +354,7 @@ typedef struct ldp_ft_outcome {
 ldp_ft_outcome ldp_ft_format(uint8_t *image, size_t image_len);
 
 /*
- * Begins from a stored image, after power-up: checks its size (12), block 0 (10, 11), every slot in use (10, 11, with the
+ * Begins from a stored image of version 2, after power-up: checks its size (12), block 0 (10, 11), every slot in use (10, 11, with the
  * block) and block 65 (10, 11, whether or not state is kept), and frees the labels that were in use without protection, as after a break.
  * With 0 the session is Failed where state is kept, else Idle; store block 0 if block0 is 1. Where refused the session is Idle, no
  * byte has changed, and the image is not to be used.
@@ -335,14 +368,16 @@ ldp_ft_outcome ldp_ft_restore(uint8_t *image, size_t image_len);
  *   keepalive_time, max_pdu_length  our parameters; the same at every open: a peer like this gives up its state where they change (35)
  *   receiver_lsr, receiver_space    the peer's LDP identifier: router ID and label space. A number, not bytes: 10.0.0.1 is 0x0A000001
  *                                   on every machine (ntohl of what the peer's PDU header bears)
- *   proposal_given, proposal        the seconds for which we propose that state is kept over a break, 0 for ever; 30 where not given
+ *   proposal_given, proposal        for how long we propose that state is kept over a break, 0 for ever: MILLISECONDS where `published` is set, else
+ *                                   SECONDS, and more than 65,535 of these are taken as 65,535. Not given: 30 seconds in either form
  *   on_demand                       bit A of our Init: labels are asked for before they are offered. Kept nowhere: say it at every open
- * 42 bytes where state is kept (the Init asks to resume and bears our acknowledgement), else 34.
- * Then the session is INIT_WAIT. No byte of the image changes.
+ *   published                       FT Session of our Init in the form of RFC 3479, else in the draft's (11). Kept nowhere: say it at every open
+ * In the draft's form 42 bytes where state is kept (the Init asks to resume and bears our acknowledgement), else 34; in the published one 50, else 42.
+ * Then the session is INIT_WAIT, and its value our proposal in milliseconds. No byte of the image changes.
  */
 ldp_ft_outcome ldp_ft_open(const uint8_t *image, size_t image_len, ldp_ft_session s, uint32_t message_id,
                            uint16_t keepalive_time, uint16_t max_pdu_length, uint32_t receiver_lsr, uint16_t receiver_space,
-                           bool proposal_given, uint16_t proposal, bool on_demand, uint8_t *out, size_t out_len);
+                           bool proposal_given, uint32_t proposal, bool on_demand, bool published, uint8_t *out, size_t out_len);
 
 /*
  * Takes the peer's Init. In INIT_WAIT. Answers 0, 12, 10, 11, 1, 22, 23, 35, 34. With 0 the session is up:
@@ -351,7 +386,7 @@ ldp_ft_outcome ldp_ft_open(const uint8_t *image, size_t image_len, ldp_ft_sessio
  *   UP_FT, fresh       one side kept none: our state is given up and begins anew. Labels and messages held are gone. `flags` is 0
  *   UP_PLAIN           the peer's Init bears no FT Session: our state is given up, and nothing is kept
  * Resumed where both Inits have `reconnect` 1 (ldp_ft_message_read); ours has it where the session was Failed when it was written.
- * The agreed timeout is the lesser of both proposals, 0 being for ever (ldp_ft_summarize tells it).
+ * The agreed timeout is the lesser of both proposals in milliseconds, 0 being for ever, whatever forms they came in (ldp_ft_summarize tells it).
  * The peer's KeepAlive time and maximum PDU length are stored with a state that begins, and compared where one is resumed (35).
  */
 ldp_ft_outcome ldp_ft_init_received(uint8_t *image, size_t image_len, ldp_ft_session s, const uint8_t *msg, size_t msg_len);
@@ -365,9 +400,10 @@ ldp_ft_outcome ldp_ft_init_received(uint8_t *image, size_t image_len, ldp_ft_ses
 ldp_ft_outcome ldp_ft_connection_failed(uint8_t *image, size_t image_len, ldp_ft_session s);
 
 /*
- * `elapsed` seconds have passed since the connection failed. In Failed. Answers 0, 12, 10, 11, 1. Where the agreed timeout is not zero and
- * elapsed is at least it, the state is released and the session is Idle; else nothing changes and it stays Failed. Call it from time to
- * time, or once when the timeout (ldp_ft_summarize) is over; and after power-up with the time since the failure if that is known.
+ * `elapsed` MILLISECONDS have passed since the connection failed; before 3.0.0 it was seconds. In Failed. Answers 0, 12, 10, 11, 1. Where the
+ * agreed timeout is not zero and elapsed is at least it, the state is released and the session is Idle; else nothing changes and it stays
+ * Failed. Call it from time to time, or once when the timeout (ldp_ft_summarize) is over; and after power-up with the time since the failure
+ * if that is known. 32 bits of milliseconds are 49 days: give 0xFFFFFFFF for more, which is at least every timeout that there is.
  */
 ldp_ft_outcome ldp_ft_time_passed(uint8_t *image, size_t image_len, ldp_ft_session s, uint32_t elapsed);
 
@@ -459,16 +495,18 @@ typedef struct ldp_ft_message {
     uint32_t has;                 /* the TLVs that it bears, by the bits above */
     uint32_t fec_start, fec_end;  /* the FEC TLV's value: msg[fec_start] up to, not including, msg[fec_end] */
     uint32_t label, status, number, ack; /* Generic Label; Status code with its E and F bits; FT Protection; FT ACK. 0 where not borne */
-    uint32_t reconnect, timeout;  /* FT Session: its R bit (0 or 1) and seconds */
+    uint32_t reconnect, timeout;  /* FT Session: its R bit (0 or 1), and its timeout, 0 for ever, in the unit that `published` tells */
     uint32_t keepalive_time, max_pdu_length; /* Common Session Parameters */
     uint32_t request_id;          /* Label Request Message ID: the Request that a Mapping answers or an Abort ends. 0 where not borne */
     uint32_t status_id;           /* the message ID in Status: the message that a Notification is about. 0 where there is no Status */
+    uint32_t published;           /* 1: FT Session has RFC 3479's 12 bytes, and `timeout` is milliseconds; 0: it has the draft's 4, and `timeout`
+                                     is seconds, or there is none (11) */
 } ldp_ft_message;
 
 /*
  * Reads one message. Malformed: a length that is not that of its bytes, TLVs that do not fill it exactly, a wrong length of a TLV
- * named above, such a TLV twice, a label above 1,048,575, a Mapping without FEC or label, a Withdraw, Release, Request or Abort without
- * FEC, an Abort without the Request's ID. Other TLVs are passed over.
+ * named above (FT Session has two right ones, 4 and 12), such a TLV twice, a label above 1,048,575, a Mapping without FEC or label, a
+ * Withdraw, Release, Request or Abort without FEC, an Abort without the Request's ID. Other TLVs are passed over.
  */
 ldp_ft_message ldp_ft_message_read(const uint8_t *msg, size_t msg_len);
 
@@ -483,7 +521,7 @@ typedef struct ldp_ft_summary {
     uint32_t held;          /* messages held, 0 to 64 */
     uint32_t pended;        /* those of them that have no number yet: they were never sent */
     uint32_t labels;        /* label words in use, open Requests among them */
-    uint32_t timeout;       /* the agreed timeout in seconds, 0 for ever */
+    uint32_t timeout;       /* the agreed timeout in MILLISECONDS, 0 for ever; before 3.0.0 seconds */
     uint32_t keepalive_time, max_pdu_length; /* the peer's, as its Init said */
 } ldp_ft_summary;
 
@@ -508,7 +546,7 @@ ldp_ft_words ldp_ft_labels(const uint8_t *image, size_t image_len, uint32_t *wor
 ldp_ft_part ldp_ft_held(const uint8_t *image, size_t image_len, uint32_t place);
 
 /*
- * The label word at place 0 to 119 of an image that passes ldp_ft_restore's checks; LDP_FT_NONE where it does not, or there is no such place.
+ * The label word at place 0 to 118 of an image that passes ldp_ft_restore's checks; LDP_FT_NONE where it does not, or there is no such place.
  */
 uint32_t ldp_ft_label(const uint8_t *image, size_t image_len, uint32_t place);
 
@@ -518,7 +556,7 @@ typedef struct ldp_ft_request {
 } ldp_ft_request;
 
 /*
- * The open Request at place 0 to 119 of an image that passes ldp_ft_restore's checks. 0, 0 where the word is another, where there is no such
+ * The open Request at place 0 to 118 of an image that passes ldp_ft_restore's checks. 0, 0 where the word is another, where there is no such
  * place, and where the image is refused. No two open Requests have one ID.
  */
 ldp_ft_request ldp_ft_request_at(const uint8_t *image, size_t image_len, uint32_t place);
@@ -550,7 +588,7 @@ typedef struct ldp_ft_next {
  */
 ldp_ft_next ldp_ft_next_number(uint32_t secured, uint32_t number, bool resumed);
 
-/* The lesser of two timeouts, zero counting as for ever. */
+/* The lesser of two timeouts of one unit, zero counting as for ever. */
 uint32_t ldp_ft_lesser_timeout(uint32_t a, uint32_t b);
 
 /* ---- an image of an earlier release ---- */
@@ -563,10 +601,26 @@ typedef struct ldp_ft_extended {
 /*
  * Makes the blocks that a stored image of an earlier release lacks. Its stored_len bytes lie at the start of `image`, a buffer of
  * LDP_FT_IMAGE_SIZE bytes; what the buffer holds behind them does not matter. stored_len is LDP_FT_EARLIER_IMAGE_SIZE (65 blocks: no block of
- * Requests). With 0, store the blocks that `further` names, before any other call's; then call ldp_ft_restore: nothing has been looked at yet.
+ * Requests). With 0, store the blocks that `further` names, before any other call's; then call ldp_ft_convert_forward: nothing has been looked at yet.
  * 12: image_len is not LDP_FT_IMAGE_SIZE, or stored_len is no earlier size; no byte has changed.
  */
 ldp_ft_extended ldp_ft_extend(uint8_t *image, size_t image_len, size_t stored_len);
+
+typedef struct ldp_ft_converted {
+    uint32_t answer; /* 0, 12, 10, 11, 16, 9, the first of these that holds */
+    uint32_t block;  /* the block that answers 10 and 11 name, else 0 */
+    uint32_t length; /* bytes written to out, LDP_FT_IMAGE_SIZE with 0; else 0, and no byte is written */
+} ldp_ft_converted;
+
+/*
+ * Writes an image of version 1 as one of version 2 (forward), or one of version 2 as one of version 1 (back), into `out`. `image` stays as it
+ * is. All of ldp_ft_restore's checks are made, by the version that is read: 12, 10, 11; an image of the other version is 11 in block 0. Then
+ * 16 where the version that is written has no place for what the image holds, then 9 where `out` has fewer than LDP_FT_IMAGE_SIZE bytes.
+ * With 0 the two images differ in block 0 alone, so an owner may store that block alone. Labels in use without protection are not freed:
+ * ldp_ft_restore does that. Section 10 has the order of an upgrade, and what to do after 16.
+ */
+ldp_ft_converted ldp_ft_convert_forward(const uint8_t *image, size_t image_len, uint8_t *out, size_t out_len);
+ldp_ft_converted ldp_ft_convert_back(const uint8_t *image, size_t image_len, uint8_t *out, size_t out_len);
 
 #ifdef __cplusplus
 }

@@ -25,6 +25,7 @@ static inline const char *ldp_ft_answer_text(uint32_t answer) {
     case LDP_FT_NO_LABEL_WORD: return "no label word free";
     case LDP_FT_REQUESTS_STOPPED: return "the peer has no label resources";
     case LDP_FT_REQUEST_OUTSIDE_UP_FT: return "a Request outside UP_FT";
+    case LDP_FT_NOT_CONVERTIBLE: return "no place for it in the other version of the image";
     case LDP_FT_OUT_OF_TURN: return "number out of turn";
     case LDP_FT_NO_WORD_FOR_MAPPING: return "no label word free for a received Mapping";
     case LDP_FT_MALFORMED_RECEIVED: return "malformed message received, or an Init out of place";

@@ -1,7 +1,7 @@
 #!/usr/bin/env bash
-# Proves the library and the two programs, and builds them:
+# Proves the library and the three programs, and builds them:
 #   target/staticlib/libldp_ft.a, libldp_ft.so.MAJOR and its link libldp_ft.so   include/ldp_ft.h declares them and says the version
-#   target/bin/ldp_dump, target/bin/print_image
+#   target/bin/ldp_dump, target/bin/print_image, target/bin/convert_image
 # Shows a line for each crate as rt reports it proved; target/build-library.log has all that the prover said. Where all that they are made from is as
 # it was, and they are too, nothing is proved again.
 set -euo pipefail
@@ -9,7 +9,7 @@ cd "$(dirname "$0")/.."
 # as many checks at a time as in the gate (.ci/run)
 export RT_JOBS="${RT_JOBS:-$(($(nproc) * 3))}"
 cc="${CC:-cc}"
-programs=(ldp_dump print_image)
+programs=(ldp_dump print_image convert_image)
 log=target/build-library.log
 stamp=target/build-library.stamp
 
@@ -49,7 +49,7 @@ state() {
         sha256sum "${built[@]}" 2>&1
     } | sha256sum
 }
-results="target/staticlib/libldp_ft.a, libldp_ft.so; target/bin/ldp_dump, print_image"
+results="target/staticlib/libldp_ft.a, libldp_ft.so; target/bin/ldp_dump, print_image, convert_image"
 if [ -f "$stamp" ] && [ "$(state)" = "$(cat "$stamp")" ]; then
     echo "$results: unchanged"
     exit 0

@@ -28,7 +28,7 @@ includedir=\${prefix}/include
 libdir=\${prefix}/lib
 
 Name: ldp_ft
-Description: The fault-tolerant LDP session of a cabinet (RFC 3036 with draft-ietf-mpls-ldp-ft-02)
+Description: The fault-tolerant LDP session of a cabinet (RFC 3036 with draft-ietf-mpls-ldp-ft-02 or RFC 3479)
 Version: $version
 Cflags: -I\${includedir}
 Libs: -L\${libdir} -lldp_ft

@@ -1,4 +1,4 @@
-/* What an image holds: its numbers, all its label words, its messages; refused images; and an image of an earlier release. */
+/* What an image holds: its numbers, all its label words, its messages; and refused images. */
 #include "trial.h"
 
 #include <string.h>
@@ -30,13 +30,15 @@ static void summarize(void) {
     expect(s.held, 2, "held");
     expect(s.pended, 1, "pended");
     expect(s.labels, 3, "labels");
-    expect(s.timeout, 5, "timeout");
+    expect(s.timeout, 5000, "timeout in milliseconds");
     expect(s.keepalive_time, 30, "KeepAlive time");
     expect(s.max_pdu_length, 4096, "maximum PDU length");
 }
 
 /* All words, and no word after them. */
 static void labels(void) {
+    expect(ldp_ft_label(ours.image, sizeof ours.image, LDP_FT_LABEL_WORDS - 1), 0, "the last word");
+    expect(ldp_ft_label(ours.image, sizeof ours.image, LDP_FT_LABEL_WORDS), LDP_FT_NONE, "no word behind it");
     uint32_t words[LDP_FT_LABEL_WORDS + 1];
     memset(words, 0xA5, sizeof words);
     ldp_ft_words w = ldp_ft_labels(ours.image, sizeof ours.image, words, LDP_FT_LABEL_WORDS + 1);
@@ -121,26 +123,11 @@ static void empty(void) {
     expect(ldp_ft_held(ours.image, sizeof ours.image, 0).answer, LDP_FT_NOTHING_UNSENT, "nothing held in a new image");
 }
 
-/* What an earlier release stored has 65 blocks; the buffer holds anything behind them. */
-static void upgrade(void) {
-    static uint8_t image[LDP_FT_IMAGE_SIZE];
-    memset(image, 0xA5, sizeof image);
-    memcpy(image, ours.store, LDP_FT_EARLIER_IMAGE_SIZE);
-    expect(ldp_ft_extend(image, sizeof image, LDP_FT_EARLIER_IMAGE_SIZE - 1).answer, LDP_FT_WRONG_SIZE, "no earlier size");
-    expect(ldp_ft_restore(image, sizeof image).answer, LDP_FT_BAD_BLOCK, "image without block 65");
-    ldp_ft_extended e = ldp_ft_extend(image, sizeof image, LDP_FT_EARLIER_IMAGE_SIZE);
-    expect(e.answer, LDP_FT_DONE, "extend");
-    expect(e.further, LDP_FT_FURTHER_REQUESTS, "block 65 is made");
-    expect(ldp_ft_restore(image, sizeof image).answer, LDP_FT_DONE, "restore of an extended image");
-    expect(ldp_ft_label(image, sizeof image, 1), word(60, LDP_FT_CODE_USING), "label of an earlier release");
-}
-
 void image_trial(void) {
     fill();
     summarize();
     labels();
     held();
     refusals();
-    upgrade();
     empty();
 }

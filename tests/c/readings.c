@@ -4,7 +4,7 @@
 #include <string.h>
 
 static const uint8_t mapping[27] = OF_LABEL(0x00, 16), withdraw_sent[43] = OF_LABEL_SENT(0x02, 17, 2);
-static const uint8_t resuming_init[42] = RESUMING_INIT(1);
+static const uint8_t resuming_init[42] = RESUMING_INIT(1), published_init[50] = PUBLISHED_RESUMING_INIT(1);
 static const uint8_t request_21[19] = REQUEST(21), abort_23[27] = ABORT(23);
 static const uint8_t no_resources[22] = STATUS(14, 22), available[22] = STATUS(15, 0);
 
@@ -55,9 +55,16 @@ static void other_messages(void) {
     expect(m.ack, 1, "ACK");
     expect(m.reconnect, 1, "R");
     expect(m.timeout, 5, "seconds");
+    expect(m.published, 0, "the draft's form");
     expect(m.keepalive_time, 30, "KeepAlive time");
     expect(m.max_pdu_length, 4096, "maximum PDU length");
+    m = ldp_ft_message_read(published_init, sizeof published_init);
+    expect(m.has, LDP_FT_HAS_PARAMETERS | LDP_FT_HAS_FT_SESSION | LDP_FT_HAS_FT_ACK, "TLVs of an Init in the published form");
+    expect(m.reconnect, 1, "R in the published form");
+    expect(m.timeout, 5000, "milliseconds");
+    expect(m.published, 1, "the published form");
     m = ldp_ft_message_read(available, sizeof available);
+    expect(m.published, 0, "no FT Session");
     expect(m.kind, LDP_FT_KIND_RESOURCES_AVAILABLE, "kind of Resources Available");
     expect(m.status, 15, "Label Resources Available");
     m = ldp_ft_message_read(no_resources, sizeof no_resources);

@@ -16,10 +16,10 @@ static void open_without_proposal(void) {
     init[16] = 0x80;
     init[33] = 30;
     ldp_ft_outcome o =
-        ldp_ft_open(ours.image, sizeof ours.image, ours.session, 0x11223344, 30, 4096, 0x0a000001, 3, false, 9, true, out, sizeof out);
+        ldp_ft_open(ours.image, sizeof ours.image, ours.session, 0x11223344, 30, 4096, 0x0a000001, 3, false, 9, true, false, out, sizeof out);
     expect(o.answer, LDP_FT_DONE, "open without a proposal");
     expect_written(o.length, init, sizeof init, "Init without a proposal");
-    expect(o.session.value, 30, "timeout where none is given");
+    expect(o.session.value, 30000, "timeout where none is given");
 }
 
 /* All that we have to send is one message, as it is given here; it arrives at the peer. */
@@ -120,23 +120,19 @@ static void send_again(void) {
     expect(ours.session.value, 0, "all acknowledged");
 }
 
-static void time_passes(cabinet *c, uint32_t elapsed, uint32_t phase) {
-    settle(c, ldp_ft_time_passed(c->image, sizeof c->image, c->session, elapsed), LDP_FT_DONE, "time passed");
-    expect(c->session.phase, phase, "phase after time passed");
-}
-
-/* 5 seconds were agreed: after 4 the labels are there, after 5 they are not, and the next Init does not ask to resume. */
+/* 5 seconds were agreed: after 4.999 the labels are there, after 5 they are not, and the next Init does not ask to resume. */
 static void time_out(void) {
-    expect(ldp_ft_time_passed(ours.image, sizeof ours.image, ours.session, 5).answer, LDP_FT_WRONG_PHASE, "time passed while up");
+    expect(ldp_ft_time_passed(ours.image, sizeof ours.image, ours.session, 5000).answer, LDP_FT_WRONG_PHASE, "time passed while up");
     connection_fails(&ours);
-    time_passes(&ours, 4, LDP_FT_FAILED);
-    expect(ldp_ft_label(ours.image, sizeof ours.image, 2), word(22, LDP_FT_CODE_GIVEN), "label after 4 seconds");
-    time_passes(&ours, 5, LDP_FT_IDLE);
+    time_passes(&ours, 5, LDP_FT_FAILED);
+    time_passes(&ours, 4999, LDP_FT_FAILED);
+    expect(ldp_ft_label(ours.image, sizeof ours.image, 2), word(22, LDP_FT_CODE_GIVEN), "label after 4.999 seconds");
+    time_passes(&ours, 5000, LDP_FT_IDLE);
     for (uint32_t place = 0; place < LDP_FT_LABEL_WORDS; place++) expect(ldp_ft_label(ours.image, sizeof ours.image, place), 0, "label after 5 seconds");
     expect(memcmp(ours.image, ours.store, LDP_FT_BLOCK_SIZE) == 0, 1, "the release is stored");
     expect(ldp_ft_submit(ours.image, sizeof ours.image, ours.session, mapping, sizeof mapping).answer, LDP_FT_WRONG_PHASE, "submit where nothing is kept");
     ldp_ft_outcome o =
-        ldp_ft_open(ours.image, sizeof ours.image, ours.session, 0x11223344, 30, 4096, 0x0a000001, 3, true, 5, false, out, sizeof out);
+        ldp_ft_open(ours.image, sizeof ours.image, ours.session, 0x11223344, 30, 4096, 0x0a000001, 3, true, 5, false, false, out, sizeof out);
     expect_written(o.length, fresh_init, sizeof fresh_init, "Init after a timeout");
 }
 

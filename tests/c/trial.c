@@ -31,6 +31,7 @@ void begin(cabinet *c) {
     expect(o.block0, 1, "format stores block 0");
     expect(o.further, LDP_FT_FURTHER_REQUESTS, "format stores block 65");
     c->session = o.session;
+    c->published = false;
     memcpy(c->store, c->image, sizeof c->store);
 }
 
@@ -59,23 +60,26 @@ void connection_fails(cabinet *c) {
     expect(c->session.flags, 0, "no flags after connection failed");
 }
 
-/* Both propose 5 seconds. */
+/* Both propose 5 seconds, each in the unit of its form. */
 static void open_session(cabinet *c, const uint8_t *wanted, size_t wanted_length) {
-    ldp_ft_outcome o =
-        ldp_ft_open(c->image, sizeof c->image, c->session, 0x11223344, 30, 4096, 0x0a000001, 3, true, 5, false, out, sizeof out);
+    ldp_ft_outcome o = ldp_ft_open(c->image, sizeof c->image, c->session, 0x11223344, 30, 4096, 0x0a000001, 3, true, c->published ? 5000 : 5, false, c->published,
+                                   out, sizeof out);
     size_t length = settle(c, o, LDP_FT_DONE, "open");
     expect_written(length, wanted, wanted_length, "Init");
     expect(c->session.phase, LDP_FT_INIT_WAIT, "phase after open");
-    expect(c->session.value, 5, "proposed timeout");
+    expect(c->session.value, 5000, "proposed timeout, milliseconds in either form");
     expect(c->session.flags, 0, "no flags");
 }
 
 void connect_both(const uint8_t *our_init, const uint8_t *peers_init, size_t length) {
-    open_session(&ours, our_init, length);
-    open_session(&peer, peers_init, length);
-    settle(&ours, ldp_ft_init_received(ours.image, sizeof ours.image, ours.session, peers_init, length), LDP_FT_DONE, "Init received");
-    settle(&peer, ldp_ft_init_received(peer.image, sizeof peer.image, peer.session, our_init, length), LDP_FT_DONE, "Init received by the peer");
-    uint32_t flags = length > sizeof fresh_init ? LDP_FT_RESUMED : 0;
+    connect_forms(our_init, length, peers_init, length, length > sizeof fresh_init ? LDP_FT_RESUMED : 0);
+}
+
+void connect_forms(const uint8_t *our_init, size_t our_length, const uint8_t *peers_init, size_t peers_length, uint32_t flags) {
+    open_session(&ours, our_init, our_length);
+    open_session(&peer, peers_init, peers_length);
+    settle(&ours, ldp_ft_init_received(ours.image, sizeof ours.image, ours.session, peers_init, peers_length), LDP_FT_DONE, "Init received");
+    settle(&peer, ldp_ft_init_received(peer.image, sizeof peer.image, peer.session, our_init, our_length), LDP_FT_DONE, "Init received by the peer");
     expect(ours.session.phase, LDP_FT_UP_FT, "phase after Init");
     expect(ours.session.flags, flags, "flags after Init");
     expect(peer.session.phase, LDP_FT_UP_FT, "the peer's phase after Init");
@@ -112,6 +116,11 @@ void acknowledge(cabinet *from, cabinet *to) {
     receive(to, out, length, LDP_FT_DONE, "receive KeepAlive");
 }
 
+void time_passes(cabinet *c, uint32_t elapsed, uint32_t phase) {
+    settle(c, ldp_ft_time_passed(c->image, sizeof c->image, c->session, elapsed), LDP_FT_DONE, "time passed");
+    expect(c->session.phase, phase, "phase after time passed");
+}
+
 void pass_on_all(cabinet *from, cabinet *to) {
     for (;;) {
         ldp_ft_outcome o = ldp_ft_send_next(from->image, sizeof from->image, from->session, false, out, sizeof out);
@@ -127,8 +136,10 @@ int main(void) {
     label_trial();
     plain_trial();
     image_trial();
+    published_trial();
+    convert_trial();
     reading_trial();
     text_trial();
-    puts("ldp_ft: a session, Requests, messages left out, labels, a plain peer, images, readers and texts from C, ok");
+    puts("ldp_ft: a session, Requests, messages left out, labels, a plain peer, images, both forms, the converter, readers and texts from C, ok");
     return 0;
 }

@@ -20,25 +20,29 @@ def number(value):
     return int(value, 16)
 
 
-# The listed TLVs in the order of a line: type, name, the text of a value in hex.
+def session(value):
+    """FT Session by its length: the draft's counts seconds, RFC 3479's milliseconds."""
+    name, timeout = ("ft-session", value[4:]) if len(value) == 8 else ("ft-session-ms", value[8:16])
+    return f"{name} {number(value[:4]) >> 15} {number(timeout)}"
+
+
+# The listed TLVs in the order of a line: type, and the text of a value in hex.
 TLVS = (
-    (0x0100, "fec", lambda value: value or "-"),
-    (0x0200, "label", lambda value: str(number(value))),
-    (0x0300, "status", lambda value: "0x" + value[:8]),
-    (0x0500, "params", lambda value: value),
-    (0x0503, "ft-session", lambda value: f"{number(value[:4]) >> 15} {number(value[4:])}"),
-    (0x0203, "ft-protection", lambda value: str(number(value))),
-    (0x0504, "ft-ack", lambda value: str(number(value))),
-    (0x0600, "request-id", lambda value: str(number(value))),
+    (0x0100, lambda value: f"fec {value or '-'}"),
+    (0x0200, lambda value: f"label {number(value)}"),
+    (0x0300, lambda value: f"status 0x{value[:8]}"),
+    (0x0500, lambda value: f"params {value}"),
+    (0x0503, session),
+    (0x0203, lambda value: f"ft-protection {number(value)}"),
+    (0x0504, lambda value: f"ft-ack {number(value)}"),
+    (0x0600, lambda value: f"request-id {number(value)}"),
 )
 
 
 def line(pdu_number, message_number, message):
     values = {tlv["type"]: tlv["value"] for tlv in message["tlvs"]}
     fields = [str(pdu_number), str(message_number), f"0x{message['type']:04x}", str(message["id"])]
-    for number_of_type, name, text in TLVS:
-        if number_of_type in values:
-            fields += [name, text(values[number_of_type])]
+    fields += [text(values[number_of_type]) for number_of_type, text in TLVS if number_of_type in values]
     return " ".join(fields) + "\n"
 
 

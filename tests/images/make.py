@@ -1,7 +1,7 @@
 #!/usr/bin/env python3
-"""The stored images that the image printer is run on, and what it must print.
+"""The stored images that the image printer is run on, and what it must print; and one that the converter refuses (the others: conversions.py).
 
-    tests/images/make.py            writes crates/print_image/{stdin,stdout} and crates/print_image_cases/{args,data,stdout}
+    tests/images/make.py            writes crates/print_image/{stdin,stdout}, crates/print_image_cases/{args,data,stdout} and crates/convert_image/{args,stdin,stdout}
     tests/images/make.py --check    fails where a stored file is another
 
 Made with the block check and layout of tests/paper. Each case states what is to be printed; restore's checks there must say the same.
@@ -13,7 +13,7 @@ sys.dont_write_bytecode = True
 sys.path.append(str(pathlib.Path(__file__).resolve().parents[1]))
 from paper.calls import extend  # noqa: E402
 from paper.image import BLOCK, EARLIER_SIZE, REQUESTS, SIZE, SLOTS, State, counts, report, requests_block, sealed, slot_block  # noqa: E402
-from paper.labels import COUNT, OPEN, word  # noqa: E402
+from paper.labels import COUNT, IDS, OPEN, word  # noqa: E402
 from paper.numbers import LAST  # noqa: E402
 from paper.wire import ABORT, ADDRESS, ADDRESS_WITHDRAW, FEC, MAPPING, NO_RESOURCES, RELEASE, REQUEST, RESOURCES, STATUS_CODE, TYPE, WITHDRAW, ack_tlv  # noqa: E402
 from paper.wire import field, label_tlv, message, request_id_tlv, status_tlv, tlv  # noqa: E402
@@ -47,7 +47,9 @@ def mapping_slot(kind=MAPPING, label=16):
 
 
 def block0(words=(), **fields):
-    return State(words, **{"timeout": 5, "kept": 1, "keepalive": 30, "maxpdu": 4096, **fields}).block()
+    """Block 0 of version 2, or by another layout; 5 seconds are agreed."""
+    timeout = 5 if fields.get("layout") == 1 else 5000
+    return State(words, **{"timeout": timeout, "kept": 1, "keepalive": 30, "maxpdu": 4096, **fields}).block()
 
 
 def image(zeroth, slots=None, dead=bytes(BLOCK), requests=requests_block()):
@@ -80,12 +82,13 @@ def refused(answer, block):
 # ---- cases
 GIVEN16 = [word(16, 1)]
 PAPER = image(block0(GIVEN16, held=1), {0: mapping_slot()})
+ONE = image(block0(GIVEN16, layout=1, held=1), {0: mapping_slot()})
 THREE = {k: slot_block(mapping(20 + k), MAPPING, 20 + k) for k in range(3)}
 
 
-# The layout by its bytes: R 5, I 6, S 9, first slot 63, 2 held, timeout 5, stopped and stopping, the peer's parameters 30 and 4096; label 16 given, two Requests open,
+# The layout by its bytes: R 5, I 6, S 9, first slot 63, 2 held, 5,000 milliseconds, stopped and stopping, the peer's parameters 30 and 4096; label 16 given, two Requests open,
 # and 17 used in the last word. The IDs of block 65: 7, which does not count, then those of the Requests, 7 and 0xFFFFFFFF; and the last, which does not count.
-BYTES = by_bytes("00000001 00000005 00000006 00000009 003f 0002 0005 01 06 001e 1000 00100010 00700000 00700000", "00300011 12c1 6b7f")
+BYTES = by_bytes("00000002 00000005 00000006 00000009 003f 0002 0000 01 06 001e 1000 00001388 00100010 00700000 00700000", "00300011 2645 a1c2")
 ID_BYTES = by_bytes("00000007 00000007 ffffffff", "00000007" + "00" * 28 + "0016 0f2f")
 MAPPING_BYTES = by_bytes("001b 01 00 00000010 0400 0017 00000007 0100 0007 02 0001 18 0a0000 0200 0004 00000010", "276b 1e1a")
 ADDRESS_BYTES = by_bytes("0008 04 00 ffffffff 0300 0004 00000007", "0714 f599")
@@ -114,11 +117,11 @@ def slot_of(i):
     return slot_block(other, kind, OF_NO_LABEL)
 
 
-def full_ring():
+def full_ring(**fields):
     """64 held from slot 40 on, round the end of the ring and of the numbers, with every label code."""
     words = [OPEN if i % 9 == 6 else word(1048575 - i, 1 + i % 9) for i in range(COUNT)]
     slots = {(40 + i) % SLOTS: slot_of(i) for i in range(SLOTS)}
-    return image(block0(words, released=LAST - 1, issued=2, secured=77, first=40, held=64), slots, requests=requests_block(range(COUNT)))
+    return image(block0(words, released=LAST - 1, issued=2, secured=77, first=40, held=64, **fields), slots, requests=requests_block(range(IDS)))
 
 
 def live(slots, **fields):
@@ -134,8 +137,8 @@ def noted(marks, **fields):
 
 
 def earlier(extended=False):
-    """The paper's image as a release before ticket 2 stored it; and with the block that is put behind it."""
-    data = bytearray(PAPER[:EARLIER_SIZE])
+    """The paper's image as a release before ticket 2 stored it; and with the block that is put behind it. The converter comes next."""
+    data = bytearray(ONE[:EARLIER_SIZE])
     if extended:
         data += b"\xaa" * (SIZE - EARLIER_SIZE)
         assert extend(data, EARLIER_SIZE) == 0
@@ -151,7 +154,7 @@ CASES = [
     ("new", image(RELEASED), counts(0, 0, 0, 0, 0, 0)),
     ("layout_by_bytes", image(BYTES, {63: MAPPING_BYTES, 0: ADDRESS_BYTES}, requests=ID_BYTES), counts(5, 6, 9, 2, 1, 4)),
     ("nothing_held", image(block0(released=9, issued=9, secured=4)), counts(9, 9, 4, 0, 0, 0)),
-    ("full_ring_wraps", full_ring(), counts(LAST - 1, 2, 77, 64, 61, 120)),
+    ("full_ring_wraps", full_ring(), counts(LAST - 1, 2, 77, 64, 61, COUNT)),
     ("dead_slots_damaged", image(block0(GIVEN16, held=1), {0: mapping_slot()}, bytes(range(256)) * 2), counts(0, 0, 0, 1, 1, 1)),
     ("code_6_counted", image(block0([word(30, 6), 0, word(31, 3), word(30, 1)])), counts(0, 0, 0, 0, 0, 3)),
     ("withdrawn_codes_counted", image(block0([word(30, 8), word(31, 9), word(30, 4), word(31, 3)])), counts(0, 0, 0, 0, 0, 4)),
@@ -167,7 +170,15 @@ CASES = [
     ("check_bytes_swapped", PAPER[:508] + PAPER[510:512] + PAPER[508:510] + PAPER[512:], refused(10, 0)),
     ("check_65535_for_0", image(ZERO_SUMS[:508] + b"\xff\xff" + ZERO_SUMS[510:]), refused(10, 0)),
     ("check_0", image(ZERO_SUMS), report(image(ZERO_SUMS))),
-    ("version_2", image(block0(version=2)), refused(11, 0)),
+    ("version_1", ONE, refused(11, 0)),
+    ("version_1_kept_0", image(State(layout=1).block()), refused(11, 0)),
+    ("version_3", image(block0(version=3)), refused(11, 0)),
+    ("version_2_laid_out_as_1", image(block0(layout=1, version=2)), refused(11, 0)),
+    ("byte_20_set", image(block0(zero=256)), refused(11, 0)),
+    ("byte_21_set", image(block0(zero=1)), refused(11, 0)),
+    ("no_timeout", image(block0(timeout=0)), counts(0, 0, 0, 0, 0, 0)),
+    ("longest_timeout", image(block0(timeout=LAST)), counts(0, 0, 0, 0, 0, 0)),
+    ("last_word", image(block0([0] * (COUNT - 1) + GIVEN16)), counts(0, 0, 0, 0, 0, 1)),
     ("first_64", image(block0(first=64)), refused(11, 0)),
     ("held_65", image(block0(held=65), {k: mapping_slot() for k in range(SLOTS)}), refused(11, 0)),
     ("kept_2", image(block0(kept=2)), refused(11, 0)),
@@ -208,11 +219,12 @@ CASES = [
     ("padding_set", bad_slot(altered(mapping_slot(), BARE + 400, b"\1")), refused(11, 1)),
     ("ring_order", image(block0(first=62, held=4), {62: mapping_slot(), 63: mapping_slot(label=17)}), refused(11, 64)),
     ("block_0_check_before_slots", damaged(damaged(live(THREE), 100), BLOCK + 60), refused(10, 0)),
-    ("block_0_fields_before_slots", damaged(live(THREE, version=2), BLOCK + 60), refused(11, 0)),
+    ("block_0_fields_before_slots", damaged(live(THREE, version=1), BLOCK + 60), refused(11, 0)),
     ("slot_check_before_fields", live({0: damaged(mapping_slot(label=17), 4)}), refused(10, 1)),
     ("open_requests", asking([OPEN, word(30, 1), OPEN, word(30, 6), OPEN], [7, 8, 0, LAST, LAST]), counts(0, 0, 0, 0, 0, 5)),
     ("all_words_open", asking(ALL_ASKED, range(COUNT)), counts(0, 0, 0, 0, 0, COUNT)),
     ("ids_that_do_not_count", asking([OPEN, 0, word(30, 3)], [7] * COUNT), counts(0, 0, 0, 0, 0, 2)),
+    ("id_of_no_word", asking(ALL_ASKED, [*range(COUNT), 0]), counts(0, 0, 0, 0, 0, COUNT)),
     ("id_twice", asking([OPEN, 0, OPEN], [7, 0, 7]), refused(11, 65)),
     ("id_0_twice", asking([OPEN, 0, OPEN], []), refused(11, 65)),
     ("last_id_twice", asking(ALL_ASKED, [*range(COUNT - 1), 0]), refused(11, 65)),
@@ -225,7 +237,7 @@ CASES = [
     ("block_65_check_before_fields", damaged(asking([OPEN, OPEN], []), SIZE - 1), refused(10, 65)),
     ("slots_before_block_65", live({0: mapping_slot(label=17)})[:-BLOCK] + UNSEALED, refused(11, 1)),
     ("earlier_size", earlier(), refused(12, 0)),
-    ("earlier_size_extended", earlier(True), counts(0, 0, 0, 1, 1, 1)),
+    ("earlier_size_extended", earlier(True), refused(11, 0)),
 ]
 
 
@@ -234,10 +246,12 @@ def main():
     for name, data, expected in [("paper", PAPER, paper), *CASES]:
         assert report(data) == expected, (name, report(data))
     files = {"print_image/stdin": PAPER, "print_image/stdout": lines(paper)}
+    files |= {"convert_image/args": lines(["forward", "moved.img"]), "convert_image/stdin": PAPER, "convert_image/stdout": lines(refused(11, 0))}
     files |= {f"{folder}/{name}": data for name, data, _ in CASES}
     files["print_image_cases/args"] = lines(name for name, _, _ in CASES)
     files["print_image_cases/stdout"] = b"".join(lines([name, *expected]) for name, _, expected in CASES)
     settle(files, folder)
 
 
-main()
+if __name__ == "__main__":
+    main()

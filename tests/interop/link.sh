@@ -85,11 +85,13 @@ start_capture() {
     pids+=($!)
 }
 
-# start_cabinet OUR-LSR FRR-LSR LOG: KeepAlive time 15 s, timeout 30 s; its console is descriptor 7
+# start_cabinet OUR-LSR FRR-LSR LOG: KeepAlive time 15 s, timeout 30 s in the unit of the form; its console is descriptor 7
 start_cabinet() {
+    local timeout=30
+    if [ "$form" = published ]; then timeout=30000; fi
     rm -f "$work/console"
     mkfifo "$work/console"
-    ip netns exec "$ours" "$work/examples/cabinet" "$work/image" "$1" "$2" hello 10.0.12.1 15 30 <"$work/console" >"$3" 2>&1 &
+    ip netns exec "$ours" "$work/examples/cabinet" "$work/image" "$1" "$2" hello 10.0.12.1 15 "$timeout" "$form" <"$work/console" >"$3" 2>&1 &
     pids+=($!)
     exec 7>"$work/console"
 }

@@ -1,10 +1,11 @@
 #!/usr/bin/env bash
 # run.sh: the example cabinet on a live link with FRR's ldpd, in two network namespaces that this script makes and removes, in both TCP roles. Takes three minutes.
-# What came out is written to the folder named as its argument (a new one below /tmp if there is none). docs/INTEROP.md has a run.
+# What came out is written to the folder named as its argument (a new one below /tmp if there is none). FORM=published has our Inits in RFC 3479's form; else they are in the draft's. docs/INTEROP.md has a run.
 set -euo pipefail
 here=$(cd "$(dirname "$0")" && pwd)
 top=$(cd "$here/../.." && pwd)
 frr=${FRR:-/usr/lib/frr}
+form=${FORM:-draft}
 missing=$(for tool in ip tcpdump tshark vtysh make; do command -v $tool >/dev/null || echo "$tool"; done; for daemon in zebra staticd ldpd; do [ -x "$frr/$daemon" ] || echo "$frr/$daemon"; done)
 if [ "$(id -u)" -ne 0 ] || [ -n "$missing" ]; then
     echo "tests/interop/run.sh needs root and Debian's packages frr, iproute2, tcpdump, tshark and make${missing:+; missing: $(echo $missing)}"

@@ -9,15 +9,17 @@ import sys
 
 sys.dont_write_bytecode = True
 sys.path.append(str(pathlib.Path(__file__).resolve().parents[1]))
-from paper.numbers import LAST, acknowledged, advance, distance, lesser, next_number, steps, successor  # noqa: E402
+from paper.numbers import LAST, acknowledged, advance, distance, lesser, milliseconds, next_number, proposed, steps, successor  # noqa: E402
 from stored import settle  # noqa: E402
 
 EDGES = [0, 1, 2, 64, 65, 2**31 - 2, 2**31 - 1, 2**31, 2**31 + 1, LAST - 1, LAST]
 WINDOWS = [(0, 0), (0, 5), (LAST - 1, 1), (1, 65), (LAST, 64), (5, 5)]
-TIMEOUTS = [0, 1, 4, 5, 30, 65535]
+TIMEOUTS = [0, 1, 5, 30000, 65535000, LAST]
+# a form's proposals, None where the owner gives none
+PROPOSALS = {False: [None, 0, 5, 65535], True: [None, 0, 5, LAST]}
 
 
-def said(value, otherwise):
+def or_else(value, otherwise):
     return otherwise if value is None else str(value)
 
 
@@ -35,8 +37,8 @@ def lines():
     for a in EDGES:
         yield f"successor {a} {successor(a)}"
         for b in EDGES:
-            yield f"steps {a} {b} {said(steps(a, b), 'unreachable')}"
-            yield f"distance {a} {b} {said(distance(a, b), 'refused')}"
+            yield f"steps {a} {b} {or_else(steps(a, b), 'unreachable')}"
+            yield f"distance {a} {b} {or_else(distance(a, b), 'refused')}"
             yield f"advance {a} {b} {advance(a, b)}"
             yield f"next {a} {b} {turn(a, b, False)}"
             yield f"next resumed {a} {b} {turn(a, b, True)}"
@@ -45,9 +47,10 @@ def lines():
             yield f"acknowledge {r} {i} {a} {acknowledge(r, i, a)}"
         for u in TIMEOUTS:
             yield f"lesser timeout {t} {u} {lesser(t, u)}"
-    yield "proposed 30"
-    yield "proposed 0"
-    yield "proposed 5"
+    for published, given in PROPOSALS.items():
+        for proposal in given:
+            said = proposed(proposal, published)
+            yield f"proposed {'milliseconds' if published else 'seconds'} {said} is {milliseconds(said, published)}"
 
 
 def marked():

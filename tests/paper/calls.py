@@ -1,13 +1,13 @@
-"""The ten calls, from the build paper's words "Events" and "What each answer does", and tickets 2 and 3 of 02. UpFT on a resumed connection is ("UpFT", count sent, RESUMED).
+"""The ten calls, from the build paper's words "Events" and "What each answer does", and tickets 2, 3 and 5 of 02. Times are milliseconds. UpFT on a resumed connection is ("UpFT", count sent, RESUMED).
 
 Every call decodes the image, does what the paper says, and lays block 0 anew. What the paper says in a sentence is quoted."""
 
 from .image import BLOCK, EARLIER_SIZE, REQUESTS, SIZE, SLOTS, STOPPED, STOPPING, State, block_of, held_message, refusal, requests_block, slot_block, state_of
 from .labels import EVERY
 from .message import Message, submission
-from .numbers import acknowledged, advance, lesser, next_number, steps
+from .numbers import acknowledged, advance, lesser, milliseconds, next_number, proposed, steps
 from .wire import ABORT, ACK, ADDRESS, ADDRESS_WITHDRAW, INIT, KEEPALIVE, MAPPING, NO_RESOURCES, PARAMETERS, PROTECTION, RELEASE, REQUEST, REQUEST_ID, RESOURCES, SESSION, WITHDRAW
-from .wire import ack_tlv, field, message, number, parameters_tlv, protection_tlv, session_tlv
+from .wire import ack_tlv, field, initialization, message, number, protection_tlv
 
 LABEL_KINDS = (MAPPING, WITHDRAW, RELEASE)
 RESUMED = "resumed"
@@ -89,17 +89,22 @@ def fail(st):
     return Outcome(0, RESTING[st.kept])
 
 
+class Published:
+    """A proposal in milliseconds, for an Init in the published form; one in the draft's form is the seconds. None is a proposal that is not given."""
+
+    def __init__(self, millis=None):
+        self.millis = millis
+
+
 @call
 def open_session(image, st, phase, ident, parameters, proposal, room):
-    """Writes Init, R = kept, ACK = S, A as the parameters say; "the proposal used where the owner gives none" is 30 (02)."""
+    """Writes Init, R = kept, ACK = S, A as the parameters say, in the form that the owner names; then InitWait bears what it proposes."""
     if phase[0] not in ("Idle", "Failed"):
         return Outcome(1, phase)
-    seconds = 30 if proposal is None else proposal
-    tlvs = [parameters_tlv(*parameters), session_tlv(st.kept, seconds)]
-    if st.kept:
-        tlvs.append(ack_tlv(st.secured))
-    out = message(INIT, ident, *tlvs)
-    return Outcome(9, phase) if len(out) > room else Outcome(0, ("InitWait", seconds), out)
+    published = isinstance(proposal, Published)
+    said = proposed(proposal.millis if published else proposal, published)
+    out = initialization(ident, parameters, said, st.secured if st.kept else None, published)
+    return Outcome(9, phase) if len(out) > room else Outcome(0, ("InitWait", milliseconds(said, published)), out)
 
 
 @call
@@ -117,7 +122,7 @@ def connection_failed(image, st, phase):
 
 @call
 def time_passed(image, st, phase, elapsed):
-    """Releases, then Idle, if the timeout isn't zero and elapsed seconds are at least it; else nothing changes."""
+    """Releases, then Idle, if the timeout isn't zero and elapsed seconds are at least it; else nothing changes. "Time passed counts milliseconds" (02)."""
     if phase[0] != "Failed":
         return Outcome(1, phase)
     if st.timeout and elapsed >= st.timeout:
@@ -219,11 +224,10 @@ def init_received(image, st, phase, m):
     read = Message(m)
     if read.bad or read.type != INIT:
         return Outcome(22, phase)
-    session = read.tlvs.get(SESSION)
-    again = session is not None and session[0] >= 0x80
+    again = read.reconnects()
     if not read.has(PARAMETERS) or (again and not read.has(ACK)):
         return Outcome(23, phase)
-    if session is None:
+    if not read.has(SESSION):
         return begun(State(), ("UpPlain",))
     given = read.tlvs[PARAMETERS]
     peers = number(given[2:4]), number(given[6:8])
@@ -236,7 +240,7 @@ def init_received(image, st, phase, m):
     else:
         st = State()
         st.kept, (st.keepalive, st.maxpdu) = 1, peers
-    st.timeout = lesser(phase[1], number(session[2:]))
+    st.timeout = lesser(phase[1], read.milliseconds())
     return begun(st, ("UpFT", 0, *[RESUMED] * resumed))
 
 

@@ -1,6 +1,6 @@
-"""The stored image, from the build paper's words "Stored image" and ticket 2 of 02: a bytearray of 66 blocks."""
+"""The stored image, from the build paper's words "Stored image" and tickets 2 and 5 of 02: a bytearray of 66 blocks, of version 2; version 1 for the converter alone."""
 
-from .labels import COUNT, Labels
+from .labels import COUNT, IDS, Labels
 from .message import submission
 from .numbers import steps
 from .wire import field, number
@@ -9,8 +9,11 @@ BLOCK, SLOTS = 512, 64
 REQUESTS = SLOTS + 1  # block 65: the IDs of the open Requests
 SIZE = BLOCK * (REQUESTS + 1)
 EARLIER_SIZE = BLOCK * REQUESTS
-FIELDS = (("version", 4), ("released", 4), ("issued", 4), ("secured", 4), ("first", 2), ("held", 2), ("timeout", 2), ("kept", 1), ("marks", 1), ("keepalive", 2), ("maxpdu", 2))
-WORDS_AT = sum(width for _, width in FIELDS)
+# "milliseconds in bytes 28 to 31 (20 and 21 zero) and 119 labels from 32"; version 1 has seconds in bytes 20 and 21, and 120 label words from 28
+NUMBERS = (("version", 4), ("released", 4), ("issued", 4), ("secured", 4), ("first", 2), ("held", 2))
+PEERS = (("kept", 1), ("marks", 1), ("keepalive", 2), ("maxpdu", 2))
+FIELDS = {1: (*NUMBERS, ("timeout", 2), *PEERS), 2: (*NUMBERS, ("zero", 2), *PEERS, ("timeout", 4))}
+WORDS = {1: 120, 2: COUNT}
 # "in byte 23 of block 0, 2 if told so, 4 from accepting kind 9 until kind 6"
 STOPPED, STOPPING = 2, 4
 
@@ -32,8 +35,8 @@ def is_sealed(block):
     return check(block) == block[508:]
 
 
-def words_of(data):
-    return [number(data[4 * i :][:4]) for i in range(COUNT)]
+def words_of(data, count):
+    return [number(data[4 * i :][:4]) for i in range(count)]
 
 
 def words_bytes(words):
@@ -46,22 +49,26 @@ def requests_block(ids=()):
 
 
 class State:
-    """What block 0 says, and the IDs of block 65. A new one is that of "released": kept 0, and nothing else."""
+    """What block 0 says, by the layout of a version, and the IDs of block 65. A new one is that of "released": kept 0, and nothing else. The timeout is in
+    milliseconds, in version 1 in seconds."""
 
-    def __init__(self, words=(), ids=(), **fields):
-        for name, _ in FIELDS:
-            setattr(self, name, fields.get(name, 1 if name == "version" else 0))
-        self.labels = Labels(words, ids)
+    def __init__(self, words=(), ids=(), layout=2, **fields):
+        self.layout = layout
+        for name, _ in FIELDS[layout]:
+            setattr(self, name, fields.get(name, layout if name == "version" else 0))
+        self.labels = Labels(words, ids, WORDS[layout])
 
     def block(self):
-        body = b"".join(field(getattr(self, name), width) for name, width in FIELDS)
+        body = b"".join(field(getattr(self, name), width) for name, width in FIELDS[self.layout])
         return sealed(body + words_bytes(self.labels.words))
 
     def valid(self):
-        if self.version != 1 or self.marks & ~(STOPPED | STOPPING) or self.kept > 1 or self.first >= SLOTS or self.held > SLOTS:
+        if self.version != self.layout or self.marks & ~(STOPPED | STOPPING) or self.kept > 1 or self.first >= SLOTS or self.held > SLOTS:
+            return False
+        if self.layout == 2 and self.zero:
             return False
         if not self.kept:
-            return self.block() == State().block()
+            return self.block() == State(layout=self.layout).block()
         way = steps(self.released, self.issued)
         return way is not None and way <= self.held and self.labels.valid()
 
@@ -77,12 +84,12 @@ def block_of(image, k):
     return bytes(image[BLOCK * k : BLOCK * (k + 1)])
 
 
-def state_of(image):
+def state_of(image, layout=2):
     block, fields, at = block_of(image, 0), {}, 0
-    for name, width in FIELDS:
+    for name, width in FIELDS[layout]:
         fields[name] = number(block[at : at + width])
         at += width
-    return State(words_of(block[WORDS_AT:]), words_of(block_of(image, REQUESTS)), **fields)
+    return State(words_of(block[at:], WORDS[layout]), words_of(block_of(image, REQUESTS), IDS), layout, **fields)
 
 
 def slot_block(m, kind, label):
@@ -109,13 +116,13 @@ def requests_valid(image, st):
     return len(set(ids)) == len(ids) and block_of(image, REQUESTS) == requests_block(st.labels.ids)
 
 
-def refusal(image):
-    """Restore's checks: size, block 0, its fields, then live slots in ring order: check, then fields; then block 65, "checked after the slots"."""
+def refusal(image, layout=2):
+    """Restore's checks of a version: size, block 0, its fields, then live slots in ring order: check, then fields; then block 65, "checked after the slots"."""
     if len(image) != SIZE:
         return 12, 0
     if not is_sealed(block_of(image, 0)):
         return 10, 0
-    st = state_of(image)
+    st = state_of(image, layout)
     if not st.valid():
         return 11, 0
     for k in st.live():

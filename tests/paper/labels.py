@@ -3,7 +3,8 @@ withdrawal of ticket 4."""
 
 from .wire import MAPPING, RELEASE, WITHDRAW
 
-COUNT = 120
+COUNT = 119  # ticket 5: "119 labels"
+IDS = 120  # the last has no word beside it
 # "A label stands once among codes 1-2 and once among 3-6"; ticket 4: the rules "now cover" 8 and 9, of a label that we gave too
 GIVEN, USED = (1, 2, 8, 9), (3, 4, 5, 6)
 SENT_SIDE = {MAPPING: GIVEN, WITHDRAW: GIVEN, RELEASE: USED}
@@ -26,16 +27,16 @@ def word(label, code):
     return label + 1048576 * code
 
 
-# "An open Request takes one of the 120 words under code 7, with label part 0"
+# "An open Request takes one of the .. words under code 7, with label part 0"
 OPEN = word(0, 7)
 
 
 class Labels:
     """The words: each is label + 1,048,576 x code, and 0 is a free word. Beside each an ID, which counts only where the word is OPEN."""
 
-    def __init__(self, words=(), ids=()):
-        self.words = [*words, *[0] * (COUNT - len(words))]
-        self.ids = [*ids, *[0] * (COUNT - len(ids))]
+    def __init__(self, words=(), ids=(), count=COUNT):
+        self.words = [*words, *[0] * (count - len(words))]
+        self.ids = [*ids, *[0] * (IDS - len(ids))]
 
     def listed(self):
         return [(w & 0xFFFFF, w >> 20) for w in self.words if w]

@@ -1,10 +1,11 @@
-"""A message read and judged, from the build paper's words "Wire forms" and "Submit", and ticket 2 of 02."""
+"""A message read and judged, from the build paper's words "Wire forms" and "Submit", and tickets 2 and 5 of 02."""
 
-from .numbers import LAST
+from .numbers import LAST, milliseconds
 from .wire import ABORT, ACK, FEC, LABEL, MAPPING, NOTIFICATION, PARAMETERS, PROTECTION, RELEASE, REQUEST, REQUEST_ID, SESSION, STATUS
 from .wire import STATUS_CODE, TYPE, WITHDRAW, number
 
-LENGTHS = {FEC: None, LABEL: 4, STATUS: 10, PARAMETERS: 14, SESSION: 4, PROTECTION: 4, ACK: 4, REQUEST_ID: 4}
+# the lengths that a value may have, None where it may have any; "both TLV forms are read" of FT Session
+LENGTHS = {FEC: None, LABEL: (4,), STATUS: (10,), PARAMETERS: (14,), SESSION: (4, 12), PROTECTION: (4,), ACK: (4,), REQUEST_ID: (4,)}
 KINDS = {number_of_type: kind for kind, number_of_type in TYPE.items() if kind not in STATUS_CODE}
 KIND_OF_STATUS = {code: kind for kind, code in STATUS_CODE.items()}
 # "Mapping without FEC or label; Withdraw or Release without FEC", 02: "Request and Abort without FEC, Abort without 0x0600"
@@ -29,7 +30,7 @@ class Message:
             if len(value) != size:
                 return
             if kind in LENGTHS:
-                if LENGTHS[kind] not in (None, size) or kind in self.tlvs:
+                if kind in self.tlvs or (LENGTHS[kind] is not None and size not in LENGTHS[kind]):
                     return
                 self.tlvs[kind] = bytes(value)
             at += 4 + size
@@ -54,6 +55,22 @@ class Message:
 
     def bears_ft(self):
         return any(self.has(kind) for kind in (SESSION, PROTECTION, ACK))
+
+    def published(self):
+        """FT Session stands in RFC 3479's form, known by its length."""
+        return len(self.tlvs.get(SESSION, b"")) == 12
+
+    def reconnects(self):
+        """R of FT Session, "heeding R alone"."""
+        return self.has(SESSION) and self.tlvs[SESSION][0] >= 0x80
+
+    def timeout(self):
+        """The reconnection timeout of FT Session, in the unit of its form."""
+        value = self.tlvs[SESSION]
+        return number(value[4:8] if self.published() else value[2:])
+
+    def milliseconds(self):
+        return milliseconds(self.timeout(), self.published())
 
     def kind(self):
         """Resources Available, No Resources: a Notification whose Status has that code in its low 30 bits and E clear."""

@@ -1,6 +1,9 @@
-"""Numbers on a circle and timeouts, from the build paper's words "Numbers on a circle": stated by walking the circle."""
+"""Numbers on a circle and timeouts, from the build paper's words "Numbers on a circle" and ticket 5 of 02: stated by walking the circle."""
 
 LAST = 0xFFFFFFFF
+# the seconds proposed where the owner gives none
+DEFAULT = 30
+SECOND = 1000
 
 
 def successor(n):
@@ -53,5 +56,17 @@ def acknowledged(r, i, a):
 
 
 def lesser(a, b):
-    """The lesser of two timeouts, zero counting as infinite."""
+    """The lesser of two timeouts in one unit, zero counting as infinite."""
     return min((t for t in (a, b) if t), default=0)
+
+
+def milliseconds(said, published):
+    """A timeout in milliseconds, which RFC 3479's form says and the draft's does not."""
+    return said if published else said * SECOND
+
+
+def proposed(given, published):
+    """What our Init says: the owner's proposal in the unit of its form, or 30 seconds in that unit."""
+    if given is not None:
+        return given
+    return DEFAULT * SECOND if published else DEFAULT

@@ -1,4 +1,4 @@
-"""Messages and TLVs in bytes, from the build paper's words "Wire forms" and ticket 2 of 02: their types, and how they are written."""
+"""Messages and TLVs in bytes, from the build paper's words "Wire forms" and tickets 2 and 5 of 02: their types, and how they are written."""
 
 # The kinds of stored messages by their number, and the type of each; Resources Available and No Resources are Notifications.
 MAPPING, WITHDRAW, RELEASE, ADDRESS, ADDRESS_WITHDRAW, RESOURCES, REQUEST, ABORT, NO_RESOURCES = 1, 2, 3, 4, 5, 6, 7, 8, 9
@@ -47,9 +47,12 @@ def parameters_tlv(keepalive, maxpdu, lsr=0, space=0, on_demand=False):
     return tlv(PARAMETERS, field(1, 2) + field(keepalive, 2) + flags + field(maxpdu, 2) + field(lsr, 4) + field(space, 2))
 
 
-def session_tlv(again, seconds):
-    """FT Session with the U bit, R and the reconnection timeout."""
-    return tlv(0x8000 | SESSION, field(0x8000 if again else 0, 2) + field(seconds, 2))
+def session_tlv(again, timeout, published=False):
+    """FT Session with the U bit and R: the draft's with the timeout in seconds, or RFC 3479's with milliseconds, "setting S alone of its new flags, Recovery Time to 0"."""
+    flags = 0x8000 if again else 0
+    if published:
+        return tlv(0x8000 | SESSION, field(flags | 0x0008, 2) + bytes(2) + field(timeout, 4) + bytes(4))
+    return tlv(0x8000 | SESSION, field(flags, 2) + field(timeout, 2))
 
 
 def protection_tlv(n):
@@ -58,3 +61,9 @@ def protection_tlv(n):
 
 def ack_tlv(n):
     return tlv(ACK, field(n, 4))
+
+
+def initialization(ident, parameters, timeout, ack=None, published=False):
+    """Our Init: "parameters .., FT Session, then FT ACK if R is 1", 34 or 42 bytes; in RFC 3479's form 42 or 50."""
+    tlvs = [parameters_tlv(*parameters), session_tlv(ack is not None, timeout, published)]
+    return message(INIT, ident, *tlvs, *([] if ack is None else [ack_tlv(ack)]))

@@ -9,13 +9,14 @@ import sys
 
 sys.dont_write_bytecode = True
 sys.path.append(str(pathlib.Path(__file__).resolve().parents[1]))
+import forms  # noqa: E402
 import left_out  # noqa: E402
 import requests  # noqa: E402
 import withdrawals  # noqa: E402
 from answers import INITS, PLAIN, RECEIVED, RECEIVED_BY_BYTES, SUBMITTED, SUBMITTED_BY_BYTES, TWO_FAULTS, init, own, with_label  # noqa: E402
 from pair import AN_ADDRESS, COPY, KEPT, P1, P2, SHORT, Pair, label_message, request_message  # noqa: E402
 from paper.image import BLOCK, REQUESTS, SIZE, state_of  # noqa: E402
-from paper.labels import word  # noqa: E402
+from paper.labels import COUNT, word  # noqa: E402
 from paper.wire import ABORT, ADDRESS, MAPPING, REQUEST, TYPE, WITHDRAW, ack_tlv, message, protection_tlv, session_tlv, tlv  # noqa: E402
 from player import LINES, SCRIPT  # noqa: E402
 from stored import settle  # noqa: E402
@@ -162,38 +163,38 @@ def timeouts(p):
     p.fresh()
     p.mapping(P1, 16)
     p.lose()
-    p.wait(4)
+    p.wait(4_999)
     p.answered(0, "Failed")
-    p.wait(5)
+    p.wait(5_000)
     p.answered(0, "Idle")
     p.fresh(0, 0)
     p.lose()
-    p.wait(4294967295)
+    p.wait(4_294_967_295)
     p.connect(0, 5)
     p.lose()
-    p.wait(4)
-    p.wait(5)
+    p.wait(4_999)
+    p.wait(5_000)
     p.connect(65535, 0)
     p.lose()
-    p.wait(65534)
-    p.wait(65535)
+    p.wait(65_534_999)
+    p.wait(65_535_000)
     # 02: "The proposal used where the owner gives none becomes 30."
     p.fresh(None, None)
     p.lose()
-    p.wait(29)
+    p.wait(29_999)
     p.answered(0, "Failed")
-    p.wait(30)
+    p.wait(30_000)
     p.answered(0, "Idle")
     # A stored timeout changes only with the next Init: 5 of the peer's are agreed at the first, and 30 again once neither gives one.
     p.fresh(None, 5)
     p.lose()
-    p.wait(4)
+    p.wait(4_999)
     p.answered(0, "Failed")
     p.connect(None, None)
     p.lose()
-    p.wait(5)
+    p.wait(5_000)
     p.answered(0, "Failed")
-    p.wait(30)
+    p.wait(30_000)
     p.answered(0, "Idle")
 
 
@@ -223,7 +224,7 @@ def full_labels(p):
     p.title("the full label list")
     p.fresh()
     p.mapping(P1, 100)
-    for i in range(119):
+    for i in range(COUNT - 1):
         p.unprotected(1001 + i)
     p.mapping(P1, 101, 13)
     p.mapping(P1, 100)
@@ -320,7 +321,7 @@ def refused_images(p):
     p.format(KEPT, "format")
     in_phases(p, "a new image", ("Idle",), ("Failed",), ("UpFT", 0), ("UpPlain",))
     p.copy(KEPT, P1)
-    in_phases(p, "a kept session", ("Idle",), ("InitWait", 5), ("UpFT", 1), ("UpFT", 2), ("UpPlain",), ("Failed",))
+    in_phases(p, "a kept session", ("Idle",), ("InitWait", 5_000), ("UpFT", 1), ("UpFT", 2), ("UpPlain",), ("Failed",))
     p.copy(KEPT, P1)
     every_call(p, f"an image of {SIZE - 1} bytes", SHORT)
     p.format(SHORT, "format")
@@ -365,9 +366,9 @@ def plain_session(p):
     on_copies(p, "receive", p.receive, PLAIN)
 
 
-# Block 0 of a kept session: R and I 5, S 9, first slot 62, none held, timeout 3, stopped, the peer's parameters 15 and 1500; label 16 given, a Request open,
+# Block 0 of a kept session: R and I 5, S 9, first slot 62, none held, stopped, timeout 3,001 milliseconds, the peer's parameters 15 and 1500; label 16 given, a Request open,
 # and 17 used in the last word. Block 65: the Request's ID is 0x01020304; those beside it do not count.
-BLOCK_0 = bytes.fromhex("00000001 00000005 00000005 00000009 003e 0000 0003 01 02 000f 05dc 00100010 00700000") + bytes(468) + bytes.fromhex("00300011 0814 6096")
+BLOCK_0 = bytes.fromhex("00000002 00000005 00000005 00000009 003e 0000 0000 01 02 000f 05dc 00000bb9 00100010 00700000") + bytes(464) + bytes.fromhex("00300011 13cb 4f59")
 BLOCK_65 = bytes.fromhex("01020304 01020304 01020304") + bytes(496) + bytes.fromhex("0c13 d9b5")
 
 
@@ -382,8 +383,8 @@ def block_0(p):
     p.counts(KEPT, "kept")
     for i in range(3):
         p.request_at(KEPT, "kept", i)
-    p.holds(KEPT, (16, 1), (0x01020304,), *[0] * 117, (17, 3))
-    for elapsed, phase in ((2, "Failed"), (3, "Idle")):
+    p.holds(KEPT, (16, 1), (0x01020304,), *[0] * 116, (17, 3))
+    for elapsed, phase in ((3_000, "Failed"), (3_001, "Idle")):
         p.copy(COPY, KEPT)
         p.time(COPY, f"time passed {elapsed}", elapsed)
         p.answered(0, phase)
@@ -404,7 +405,7 @@ PARTS = (before, example, recovery, restart, net_zero, timeouts, lengths, full_l
 
 def main():
     p = Pair()
-    for part in (*PARTS, *requests.PARTS, *left_out.PARTS, *withdrawals.PARTS):
+    for part in (*PARTS, *requests.PARTS, *left_out.PARTS, *withdrawals.PARTS, *forms.PARTS):
         part(p)
     size = sum(len(line) + 1 for line in SCRIPT)
     assert size <= ROOM, size

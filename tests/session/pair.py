@@ -31,7 +31,7 @@ def notification(kind, about=0, *tlvs):
 
 
 class Pair(Player):
-    # Each owner proposes 5 seconds where a case does not name another proposal; None gives none.
+    # Each owner proposes 5 seconds, in the draft's form, where a case does not name another proposal; None gives none.
     def fresh(self, ours=5, theirs=5, on_demand=False):
         for end in (P1, P2):
             self.format(end, f"P{end} format")
@@ -103,8 +103,8 @@ class Pair(Player):
     def unprotected(self, label):
         self.receive(P1, f"P1 receive Mapping {label}, unprotected", label_message(MAPPING, label))
 
-    def wait(self, elapsed):
-        self.time(P1, f"P1 time passed {elapsed}", elapsed)
+    def wait(self, millis):
+        self.time(P1, f"P1 time passed {millis}", millis)
         self.both()
 
     def both(self):

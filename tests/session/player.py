@@ -53,8 +53,10 @@ class Player:
         self.outcome(place, name, c.restore(self.image[place]))
 
     def open(self, place, name, proposal=None, on_demand=False):
-        """In the script a proposal that is not given stands as -, or as nothing at the line's end."""
-        numbers = ("-" if proposal is None else proposal, 1) if on_demand else () if proposal is None else (proposal,)
+        """In the script a proposal that is not given stands as -, or as nothing at the line's end; behind it 1 stands for labels on demand, 2 for the published form, 3 for both."""
+        published = isinstance(proposal, c.Published)
+        given, manner = proposal.millis if published else proposal, on_demand + 2 * published
+        numbers = ("-" if given is None else given, manner) if manner else () if given is None else (given,)
         step(name, "open", place, 64, *numbers)
         own = (*(P2_OWN if place == 2 else P1_OWN), on_demand)
         self.outcome(place, name, c.open_session(self.image[place], self.phase[place], 1, own, proposal, 64))
@@ -88,9 +90,10 @@ class Player:
         step(name, "failed", place)
         self.outcome(place, name, c.connection_failed(self.image[place], self.phase[place]))
 
-    def time(self, place, name, seconds):
-        step(name, "time", place, seconds)
-        self.outcome(place, name, c.time_passed(self.image[place], self.phase[place], seconds))
+    def time(self, place, name, elapsed):
+        """So many milliseconds have passed."""
+        step(name, "time", place, elapsed)
+        self.outcome(place, name, c.time_passed(self.image[place], self.phase[place], elapsed))
 
     # What the build paper says of the last call, in its own numbers and bytes: the lines above are what tests/paper makes of it.
     def answered(self, answer, phase=None):

@@ -73,7 +73,7 @@ def forgotten(p):
     p.stop(P2)
     p.request(P1, 4, 14)
     p.lose()
-    p.wait(5)
+    p.wait(5_000)
     p.connect()
     p.marked(P1, 0)
     p.marked(P2, 0)
@@ -93,8 +93,8 @@ def forgotten(p):
 
 
 def full_of_requests(p):
-    """120 of them; the first has the ID 0."""
-    p.title("120 open Requests")
+    """As many as there are words; the first has the ID 0."""
+    p.title(f"{COUNT} open Requests")
     p.fresh()
     for ident in range(COUNT):
         p.request(P1, ident)
@@ -105,18 +105,18 @@ def full_of_requests(p):
     p.request(P1, 0, 6)
     p.mapping(P1, 16, 13)
     p.both()
-    for i in (0, 119, 120):
+    for i in (0, COUNT - 1, COUNT, COUNT + 1):
         p.request_at(P1, f"P1 word {i}", i)
     for m, answer in (
         (label_message(MAPPING, 300, protection_tlv(1)), 21),
         (label_message(MAPPING, 300, request_id_tlv(COUNT)), 21),
-        (label_message(MAPPING, 300, request_id_tlv(119)), 0),
-        (label_message(MAPPING, 300, protection_tlv(1), request_id_tlv(119)), 0),
+        (label_message(MAPPING, 300, request_id_tlv(COUNT - 1)), 0),
+        (label_message(MAPPING, 300, protection_tlv(1), request_id_tlv(COUNT - 1)), 0),
     ):
         p.copy(COPY, P1)
         p.receive(COPY, f"P1 receive {m.hex()}", m)
         p.answered(answer)
-        p.request_at(COPY, "P1 word 119", 119)
+        p.request_at(COPY, f"P1 word {COUNT - 1}", COUNT - 1)
 
 
 # Submit's answer to a Request and to an Abort: the first of the reasons that apply, "6, 14, 15, 13, 7".
@@ -131,7 +131,7 @@ def answer_to_abort(is_open, store_full):
 
 def orders_of(p, is_stopped, words_full, store_full):
     """At KEPT is an image with the Request 1 open and none of 200; each phase, each ID."""
-    for phase in (("UpFT", 0), ("Failed",), ("InitWait", 5)):
+    for phase in (("UpFT", 0), ("Failed",), ("InitWait", 5_000)):
         p.put(KEPT, phase)
         for ident in (1, 200):
             p.copy(COPY, KEPT)
@@ -143,14 +143,14 @@ def orders_of(p, is_stopped, words_full, store_full):
 
 
 def orders(p):
-    """P1 has 120 Requests open and nothing held; then 64 held."""
+    """P1 has as many Requests open as there are words, and nothing held; then 64 held."""
     for store_full in (False, True):
         for words_full in (True, False):
             for is_stopped in (False, True):
                 p.title(f"store full {store_full}, words full {words_full}, stopped {is_stopped}")
                 p.copy(KEPT, P1)
                 if not words_full:
-                    p.receive(KEPT, "receive status", status(NO_ROUTE, about=119))
+                    p.receive(KEPT, "receive status", status(NO_ROUTE, about=COUNT - 1))
                 if is_stopped:
                     told(p, KEPT)
                 orders_of(p, is_stopped, words_full, store_full)

@@ -1,5 +1,5 @@
--- Block 0's fields: the test and its clauses. Assumes nothing.
-use Prim.Native.Nat.{ℕ, _+_, _-_, _≤_, _<_}
+-- Block 0's fields, in either version: the test and its clauses. Assumes nothing.
+use Prim.Native.Nat.{ℕ, zero, suc, _+_, _-_, _*_, _≤_, _<_}
 use mathlib.Core.Bool.{true}
 use mathlib.Core.List.{List, _∷_}
 use mathlib.Core.Logic.{⊎-elim}
@@ -8,10 +8,10 @@ use native.Mathlib.Nat.{eq-zero-or-pos}
 use native.Mathlib.Omega.{arith}
 use lib.Dec.{eqb}
 use lib.ListN.{length, getD, drop, replicate}
-use borrow.Author.Tests.{eq-eqb, ne-eqb, ltb-true, leb-true, lt-ltb, le-leb}
+use borrow.Author.Tests.{eq-eqb, ne-eqb, eqb-true, ltb-true, leb-true, lt-ltb, le-leb}
 use Rattle.octets.specs.Be.{beAt}
 use Rattle.octets.specs.Part.{part}
-use Rattle.octets.specs.Pick.{pick}
+use Rattle.octets.specs.Pick.{pick, both}
 use Rattle.octets.proofs.Choice.{both-true, below-or-not}
 use Rattle.octets.proofs.Part.{part-at, part-inside}
 use Rattle.block.specs.Check.{checkAt}
@@ -22,56 +22,83 @@ use Rattle.block.proofs.WordRun.{zeros-words, words-zeros}
 use Rattle.block.proofs.ZeroBytes.{zero-bytes, bytes-zero}
 use Rattle.ft_number.specs.Circle.{stepsOf}
 use Rattle.label_list.specs.Valid.{validOf, validWord}
-use Rattle.label_list.specs.Word.{wordCount, isFree}
+use Rattle.label_list.specs.Word.{isFree}
 use Rattle.block0.specs.declared.Header.{Header}
-use Rattle.block0.specs.Fields.{atMost, marksOk, headerOk, bodyOf, fieldsOk, Fits, Valid}
-use Rattle.block0.specs.Layout.{widths, labelsAt, values, fromValues, headerOf, labelsOf, block0, releasedHeader, noLabels}
-use Rattle.block0.proofs.Written.{length-block0, run-block0, header-block0, labels-block0}
+use Rattle.block0.specs.declared.Version.{Version}
+use Rattle.block0.specs.declared.Version.the-variants.{One, Two}
+use Rattle.block0.specs.Fields.{atMost, marksOk, headerOk, earlyOk, bodyOf, fieldsBy, FitsBy, ValidBy}
+use Rattle.block0.specs.Layout.{versionNumber, labelsAt, places, widths, values, fromValues, headerBy, labelsBy, blockBy, releasedHeader, noLabelsBy}
+use Rattle.block0.proofs.Written.{fields-end, words-end, length-block0, run-block0, header-block0, labels-block0}
 
 -- ---- zeros
-pub none-valid : validOf noLabels ≡ true
+pub none-valid : (n : ℕ) → validOf (replicate n 0) ≡ true
 unfolding validOf validWord isFree
-none-valid = refl
+none-valid zero = refl
+none-valid (suc n) = none-valid n
 
--- no label stands in zeros
-free-labels : (b : List ℕ) → ((k : ℕ) → k < 480 → getD b (labelsAt + k) 0 ≡ 0) → labelsOf b ≡ noLabels
-unfolding labelsOf
-free-labels b z = zeros-words wordCount b labelsAt z
+-- the fields behind the version
+abbrev noNumbers : Version → List ℕ
+noNumbers v = replicate (length (drop 1 (widths v))) 0
 
-pub free-words : (b : List ℕ) → allZero (part b labelsAt checkAt) ≡ true → labelsOf b ≡ noLabels
-free-words b zero = free-labels b (λ k l. sym (part-at b labelsAt checkAt k l) ∙ zero-bytes (part b labelsAt checkAt) zero k)
+zero-values : (v : Version) (n : ℕ) → fromValues v (n ∷ noNumbers v) ≡ releasedHeader
+zero-values One n = refl
+zero-values Two n = refl
 
-pub free-valid : (b : List ℕ) → allZero (part b labelsAt checkAt) ≡ true → validOf (labelsOf b) ≡ true
-free-valid b zero = ap validOf (free-words b zero) ∙ none-valid
+values-zero : (v : Version) → drop 1 (values v releasedHeader) ≡ noNumbers v
+values-zero One = refl
+values-zero Two = refl
 
--- with kept 0
-module _ (b : List ℕ) (zero : allZero (bodyOf b) ≡ true) where
-  byte : (i : ℕ) → i < 504 → getD b (4 + i) 0 ≡ 0
-  byte i l = sym (part-at b 4 checkAt i l) ∙ zero-bytes (bodyOf b) zero i
+-- bytes 20 and 21 of what is written
+early-written : (v : Version) (b : List ℕ) (h : Header) → getRun (widths v) b 0 ≡ values v h → earlyOk v b ≡ true
+early-written One b h run = refl
+early-written Two b h run = eq-eqb (beAt 2 b 20) 0 (ap (λ (l : List ℕ). getD l 6 0) run)
 
-  pub zero-header : headerOf b ≡ releasedHeader
-  unfolding headerOf
-  zero-header = ap (λ (l : List ℕ). fromValues (beAt 4 b 0 ∷ l)) (zeros-getRun (drop 1 widths) b 4 (λ k l. byte k (omega arith)))
+module _ (v : Version) (b : List ℕ) where
+  -- no label stands in zeros
+  free-labels : ((k : ℕ) → k < places v * 4 → getD b (labelsAt v + k) 0 ≡ 0) → labelsBy v b ≡ noLabelsBy v
+  unfolding labelsBy
+  free-labels z = zeros-words (places v) b (labelsAt v) z
 
-  pub zero-labels : labelsOf b ≡ noLabels
-  zero-labels = free-labels b (λ k l. let e : labelsAt + k ≡ 4 + (24 + k) = omega arith in rw e (byte (24 + k) (omega arith)))
+  pub free-words : {start : ℕ} → start ≡ labelsAt v → allZero (part b start checkAt) ≡ true → labelsBy v b ≡ noLabelsBy v
+  free-words {start} es none =
+      free-labels (λ k l. rw (← es) (sym (part-at b start checkAt k (omega (arith, es, words-end v))) ∙ zero-bytes (part b start checkAt) none k))
 
-  pub zero-valid : validOf (labelsOf b) ≡ true
-  zero-valid = ap validOf zero-labels ∙ none-valid
+  pub free-valid : {start : ℕ} → start ≡ labelsAt v → allZero (part b start checkAt) ≡ true → validOf (labelsBy v b) ≡ true
+  free-valid es none = ap validOf (free-words es none) ∙ none-valid (places v)
 
--- and the other way round
-zero-body : (b : List ℕ) → length b ≡ 512 → getRun (drop 1 widths) b 4 ≡ replicate 10 0 → labelsOf b ≡ noLabels → allZero (bodyOf b) ≡ true
-unfolding labelsOf
-zero-body b long numbers labels =
-    bytes-zero (bodyOf b) (λ i hi.
-    let l : i < 504 = part-inside b 4 checkAt i hi in
-    part-at b 4 checkAt i l
-    ∙ ⊎-elim
-    (λ (low : i < 24). getRun-zeros (drop 1 widths) b 4 numbers i low)
-    (λ (high : 24 ≤ i).
-    let e : labelsAt + (i - 24) ≡ 4 + i = omega arith in
-    rw e at (words-zeros wordCount b labelsAt labels (i - 24) (omega arith)))
-    (below-or-not i 24))
+  -- with kept 0
+  module _ (none : allZero (bodyOf b) ≡ true) where
+    byte : (i : ℕ) → i < 504 → getD b (4 + i) 0 ≡ 0
+    byte i l = sym (part-at b 4 checkAt i l) ∙ zero-bytes (bodyOf b) none i
+
+    pub zero-header : headerBy v b ≡ releasedHeader
+    unfolding headerBy
+    zero-header =
+        ap (λ (l : List ℕ). fromValues v (beAt 4 b 0 ∷ l)) (zeros-getRun (drop 1 (widths v)) b 4 (λ k l. byte k (omega (arith, fields-end v, words-end v))))
+        ∙ zero-values v (beAt 4 b 0)
+
+    pub zero-labels : labelsBy v b ≡ noLabelsBy v
+    zero-labels =
+        free-labels (λ k l.
+        let e : labelsAt v + k ≡ 4 + (labelsAt v + k - 4) = omega (arith, fields-end v) in
+        rw e (byte (labelsAt v + k - 4) (omega (arith, fields-end v, words-end v))))
+
+    pub zero-valid : validOf (labelsBy v b) ≡ true
+    zero-valid = ap validOf zero-labels ∙ none-valid (places v)
+
+  -- and the other way round
+  zero-body : length b ≡ 512 → getRun (drop 1 (widths v)) b 4 ≡ noNumbers v → labelsBy v b ≡ noLabelsBy v → allZero (bodyOf b) ≡ true
+  unfolding labelsBy
+  zero-body long numbers labels =
+      bytes-zero (bodyOf b) (λ i hi.
+      let l : i < 504 = part-inside b 4 checkAt i hi in
+      part-at b 4 checkAt i l
+      ∙ ⊎-elim
+      (λ (low : 4 + i < labelsAt v). getRun-zeros (drop 1 (widths v)) b 4 numbers i (omega (arith, fields-end v)))
+      (λ (high : labelsAt v ≤ 4 + i).
+      let e : labelsAt v + (4 + i - labelsAt v) ≡ 4 + i = omega arith in
+      rw e at (words-zeros (places v) b (labelsAt v) labels (4 + i - labelsAt v) (omega (arith, words-end v))))
+      (below-or-not (4 + i) (labelsAt v)))
 
 -- ---- the test and its clauses
 pub header-parts : (h : Header) → headerOk h ≡ true → (h .first < 64) × (h .held ≤ 64) × (h .kept ≤ 1) × (marksOk (h .marks) ≡ true) × (atMost (h .held) (stepsOf (h .released .0) (h .issued .0)) ≡ true)
@@ -83,44 +110,54 @@ header-parts h e =
     let s = both-true _ _ (r .1) in
     (ltb-true _ _ (p .0), leb-true _ _ (q .0), leb-true _ _ (r .0), s .0, s .1)
 
--- right fields are the rules, clause by clause
-pub fields-valid : (b : List ℕ) → fieldsOk b ≡ true → Valid (headerOf b) (labelsOf b)
-unfolding fieldsOk
-fields-valid b e =
-    let p = both-true (eqb (beAt 4 b 0) 1) _ e in
-    let q = both-true (headerOk (headerOf b)) _ (p .1) in
-    let r = both-true (pick (eqb (headerOf b .kept) 0) (allZero (bodyOf b)) true) _ (q .1) in
-    let h = header-parts (headerOf b) (q .0) in
-    record {
-      first = h .0;
-      held = h .1;
-      kept = h .2;
-      marks = h .3;
-      window = h .4;
-      labels = r .1;
-      idle = λ k.
-          let z : allZero (bodyOf b) ≡ true = rw (eq-eqb _ _ k) at (r .0) in
-          (zero-header b z, zero-labels b z);
-    }
+module _ (v : Version) (b : List ℕ) (e : fieldsBy v b ≡ true) where
+  pub fields-version : beAt 4 b 0 ≡ versionNumber v
+  unfolding fieldsBy
+  fields-version = eqb-true (beAt 4 b 0) (versionNumber v) (both-true (eqb (beAt 4 b 0) (versionNumber v)) _ e .0)
 
-pub parts-header : (h : Header) (ls : List ℕ) → Valid h ls → headerOk h ≡ true
+  behind-version : both (earlyOk v b) (both (headerOk (headerBy v b)) (both (pick (eqb (headerBy v b .kept) 0) (allZero (bodyOf b)) true) (validOf (labelsBy v b)))) ≡ true
+  unfolding fieldsBy
+  behind-version = both-true (eqb (beAt 4 b 0) (versionNumber v)) _ e .1
+
+  pub fields-early : earlyOk v b ≡ true
+  fields-early = both-true (earlyOk v b) _ behind-version .0
+
+  -- right fields are the rules, clause by clause
+  pub fields-valid : ValidBy v (headerBy v b) (labelsBy v b)
+  fields-valid =
+      let q = both-true (headerOk (headerBy v b)) _ (both-true (earlyOk v b) _ behind-version .1) in
+      let r = both-true (pick (eqb (headerBy v b .kept) 0) (allZero (bodyOf b)) true) _ (q .1) in
+      let h = header-parts (headerBy v b) (q .0) in
+      record {
+        first = h .0;
+        held = h .1;
+        kept = h .2;
+        marks = h .3;
+        window = h .4;
+        labels = r .1;
+        idle = λ k.
+            let z : allZero (bodyOf b) ≡ true = rw (eq-eqb _ _ k) at (r .0) in
+            (zero-header v b z, zero-labels v b z);
+      }
+
+pub parts-header : (v : Version) (h : Header) (ls : List ℕ) → ValidBy v h ls → headerOk h ≡ true
 unfolding headerOk
-parts-header h ls v = simp (lt-ltb _ _ (v .first), le-leb _ _ (v .held), le-leb _ _ (v .kept), v .marks, v .window)
+parts-header v h ls r = simp (lt-ltb _ _ (r .first), le-leb _ _ (r .held), le-leb _ _ (r .kept), r .marks, r .window)
 
 -- block 0 as it was written has right fields
-pub valid-fields : (h : Header) (ls : List ℕ) → Fits h → Words wordCount ls → Valid h ls → fieldsOk (block0 h ls) ≡ true
-unfolding fieldsOk
-valid-fields h ls fh fl v =
-    let t : List ℕ = block0 h ls in
-    let run : getRun widths t 0 ≡ values h = run-block0 h ls fh fl in
-    let version : beAt 4 t 0 ≡ 1 = ap (λ (l : List ℕ). getD l 0 0) run in
-    let eh : headerOf t ≡ h = header-block0 h ls fh fl in
-    let el : labelsOf t ≡ ls = labels-block0 h ls fh fl in
+pub valid-fields : (v : Version) (h : Header) (ls : List ℕ) → FitsBy v h → Words (places v) ls → ValidBy v h ls → fieldsBy v (blockBy v h ls) ≡ true
+unfolding fieldsBy
+valid-fields v h ls fh fl r =
+    let t : List ℕ = blockBy v h ls in
+    let run : getRun (widths v) t 0 ≡ values v h = run-block0 v h ls fh fl in
+    let version : beAt 4 t 0 ≡ versionNumber v = ap (λ (l : List ℕ). getD l 0 0) run in
+    let eh : headerBy v t ≡ h = header-block0 v h ls fh fl in
+    let el : labelsBy v t ≡ ls = labels-block0 v h ls fh fl in
     let idle : pick (eqb (h .kept) 0) (allZero (bodyOf t)) true ≡ true =
     ⊎-elim
     (λ (z : h .kept ≡ 0).
-    let numbers : getRun (drop 1 widths) t 4 ≡ replicate 10 0 = ap (drop 1) run ∙ ap (λ (x : Header). drop 1 (values x)) (v .idle z .0) in
-    simp (eq-eqb _ _ z, zero-body t (length-block0 h ls) numbers (el ∙ v .idle z .1)))
+    let numbers : getRun (drop 1 (widths v)) t 4 ≡ noNumbers v = ap (drop 1) run ∙ ap (λ (x : Header). drop 1 (values v x)) (r .idle z .0) ∙ values-zero v in
+    simp (eq-eqb _ _ z, zero-body v t (length-block0 v h ls) numbers (el ∙ r .idle z .1)))
     (λ (p : 0 < h .kept). let apart : h .kept ≡ 0 → ⊥ = λ e. omega arith in simp (ne-eqb (h .kept) 0 apart))
     (eq-zero-or-pos (h .kept)) in
-    simp (eq-eqb _ _ version, eh, parts-header h ls v, idle, el, v .labels)
+    simp (eq-eqb _ _ version, early-written v t h run, eh, parts-header v h ls r, idle, el, r .labels)

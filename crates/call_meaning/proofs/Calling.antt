@@ -8,10 +8,9 @@ use Rattle.image.proofs.Sound.{sound-parts}
 use Rattle.protocol.specs.declared.Answer.{Answer}
 use Rattle.protocol.specs.declared.Effect.{Effect}
 use Rattle.protocol.specs.declared.Phase.{Phase}
-use Rattle.calls.specs.declared.Outcome.{Outcome}
-
 use Rattle.protocol.specs.Answers.{answerNumber, effectBy, effectOf, isDone}
 use Rattle.protocol.proofs.Settling.{done-harmless}
+use Rattle.calls.specs.declared.Outcome.{Outcome}
 use Rattle.calls.specs.Outcomes.{After, afterWith, refusal, checked, admittedOn, settleOf}
 use Rattle.calls.proofs.Ends.{settle-refusal, unchanged-is}
 use Rattle.calls.proofs.Settled.{admit-refused, admit-passed, admitted-is, checks-sound}

@@ -7,7 +7,7 @@ use mathlib.Core.Path.{_≡_, refl, sym, ap, _∙_}
 use native.Mathlib.Nat.{eq-or-lt-of-le}
 use native.Mathlib.Omega.{arith}
 use lib.Dec.{eqb}
-use lib.ListN.{length, drop, set, length-append, length-drop}
+use lib.ListN.{length, drop, set, length-append, length-drop, replicate}
 use borrow.Author.Tests.{eq-eqb, le-leb, leb-true}
 use Rattle.octets.specs.Pick.{pick}
 use Rattle.block.specs.Run.{Words}
@@ -23,7 +23,7 @@ use Rattle.block0.specs.declared.Header.{Header}
 use Rattle.block0.specs.Fields.{Fits, Valid, atMost}
 use Rattle.block0.specs.Layout.{noLabels, releasedHeader, slotCount}
 use Rattle.message.specs.Storable.{Storable}
-use Rattle.request_ids.specs.Layout.{noIds}
+use Rattle.request_ids.specs.Layout.{idCount}
 use Rattle.image.specs.Ring.{ring}
 use Rattle.image.specs.Sizes.{slotAt}
 use Rattle.image.specs.State.{InRange, decode, storedIds}
@@ -73,7 +73,7 @@ module _ (im : List ℕ) (s : IsSound im) (r : InRange (decode im)) where
   unfolding decode
   ids-once = once-stored im (decode im .labels) (labels-count im) ∙ sound-once im s
 
-  idle-ids : decode im .labels ≡ noLabels → decode im .ids ≡ noIds
+  idle-ids : decode im .labels ≡ noLabels → decode im .ids ≡ replicate wordCount 0
   unfolding decode any
   idle-ids e = ap (λ (ls : List ℕ). openIds ls (storedIds im)) e ∙ no-ids noLabels refl wordCount refl (storedIds im)
 
@@ -104,6 +104,7 @@ module _ (im : List ℕ) (s : IsSound im) (r : InRange (decode im)) where
           by : (q : List (List ℕ)) → length q ≡ 0 → q ≡ []
           by [] e = refl
           by (m ∷ ms) e = absurd (omega arith)
+
       idle-image : (decode im .header ≡ releasedHeader) × (decode im .labels ≡ releasedState .table .words) → stateOf im ≡ releasedState
       idle-image e = rw (e .0, idle-ids (e .1), e .1, none-held (ap (λ (h : Header). h .held) (e .0)))
 
@@ -190,7 +191,7 @@ module _ (im : List ℕ) (sound : IsSound im) (slots : Slots) (s : State) (p : P
   ids-fit = record { count = p .lawful .ids; each = p .lawful .width }
 
   -- no ID that counts under the new words stands twice
-  once-after : (xs : List ℕ) → length xs ≡ wordCount → openIds (s .table .words) xs ≡ s .table .ids → onceOf (s .table .words) xs ≡ true
+  once-after : (xs : List ℕ) → length xs ≡ idCount → openIds (s .table .words) xs ≡ s .table .ids → onceOf (s .table .words) xs ≡ true
   once-after xs n e = sym (once-counting (s .table .words) xs (omega (arith, p .lawful .words))) ∙ ap (onceOf (s .table .words)) e ∙ p .lawful .once
 
   numbers-valid : Valid h (s .table .words)

@@ -61,12 +61,18 @@ fn requests_refused(marks: u8) -> bool
 pub fn marks_accepted(marks: u8, kind: Kind) -> u8
     ensures { λ r. ⌜ r ≡ marksByte (record { stopped = marksOf marks .stopped; stopping = stopAfter (marksOf marks .stopping) kind }) ⌝ }
 {
-    marks_byte(requests_stopped(marks), stop_after(requests_refused(marks), kind))
+    marks_byte(
+        requests_stopped(marks),
+        stop_after(requests_refused(marks), kind),
+    )
 }
 
 // The byte after a message of the peer's of that kind is taken.
 pub fn marks_heard(marks: u8, kind: Kind) -> u8
     ensures { λ r. ⌜ r ≡ marksByte (record { stopped = stopAfter (marksOf marks .stopped) kind; stopping = marksOf marks .stopping }) ⌝ }
 {
-    marks_byte(stop_after(requests_stopped(marks), kind), requests_refused(marks))
+    marks_byte(
+        stop_after(requests_stopped(marks), kind),
+        requests_refused(marks),
+    )
 }

@@ -105,13 +105,14 @@ pub fn open_session(
     if !opens_in(phase) {
         return calls::refuse(Answer::WrongPhase, phase);
     }
-    let seconds = ft_number::proposed_timeout(proposal);
+    let timeout = ft_number::proposed_timeout(proposal);
+    let millis = ft_number::milliseconds(timeout);
     let ack = kept_ack(image::header_of(image));
-    let written = message_writer::write_init(out, id, parameters, seconds, ack);
+    let written = message_writer::write_init(out, id, parameters, timeout, ack);
     answer_written(
         written,
         phase,
-        Phase::InitWait(Waiting { timeout: seconds }),
+        Phase::InitWait(Waiting { timeout: millis }),
     )
 }
 

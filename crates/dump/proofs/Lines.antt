@@ -23,7 +23,7 @@ module _ (before : List ℕ) (number : ℕ) (pdu : List ℕ) (count : ℕ) where
     pub counted : k ≤ count
     pub passed : 10 + 8 * k ≤ at
     pub inside : at ≤ length pdu
-    pub room : end ≤ 2 * at + 308 * k
+    pub room : end ≤ 2 * at + 311 * k
     pub same : length out ≡ length before
 
   pub lines-start : openedOf pdu ≡ Opened.Whole count → After before 10 0 0

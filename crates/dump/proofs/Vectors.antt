@@ -1,4 +1,4 @@
--- The examples of docs/LDP_DUMP.md compute: a Mapping with FT Protection, an Abort, and a malformed Withdraw. Assumes nothing.
+-- The examples of docs/LDP_DUMP.md compute: a Mapping with FT Protection, an Abort, an Init in the published form, and a malformed Withdraw. Assumes nothing.
 use Prim.Native.Nat.{ℕ}
 use mathlib.Core.List.{List, [], _∷_}
 use mathlib.Core.Path.{_≡_, refl}
@@ -33,6 +33,18 @@ abort-line : lineOf 0 1 abort ≡ ascii "0 1 0x0404 9 fec 020001180a0000 request
 unfolding lineOf headText decimal fix steps readingOf placesOf messageOf typeOf tlvsOf walkOf turnOf notedOf tlvOf partAt fecAt fieldAt numberAt idAt parametersAt sessionAt
 abort-line = refl
 
-withdraw-line : lineOf 0 2 (0x84 ∷ 0x02 ∷ 0 ∷ 4 ∷ 0 ∷ 0 ∷ 0 ∷ 8 ∷ []) ≡ ascii "0 2 0x0402 8 malformed\n"
+abbrev init : List ℕ
+init =
+    0x02 ∷ 0x00 ∷ 0 ∷ 46 ∷ 0 ∷ 0 ∷ 0 ∷ 1
+    ∷ 0x05 ∷ 0x00 ∷ 0 ∷ 14 ∷ 0 ∷ 1 ∷ 0 ∷ 60 ∷ 0 ∷ 0 ∷ 0x10 ∷ 0x00 ∷ 0x0a ∷ 0 ∷ 0 ∷ 1 ∷ 0 ∷ 0
+    ∷ 0x85 ∷ 0x03 ∷ 0 ∷ 12 ∷ 0x80 ∷ 0x08 ∷ 0 ∷ 0 ∷ 0 ∷ 0 ∷ 0x75 ∷ 0x30 ∷ 0 ∷ 0 ∷ 0 ∷ 0
+    ∷ 0x05 ∷ 0x04 ∷ 0 ∷ 4 ∷ 0 ∷ 0 ∷ 0 ∷ 27
+    ∷ []
+
+init-line : lineOf 0 2 init ≡ ascii "0 2 0x0200 1 params 0001003c000010000a0000010000 ft-session-ms 1 30000 ft-ack 27\n"
+unfolding lineOf headText decimal fix steps readingOf placesOf messageOf typeOf tlvsOf walkOf turnOf notedOf tlvOf partAt fecAt fieldAt numberAt idAt parametersAt sessionAt
+init-line = refl
+
+withdraw-line : lineOf 0 3 (0x84 ∷ 0x02 ∷ 0 ∷ 4 ∷ 0 ∷ 0 ∷ 0 ∷ 8 ∷ []) ≡ ascii "0 3 0x0402 8 malformed\n"
 unfolding lineOf headText decimal fix steps readingOf placesOf messageOf typeOf tlvsOf walkOf turnOf notedOf tlvOf
 withdraw-line = refl

@@ -45,9 +45,9 @@ isWhole Opened.Malformed = false
 abbrev pub largestPdu : ℕ
 largestPdu = 65539
 
--- room for a line: two digits for each byte of the message, and 308 bytes for all else
+-- room for a line: two digits for each byte of the message, and 311 bytes for all else
 abbrev pub lineRoom : ℕ → ℕ
-lineRoom size = 2 * size + 308
+lineRoom size = 2 * size + 311
 
 -- room for the lines of the largest PDU, which has at most 8,191 messages
 abbrev pub pduTextRoom : ℕ

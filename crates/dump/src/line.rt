@@ -62,9 +62,9 @@ fn put_state(out: &mut [u8], at: usize, m: &[u8], g: Message) -> usize
 
 // The FT TLVs.
 fn put_ft(out: &mut [u8], at: usize, g: Message) -> usize
-    requires { ⌜ at + 116 ≤ length (now out) ⌝ }
+    requires { ⌜ at + 119 ≤ length (now out) ⌝ }
     ensures { λ r. ⌜ Put (now (out .entry)) at (ftTexts g) (now (out .exit)) r ⌝ }
-    ensures { λ r. ⌜ r ≤ at + 116 ⌝ }
+    ensures { λ r. ⌜ r ≤ at + 119 ⌝ }
 {
     let session = g.session;
     let protection = g.protection;
@@ -76,9 +76,9 @@ fn put_ft(out: &mut [u8], at: usize, g: Message) -> usize
 
 // Each listed TLV that stands in the message.
 fn put_fields(out: &mut [u8], at: usize, m: &[u8], g: Message) -> usize
-    requires { ⌜ PartsWithin (now m) g × (at + (2 * length (now m) + 237) ≤ length (now out)) ⌝ }
+    requires { ⌜ PartsWithin (now m) g × (at + (2 * length (now m) + 240) ≤ length (now out)) ⌝ }
     ensures { λ r. ⌜ Put (now (out .entry)) at (fieldsText (now (m .entry)) g) (now (out .exit)) r ⌝ }
-    ensures { λ r. ⌜ r ≤ at + (2 * length (now (m .entry)) + 237) ⌝ }
+    ensures { λ r. ⌜ r ≤ at + (2 * length (now (m .entry)) + 240) ⌝ }
 {
     let end = put_binding(out, at, m, g);
     let end = put_state(out, end, m, g);
@@ -89,9 +89,9 @@ fn put_fields(out: &mut [u8], at: usize, m: &[u8], g: Message) -> usize
 
 // What was read of the message: its TLVs, or that it is malformed.
 fn put_reading(out: &mut [u8], at: usize, m: &[u8]) -> usize
-    requires { ⌜ at + (2 * length (now m) + 237) ≤ length (now out) ⌝ }
+    requires { ⌜ at + (2 * length (now m) + 240) ≤ length (now out) ⌝ }
     ensures { λ r. ⌜ Put (now (out .entry)) at (readingText (now (m .entry)) (readingOf (now (m .entry)))) (now (out .exit)) r ⌝ }
-    ensures { λ r. ⌜ r ≤ at + (2 * length (now (m .entry)) + 237) ⌝ }
+    ensures { λ r. ⌜ r ≤ at + (2 * length (now (m .entry)) + 240) ⌝ }
 {
     match message::read_message(m) {
         Reading::Malformed => text::put_text(out, at, b" malformed"),

@@ -1,10 +1,11 @@
 -- A listed TLV as fields of a line: a space, its name, a space, its value; nothing where it does not stand.
--- docs/LDP_DUMP.md: "`fec HEX` (`fec -` where empty), `label N`, `status 0x0000000f`, `params HEX`, `ft-session R SECONDS`, `ft-protection N`, `ft-ack N`, `request-id N`".
+-- docs/LDP_DUMP.md: "`fec HEX` (`fec -` where empty), `label N`, `status 0x0000000f`, `params HEX`, `ft-session R SECONDS`, `ft-session-ms R MILLISECONDS`, `ft-protection N`, `ft-ack N`, `request-id N`".
 use Prim.Native.Nat.{ℕ}
 use mathlib.Core.Bool.{Bool}
 use mathlib.Core.List.{List, [], _∷_, _++_}
 use Rattle.octets.specs.Be.{bytes}
 use Rattle.octets.specs.Pick.{pick}
+use Rattle.ft_number.specs.declared.Timeout.{Timeout}
 use Rattle.text.specs.Text.{ascii, decimal, hex}
 use Rattle.tlv.specs.declared.Fec.{Fec}
 use Rattle.tlv.specs.declared.Field.{Field}
@@ -44,9 +45,18 @@ parametersText (Parameters.Given keepalive pdulength) value = ascii " params " +
 abbrev pub bit : Bool → ℕ
 bit b = pick b 1 0
 
+-- R and a number, under a name
+abbrev pub reconnectText : List ℕ → Bool → ℕ → List ℕ
+reconnectText name reconnect n = name ++ decimal (bit reconnect) ++ (ascii " " ++ decimal n)
+
+-- the name says the unit of the form
+abbrev pub timeoutText : Bool → Timeout → List ℕ
+timeoutText reconnect (Timeout.Seconds s) = reconnectText (ascii " ft-session ") reconnect s
+timeoutText reconnect (Timeout.Milliseconds n) = reconnectText (ascii " ft-session-ms ") reconnect n
+
 abbrev pub sessionText : Session → List ℕ
 sessionText Session.Absent = []
-sessionText (Session.Given reconnect seconds) = ascii " ft-session " ++ decimal (bit reconnect) ++ (ascii " " ++ decimal seconds)
+sessionText (Session.Given reconnect timeout) = timeoutText reconnect timeout
 
 abbrev pub ftText : List ℕ → FtField → List ℕ
 ftText name FtField.Absent = []

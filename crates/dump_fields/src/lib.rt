@@ -5,7 +5,8 @@ ghost use mathlib.Core.List.{_++_};
 ghost use mathlib.Core.Path.{_≡_};
 ghost use lib.ListN.{length};
 ghost use Rattle.text.specs.Text.{decimal, Put};
-ghost use Rattle.dump_fields.specs.Field.{bytesText, typeText, fecText, labelText, statusText, parametersText, bit, sessionText, ftText, requestIdText};
+ghost use Rattle.dump_fields.specs.Field.{bytesText, typeText, fecText, labelText, statusText, parametersText, bit, reconnectText, timeoutText, sessionText, ftText, requestIdText};
+use ft_number::Timeout;
 use tlv::Fec;
 use tlv::Field;
 use tlv::FtField;
@@ -109,18 +110,37 @@ fn bit_of(b: bool) -> u64
     if b { 1 } else { 0 }
 }
 
-// The R bit and the seconds.
+// A name, the R bit and a number.
+fn put_reconnect(out: &mut [u8], at: usize, name: &[u8], reconnect: bool, n: u64) -> usize
+    requires { ⌜ at + length (now name) + 41 ≤ length (now out) ⌝ }
+    ensures { λ r. ⌜ Put (now (out .entry)) at (reconnectText (now (name .entry)) reconnect n) (now (out .exit)) r ⌝ }
+    ensures { λ r. ⌜ r ≤ at + length (now (name .entry)) + 41 ⌝ }
+{
+    let after = put_number(out, at, name, bit_of(reconnect));
+    put_number(out, after, b" ", n)
+}
+
+// The R bit and the timeout, under the name of the timeout's form.
+fn put_timeout(out: &mut [u8], at: usize, reconnect: bool, timeout: Timeout) -> usize
+    requires { ⌜ at + 56 ≤ length (now out) ⌝ }
+    ensures { λ r. ⌜ Put (now (out .entry)) at (timeoutText reconnect timeout) (now (out .exit)) r ⌝ }
+    ensures { λ r. ⌜ r ≤ at + 56 ⌝ }
+{
+    match timeout {
+        Timeout::Seconds(s) => put_reconnect(out, at, b" ft-session ", reconnect, s as u64),
+        Timeout::Milliseconds(n) => put_reconnect(out, at, b" ft-session-ms ", reconnect, n as u64),
+    }
+}
+
+// The R bit and the timeout of FT Session.
 pub fn put_session(out: &mut [u8], at: usize, session: Session) -> usize
-    requires { ⌜ at + 53 ≤ length (now out) ⌝ }
+    requires { ⌜ at + 56 ≤ length (now out) ⌝ }
     ensures { λ r. ⌜ Put (now (out .entry)) at (sessionText session) (now (out .exit)) r ⌝ }
-    ensures { λ r. ⌜ r ≤ at + 53 ⌝ }
+    ensures { λ r. ⌜ r ≤ at + 56 ⌝ }
 {
     match session {
         Session::Absent => at,
-        Session::Given { reconnect, seconds } => {
-            let after = put_number(out, at, b" ft-session ", bit_of(reconnect));
-            put_number(out, after, b" ", seconds as u64)
-        }
+        Session::Given { reconnect, timeout } => put_timeout(out, at, reconnect, timeout),
     }
 }
 

@@ -21,7 +21,7 @@ module _ (r i a : ℕ) (lr : r ≤ circle) (li : i ≤ circle) (la : a ≤ circl
         issued = c .issued;
         reaches = steps-reach r i (c .issued) lr li (c .window);
         soonest = λ j there. steps-fewest r i (c .issued) j lr (c .window) there;
-        upTo = c .few
+        upTo = c .few;
       }
 
 -- a successor of a number is never "none"

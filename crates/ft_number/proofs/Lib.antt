@@ -2,5 +2,5 @@ pub mod Laws
 pub mod Circle
 pub mod AckRight
 pub mod Signed
-pub mod Timeout
+pub mod Timeouts
 pub mod Turns

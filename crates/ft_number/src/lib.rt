@@ -3,7 +3,7 @@ ghost use mathlib.Core.Path.{_≡_};
 ghost use Rattle.ft_number.specs.Ack.{ackOf};
 ghost use Rattle.ft_number.specs.Circle.{next, after, forward, stepsOf};
 ghost use Rattle.ft_number.specs.Distance.{distanceOf};
-ghost use Rattle.ft_number.specs.Timeout.{lesserOf, proposedOf};
+ghost use Rattle.ft_number.specs.Timeout.{lesserOf, millisOf, defaultIn, proposedOf};
 ghost use Rattle.ft_number.specs.Turn.{farthest, numberTurn};
 
 // An FT sequence number: 1 to 0xFFFFFFFF, then 1 again; 0 is "none".
@@ -37,10 +37,22 @@ pub enum Distance {
     Refused,
 }
 
-// The FT reconnection timeout that the owner proposes, in seconds; 0 proposes to keep the state for ever.
-pub enum Proposal {
+// The forms of FT Session: the draft's, which counts seconds, and the published one of RFC 3479, which counts milliseconds.
+pub enum Form {
+    Draft,
+    Published,
+}
+
+// A timeout as a form of FT Session says it; 0 is for ever in both.
+pub enum Timeout {
     Seconds(u16),
-    NotGiven,
+    Milliseconds(u32),
+}
+
+// The FT reconnection timeout that the owner proposes, in the unit of the form that our Init is to have; 0 proposes to keep the state for ever.
+pub enum Proposal {
+    Given(Timeout),
+    NotGiven(Form),
 }
 
 // How many numbers the circle has.
@@ -48,6 +60,8 @@ const CIRCLE: u32 = 4294967295;
 
 // The seconds proposed where the owner gives none.
 const DEFAULT_TIMEOUT: u16 = 30;
+
+const MILLIS_PER_SECOND: u32 = 1000;
 
 // The number that follows n: after 0xFFFFFFFF comes 1 again, and 1 follows 0, which is no number.
 pub fn successor(n: FtNumber) -> FtNumber
@@ -169,12 +183,32 @@ pub fn lesser_timeout(a: u32, b: u32) -> u32
     if a <= b { a } else { b }
 }
 
+// A timeout in milliseconds; 0 stays 0, for ever.
+pub fn milliseconds(t: Timeout) -> u32
+    ensures { λ r. ⌜ r ≡ millisOf t ⌝ }
+{
+    match t {
+        Timeout::Seconds(s) => s as u32 * MILLIS_PER_SECOND,
+        Timeout::Milliseconds(n) => n,
+    }
+}
+
+// 30 seconds in the unit of a form.
+fn default_timeout(form: Form) -> Timeout
+    ensures { λ r. ⌜ r ≡ defaultIn form ⌝ }
+{
+    match form {
+        Form::Draft => Timeout::Seconds(DEFAULT_TIMEOUT),
+        Form::Published => Timeout::Milliseconds(DEFAULT_TIMEOUT as u32 * MILLIS_PER_SECOND),
+    }
+}
+
 // The timeout that our Init proposes: the owner's, 0 included, and 30 seconds where none is given.
-pub fn proposed_timeout(p: Proposal) -> u16
+pub fn proposed_timeout(p: Proposal) -> Timeout
     ensures { λ r. ⌜ r ≡ proposedOf p ⌝ }
 {
     match p {
-        Proposal::Seconds(s) => s,
-        Proposal::NotGiven => DEFAULT_TIMEOUT,
+        Proposal::Given(t) => t,
+        Proposal::NotGiven(form) => default_timeout(form),
     }
 }

@@ -26,7 +26,7 @@ use Rattle.block0.specs.Fields.{Fits, Valid, marksOk}
 use Rattle.block0.specs.Layout.{slotCount, releasedHeader, noLabels}
 use Rattle.block0.proofs.Rules.{none-valid}
 use Rattle.request_ids.specs.Fields.{IdsGood}
-use Rattle.request_ids.specs.Layout.{idBlock, noIds}
+use Rattle.request_ids.specs.Layout.{idCount, idBlock, noIds}
 use Rattle.request_ids.proofs.Counted.{idBlock-good}
 use Rattle.request_ids.proofs.Written.{length-idBlock}
 use Rattle.label_meaning.proofs.Meaning.{valid-means, means-valid}
@@ -62,7 +62,7 @@ none-listed : any (hasCode requestCode) noLabels ≡ false
 unfolding any
 none-listed = refl
 
-none-asked : (xs : List ℕ) → openIds noLabels xs ≡ noIds
+none-asked : (xs : List ℕ) → openIds noLabels xs ≡ replicate wordCount 0
 none-asked = no-ids noLabels none-listed wordCount (length-zeros wordCount)
 
 words-none : Words wordCount noLabels
@@ -79,7 +79,7 @@ valid-released = record {
   kept = omega arith;
   marks = refl;
   window = refl;
-  labels = none-valid;
+  labels = none-valid wordCount;
   idle = λ k. (refl, refl);
 }
 
@@ -129,7 +129,7 @@ new-sound =
     let last : block blank requestBlock ≡ idBlock noIds =
     block-put (replicate imageSize 0) requestBlock (idBlock noIds) (inside-zeros requestBlock (omega arith)) (length-idBlock noIds) in
     let good : IdsGood noLabels (idBlock noIds) =
-    idBlock-good noIds (length-zeros wordCount) noLabels (rw (none-asked noIds) words-none) (length-zeros wordCount) (none-once noLabels none-listed noIds) in
+    idBlock-good noIds (length-zeros idCount) noLabels (rw (none-asked noIds) (words-none .each)) (omega (arith, length-zeros wordCount)) (none-once noLabels none-listed noIds) in
     rw is-released (released-sound blank long-blank (rw last good))
 
 -- its slots are zeros

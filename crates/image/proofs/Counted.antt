@@ -34,7 +34,7 @@ module _ (h : Header) (s : Steps) (e : s ≡ stepsOf (h .released .0) (h .issued
   unfolding pendedOf
   pended-all q = rw (← e, q)
 
--- ---- the label words in use: 120 at most
+-- ---- the label words in use: 119 at most
 pub listed-few : (image : List ℕ) → listedCount (decode image .labels) ≤ wordCount
 listed-few image = rw (← labels-count image) (listed-most (decode image .labels))
 

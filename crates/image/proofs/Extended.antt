@@ -1,4 +1,4 @@
--- An image of the earlier size, extended: its blocks are as they were, so it is sound and stands for the same, with no open Request. Assumes nothing.
+-- An image of the earlier size, extended: its blocks are as they were, so it is a sound one of version 1 and stands for the same, with no open Request. Assumes nothing.
 use Prim.Native.Nat.{ℕ, _+_, _*_, _<_}
 use mathlib.Core.Bool.{true}
 use mathlib.Core.List.{List, _++_, append-nil}
@@ -10,12 +10,12 @@ use borrow.Author.Tests.{eq-eqb, ne-eqb}
 use Rattle.octets.proofs.Fill.{length-zeros}
 use Rattle.octets.proofs.Laid.{laid-split}
 use Rattle.octets.proofs.Part.{part-inside, part-at}
-use Rattle.block.proofs.WordRun.{none-fit, length-wordsAt}
+use Rattle.block.proofs.WordRun.{none-fit}
 use Rattle.label_list.specs.Requests.{onceOf, openIds}
-use Rattle.label_list.specs.Word.{wordCount}
 use Rattle.block0.specs.declared.Header.{Header}
-use Rattle.block0.specs.Layout.{headerOf, labelsOf, labelsAt}
-use Rattle.request_ids.specs.Layout.{idBlock, noIds}
+use Rattle.block0.specs.declared.Version.the-variants.{One}
+use Rattle.block0.specs.Layout.{headerBy, labelsBy}
+use Rattle.request_ids.specs.Layout.{idCount, idBlock, noIds}
 use Rattle.request_ids.proofs.Counted.{idBlock-good}
 use Rattle.request_ids.proofs.Written.{length-idBlock}
 use Rattle.slot.specs.Layout.{slotMessage}
@@ -23,9 +23,10 @@ use Rattle.image.specs.declared.Verdict.the-variants.{WrongSize, Sound}
 use Rattle.image.specs.Extend.{earlierSize, extended, SoundBefore, extendOf, extendVerdict}
 use Rattle.image.specs.Ring.{ring}
 use Rattle.image.specs.Sizes.{requestBlock, imageSize, block, withBlock, blockOf, slotAt}
-use Rattle.image.specs.State.{decode, storedIds, slotsOf}
-use Rattle.image.specs.Verdict.{IsSound}
+use Rattle.image.specs.State.{decodeBy, storedIds, slotsOf}
+use Rattle.image.specs.Verdict.{IsSoundBy}
 use Rattle.image.proofs.Blocks.{length-block}
+use Rattle.image.proofs.Ranges.{words-count}
 use Rattle.image.proofs.Requests.{none-once, no-ids}
 use Rattle.image.proofs.Rings.{ring-same}
 use Rattle.image.proofs.Stored.{state-eq}
@@ -49,36 +50,35 @@ module _ (old : List ℕ) (s : SoundBefore old) where
   block-added =
       ap (take 512) (drop-at old (idBlock noIds) earlierSize (s .size)) ∙ take-all 512 (idBlock noIds) (omega (arith, length-idBlock noIds))
 
-  long-labels : length (labelsOf (block old 0)) ≡ wordCount
-  unfolding labelsOf
-  long-labels = length-wordsAt wordCount (block old 0) labelsAt
+  long-labels : length (labelsBy One (block old 0)) ≡ idCount
+  long-labels = words-count One (block old 0)
 
-  none-open : (xs : List ℕ) → openIds (labelsOf (block old 0)) xs ≡ noIds
-  none-open = no-ids (labelsOf (block old 0)) (s .requests) wordCount long-labels
+  none-open : (xs : List ℕ) → openIds (labelsBy One (block old 0)) xs ≡ noIds
+  none-open = no-ids (labelsBy One (block old 0)) (s .requests) idCount long-labels
 
-  once-none : onceOf (labelsOf (block old 0)) noIds ≡ true
-  once-none = none-once (labelsOf (block old 0)) (s .requests) noIds
+  once-none : onceOf (labelsBy One (block old 0)) noIds ≡ true
+  once-none = none-once (labelsBy One (block old 0)) (s .requests) noIds
 
-  pub extended-sound : IsSound (extended old)
+  pub extended-sound : IsSoundBy One (extended old)
   extended-sound =
       let e : block (extended old) 0 ≡ block old 0 = block-kept 0 (omega arith) in
       record {
         size = long-extended;
         check = rw e (s .check);
         fields = rw e (s .fields);
-        slots = rw e (λ i l. rw (block-kept (blockOf (slotAt (headerOf (block old 0) .first) i)) (omega arith)) (s .slots i l));
-        requests = rw (e, block-added) (idBlock-good noIds (length-zeros wordCount) (labelsOf (block old 0)) (rw (none-open noIds) (none-fit wordCount)) long-labels once-none);
+        slots = rw e (λ i l. rw (block-kept (blockOf (slotAt (headerBy One (block old 0) .first) i)) (omega arith)) (s .slots i l));
+        requests = rw (e, block-added) (idBlock-good noIds (length-zeros idCount) (labelsBy One (block old 0)) (rw (none-open noIds) (none-fit idCount .each)) (omega (arith, long-labels)) once-none);
       }
 
   -- the same numbers, words and queue, and no open Request
-  pub extended-decodes : decode (extended old) ≡ record { header = decode old .header; labels = decode old .labels; ids = noIds; queue = decode old .queue }
-  unfolding decode slotsOf
+  pub extended-decodes : decodeBy One (extended old) ≡ record { header = decodeBy One old .header; labels = decodeBy One old .labels; ids = noIds; queue = decodeBy One old .queue }
+  unfolding slotsOf
   extended-decodes =
       let e : block (extended old) 0 ≡ block old 0 = block-kept 0 (omega arith) in
-      let h : Header = headerOf (block old 0) in
-      state-eq (ap headerOf e) (ap labelsOf e)
-      (ap (λ (b : List ℕ). openIds (labelsOf b) (storedIds (extended old))) e ∙ none-open (storedIds (extended old)))
-      (ap (λ (b : List ℕ). ring (slotsOf (extended old)) (headerOf b .first) (headerOf b .held)) e
+      let h : Header = headerBy One (block old 0) in
+      state-eq (ap (headerBy One) e) (ap (labelsBy One) e)
+      (ap (λ (b : List ℕ). openIds (labelsBy One b) (storedIds (extended old))) e ∙ none-open (storedIds (extended old)))
+      (ap (λ (b : List ℕ). ring (slotsOf (extended old)) (headerBy One b .first) (headerBy One b .held)) e
       ∙ ring-same (slotsOf (extended old)) (slotsOf old) (h .first) (h .held) (λ i l. ap slotMessage (block-kept (blockOf (slotAt (h .first) i)) (omega arith))))
 
 -- what `extend` leaves is that image, in place

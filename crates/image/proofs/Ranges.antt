@@ -21,9 +21,11 @@ use Rattle.label_list.specs.Valid.{validOf}
 use Rattle.label_list.specs.Word.{wordCount, isRequest}
 use Rattle.label_list.proofs.Counting.{counting-length, counting-at, counting-none}
 use Rattle.label_list.proofs.OpenIds.{request-inside}
-use Rattle.block0.specs.Fields.{Fits}
-use Rattle.block0.specs.Layout.{labelsAt, headerOf, labelsOf}
-use Rattle.request_ids.specs.Layout.{idsOf}
+use Rattle.block0.specs.declared.Version.{Version}
+use Rattle.block0.specs.declared.Version.the-variants.{One, Two}
+use Rattle.block0.specs.Fields.{timeoutEnd, FitsBy}
+use Rattle.block0.specs.Layout.{labelsAt, places, headerBy, labelsBy}
+use Rattle.request_ids.specs.Layout.{idCount, idsOf}
 use Rattle.request_ids.proofs.Written.{length-ids}
 use Rattle.label_meaning.proofs.Meaning.{valid-means, valid-range}
 use Rattle.image.specs.Sizes.{block, requestBlock}
@@ -37,15 +39,20 @@ bytes-block image b byte i =
     (λ (l : length (block image b) ≤ i). rw (List·getD-eq-default (block image b) 0 {n = i} l) (omega arith))
     (below-or-not i (length (block image b)))
 
-fits-bytes : (b : List ℕ) → Bytes b → Fits (headerOf b)
-unfolding headerOf
-fits-bytes b byte = record {
+timeout-bytes : (v : Version) (b : List ℕ) → Bytes b → headerBy v b .timeout < timeoutEnd v
+unfolding headerBy
+timeout-bytes One b byte = beAt-lt 2 b 20 byte
+timeout-bytes Two b byte = beAt-lt 4 b 28 byte
+
+pub fits-bytes : (v : Version) (b : List ℕ) → Bytes b → FitsBy v (headerBy v b)
+unfolding headerBy
+fits-bytes v b byte = record {
   released = beAt-lt 4 b 4 byte;
   issued = beAt-lt 4 b 8 byte;
   secured = beAt-lt 4 b 12 byte;
   first = beAt-lt 2 b 16 byte;
   held = beAt-lt 2 b 18 byte;
-  timeout = beAt-lt 2 b 20 byte;
+  timeout = timeout-bytes v b byte;
   kept = beAt-lt 1 b 22 byte;
   marks = beAt-lt 1 b 23 byte;
   keepalive = beAt-lt 2 b 24 byte;
@@ -62,14 +69,18 @@ words-bytes n s at byte = record {
       (below-or-not i n);
 }
 
+pub labels-bytes : (v : Version) (b : List ℕ) → Bytes b → Words (places v) (labelsBy v b)
+unfolding labelsBy
+labels-bytes v b byte = words-bytes (places v) b (labelsAt v) byte
+
 -- ---- the IDs that block 65 bears
-pub stored-count : (image : List ℕ) → length (storedIds image) ≡ wordCount
+pub stored-count : (image : List ℕ) → length (storedIds image) ≡ idCount
 unfolding storedIds
 stored-count image = length-ids (block image requestBlock)
 
-pub stored-words : (image : List ℕ) → Bytes image → Words wordCount (storedIds image)
+pub stored-words : (image : List ℕ) → Bytes image → Words idCount (storedIds image)
 unfolding storedIds idsOf
-stored-words image byte = words-bytes wordCount (block image requestBlock) 0 (bytes-block image requestBlock byte)
+stored-words image byte = words-bytes idCount (block image requestBlock) 0 (bytes-block image requestBlock byte)
 
 -- one of them is another
 pub set-words : (n : ℕ) (ws : List ℕ) (i v : ℕ) → Words n ws → v < 4294967296 → Words n (set ws i v)
@@ -89,7 +100,7 @@ set-words n ws i v w small = record {
         (below-or-not j (length ws))
 
 -- those that count
-pub open-words : (ws xs : List ℕ) → length ws ≡ wordCount → ((i : ℕ) → getD xs i 0 < 4294967296) → Words wordCount (openIds ws xs)
+pub open-words : {k : ℕ} (ws xs : List ℕ) → length ws ≡ k → ((i : ℕ) → getD xs i 0 < 4294967296) → Words k (openIds ws xs)
 open-words ws xs n each = record {
   count = counting-length 0 isRequest ws xs ∙ n;
   each = λ i.
@@ -99,16 +110,20 @@ open-words ws xs n each = record {
 }
 
 -- ---- the numbers in an image of bytes have their widths
--- the label words of any image are 120
+-- the label words of any image are as many as its version has
+pub words-count : (v : Version) (b : List ℕ) → length (labelsBy v b) ≡ places v
+unfolding labelsBy
+words-count v b = length-wordsAt (places v) b (labelsAt v)
+
 pub labels-count : (image : List ℕ) → length (decode image .labels) ≡ wordCount
-unfolding decode labelsOf
-labels-count image = length-wordsAt wordCount (block image 0) labelsAt
+unfolding decode
+labels-count image = words-count Two (block image 0)
 
 pub bytes-in-range : (image : List ℕ) → Bytes image → InRange (decode image)
-unfolding decode labelsOf
+unfolding decode
 bytes-in-range image byte = record {
-  header = fits-bytes (block image 0) (bytes-block image 0 byte);
-  labels = words-bytes wordCount (block image 0) labelsAt (bytes-block image 0 byte);
+  header = fits-bytes Two (block image 0) (bytes-block image 0 byte);
+  labels = labels-bytes Two (block image 0) (bytes-block image 0 byte);
   ids = open-words (decode image .labels) (storedIds image) (labels-count image) (stored-words image byte .each);
 }
 

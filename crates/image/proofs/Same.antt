@@ -22,6 +22,7 @@ use Rattle.label_list.specs.Rules.{codeSwept}
 use Rattle.label_list.specs.Sweep.{wordSwept, sweptOf}
 use Rattle.label_list.specs.Word.{wordCount, codeOf, wordOf, requestWord}
 use Rattle.block0.specs.declared.Header.{Header}
+use Rattle.block0.specs.declared.Version.the-variants.{Two}
 use Rattle.block0.specs.Coded.{hasCode, unprotected}
 use Rattle.block0.specs.Fields.{Fits}
 use Rattle.block0.specs.Layout.{headerOf, labelsOf}
@@ -56,7 +57,7 @@ pub store-same : (image : List ℕ) → IsSound image → Bytes image → store0
 unfolding store0 decode
 store-same image s byte =
     let long : length (block image 0) ≡ blockSize = length-block image 0 (omega (arith, s .size)) in
-    ap (withBlock image 0) (block0-same (block image 0) long (bytes-block image 0 byte) (s .check) (s .fields)) ∙ put-same image 0 (omega (arith, s .size))
+    ap (withBlock image 0) (block0-same Two (block image 0) long (bytes-block image 0 byte) (s .check) (s .fields)) ∙ put-same image 0 (omega (arith, s .size))
 
 -- anything else changes the bytes
 pub store-changed : (image : List ℕ) (h : Header) (ls : List ℕ) → length image ≡ imageSize → Fits h → Words wordCount ls

@@ -17,9 +17,12 @@ use Rattle.label_list.specs.Find.{any}
 use Rattle.label_list.specs.Word.{requestCode}
 use Rattle.label_list.proofs.Sought.{any-cons}
 use Rattle.block0.specs.declared.Header.{Header}
+use Rattle.block0.specs.declared.Version.{Version}
+use Rattle.block0.specs.declared.Version.the-variants.{Two}
 use Rattle.block0.specs.Coded.{hasCode}
-use Rattle.block0.specs.Fields.{fieldsOk}
-use Rattle.block0.specs.Layout.{slotCount, headerOf, labelsOf}
+use Rattle.block0.specs.Fields.{fieldsBy}
+use Rattle.block0.specs.Layout.{slotCount, headerBy, headerOf, labelsBy}
+use Rattle.block0.proofs.Judged.{header-either}
 use Rattle.request_ids.specs.Fields.{restZero, idsOk}
 use Rattle.request_ids.specs.Layout.{idsOf}
 use Rattle.slot.specs.declared.SlotVerdict.{SlotVerdict}
@@ -30,7 +33,7 @@ use Rattle.image.specs.declared.Verdict.the-variants.{Sound, WrongSize, 
 use Rattle.image.specs.Ring.{ring}
 use Rattle.image.specs.Sizes.{requestBlock, further, blockCount, imageSize, block, blockOf, slotAt}
 use Rattle.image.specs.State.{decode, NotLive}
-use Rattle.image.specs.Verdict.{looked, fieldsRight, bytesJudged, blockJudged, faultThen, firstFault, verdict, verdictNumber, verdictBlock, judgementNumber}
+use Rattle.image.specs.Verdict.{looked, fieldsRight, bytesJudged, slotJudged, blockJudged, faultThen, firstFault, verdictBy, verdict, verdictNumber, verdictBlock, judgementNumber}
 use Rattle.image.proofs.Faults.{fault-same, verdictThen, fault-append, named-below}
 use Rattle.image.proofs.Requests.{none-once}
 use Rattle.image.proofs.Rings.{ring-length, ring-at}
@@ -71,61 +74,73 @@ module _ (h : Header) where
       (λ (before : i < h .held). rw (looked-slot i before) (omega arith))
       (eq-or-lt-of-le (omega (arith, looked-length)))
 
-module _ (image : List ℕ) where
+module _ (v : Version) (image : List ℕ) where
   -- none of these is idle
-  live-judged : (b : ℕ) → any (eqb b) (looked (headerOf (block image 0))) ≡ true → blockJudged image b ≡ bytesJudged image b
+  live-judged : (b : ℕ) → any (eqb b) (looked (headerBy v (block image 0))) ≡ true → blockJudged v image b ≡ bytesJudged v image b
   unfolding blockJudged
   live-judged b l = rw l
 
-  pub looked-judged : firstFault (blockJudged image) (looked (headerOf (block image 0))) ≡ firstFault (bytesJudged image) (looked (headerOf (block image 0)))
-  looked-judged = fault-same (blockJudged image) (bytesJudged image) (looked (headerOf (block image 0))) live-judged
-
-  -- a slot that is not live is idle
-  pub idle-judged : (k : ℕ) → k < slotCount → NotLive image k → blockJudged image (blockOf k) ≡ Judgement.Idle
-  unfolding blockJudged any decode ring
-  idle-judged k room idle = rw (not-zeroth k, none (headerOf (block image 0) .first) (headerOf (block image 0) .held) idle)
-    where
-      none : (f n : ℕ) → ((i : ℕ) → i < n → slotAt f i ≢ k) → any (eqb (blockOf k)) (ring blockOf f n ++ further) ≡ false
-      none f zero apart = rw (not-further k room)
-      none f (suc n) apart =
-          let e : f + 0 ≡ f = omega arith in
-          let first : f % slotCount ≢ k = rw e at (apart 0 (omega arith)) in
-          any-cons (eqb (blockOf k)) (blockOf (f % slotCount)) (ring blockOf (f + 1) n ++ further) (ne-eqb (blockOf k) (blockOf (f % slotCount)) (λ same. first (omega arith)))
-          ∙ none (f + 1) n (λ i l. let e : f + suc i ≡ f + 1 + i = omega arith in rw e at (apart (suc i) (omega arith)))
+  pub looked-judged : firstFault (blockJudged v image) (looked (headerBy v (block image 0))) ≡ firstFault (bytesJudged v image) (looked (headerBy v (block image 0)))
+  looked-judged = fault-same (blockJudged v image) (bytesJudged v image) (looked (headerBy v (block image 0))) live-judged
 
   -- the block that restore's checks name is a block of the image
-  pub verdict-below : verdictBlock (verdict image) < blockCount
-  unfolding verdict
-  verdict-below =
+  pub named-block : verdictBlock (verdictBy v image) < blockCount
+  unfolding verdictBy
+  named-block =
       pick-all (λ v. verdictBlock v < blockCount) (not (eqb (length image) imageSize)) (omega arith)
-      (named-below (blockJudged image) (looked (headerOf (block image 0))) blockCount (omega arith) (looked-below (headerOf (block image 0))))
+      (named-below (blockJudged v image) (looked (headerBy v (block image 0))) blockCount (omega arith) (looked-below (headerBy v (block image 0))))
+
+pub verdict-below : (image : List ℕ) → verdictBlock (verdict image) < blockCount
+verdict-below = named-block Two
+
+-- a slot that is not live is idle
+pub idle-judged : (image : List ℕ) (k : ℕ) → k < slotCount → NotLive image k → blockJudged Two image (blockOf k) ≡ Judgement.Idle
+unfolding blockJudged any decode ring
+idle-judged image k room idle = rw (not-zeroth k, none (headerBy Two (block image 0) .first) (headerBy Two (block image 0) .held) idle)
+  where
+    none : (f n : ℕ) → ((i : ℕ) → i < n → slotAt f i ≢ k) → any (eqb (blockOf k)) (ring blockOf f n ++ further) ≡ false
+    none f zero apart = rw (not-further k room)
+    none f (suc n) apart =
+        let e : f + 0 ≡ f = omega arith in
+        let first : f % slotCount ≢ k = rw e at (apart 0 (omega arith)) in
+        any-cons (eqb (blockOf k)) (blockOf (f % slotCount)) (ring blockOf (f + 1) n ++ further) (ne-eqb (blockOf k) (blockOf (f % slotCount)) (λ same. first (omega arith)))
+        ∙ none (f + 1) n (λ i l. let e : f + suc i ≡ f + 1 + i = omega arith in rw e at (apart (suc i) (omega arith)))
 
 -- ---- the live slots, in a loop that has come to slot i
 -- what is said of a slot's bytes
-abbrev slotJudged : SlotVerdict → Judgement
-slotJudged SlotVerdict.Good = Judgement.Good
-slotJudged SlotVerdict.BadCheck = Judgement.BadCheck
-slotJudged SlotVerdict.BadFields = Judgement.BadFields
+abbrev verdictJudged : SlotVerdict → Judgement
+verdictJudged SlotVerdict.Good = Judgement.Good
+verdictJudged SlotVerdict.BadCheck = Judgement.BadCheck
+verdictJudged SlotVerdict.BadFields = Judgement.BadFields
 
-pub slot-fields : (s : List ℕ) (k : ℕ) → k < slotCount → fieldsRight s (blockOf k) ≡ slotOk (block s (blockOf k))
-slot-fields s k room = rw (not-zeroth k, not-further k room)
+pub slot-fields : (v : Version) (s : List ℕ) (k : ℕ) → k < slotCount → fieldsRight v s (blockOf k) ≡ slotOk (block s (blockOf k))
+slot-fields v s k room = rw (not-zeroth k, not-further k room)
 
-slot-bytes : (s : List ℕ) (k : ℕ) → k < slotCount → bytesJudged s (blockOf k) ≡ slotJudged (slotVerdict (block s (blockOf k)))
-unfolding bytesJudged slotVerdict
-slot-bytes s k room = rw (slot-fields s k room) (by (sound (block s (blockOf k))) (slotOk (block s (blockOf k))))
+slot-bytes : (v : Version) (s : List ℕ) (k : ℕ) → k < slotCount → bytesJudged v s (blockOf k) ≡ slotJudged s (blockOf k)
+unfolding bytesJudged slotJudged
+slot-bytes v s k room = rw (slot-fields v s k room)
+
+slots-bytes : (v : Version) (s : List ℕ) (f n : ℕ) → firstFault (slotJudged s) (ring blockOf f n) ≡ firstFault (bytesJudged v s) (ring blockOf f n)
+unfolding firstFault ring
+slots-bytes v s f zero = refl
+slots-bytes v s f (suc n) = rw (slot-bytes v s (f % slotCount) (omega arith), slots-bytes v s (f + 1) n)
+
+slot-judged : (s : List ℕ) (b : ℕ) → slotJudged s b ≡ verdictJudged (slotVerdict (block s b))
+unfolding slotJudged slotVerdict
+slot-judged s b = by (sound (block s b)) (slotOk (block s b))
   where
     by : (c f : Bool)
         → pick (not c) Judgement.BadCheck (pick (not f) Judgement.BadFields Judgement.Good)
-        ≡ slotJudged (pick (not c) SlotVerdict.BadCheck (pick (not f) SlotVerdict.BadFields SlotVerdict.Good))
+        ≡ verdictJudged (pick (not c) SlotVerdict.BadCheck (pick (not f) SlotVerdict.BadFields SlotVerdict.Good))
     by true true = refl
     by true false = refl
     by false f = refl
 
 -- the numbers agree: of a slot's verdict and the judgement of its block, and of a judgement that is a fault and the image's verdict
-pub slot-numbered : (s : List ℕ) (k : ℕ) → k < slotCount → judgementNumber (bytesJudged s (blockOf k)) ≡ slotVerdictNumber (slotVerdict (block s (blockOf k)))
-slot-numbered s k room = rw (slot-bytes s k room) (by (slotVerdict (block s (blockOf k))))
+pub slot-numbered : (v : Version) (s : List ℕ) (k : ℕ) → k < slotCount → judgementNumber (bytesJudged v s (blockOf k)) ≡ slotVerdictNumber (slotVerdict (block s (blockOf k)))
+slot-numbered v s k room = rw (slot-bytes v s k room, slot-judged s (blockOf k)) (by (slotVerdict (block s (blockOf k))))
   where
-    by : (v : SlotVerdict) → judgementNumber (slotJudged v) ≡ slotVerdictNumber v
+    by : (j : SlotVerdict) → judgementNumber (verdictJudged j) ≡ slotVerdictNumber j
     by SlotVerdict.Good = refl
     by SlotVerdict.BadCheck = refl
     by SlotVerdict.BadFields = refl
@@ -137,28 +152,28 @@ fault-numbered Judgement.BadFields b rest bad = refl
 fault-numbered Judgement.Idle b rest bad = absurd (bad refl)
 
 module _ (s : List ℕ) (f n : ℕ) where
-  pub scan-start : firstFault (bytesJudged s) (ring blockOf (f + 0) (n - 0)) ≡ firstFault (bytesJudged s) (ring blockOf f n)
+  pub scan-start : firstFault (slotJudged s) (ring blockOf (f + 0) (n - 0)) ≡ firstFault (slotJudged s) (ring blockOf f n)
   scan-start =
       let e : f + 0 ≡ f = omega arith in
       let g : n - 0 ≡ n = omega arith in
       rw (e, g)
 
   module _ (i : ℕ) (all : Verdict) where
-    pub scan-end : n ≤ i → firstFault (bytesJudged s) (ring blockOf (f + i) (n - i)) ≡ all → Sound ≡ all
+    pub scan-end : n ≤ i → firstFault (slotJudged s) (ring blockOf (f + i) (n - i)) ≡ all → Sound ≡ all
     unfolding firstFault ring
     scan-end l inv =
         let none : n - i ≡ 0 = omega arith in
         rw none at inv
 
-    module _ (left : i < n) (inv : firstFault (bytesJudged s) (ring blockOf (f + i) (n - i)) ≡ all)
+    module _ (left : i < n) (inv : firstFault (slotJudged s) (ring blockOf (f + i) (n - i)) ≡ all)
         {b : List ℕ} (eb : b ≡ block s ((f + i) % slotCount + 1)) {v : SlotVerdict} (ev : v ≡ slotVerdict b) where
       -- slot i, and then the rest
-      turned : faultThen (slotJudged v) ((f + i) % slotCount + 1) (firstFault (bytesJudged s) (ring blockOf (f + (i + 1)) (n - (i + 1)))) ≡ all
+      turned : faultThen (verdictJudged v) ((f + i) % slotCount + 1) (firstFault (slotJudged s) (ring blockOf (f + (i + 1)) (n - (i + 1)))) ≡ all
       unfolding firstFault ring
       turned =
           let more : n - i ≡ suc (n - (i + 1)) = omega arith in
           let next : f + i + 1 ≡ f + (i + 1) = omega arith in
-          rw (ev, eb, ← slot-bytes s ((f + i) % slotCount) (omega arith)) (rw (more, next) at inv)
+          rw (ev, eb, ← slot-judged s ((f + i) % slotCount + 1)) (rw (more, next) at inv)
 
       pub scan-check : v ≡ SlotVerdict.BadCheck → BadBlock ((f + i) % slotCount + 1) ≡ all
       scan-check h = rw h at turned
@@ -166,7 +181,7 @@ module _ (s : List ℕ) (f n : ℕ) where
       pub scan-fields : v ≡ SlotVerdict.BadFields → BadField ((f + i) % slotCount + 1) ≡ all
       scan-fields h = rw h at turned
 
-      pub scan-next : v ≡ SlotVerdict.Good → firstFault (bytesJudged s) (ring blockOf (f + (i + 1)) (n - (i + 1))) ≡ all
+      pub scan-next : v ≡ SlotVerdict.Good → firstFault (slotJudged s) (ring blockOf (f + (i + 1)) (n - (i + 1))) ≡ all
       scan-next h = rw h at turned
 
 pub ruleset scans = (scan-start, scan-end, scan-check, scan-fields, scan-next)
@@ -177,78 +192,78 @@ both-yes true = refl
 both-yes false = refl
 
 -- where no word has a Request's code, zeros behind the IDs are enough
-pub unasked : (z b : List ℕ) {t : Bool} → t ≡ any (hasCode requestCode) (labelsOf z) → not t ≡ true → {r : Bool} → r ≡ restZero b → r ≡ idsOk (labelsOf z) b
+pub unasked : (v : Version) (z b : List ℕ) {t : Bool} → t ≡ any (hasCode requestCode) (labelsBy v z) → not t ≡ true → {r : Bool} → r ≡ restZero b → r ≡ idsOk (labelsBy v z) b
 unfolding idsOk
-unasked z b et none er = er ∙ rw (none-once (labelsOf z) (denied et none) (idsOf b)) (both-yes (restZero b))
+unasked v z b et none er = er ∙ rw (none-once (labelsBy v z) (denied et none) (idsOf b)) (both-yes (restZero b))
 
-module _ (s : List ℕ) {b : List ℕ} (eb : b ≡ block s requestBlock) {t : Bool} (et : t ≡ sound b) where
-  last-judged : faultThen (bytesJudged s requestBlock) requestBlock Sound ≡ firstFault (bytesJudged s) further
+module _ (v : Version) (s : List ℕ) {b : List ℕ} (eb : b ≡ block s requestBlock) {t : Bool} (et : t ≡ sound b) where
+  last-judged : faultThen (bytesJudged v s requestBlock) requestBlock Sound ≡ firstFault (bytesJudged v s) further
   unfolding firstFault
   last-judged = refl
 
-  pub requests-check : not t ≡ true → BadBlock requestBlock ≡ firstFault (bytesJudged s) further
+  pub requests-check : not t ≡ true → BadBlock requestBlock ≡ firstFault (bytesJudged v s) further
   unfolding bytesJudged
   requests-check h = simp (← eb, ← et, not-true t h) at last-judged
 
-  module _ (fine : not t ≡ false) {u : Bool} (eu : u ≡ idsOk (labelsOf (block s 0)) (block s requestBlock)) where
-    fields : u ≡ idsOk (labelsOf (block s 0)) b
-    fields = eu ∙ ap (idsOk (labelsOf (block s 0))) (sym eb)
+  module _ (fine : not t ≡ false) {u : Bool} (eu : u ≡ idsOk (labelsBy v (block s 0)) (block s requestBlock)) where
+    fields : u ≡ idsOk (labelsBy v (block s 0)) b
+    fields = eu ∙ ap (idsOk (labelsBy v (block s 0))) (sym eb)
 
-    pub requests-fields : not u ≡ true → BadField requestBlock ≡ firstFault (bytesJudged s) further
+    pub requests-fields : not u ≡ true → BadField requestBlock ≡ firstFault (bytesJudged v s) further
     unfolding bytesJudged
     requests-fields h = simp (← eb, ← et, not-false t fine, ← fields, not-true u h) at last-judged
 
-    pub requests-right : not u ≡ false → Sound ≡ firstFault (bytesJudged s) further
+    pub requests-right : not u ≡ false → Sound ≡ firstFault (bytesJudged v s) further
     unfolding bytesJudged
     requests-right h = simp (← eb, ← et, not-false t fine, ← fields, not-false u h) at last-judged
 
 pub ruleset requested = (requests-check, requests-fields, requests-right)
 
 -- ---- restore's checks
-module _ (s : List ℕ) where
-  pub wrong-size : (length s ≡ imageSize → ⊥) → WrongSize ≡ verdict s
-  unfolding verdict
+module _ (v : Version) (s : List ℕ) where
+  pub wrong-size : (length s ≡ imageSize → ⊥) → WrongSize ≡ verdictBy v s
+  unfolding verdictBy
   wrong-size h = simp (ne-eqb (length s) imageSize h)
 
   module _ (size : length s ≡ imageSize) where
     -- block 0, then the live slots, then block 65
-    sized : faultThen (bytesJudged s 0) 0
-        (verdictThen (firstFault (bytesJudged s) (ring blockOf (headerOf (block s 0) .first) (headerOf (block s 0) .held))) (firstFault (bytesJudged s) further)) ≡ verdict s
-    unfolding verdict firstFault
+    sized : faultThen (bytesJudged v s 0) 0
+        (verdictThen (firstFault (bytesJudged v s) (ring blockOf (headerBy v (block s 0) .first) (headerBy v (block s 0) .held))) (firstFault (bytesJudged v s) further)) ≡ verdictBy v s
+    unfolding verdictBy firstFault
     sized =
         simp (eq-eqb (length s) imageSize size)
-        (ap (faultThen (bytesJudged s 0) 0) (sym (fault-append (bytesJudged s) (ring blockOf (headerOf (block s 0) .first) (headerOf (block s 0) .held)) further))
-        ∙ sym (looked-judged s))
+        (ap (faultThen (bytesJudged v s 0) 0) (sym (fault-append (bytesJudged v s) (ring blockOf (headerBy v (block s 0) .first) (headerBy v (block s 0) .held)) further))
+        ∙ sym (looked-judged v s))
 
     module _ {b : List ℕ} (eb : b ≡ block s 0) {t : Bool} (et : t ≡ sound b) where
-      pub zeroth-check : not t ≡ true → BadBlock 0 ≡ verdict s
+      pub zeroth-check : not t ≡ true → BadBlock 0 ≡ verdictBy v s
       unfolding bytesJudged
       zeroth-check h = simp (← eb, ← et, not-true t h) at sized
 
-      module _ (fine : not t ≡ false) {u : Bool} (eu : u ≡ fieldsOk b) where
-        pub zeroth-fields : not u ≡ true → BadField 0 ≡ verdict s
+      module _ (fine : not t ≡ false) {u : Bool} (eu : u ≡ fieldsBy v b) where
+        pub zeroth-fields : not u ≡ true → BadField 0 ≡ verdictBy v s
         unfolding bytesJudged
         zeroth-fields h = simp (← eb, ← et, not-false t fine, ← eu, not-true u h) at sized
 
         module _ (hu : not u ≡ false) {h : Header} (eh : h ≡ headerOf b) {f n : ℕ} (ef : f ≡ h .first) (en : n ≡ h .held)
-            {r : Verdict} (er : r ≡ firstFault (bytesJudged s) (ring blockOf f n)) where
-          slots-judged : verdictThen r (firstFault (bytesJudged s) further) ≡ verdict s
+            {r : Verdict} (er : r ≡ firstFault (slotJudged s) (ring blockOf f n)) where
+          slots-judged : verdictThen r (firstFault (bytesJudged v s) further) ≡ verdictBy v s
           unfolding bytesJudged
           slots-judged =
-              ap (λ (v : Verdict). verdictThen v (firstFault (bytesJudged s) further)) er
-              ∙ (simp (← eb, ← et, not-false t fine, ← eu, not-false u hu, ← eh, ← ef, ← en) at sized)
+              ap (λ (x : Verdict). verdictThen x (firstFault (bytesJudged v s) further)) (er ∙ slots-bytes v s f n)
+              ∙ (simp (← eb, ← et, not-false t fine, ← eu, not-false u hu, header-either v b, ← eh, ← ef, ← en) at sized)
 
           -- a fault of a slot is the verdict, else block 65 decides
-          pub slots-sound : r ≡ Sound → {q : Verdict} → q ≡ firstFault (bytesJudged s) further → q ≡ verdict s
+          pub slots-sound : r ≡ Sound → {q : Verdict} → q ≡ firstFault (bytesJudged v s) further → q ≡ verdictBy v s
           slots-sound e eq = eq ∙ (rw e at slots-judged)
 
-          pub slots-size : r ≡ WrongSize → WrongSize ≡ verdict s
+          pub slots-size : r ≡ WrongSize → WrongSize ≡ verdictBy v s
           slots-size e = rw e at slots-judged
 
-          pub slots-check : {k : ℕ} → r ≡ BadBlock k → BadBlock k ≡ verdict s
+          pub slots-check : {k : ℕ} → r ≡ BadBlock k → BadBlock k ≡ verdictBy v s
           slots-check e = rw e at slots-judged
 
-          pub slots-fields : {k : ℕ} → r ≡ BadField k → BadField k ≡ verdict s
+          pub slots-fields : {k : ℕ} → r ≡ BadField k → BadField k ≡ verdictBy v s
           slots-fields e = rw e at slots-judged
 
 pub ruleset verdicts = (wrong-size, zeroth-check, zeroth-fields, slots-sound, slots-size, slots-check, slots-fields)

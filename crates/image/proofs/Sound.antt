@@ -18,8 +18,10 @@ use Rattle.label_list.specs.Requests.{onceOf, openIds}
 use Rattle.label_list.specs.Word.{wordCount, isRequest}
 use Rattle.label_list.proofs.OpenIds.{once-freed}
 use Rattle.block0.specs.declared.Header.{Header}
-use Rattle.block0.specs.Fields.{Fits, Valid}
-use Rattle.block0.specs.Layout.{slotCount, headerOf, block0, labelsOf}
+use Rattle.block0.specs.declared.Version.{Version}
+use Rattle.block0.specs.declared.Version.the-variants.{Two}
+use Rattle.block0.specs.Fields.{FitsBy, ValidBy, Fits, Valid}
+use Rattle.block0.specs.Layout.{slotCount, places, headerBy, labelsBy, blockBy, headerOf, labelsOf}
 use Rattle.block0.proofs.Rules.{fields-valid, valid-fields}
 use Rattle.block0.proofs.Written.{header-block0, block0-sound, labels-block0}
 use Rattle.message.specs.Storable.{Storable}
@@ -31,69 +33,69 @@ use Rattle.slot.proofs.Holding.{slotFor-sound, slotFor-ok}
 use Rattle.image.specs.declared.Judgement.the-variants.{Good, BadCheck, BadFields}
 use Rattle.image.specs.declared.Verdict.the-variants.{Sound, WrongSize}
 use Rattle.image.specs.Sizes.{block, blockOf, slotAt, imageSize, requestBlock}
-use Rattle.image.specs.State.{NotLive, decode, storeSlot, store0, storedIds, Contents, storeId}
-use Rattle.image.specs.Verdict.{looked, fieldsRight, bytesJudged, verdict, IsSound, SlotGood}
+use Rattle.image.specs.State.{NotLive, decode, storeSlot, storeBy, store0, storedIds, Contents, storeId}
+use Rattle.image.specs.Verdict.{looked, fieldsRight, bytesJudged, verdictBy, IsSoundBy, IsSound, SlotGood}
 use Rattle.image.proofs.Faults.{NoFault, faultless-each, each-faultless}
 use Rattle.image.proofs.Ranges.{labels-count}
 use Rattle.image.proofs.Requests.{Fewer, once-dead}
 use Rattle.image.proofs.Scans.{looked-length, looked-slot, looked-judged, slot-fields, looked-last}
-use Rattle.image.proofs.Stored.{length-storeSlot, slot-put, slot-other, length-store0, zeroth-put, zeroth-other, decode-slot, id-other, ids-storeSlot, decode-id, length-storeId, id-put, open-dead, once-storeId, asked-count}
+use Rattle.image.proofs.Stored.{length-storeSlot, slot-put, slot-other, length-storeBy, put-storeBy, other-storeBy, decode-slot, id-other, ids-storeSlot, decode-id, length-storeId, id-put, open-dead, once-storeId, asked-count}
 
 -- ---- a verdict and its clauses
-bytes-good : (image : List ℕ) (b : ℕ) → NoFault (bytesJudged image b) → (sound (block image b) ≡ true) × (fieldsRight image b ≡ true)
+bytes-good : (v : Version) (image : List ℕ) (b : ℕ) → NoFault (bytesJudged v image b) → (sound (block image b) ≡ true) × (fieldsRight v image b ≡ true)
 unfolding bytesJudged
-bytes-good image b = by (sound (block image b)) (fieldsRight image b)
+bytes-good v image b = by (sound (block image b)) (fieldsRight v image b)
   where
     by : (c f : Bool) → NoFault (pick (not c) BadCheck (pick (not f) BadFields Good)) → (c ≡ true) × (f ≡ true)
     by true true h = (refl, refl)
     by true false h = absurd h
     by false f h = absurd h
 
-good-bytes : (image : List ℕ) (b : ℕ) → sound (block image b) ≡ true → fieldsRight image b ≡ true → NoFault (bytesJudged image b)
+good-bytes : (v : Version) (image : List ℕ) (b : ℕ) → sound (block image b) ≡ true → fieldsRight v image b ≡ true → NoFault (bytesJudged v image b)
 unfolding bytesJudged
-good-bytes image b c f = rw (c, f) tt
+good-bytes v image b c f = rw (c, f) tt
 
 -- a sound verdict is its clauses
-pub sound-parts : (image : List ℕ) → verdict image ≡ Sound → IsSound image
-unfolding verdict
-sound-parts image h =
-    let z : Header = headerOf (block image 0) in
+pub sound-parts : {v : Version} (image : List ℕ) → verdictBy v image ≡ Sound → IsSoundBy v image
+unfolding verdictBy
+sound-parts {v} image h =
+    let z : Header = headerBy v (block image 0) in
     let p = cleared (not (eqb (length image) imageSize)) WrongSize _ Sound (λ e. cc) h in
-    let each = faultless-each (bytesJudged image) (looked z) (sym (looked-judged image) ∙ p .1) in
-    let zeroth = bytes-good image 0 (each 0 (omega (arith, looked-length z))) in
+    let each = faultless-each (bytesJudged v image) (looked z) (sym (looked-judged v image) ∙ p .1) in
+    let zeroth = bytes-good v image 0 (each 0 (omega (arith, looked-length z))) in
     record {
       size = eqb-true _ _ (not-false _ (p .0));
       check = zeroth .0;
       fields = zeroth .1;
       slots = λ i l.
           let k : ℕ = slotAt (z .first) i in
-          let g = bytes-good image (blockOf k) (rw (looked-slot z i l) at (each (suc i) (omega (arith, looked-length z)))) in
-          record { check = g .0; fields = sym (slot-fields image k (omega arith)) ∙ g .1 };
+          let g = bytes-good v image (blockOf k) (rw (looked-slot z i l) at (each (suc i) (omega (arith, looked-length z)))) in
+          record { check = g .0; fields = sym (slot-fields v image k (omega arith)) ∙ g .1 };
       requests =
-          let g = bytes-good image requestBlock (rw (looked-last z) at (each (suc (z .held)) (omega (arith, looked-length z)))) in
+          let g = bytes-good v image requestBlock (rw (looked-last z) at (each (suc (z .held)) (omega (arith, looked-length z)))) in
           record { check = g .0; fields = g .1 };
     }
 
 -- and back
-pub parts-sound : (image : List ℕ) → IsSound image → verdict image ≡ Sound
-unfolding verdict
-parts-sound image s = simp (eq-eqb _ _ (s .size)) (looked-judged image ∙ each-faultless (bytesJudged image) (looked (headerOf (block image 0))) each)
+pub parts-sound : {v : Version} (image : List ℕ) → IsSoundBy v image → verdictBy v image ≡ Sound
+unfolding verdictBy
+parts-sound {v} image s = simp (eq-eqb _ _ (s .size)) (looked-judged v image ∙ each-faultless (bytesJudged v image) (looked (headerBy v (block image 0))) each)
   where
-    each : (i : ℕ) → i < length (looked (headerOf (block image 0))) → NoFault (bytesJudged image (getD (looked (headerOf (block image 0))) i 0))
-    each zero l = good-bytes image 0 (s .check) (s .fields)
+    each : (i : ℕ) → i < length (looked (headerBy v (block image 0))) → NoFault (bytesJudged v image (getD (looked (headerBy v (block image 0))) i 0))
+    each zero l = good-bytes v image 0 (s .check) (s .fields)
     each (suc i) l =
-        let z : Header = headerOf (block image 0) in
+        let z : Header = headerBy v (block image 0) in
         let k : ℕ = slotAt (z .first) i in
         ⊎-elim
-        (λ (last : i ≡ z .held). rw (last, looked-last z) (good-bytes image requestBlock (s .requests .check) (s .requests .fields)))
+        (λ (last : i ≡ z .held). rw (last, looked-last z) (good-bytes v image requestBlock (s .requests .check) (s .requests .fields)))
         (λ (live : i < z .held).
-        rw (looked-slot z i live) (good-bytes image (blockOf k) (s .slots i live .check) (slot-fields image k (omega arith) ∙ s .slots i live .fields)))
+        rw (looked-slot z i live) (good-bytes v image (blockOf k) (s .slots i live .check) (slot-fields v image k (omega arith) ∙ s .slots i live .fields)))
         (eq-or-lt-of-le (omega (arith, looked-length z)))
 
 -- ---- what a sound image tells of its state
 pub sound-valid : (image : List ℕ) → IsSound image → Valid (decode image .header) (decode image .labels)
 unfolding decode
-sound-valid image s = fields-valid (block image 0) (s .fields)
+sound-valid image s = fields-valid Two (block image 0) (s .fields)
 
 -- the live slots of a header are good blocks of an image
 abbrev pub Live : List ℕ → Header → Type 0
@@ -148,7 +150,7 @@ sound-id image place id s fits dead =
     let e : block (storeId image place id) 0 ≡ block image 0 = id-other image (s .size) place id 0 (omega arith) in
     let counted : Words wordCount (openIds ls xs) = rw (open-dead image (s .size) place id dead) fits in
     let good : IdsGood ls (idBlock xs) =
-    idBlock-good xs (asked-count image (s .size) place id) ls counted (labels-count image) (once-dead image place id dead (sound-once image s)) in
+    idBlock-good xs (asked-count image (s .size) place id) ls (counted .each) (omega (arith, labels-count image)) (once-dead image place id dead (sound-once image s)) in
     record {
       size = length-storeId image (s .size) place id;
       check = rw e (s .check);
@@ -159,19 +161,24 @@ sound-id image place id s fits dead =
     }
 
 -- block 0, over an image whose live slots and block 65 are good
+pub sound-storeBy : (v : Version) (image : List ℕ) (h : Header) (ls : List ℕ) → length image ≡ imageSize → FitsBy v h → Words (places v) ls → ValidBy v h ls → Live image h
+    → IdsGood ls (block image requestBlock) → IsSoundBy v (storeBy v image h ls)
+sound-storeBy v image h ls size fh fl r live good =
+    let e : block (storeBy v image h ls) 0 ≡ blockBy v h ls = put-storeBy v image size h ls in
+    let d : headerBy v (blockBy v h ls) ≡ h = header-block0 v h ls fh fl in
+    let dl : labelsBy v (blockBy v h ls) ≡ ls = labels-block0 v h ls fh fl in
+    record {
+      size = length-storeBy v image size h ls;
+      check = rw e (block0-sound v h ls);
+      fields = rw e (valid-fields v h ls fh fl r);
+      slots = rw (e, d) (λ i l. rw (other-storeBy v image size h ls (blockOf (slotAt (h .first) i)) (omega arith)) (live i l));
+      requests = rw (e, dl, other-storeBy v image size h ls requestBlock (omega arith)) good;
+    }
+
 pub sound-store0 : (image : List ℕ) (h : Header) (ls : List ℕ) → length image ≡ imageSize → Fits h → Words wordCount ls → Valid h ls → Live image h
     → IdsGood ls (block image requestBlock) → IsSound (store0 image h ls)
-sound-store0 image h ls size fh fl v live good =
-    let e : block (store0 image h ls) 0 ≡ block0 h ls = zeroth-put image size h ls in
-    let d : headerOf (block0 h ls) ≡ h = header-block0 h ls fh fl in
-    let dl : labelsOf (block0 h ls) ≡ ls = labels-block0 h ls fh fl in
-    record {
-      size = length-store0 image size h ls;
-      check = rw e (block0-sound h ls);
-      fields = rw e (valid-fields h ls fh fl v);
-      slots = rw (e, d) (λ i l. rw (zeroth-other image size h ls (blockOf (slotAt (h .first) i)) (omega arith)) (live i l));
-      requests = rw (e, dl, zeroth-other image size h ls requestBlock (omega arith)) good;
-    }
+unfolding store0
+sound-store0 = sound-storeBy Two
 
 -- ---- the ways in which a call stores leave a sound image, where no ID that counts under the new words stands twice
 -- the slot after the last is not live

@@ -13,11 +13,13 @@ use Rattle.label_list.specs.Requests.{openIds, onceOf}
 use Rattle.label_list.specs.Word.{wordCount, isRequest}
 use Rattle.label_list.proofs.Counting.{counting-dead}
 use Rattle.block0.specs.declared.Header.{Header}
-use Rattle.block0.specs.Fields.{Fits}
-use Rattle.block0.specs.Layout.{slotCount, headerOf, labelsOf, block0}
+use Rattle.block0.specs.declared.Version.{Version}
+use Rattle.block0.specs.declared.Version.the-variants.{Two}
+use Rattle.block0.specs.Fields.{FitsBy, Fits}
+use Rattle.block0.specs.Layout.{slotCount, places, headerBy, labelsBy, blockBy, headerOf, labelsOf}
 use Rattle.block0.proofs.Written.{length-block0, header-block0, labels-block0}
 use Rattle.message.specs.Storable.{Storable}
-use Rattle.request_ids.specs.Layout.{idsOf, idBlock}
+use Rattle.request_ids.specs.Layout.{idCount, idsOf, idBlock}
 use Rattle.request_ids.proofs.Counted.{open-idBlock, once-idBlock}
 use Rattle.request_ids.proofs.Written.{length-idBlock}
 use Rattle.slot.specs.Held.{slotFor}
@@ -25,7 +27,7 @@ use Rattle.slot.specs.Layout.{slotMessage}
 use Rattle.slot.proofs.Holding.{length-slotFor, slotFor-message}
 use Rattle.image.specs.Ring.{ring}
 use Rattle.image.specs.Sizes.{block, blockOf, slotAt, imageSize, requestBlock}
-use Rattle.image.specs.State.{NotLive, Contents, slotsOf, decode, storeSlot, store0, storedIds, storeId}
+use Rattle.image.specs.State.{NotLive, Contents, slotsOf, decodeBy, decode, storeSlot, storeBy, store0, storedIds, storeId}
 use Rattle.image.proofs.Blocks.{length-put, block-put, block-other}
 use Rattle.image.proofs.Ranges.{stored-count}
 use Rattle.image.proofs.Rings.{ring-same, ring-snoc, ring-drop}
@@ -90,7 +92,7 @@ module _ (image : List ℕ) (size : length image ≡ imageSize) (place : ℕ) (i
   asked : List ℕ
   asked = set (storedIds image) place (id .0)
 
-  pub asked-count : length (set (storedIds image) place (id .0)) ≡ wordCount
+  pub asked-count : length (set (storedIds image) place (id .0)) ≡ idCount
   asked-count = length-set (storedIds image) place (id .0) ∙ stored-count image
 
   inside65 : requestBlock * blockSize + blockSize ≤ length image
@@ -120,11 +122,11 @@ module _ (image : List ℕ) (size : length image ≡ imageSize) (place : ℕ) (i
   module _ (ls : List ℕ) (fits : Words wordCount (openIds ls (set (storedIds image) place (id .0)))) where
     pub open-storeId : openIds ls (storedIds (storeId image place id)) ≡ openIds ls (set (storedIds image) place (id .0))
     unfolding storedIds
-    open-storeId = ap (λ (b : List ℕ). openIds ls (idsOf b)) id-put ∙ open-idBlock (set (storedIds image) place (id .0)) asked-count ls fits
+    open-storeId = ap (λ (b : List ℕ). openIds ls (idsOf b)) id-put ∙ open-idBlock (set (storedIds image) place (id .0)) asked-count ls (fits .each)
 
     pub once-storeId : length ls ≡ wordCount → onceOf ls (storedIds (storeId image place id)) ≡ onceOf ls (set (storedIds image) place (id .0))
     unfolding storedIds
-    once-storeId n = ap (λ (b : List ℕ). onceOf ls (idsOf b)) id-put ∙ once-idBlock (set (storedIds image) place (id .0)) asked-count ls fits n
+    once-storeId n = ap (λ (b : List ℕ). onceOf ls (idsOf b)) id-put ∙ once-idBlock (set (storedIds image) place (id .0)) asked-count ls (fits .each) (omega arith)
 
   -- 02: "so a cut leaves the state before": the ID does not count yet
   pub open-dead : isRequest (getD (decode image .labels) place 0) ≡ false → openIds (decode image .labels) (set (storedIds image) place (id .0)) ≡ decode image .ids
@@ -137,45 +139,60 @@ module _ (image : List ℕ) (size : length image ≡ imageSize) (place : ℕ) (i
       (open-storeId (decode image .labels) (rw (open-dead dead) fits) ∙ open-dead dead)
       (λ i l. slots-storeId (slotAt (decode image .header .first) i) (omega arith))
 
--- ---- block 0 alone
-module _ (image : List ℕ) (size : length image ≡ imageSize) (h : Header) (ls : List ℕ) where
+-- ---- block 0 alone, in either version
+module _ (v : Version) (image : List ℕ) (size : length image ≡ imageSize) (h : Header) (ls : List ℕ) where
   inside0 : 0 * blockSize + blockSize ≤ length image
   inside0 = omega arith
 
-  written0 : length (block0 h ls) ≡ blockSize
-  written0 = length-block0 h ls
+  written0 : length (blockBy v h ls) ≡ blockSize
+  written0 = length-block0 v h ls
 
-  pub length-store0 : length (store0 image h ls) ≡ imageSize
-  unfolding store0
-  length-store0 = length-put image 0 (block0 h ls) ∙ size
+  pub length-storeBy : length (storeBy v image h ls) ≡ imageSize
+  length-storeBy = length-put image 0 (blockBy v h ls) ∙ size
 
-  pub zeroth-put : block (store0 image h ls) 0 ≡ block0 h ls
-  unfolding store0
-  zeroth-put = block-put image 0 (block0 h ls) inside0 written0
+  pub put-storeBy : block (storeBy v image h ls) 0 ≡ blockBy v h ls
+  put-storeBy = block-put image 0 (blockBy v h ls) inside0 written0
 
   -- every slot keeps its bytes
+  pub other-storeBy : (c : ℕ) → c ≢ 0 → block (storeBy v image h ls) c ≡ block image c
+  other-storeBy c apart = block-other image 0 (blockBy v h ls) inside0 written0 c apart
+
+  ids-storeBy : storedIds (storeBy v image h ls) ≡ storedIds image
+  unfolding storedIds
+  ids-storeBy = ap idsOf (other-storeBy requestBlock (omega arith))
+
+  slots-storeBy : (j : ℕ) → slotsOf (storeBy v image h ls) j ≡ slotsOf image j
+  unfolding slotsOf
+  slots-storeBy j = ap slotMessage (other-storeBy (blockOf j) (omega arith))
+
+  module _ (fh : FitsBy v h) (fl : Words (places v) ls) where
+    pub header-storeBy : headerBy v (block (storeBy v image h ls) 0) ≡ h
+    header-storeBy = ap (headerBy v) put-storeBy ∙ header-block0 v h ls fh fl
+
+    pub labels-storeBy : labelsBy v (block (storeBy v image h ls) 0) ≡ ls
+    labels-storeBy = ap (labelsBy v) put-storeBy ∙ labels-block0 v h ls fh fl
+
+    pub decode-storeBy : decodeBy v (storeBy v image h ls)
+        ≡ record { header = h; labels = ls; ids = openIds ls (storedIds image); queue = ring (slotsOf image) (h .first) (h .held) }
+    decode-storeBy =
+        state-eq header-storeBy labels-storeBy (ap₂ (λ (x y : List ℕ). openIds x y) labels-storeBy ids-storeBy)
+        (ap (λ (x : Header). ring (slotsOf (storeBy v image h ls)) (x .first) (x .held)) header-storeBy
+        ∙ ring-same (slotsOf (storeBy v image h ls)) (slotsOf image) (h .first) (h .held) (λ i l. slots-storeBy (slotAt (h .first) i)))
+
+-- as a call stores it
+module _ (image : List ℕ) (size : length image ≡ imageSize) (h : Header) (ls : List ℕ) where
+  pub length-store0 : length (store0 image h ls) ≡ imageSize
+  unfolding store0
+  length-store0 = length-storeBy Two image size h ls
+
   pub zeroth-other : (c : ℕ) → c ≢ 0 → block (store0 image h ls) c ≡ block image c
   unfolding store0
-  zeroth-other c apart = block-other image 0 (block0 h ls) inside0 written0 c apart
+  zeroth-other = other-storeBy Two image size h ls
 
-  pub ids-store0 : storedIds (store0 image h ls) ≡ storedIds image
-  unfolding storedIds
-  ids-store0 = ap idsOf (zeroth-other requestBlock (omega arith))
-
-  slots-store0 : (j : ℕ) → slotsOf (store0 image h ls) j ≡ slotsOf image j
-  unfolding slotsOf
-  slots-store0 j = ap slotMessage (zeroth-other (blockOf j) (omega arith))
-
-  module _ (fh : Fits h) (fl : Words wordCount ls) where
-    pub decode-store0 : decode (store0 image h ls)
-        ≡ record { header = h; labels = ls; ids = openIds ls (storedIds image); queue = ring (slotsOf image) (h .first) (h .held) }
-    unfolding decode
-    decode-store0 =
-        let e : headerOf (block (store0 image h ls) 0) ≡ h = ap headerOf zeroth-put ∙ header-block0 h ls fh fl in
-        let el : labelsOf (block (store0 image h ls) 0) ≡ ls = ap labelsOf zeroth-put ∙ labels-block0 h ls fh fl in
-        state-eq e el (ap₂ (λ (x y : List ℕ). openIds x y) el ids-store0)
-        (ap (λ (x : Header). ring (slotsOf (store0 image h ls)) (x .first) (x .held)) e
-        ∙ ring-same (slotsOf (store0 image h ls)) (slotsOf image) (h .first) (h .held) (λ i l. slots-store0 (slotAt (h .first) i)))
+  pub decode-store0 : Fits h → Words wordCount ls
+      → decode (store0 image h ls) ≡ record { header = h; labels = ls; ids = openIds ls (storedIds image); queue = ring (slotsOf image) (h .first) (h .held) }
+  unfolding decode store0
+  decode-store0 = decode-storeBy Two image size h ls
 
 -- ---- the ways in which a call stores; the IDs that count are those under the new words
 -- one more held, in the slot after the last: `t` is the image with that slot stored, and perhaps an ID

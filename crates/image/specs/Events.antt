@@ -8,6 +8,7 @@ use Rattle.octets.specs.Pick.{pick}
 use Rattle.label_list.specs.declared.SweepRule.the-variants.{AfterBreak}
 use Rattle.label_list.specs.Requests.{openIds}
 use Rattle.label_list.specs.Sweep.{sweptOf}
+use Rattle.label_list.specs.Word.{wordCount}
 use Rattle.block0.specs.Layout.{releasedHeader, noLabels}
 use Rattle.request_ids.specs.Layout.{idBlock, noIds}
 use Rattle.image.specs.declared.Verdict.{Verdict}
@@ -17,7 +18,7 @@ use Rattle.image.specs.State.{Contents, decode, store}
 
 -- "Released means block 0 with kept 0": nothing is held, and no label is listed
 abbrev pub releasedContents : Contents
-releasedContents = record { header = releasedHeader; labels = noLabels; ids = noIds; queue = [] }
+releasedContents = record { header = releasedHeader; labels = noLabels; ids = replicate wordCount 0; queue = [] }
 
 unfoldable pub releaseOf : List ℕ → List ℕ
 releaseOf image = store image releasedContents

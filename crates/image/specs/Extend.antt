@@ -1,4 +1,5 @@
--- An image that an earlier release stored, 65 blocks, made one of 66: block 65 of zeros with its check behind it.
+-- An image that an earlier release stored, 65 blocks, made one of 66: block 65 of zeros with its check behind it. It is of version 1, as every image of
+-- that release: the converter comes next, and then restore.
 use Prim.Native.Nat.{ℕ, _*_, _<_}
 use mathlib.Core.Bool.{Bool, true, false}
 use mathlib.Core.List.{List, _++_}
@@ -9,9 +10,10 @@ use Rattle.octets.specs.Pick.{pick, both}
 use Rattle.block.specs.Check.{blockSize, sound}
 use Rattle.label_list.specs.Find.{any}
 use Rattle.label_list.specs.Word.{requestCode}
+use Rattle.block0.specs.declared.Version.the-variants.{One}
 use Rattle.block0.specs.Coded.{hasCode}
-use Rattle.block0.specs.Fields.{fieldsOk}
-use Rattle.block0.specs.Layout.{headerOf, labelsOf}
+use Rattle.block0.specs.Fields.{fieldsBy}
+use Rattle.block0.specs.Layout.{headerBy, labelsBy}
 use Rattle.request_ids.specs.Layout.{idBlock, noIds}
 use Rattle.image.specs.declared.Verdict.{Verdict}
 use Rattle.image.specs.declared.Verdict.the-variants.{Sound, WrongSize}
@@ -39,7 +41,7 @@ extendOf image stored = pick (extendable image stored) (withBlock image requestB
 pub record SoundBefore (old : List ℕ) : Type 0 where
   pub size : length old ≡ earlierSize
   pub check : sound (block old 0) ≡ true
-  pub fields : fieldsOk (block old 0) ≡ true
-  pub marks : headerOf (block old 0) .marks ≡ 0
-  pub requests : any (hasCode requestCode) (labelsOf (block old 0)) ≡ false
-  pub slots : (i : ℕ) → i < headerOf (block old 0) .held → SlotGood (block old (blockOf (slotAt (headerOf (block old 0) .first) i)))
+  pub fields : fieldsBy One (block old 0) ≡ true
+  pub marks : headerBy One (block old 0) .marks ≡ 0
+  pub requests : any (hasCode requestCode) (labelsBy One (block old 0)) ≡ false
+  pub slots : (i : ℕ) → i < headerBy One (block old 0) .held → SlotGood (block old (blockOf (slotAt (headerBy One (block old 0) .first) i)))

@@ -9,8 +9,10 @@ use Rattle.ft_number.specs.declared.MessageId.{MessageId}
 use Rattle.label_list.specs.Requests.{openIds}
 use Rattle.label_list.specs.Word.{wordCount}
 use Rattle.block0.specs.declared.Header.{Header}
+use Rattle.block0.specs.declared.Version.{Version}
+use Rattle.block0.specs.declared.Version.the-variants.{Two}
 use Rattle.block0.specs.Fields.{Fits}
-use Rattle.block0.specs.Layout.{headerOf, labelsOf, block0}
+use Rattle.block0.specs.Layout.{headerBy, labelsBy, blockBy}
 use Rattle.request_ids.specs.Layout.{idsOf, idBlock}
 use Rattle.slot.specs.Held.{slotFor}
 use Rattle.slot.specs.Layout.{messageAt, slotMessage}
@@ -32,13 +34,17 @@ slotsOf image k = slotMessage (block image (blockOf k))
 unfoldable pub storedIds : List ℕ → List ℕ
 storedIds image = idsOf (block image requestBlock)
 
-unfoldable pub decode : List ℕ → Contents
-decode image = record {
-  header = headerOf (block image 0);
-  labels = labelsOf (block image 0);
-  ids = openIds (labelsOf (block image 0)) (storedIds image);
-  queue = ring (slotsOf image) (headerOf (block image 0) .first) (headerOf (block image 0) .held);
+abbrev pub decodeBy : Version → List ℕ → Contents
+decodeBy v image = record {
+  header = headerBy v (block image 0);
+  labels = labelsBy v (block image 0);
+  ids = openIds (labelsBy v (block image 0)) (storedIds image);
+  queue = ring (slotsOf image) (headerBy v (block image 0) .first) (headerBy v (block image 0) .held);
 }
+
+-- 02: version 2 is "the only one outside the converter"
+unfoldable pub decode : List ℕ → Contents
+decode image = decodeBy Two image
 
 -- the block of the i-th message held, counted from the oldest, and the place of that block in the image
 unfoldable pub heldBlock : List ℕ → ℕ → List ℕ
@@ -67,8 +73,11 @@ unfoldable pub storeId : List ℕ → ℕ → MessageId → List ℕ
 storeId image place id = withBlock image requestBlock (idBlock (set (storedIds image) place (id .0)))
 
 -- .. then block 0
+abbrev pub storeBy : Version → List ℕ → Header → List ℕ → List ℕ
+storeBy v image h ls = withBlock image 0 (blockBy v h ls)
+
 unfoldable pub store0 : List ℕ → Header → List ℕ → List ℕ
-store0 image h ls = withBlock image 0 (block0 h ls)
+store0 image h ls = storeBy Two image h ls
 
 abbrev pub store : List ℕ → Contents → List ℕ
 store image s = store0 image (s .header) (s .labels)

@@ -1,4 +1,5 @@
--- Restore's checks. "Restore checks size, block 0, its fields, then live slots in ring order: check, then fields." 02: block 65 is "checked after the slots".
+-- Restore's checks, in either version. "Restore checks size, block 0, its fields, then live slots in ring order: check, then fields." 02: block 65 is
+-- "checked after the slots"; version 2 is "the only one outside the converter".
 use Prim.Native.Nat.{ℕ, _<_}
 use mathlib.Core.Bool.{Bool, true, not}
 use mathlib.Core.List.{List, [], _∷_, _++_}
@@ -9,8 +10,10 @@ use Rattle.octets.specs.Pick.{pick}
 use Rattle.block.specs.Check.{sound}
 use Rattle.label_list.specs.Find.{any}
 use Rattle.block0.specs.declared.Header.{Header}
-use Rattle.block0.specs.Fields.{fieldsOk}
-use Rattle.block0.specs.Layout.{headerOf, labelsOf}
+use Rattle.block0.specs.declared.Version.{Version}
+use Rattle.block0.specs.declared.Version.the-variants.{Two}
+use Rattle.block0.specs.Fields.{fieldsBy}
+use Rattle.block0.specs.Layout.{headerBy, labelsBy}
 use Rattle.request_ids.specs.Fields.{idsOk, IdsGood}
 use Rattle.slot.specs.Fields.{slotOk}
 use Rattle.image.specs.declared.Judgement.{Judgement}
@@ -26,18 +29,26 @@ abbrev pub looked : Header → List ℕ
 looked h = 0 ∷ (ring blockOf (h .first) (h .held) ++ further)
 
 -- the fields of block b are right: block 0's, a slot's, or block 65's beside the label words
-abbrev pub fieldsRight : List ℕ → ℕ → Bool
-fieldsRight image b =
-    pick (eqb b 0) (fieldsOk (block image b))
-    (pick (eqb b requestBlock) (idsOk (labelsOf (block image 0)) (block image b)) (slotOk (block image b)))
+abbrev pub fieldsRight : Version → List ℕ → ℕ → Bool
+fieldsRight v image b =
+    pick (eqb b 0) (fieldsBy v (block image b))
+    (pick (eqb b requestBlock) (idsOk (labelsBy v (block image 0)) (block image b)) (slotOk (block image b)))
 
--- the judgement of block b by its bytes: "check, then fields"
-unfoldable pub bytesJudged : List ℕ → ℕ → Judgement
-bytesJudged image b = pick (not (sound (block image b))) BadCheck (pick (not (fieldsRight image b)) BadFields Good)
+-- "check, then fields"
+abbrev pub checkThenFields : List ℕ → Bool → Judgement
+checkThenFields b fields = pick (not (sound b)) BadCheck (pick (not fields) BadFields Good)
+
+-- the judgement of block b by its bytes
+unfoldable pub bytesJudged : Version → List ℕ → ℕ → Judgement
+bytesJudged v image b = checkThenFields (block image b) (fieldsRight v image b)
+
+-- of a slot's block it is the same in either version
+unfoldable pub slotJudged : List ℕ → ℕ → Judgement
+slotJudged image b = checkThenFields (block image b) (slotOk (block image b))
 
 -- the judgement of block b: idle where block 0 does not lead to it, else by its bytes
-unfoldable pub blockJudged : List ℕ → ℕ → Judgement
-blockJudged image b = pick (not (any (eqb b) (looked (headerOf (block image 0))))) Idle (bytesJudged image b)
+unfoldable pub blockJudged : Version → List ℕ → ℕ → Judgement
+blockJudged v image b = pick (not (any (eqb b) (looked (headerBy v (block image 0))))) Idle (bytesJudged v image b)
 
 -- the number of the answer that a judgement leads to: "10: bad block. 11: bad field"
 abbrev pub judgementNumber : Judgement → ℕ
@@ -59,8 +70,11 @@ unfoldable pub firstFault : (ℕ → Judgement) → List ℕ → Verdict
 firstFault judgement [] = Sound
 firstFault judgement (b ∷ rest) = faultThen (judgement b) b (firstFault judgement rest)
 
-unfoldable pub verdict : List ℕ → Verdict
-verdict image = pick (not (eqb (length image) imageSize)) WrongSize (firstFault (blockJudged image) (looked (headerOf (block image 0))))
+unfoldable pub verdictBy : Version → List ℕ → Verdict
+verdictBy v image = pick (not (eqb (length image) imageSize)) WrongSize (firstFault (blockJudged v image) (looked (headerBy v (block image 0))))
+
+abbrev pub verdict : List ℕ → Verdict
+verdict image = verdictBy Two image
 
 -- the answer's number: "10 bad block, with its number; 11 bad field, with block number; 12 image not 33,792 bytes"
 abbrev pub verdictNumber : Verdict → ℕ
@@ -86,9 +100,12 @@ pub record SlotGood (b : List ℕ) : Type 0 where
   pub fields : slotOk b ≡ true
 
 -- an image that passes, clause by clause
-pub record IsSound (image : List ℕ) : Type 0 where
+pub record IsSoundBy (v : Version) (image : List ℕ) : Type 0 where
   pub size : length image ≡ imageSize
   pub check : sound (block image 0) ≡ true
-  pub fields : fieldsOk (block image 0) ≡ true
-  pub slots : (i : ℕ) → i < headerOf (block image 0) .held → SlotGood (block image (blockOf (slotAt (headerOf (block image 0) .first) i)))
-  pub requests : IdsGood (labelsOf (block image 0)) (block image requestBlock)
+  pub fields : fieldsBy v (block image 0) ≡ true
+  pub slots : (i : ℕ) → i < headerBy v (block image 0) .held → SlotGood (block image (blockOf (slotAt (headerBy v (block image 0) .first) i)))
+  pub requests : IdsGood (labelsBy v (block image 0)) (block image requestBlock)
+
+abbrev pub IsSound : List ℕ → Type 0
+IsSound image = IsSoundBy Two image

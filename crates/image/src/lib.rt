@@ -5,17 +5,18 @@ ghost use mathlib.Core.Path.{_≡_};
 ghost use lib.ListN.{length, getD, set};
 ghost use Rattle.block.specs.Check.{blockSize};
 ghost use Rattle.label_list.specs.Word.{wordCount};
-ghost use Rattle.block0.specs.Layout.{slotCount, labelsOf};
+ghost use Rattle.block0.specs.Layout.{slotCount, places, labelsBy};
 ghost use Rattle.message.specs.declared.Submission.the-variants.{Accepted};
 ghost use Rattle.message.specs.Storable.{longest};
 ghost use Rattle.message.specs.Submission.{submissionOf};
 ghost use Rattle.request_ids.specs.Fields.{idsOk};
-ghost use Rattle.request_ids.specs.Layout.{idBlock, noIds};
+ghost use Rattle.request_ids.specs.Layout.{idCount, idBlock, noIds};
 ghost use Rattle.image.specs.Ring.{ring};
 ghost use Rattle.image.specs.Sizes.{requestBlock, further, blockCount, imageSize, block, withBlock, blockOf};
 ghost use Rattle.image.specs.State.{storedIds, decode, storeSlot, storeId, store0};
-ghost use Rattle.image.specs.Verdict.{bytesJudged, firstFault, verdict, verdictNumber, verdictBlock};
+ghost use Rattle.image.specs.Verdict.{bytesJudged, slotJudged, firstFault, verdictBy, verdict, verdictNumber, verdictBlock};
 use block0::Header;
+use block0::Version;
 use ft_number::FtNumber;
 use ft_number::MessageId;
 use message::Kind;
@@ -116,7 +117,7 @@ fn block_at(image: &[u8], b: usize) -> &[u8]
 // The live slots in ring order: the check of each, then its fields.
 fn scan_slots(image: &[u8], first: usize, held: usize) -> Verdict
     requires { ⌜ (length (now image) ≡ imageSize) × (first < 65536) × (held < 65536) ⌝ }
-    ensures { λ r. ⌜ r ≡ firstFault (bytesJudged (now (image .entry))) (ring blockOf first held) ⌝ }
+    ensures { λ r. ⌜ r ≡ firstFault (slotJudged (now (image .entry))) (ring blockOf first held) ⌝ }
 {
     let mut i: usize = 0;
     while i < held {
@@ -135,39 +136,48 @@ fn scan_slots(image: &[u8], first: usize, held: usize) -> Verdict
     Verdict::Sound
 }
 
+// Whether block 65's fields are right beside the label words, read into words that are lent.
+fn ids_are_valid(block: &[u8], zeroth: &[u8], version: Version, words: &mut [u32]) -> bool
+    requires { ⌜ (length (now block) ≡ blockSize) × (length (now zeroth) ≡ blockSize) × (length (now words) ≡ places version) ⌝ }
+    ensures { λ r. ⌜ r ≡ idsOk (labelsBy version (now (zeroth .entry))) (now (block .entry)) ⌝ }
+{
+    block0::read_labels(zeroth, version, words);
+    request_ids::ids_are_valid(block, words)
+}
+
 // Whether block 65's fields are right beside the label words. These are read only where one of them has a Request's code.
-fn requests_are_valid(image: &[u8]) -> bool
+fn requests_are_valid(image: &[u8], version: Version) -> bool
     requires { ⌜ length (now image) ≡ imageSize ⌝ }
-    ensures { λ r. ⌜ r ≡ idsOk (labelsOf (block (now (image .entry)) 0)) (block (now (image .entry)) requestBlock) ⌝ }
+    ensures { λ r. ⌜ r ≡ idsOk (labelsBy version (block (now (image .entry)) 0)) (block (now (image .entry)) requestBlock) ⌝ }
 {
     let block = block_at(image, REQUEST_BLOCK);
     let zeroth = block_at(image, 0);
-    if !block0::has_requests(zeroth) {
+    if !block0::has_requests(zeroth, version) {
         return request_ids::rest_is_zero(block);
     }
-    let mut words = [0u32; label_list::WORD_COUNT];
-    block0::read_labels(zeroth, &mut words);
-    request_ids::ids_are_valid(block, &words)
+    let mut words = [0u32; block0::MOST_WORDS];
+    let count = block0::word_count(version);
+    ids_are_valid(block, zeroth, version, &mut words[0..count])
 }
 
 // Block 65: its check, then its fields.
-fn judge_requests(image: &[u8]) -> Verdict
+fn judge_requests(image: &[u8], version: Version) -> Verdict
     requires { ⌜ length (now image) ≡ imageSize ⌝ }
-    ensures { λ r. ⌜ r ≡ firstFault (bytesJudged (now (image .entry))) further ⌝ }
+    ensures { λ r. ⌜ r ≡ firstFault (bytesJudged version (now (image .entry))) further ⌝ }
 {
     if !request_ids::is_sound(block_at(image, REQUEST_BLOCK)) {
         return Verdict::BadBlock(REQUEST_BLOCK);
     }
-    if !requests_are_valid(image) {
+    if !requests_are_valid(image, version) {
         return Verdict::BadField(REQUEST_BLOCK);
     }
     Verdict::Sound
 }
 
-// Restore's checks of any bytes, in the paper's order: size (12), block 0's check (10), its fields (11), then each live slot in ring order,
-// then block 65, check before fields. Slots that are not live are not looked at; each block is summed once, and after a fault none is read.
-pub fn check_image(image: &[u8]) -> Verdict
-    ensures { λ r. ⌜ r ≡ verdict (now (image .entry)) ⌝ }
+// Restore's checks of any bytes, as an image of a version, in the paper's order: size (12), block 0's check (10), its fields (11), then each live slot in
+// ring order, then block 65, check before fields. Slots that are not live are not looked at; each block is summed once, and after a fault none is read.
+pub fn check_version(image: &[u8], version: Version) -> Verdict
+    ensures { λ r. ⌜ r ≡ verdictBy version (now (image .entry)) ⌝ }
 {
     if image.len() != IMAGE_SIZE {
         return Verdict::WrongSize;
@@ -176,16 +186,23 @@ pub fn check_image(image: &[u8]) -> Verdict
     if !block::is_sound(zeroth) {
         return Verdict::BadBlock(0);
     }
-    if !block0::block0_is_valid(zeroth) {
+    if !block0::block0_is_valid(zeroth, version) {
         return Verdict::BadField(0);
     }
     let h = block0::read_header(zeroth);
     match scan_slots(image, wide(h.first), wide(h.held)) {
-        Verdict::Sound => judge_requests(image),
+        Verdict::Sound => judge_requests(image, version),
         Verdict::WrongSize => Verdict::WrongSize,
         Verdict::BadBlock(b) => Verdict::BadBlock(b),
         Verdict::BadField(b) => Verdict::BadField(b),
     }
+}
+
+// Restore's checks: of an image of version 2.
+pub fn check_image(image: &[u8]) -> Verdict
+    ensures { λ r. ⌜ r ≡ verdict (now (image .entry)) ⌝ }
+{
+    check_version(image, Version::Two)
 }
 
 // The numbers of block 0.
@@ -201,7 +218,7 @@ pub fn labels_of(image: &[u8], words: &mut [u32])
     requires { ⌜ (length (now image) ≡ imageSize) × (length (now words) ≡ wordCount) ⌝ }
     ensures { λ _. ⌜ now (words .exit) ≡ decode (now (image .entry)) .labels ⌝ }
 {
-    block0::read_labels(block_at(image, 0), words)
+    block0::read_labels(block_at(image, 0), Version::Two, words)
 }
 
 // The label word at a place.
@@ -214,7 +231,7 @@ pub fn label_at(image: &[u8], place: usize) -> u32
 
 // The IDs that block 65 bears, those that count and those that do not.
 pub fn ids_of(image: &[u8], ids: &mut [u32])
-    requires { ⌜ (length (now image) ≡ imageSize) × (length (now ids) ≡ wordCount) ⌝ }
+    requires { ⌜ (length (now image) ≡ imageSize) × (length (now ids) ≡ idCount) ⌝ }
     ensures { λ _. ⌜ now (ids .exit) ≡ storedIds (now (image .entry)) ⌝ }
 {
     request_ids::read_ids(block_at(image, REQUEST_BLOCK), ids)
@@ -260,7 +277,7 @@ pub fn store_block0(image: &mut [u8], h: Header, labels: &[u32])
     requires { ⌜ (length (now image) ≡ imageSize) × (length (now labels) ≡ wordCount) ⌝ }
     ensures { λ _. ⌜ now (image .exit) ≡ store0 (now (image .entry)) h (now (labels .entry)) ⌝ }
 {
-    block0::write_block0(&mut image[0..block::BLOCK_SIZE], h, labels);
+    block0::write_block0(&mut image[0..block::BLOCK_SIZE], Version::Two, h, labels);
 }
 
 // The last stage where the label words stay.

@@ -5,8 +5,9 @@ use mathlib.Core.List.{List}
 use mathlib.Core.Path.{_≡_, refl}
 use borrow.Author.Tests.{eq-eqb, ne-eqb, not-true, not-false}
 use Rattle.ft_number.specs.declared.Ack.{Ack}
+use Rattle.ft_number.specs.declared.Timeout.{Timeout}
 use Rattle.ft_number.specs.Ack.{ackOf}
-use Rattle.ft_number.specs.Timeout.{lesserOf}
+use Rattle.ft_number.specs.Timeout.{lesserOf, millisOf}
 use Rattle.tlv.specs.declared.FtField.{FtField}
 use Rattle.tlv.specs.declared.Parameters.{Parameters}
 use Rattle.tlv.specs.declared.Session.{Session}
@@ -50,11 +51,11 @@ module _ (s : State) (t : Terms) {ack : FtField} where
     peer-both k e = rw (g, k) e
 
 -- ---- an Init with FT Session
-module _ (s : State) (p ka mp : ℕ) (ack : FtField) {f : Session} {r : Bool} {n : ℕ} (g : f ≡ Session.Given r n) {seconds : ℕ} (e : seconds ≡ lesserOf p n) where
-  pub session-fresh : not r ≡ true → Start.Fresh (record { timeout = seconds; keepalive = ka; maxpdu = mp }) ≡ sessionStart s p ka mp ack f
+module _ (s : State) (p ka mp : ℕ) (ack : FtField) {f : Session} {r : Bool} {n : Timeout} (g : f ≡ Session.Given r n) {agreed : ℕ} (e : agreed ≡ lesserOf p (millisOf n)) where
+  pub session-fresh : not r ≡ true → Start.Fresh (record { timeout = agreed; keepalive = ka; maxpdu = mp }) ≡ sessionStart s p ka mp ack f
   session-fresh b = rw (g, not-true r b, e)
 
-  pub session-peer : {st : Start} → not r ≡ false → st ≡ peerSet s (record { timeout = seconds; keepalive = ka; maxpdu = mp }) ack
+  pub session-peer : {st : Start} → not r ≡ false → st ≡ peerSet s (record { timeout = agreed; keepalive = ka; maxpdu = mp }) ack
       → st ≡ sessionStart s p ka mp ack f
   session-peer b q = rw (g, not-false r b) (rw e at q)
 

@@ -39,7 +39,7 @@ fn awaits_init(phase: Phase) -> bool
 }
 
 // Our proposed timeout: InitWait alone bears one.
-fn proposal_of(phase: Phase) -> u16
+fn proposal_of(phase: Phase) -> u32
     ensures { λ r. ⌜ r ≡ proposalOf phase ⌝ }
 {
     match phase {

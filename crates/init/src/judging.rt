@@ -1,12 +1,13 @@
 // How the peer's Init is judged: 22, 23, 35, 34, or the session that it begins. Nothing is changed here.
 ghost use mathlib.Core.Path.{_≡_};
-ghost use Rattle.ft_number.specs.Timeout.{lesserOf};
+ghost use Rattle.ft_number.specs.Timeout.{lesserOf, millisOf};
 ghost use Rattle.protocol.specs.Init.{bothSet, peerSet, sessionStart, parametersStart, startOf, startAnswer};
 ghost use Rattle.calls.specs.State.{stateOfNumbers};
 use block0::Header;
 use calls::Answer;
 use ft_number::Ack;
 use ft_number::FtNumber;
+use ft_number::Timeout;
 use message::Message;
 use message::Reading;
 use protocol::Start;
@@ -15,11 +16,11 @@ use tlv::FtField;
 use tlv::Parameters;
 use tlv::Session;
 
-// The timeout agreed by both proposals, in seconds.
-fn agreed_timeout(ours: u16, peers: u16) -> u16
-    ensures { λ r. ⌜ r ≡ lesserOf ours peers ⌝ }
+// The timeout agreed by both proposals, in milliseconds, whatever the form of the peer's.
+fn agreed_timeout(ours: u32, peers: Timeout) -> u32
+    ensures { λ r. ⌜ r ≡ lesserOf ours (millisOf peers) ⌝ }
 {
-    ft_number::lesser_timeout(ours as u32, peers as u32) as u16
+    ft_number::lesser_timeout(ours, ft_number::milliseconds(peers))
 }
 
 // Both R set.
@@ -56,7 +57,7 @@ fn judge_reconnect(h: Header, terms: Terms, ack: FtField) -> Start
 // An Init with parameters.
 fn judge_session(
     h: Header,
-    proposed: u16,
+    proposed: u32,
     keepalive: u16,
     maxpdu: u16,
     ack: FtField,
@@ -66,9 +67,9 @@ fn judge_session(
 {
     match session {
         Session::Absent => Start::Plain,
-        Session::Given { reconnect, seconds } => {
+        Session::Given { reconnect, timeout } => {
             let terms = Terms {
-                timeout: agreed_timeout(proposed, seconds),
+                timeout: agreed_timeout(proposed, timeout),
                 keepalive: keepalive,
                 maxpdu: maxpdu,
             };
@@ -81,7 +82,7 @@ fn judge_session(
 }
 
 // An Init.
-fn judge_init(h: Header, proposed: u16, g: Message) -> Start
+fn judge_init(h: Header, proposed: u32, g: Message) -> Start
     ensures { λ r. ⌜ r ≡ parametersStart (stateOfNumbers h) proposed (g .ack) (g .session) (g .parameters) ⌝ }
 {
     let ack = g.ack;
@@ -97,7 +98,7 @@ fn judge_init(h: Header, proposed: u16, g: Message) -> Start
 }
 
 // How the session begins with what was read, with the image's header and our proposed timeout.
-pub fn judge_start(h: Header, proposed: u16, reading: Reading) -> Start
+pub fn judge_start(h: Header, proposed: u32, reading: Reading) -> Start
     ensures { λ r. ⌜ r ≡ startOf (stateOfNumbers h) proposed reading ⌝ }
 {
     match reading {

@@ -13,7 +13,7 @@ use Rattle.label_events.specs.declared.Change.{Change}
 use Rattle.label_events.specs.declared.Plan.{Plan}
 use Rattle.label_events.specs.Change.{takeFree}
 
--- 02: "An open Request takes one of the 120 words under code 7", the first free one; "13 also for a Request"
+-- 02: "An open Request takes one of the .. words under code 7", the first free one; "13 also for a Request"
 abbrev pub askedChange : List ℕ → Change
 askedChange words = takeFree (findOf isFree words) requestWord
 

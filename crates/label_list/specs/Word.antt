@@ -1,4 +1,4 @@
--- A label word, and the side on which its code stands. 01: "120 numbers of 32 bits: label + 1,048,576 x code; 0 is free, and no other word has code 0".
+-- A label word, and the side on which its code stands. 01: "numbers of 32 bits: label + 1,048,576 x code; 0 is free, and no other word has code 0".
 use Prim.Native.Nat.{ℕ, _+_, _-_, _*_, _/_, _%_}
 use mathlib.Core.Bool.{Bool, true}
 use lib.Dec.{eqb, leb}
@@ -6,9 +6,9 @@ use Rattle.octets.specs.Pick.{pick, both}
 use Rattle.label_list.specs.declared.Side.{Side}
 use Rattle.label_list.specs.declared.Side.the-variants.{Given, Used}
 
--- 01: "120 label words"
+-- 02: "119 labels from 32"
 abbrev pub wordCount : ℕ
-wordCount = 120
+wordCount = 119
 
 -- the number of labels, and the value of one step of the code: labels have 20 bits
 abbrev pub labelCount : ℕ
@@ -45,7 +45,7 @@ unfoldable pub onSide : Side → ℕ → Bool
 onSide Given code = pick (within 1 2 code) true (within 8 9 code)
 onSide Used code = within 3 6 code
 
--- 02: "An open Request takes one of the 120 words under code 7, with label part 0": every open Request has this one word; its code is on no side
+-- 02: "An open Request takes one of the .. words under code 7, with label part 0": every open Request has this one word; its code is on no side
 abbrev pub requestCode : ℕ
 requestCode = 7
 

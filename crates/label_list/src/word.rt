@@ -5,7 +5,7 @@ ghost use Rattle.label_list.specs.Word.{labelCount, wordOf, onSide};
 use crate::Side;
 
 // The number of label words in the stored image.
-pub const WORD_COUNT: usize = 120;
+pub const WORD_COUNT: usize = 119;
 
 // The number of labels, and the value of one step of the code.
 pub const LABEL_COUNT: u32 = 1048576;

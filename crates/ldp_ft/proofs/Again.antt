@@ -1,10 +1,9 @@
 -- A phase goes out as numbers and comes in again as itself: what a call hands back is what the next is given. Assumes nothing.
 use mathlib.Core.Bool.{Bool, true, false}
 use mathlib.Core.Path.{_≡_, refl}
-use borrow.Author.Tests.{le-ltb}
 use Rattle.protocol.specs.declared.Phase.{Phase}
 use Rattle.ldp_ft.specs.declared.Given.{Given}
-use Rattle.ldp_ft.specs.Session.{bitOf, resumedBit, sessionOf, awaitingOf, givenOf, Fits16}
+use Rattle.ldp_ft.specs.Session.{bitOf, resumedBit, sessionOf, givenOf}
 
 -- the flag goes out and comes in as itself
 bit-again : (b : Bool) → resumedBit (bitOf b) ≡ b
@@ -12,10 +11,10 @@ bit-again true = refl
 bit-again false = refl
 
 -- a phase that goes out as numbers comes in as itself
-pub phase-again : (ph : Phase) → Fits16 ph → givenOf (sessionOf ph) ≡ Given.Known ph
-unfolding givenOf awaitingOf
-phase-again Phase.Idle f = refl
-phase-again (Phase.InitWait v) f = rw (le-ltb 65535 (v .timeout) f)
-phase-again (Phase.UpFT u) f = rw (bit-again (u .resumed))
-phase-again Phase.UpPlain f = refl
-phase-again Phase.Failed f = refl
+pub phase-again : (ph : Phase) → givenOf (sessionOf ph) ≡ Given.Known ph
+unfolding givenOf
+phase-again Phase.Idle = refl
+phase-again (Phase.InitWait v) = refl
+phase-again (Phase.UpFT u) = rw (bit-again (u .resumed))
+phase-again Phase.UpPlain = refl
+phase-again Phase.Failed = refl

@@ -25,7 +25,7 @@ use Rattle.ldp_ft.specs.declared.SummaryNumbers.{SummaryNumbers}
 use Rattle.ldp_ft.specs.Contents.{refusedSummary, wholeSummary, summaryOf, wordsShown, wordsRefused, wordsOf, heldBy, heldOf, ShowsHeld}
 use Rattle.ldp_ft.specs.Reading.{noPartFor}
 
--- the label words counted are those of a list of 120
+-- the label words counted are those of a list of 119
 pub labels-low : (im : List ℕ) {c : Counts} → c ≡ countsOf (decode im) → c .labels ≤ wordCount
 unfolding countsOf
 labels-low im e = rw e (listed-few im)

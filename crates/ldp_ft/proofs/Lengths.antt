@@ -7,6 +7,7 @@ use native.Mathlib.Omega.{arith}
 use lib.ListN.{length}
 use Rattle.octets.proofs.Choice.{pick-all}
 use Rattle.ft_number.specs.declared.MessageId.{MessageId}
+use Rattle.ft_number.specs.declared.Timeout.{Timeout}
 use Rattle.ft_number.specs.Timeout.{proposedOf}
 use Rattle.tlv.specs.declared.FtField.{FtField}
 use Rattle.message.specs.declared.Reading.{Reading}
@@ -40,9 +41,11 @@ ack-short : (ack : FtField) → length (ackTlv ack) ≤ 8
 ack-short FtField.Absent = omega arith
 ack-short (FtField.Number a) = omega arith
 
-init-short : (id : MessageId) (p : OwnParameters) (seconds : ℕ) (ack : FtField) → length (initBytes id p seconds ack) ≤ longestWritten
-init-short id p seconds FtField.Absent = omega arith
-init-short id p seconds (FtField.Number a) = omega arith
+init-short : (id : MessageId) (p : OwnParameters) (t : Timeout) (ack : FtField) → length (initBytes id p t ack) ≤ longestWritten
+init-short id p (Timeout.Seconds n) FtField.Absent = omega arith
+init-short id p (Timeout.Seconds n) (FtField.Number a) = omega arith
+init-short id p (Timeout.Milliseconds n) FtField.Absent = omega arith
+init-short id p (Timeout.Milliseconds n) (FtField.Number a) = omega arith
 
 alive-short : (id : MessageId) (ack : FtField) → length (keepaliveBytes id ack) ≤ longestWritten
 alive-short id FtField.Absent = omega arith

@@ -8,5 +8,6 @@ pub mod Parts
 pub mod LabelWord
 pub mod Requests
 pub mod Extending
+pub mod Moved
 pub mod Holdings
 pub mod Again

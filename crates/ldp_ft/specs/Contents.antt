@@ -40,7 +40,7 @@ refusedSummary answer block = record {
   maxpdu = 0;
 }
 
--- the counts "as the image printer says"; "the agreed timeout, 0 for ever", and "the peer's, as stored"
+-- the counts "as the image printer says"; "the agreed timeout, 0 for ever", in milliseconds, and "the peer's, as stored"
 unfoldable pub wholeSummary : Header → Counts → SummaryNumbers
 wholeSummary h c = record {
   answer = answerNumber Answer.Done;

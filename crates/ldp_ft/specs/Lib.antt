@@ -4,3 +4,4 @@ pub mod Opening
 pub mod Reading
 pub mod Numbers
 pub mod Contents
+pub mod Converting

@@ -39,7 +39,7 @@ abbrev pub checkNumber : BlockCheck → ℕ
 checkNumber (BlockCheck.Check c) = c
 checkNumber BlockCheck.TooShort = refusedNumber
 
--- "the label word at place 0 to 119 of an image that passes restore's checks; 0xFFFFFFFF where refused or no such place"
+-- "the label word at place 0 to 118 of an image that passes restore's checks; 0xFFFFFFFF where refused or no such place"
 abbrev pub labelBy : Verdict → List ℕ → ℕ → ℕ
 labelBy Verdict.Sound words place = pick (not (ltb place wordCount)) refusedNumber (getD words place 0)
 labelBy Verdict.WrongSize words place = refusedNumber

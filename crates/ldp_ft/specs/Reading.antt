@@ -3,6 +3,7 @@ use Prim.Native.Nat.{ℕ, _+_, _≤_}
 use mathlib.Core.Bool.{true, false}
 use lib.Dec.{eqb, ltb}
 use Rattle.octets.specs.Pick.{pick}
+use Rattle.ft_number.specs.declared.Timeout.{Timeout}
 use Rattle.pdu.specs.declared.Opened.{Opened}
 use Rattle.pdu.specs.declared.Place.{Place}
 use Rattle.pdu.specs.Pdu.{openedNumber, placeNumber}
@@ -63,15 +64,22 @@ abbrev pub idNumber : IdField → ℕ
 idNumber IdField.Absent = 0
 idNumber (IdField.Id id) = id .0
 
--- "FT Session: R and seconds"
+-- "FT Session: R", and its timeout in the unit of its form
 abbrev pub reconnectOf : Session → ℕ
 reconnectOf Session.Absent = 0
-reconnectOf (Session.Given true seconds) = 1
-reconnectOf (Session.Given false seconds) = 0
+reconnectOf (Session.Given true timeout) = 1
+reconnectOf (Session.Given false timeout) = 0
 
-abbrev pub secondsOf : Session → ℕ
-secondsOf Session.Absent = 0
-secondsOf (Session.Given reconnect seconds) = seconds
+abbrev pub timeoutIn : Session → ℕ
+timeoutIn Session.Absent = 0
+timeoutIn (Session.Given reconnect (Timeout.Seconds n)) = n
+timeoutIn (Session.Given reconnect (Timeout.Milliseconds n)) = n
+
+-- "1: FT Session has 12 bytes and `timeout` is milliseconds; 0: it has 4 and `timeout` is seconds, or there is none"
+abbrev pub publishedIn : Session → ℕ
+publishedIn Session.Absent = 0
+publishedIn (Session.Given reconnect (Timeout.Seconds n)) = 0
+publishedIn (Session.Given reconnect (Timeout.Milliseconds n)) = 1
 
 abbrev pub keepaliveIn : Parameters → ℕ
 keepaliveIn Parameters.Absent = 0
@@ -106,6 +114,7 @@ noMessage = record {
   maxpdu = 0;
   requestid = 0;
   statusid = 0;
+  published = 0;
 }
 
 unfoldable pub wholeMessage : Message → MessageNumbers
@@ -122,11 +131,12 @@ wholeMessage g = record {
   number = ftNumber (g .protection);
   ack = ftNumber (g .ack);
   reconnect = reconnectOf (g .session);
-  timeout = secondsOf (g .session);
+  timeout = timeoutIn (g .session);
   keepalive = keepaliveIn (g .parameters);
   maxpdu = maxpduIn (g .parameters);
   requestid = idNumber (g .requestid);
   statusid = idNumber (g .statusid);
+  published = publishedIn (g .session);
 }
 
 abbrev pub messageNumbers : Reading → MessageNumbers

@@ -1,11 +1,10 @@
--- The phase as three numbers: "phase: 0 Idle, 1 InitWait, 2 UpFT, 3 UpPlain, 4 Failed; value: InitWait: our proposed timeout; UpFT: the count sent on this
+-- The phase as three numbers: "phase: 0 Idle, 1 InitWait, 2 UpFT, 3 UpPlain, 4 Failed; value: InitWait: our proposed timeout, in milliseconds; UpFT: the count sent on this
 -- connection; else not read, and written as 0; flags: UpFT: 1 resumed, 0 not; in every other phase not read, and written as 0. Bits that a phase does not bear
 -- are not read".
-use Prim.Native.Nat.{ℕ, _%_, _≤_}
+use Prim.Native.Nat.{ℕ, _%_}
 use mathlib.Core.Bool.{Bool, true, false}
 use mathlib.Core.List.{List, [], _∷_}
-use lib.Dec.{eqb, ltb}
-use Rattle.octets.specs.Pick.{pick}
+use lib.Dec.{eqb}
 use Rattle.tlv.specs.Table.{lookup}
 use Rattle.protocol.specs.declared.Effect.{Effect}
 use Rattle.protocol.specs.declared.Phase.{Phase}
@@ -29,20 +28,16 @@ sessionOf (Phase.UpFT u) = record { phase = 2; value = u .sent; flags = bitOf (u
 sessionOf Phase.UpPlain = record { phase = 3; value = 0; flags = 0 }
 sessionOf Phase.Failed = record { phase = 4; value = 0; flags = 0 }
 
--- "A phase above 4, or InitWait with a value above 65,535, is a phase the image rules out"
-unfoldable pub awaitingOf : ℕ → Given
-awaitingOf value = pick (ltb 65535 value) Given.Unknown (Given.Known (waitingFor value))
-
 abbrev pub phases : ℕ → ℕ → List (ℕ × Given)
 phases value flags =
     (0, Given.Known Phase.Idle)
-    ∷ (1, awaitingOf value)
+    ∷ (1, Given.Known (waitingFor value))
     ∷ (2, Given.Known (upWith (resumedBit flags) value))
     ∷ (3, Given.Known Phase.UpPlain)
     ∷ (4, Given.Known Phase.Failed)
     ∷ []
 
--- the phase that the numbers stand for
+-- the phase that the numbers stand for; "a phase above 4 is a phase the image rules out"
 unfoldable pub givenOf : SessionNumbers → Given
 givenOf s = lookup Given.Unknown (phases (s .value) (s .flags)) (s .phase)
 
@@ -52,11 +47,3 @@ sessionLeft Effect.Nothing s ph = s
 sessionLeft Effect.Fail s ph = sessionOf ph
 sessionLeft Effect.Release s ph = sessionOf ph
 sessionLeft Effect.Act s ph = sessionOf ph
-
--- a proposed timeout has 16 bits; no other phase bears one
-abbrev pub Fits16 : Phase → Type 0
-Fits16 Phase.Idle = Unit {0}
-Fits16 (Phase.InitWait v) = v .timeout ≤ 65535
-Fits16 (Phase.UpFT u) = Unit {0}
-Fits16 Phase.UpPlain = Unit {0}
-Fits16 Phase.Failed = Unit {0}

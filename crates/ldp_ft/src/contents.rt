@@ -45,13 +45,13 @@ fn whole_summary(h: Header, counts: Counts) -> SummaryNumbers
         held: counts.held as u32,
         pended: counts.pended as u32,
         labels: counts.labels as u32,
-        timeout: h.timeout as u32,
+        timeout: h.timeout,
         keepalive: h.keepalive as u32,
         maxpdu: h.maxpdu as u32,
     }
 }
 
-// The counts of an image as the image printer says them, with kept, the agreed timeout and the peer's parameters; 12, 10, 11 with the block, and all else 0, where
+// The counts of an image as the image printer says them, with kept, the agreed timeout in milliseconds and the peer's parameters; 12, 10, 11 with the block, and all else 0, where
 // restore's checks refuse.
 #[no_mangle]
 pub extern "C" fn ldp_ft_summarize(image: &[u8]) -> SummaryNumbers

@@ -1,5 +1,6 @@
 // The C boundary: the session's calls with numbers for enums, as include/ldp_ft.h declares them.
 mod contents;
+mod converting;
 mod message_numbers;
 mod messages;
 mod numbers;
@@ -9,7 +10,7 @@ mod running;
 mod starting;
 mod stored;
 
-// The phase and its value: InitWait's proposed timeout, UpFT's count sent, else 0; and its flags: UpFT's 1 where the connection is resumed, else 0.
+// The phase and its value: InitWait's proposed timeout in milliseconds, UpFT's count sent, else 0; and its flags: UpFT's 1 where the connection is resumed, else 0.
 #[repr(C)]
 pub struct SessionNumbers {
     pub phase: u32,
@@ -72,6 +73,7 @@ pub struct MessageNumbers {
     pub maxpdu: u32,
     pub requestid: u32,
     pub statusid: u32,
+    pub published: u32,
 }
 
 // A Request that is open at a place of the label words: 1 and its message ID, or 0 and 0.
@@ -81,7 +83,7 @@ pub struct RequestNumbers {
     pub id: u32,
 }
 
-// What an image holds: 0, its counts as the image printer says them, the agreed timeout and the peer's parameters; or the answer, the block that it names, and all else 0.
+// What an image holds: 0, its counts as the image printer says them, the agreed timeout in milliseconds and the peer's parameters; or the answer, the block that it names, and all else 0.
 #[repr(C)]
 pub struct SummaryNumbers {
     pub answer: u32,
@@ -111,6 +113,14 @@ pub struct WordsNumbers {
 pub struct ExtendedNumbers {
     pub answer: u32,
     pub further: u32,
+}
+
+// An image converted: 0 and the bytes written, or the answer, the block that it names, and none.
+#[repr(C)]
+pub struct ConvertedNumbers {
+    pub answer: u32,
+    pub block: u32,
+    pub length: u32,
 }
 
 // The next number: 0 and how many were left out before it, or 20 or 30 and none.

@@ -3,8 +3,9 @@ ghost use Prim.Native.Nat.{_≤_};
 ghost use mathlib.Core.Path.{_≡_};
 ghost use Rattle.tlv.specs.Value.{Places};
 ghost use Rattle.message.specs.Reading.{messageOf};
-ghost use Rattle.ldp_ft.specs.Reading.{borne, hasOf, fieldNumber, ftNumber, idNumber, reconnectOf, secondsOf, keepaliveIn, maxpduIn, NarrowMessage, noMessage, wholeMessage};
+ghost use Rattle.ldp_ft.specs.Reading.{borne, hasOf, fieldNumber, ftNumber, idNumber, reconnectOf, timeoutIn, publishedIn, keepaliveIn, maxpduIn, NarrowMessage, noMessage, wholeMessage};
 use crate::MessageNumbers;
+use ft_number::Timeout;
 use message::Field;
 use message::Found;
 use message::FtField;
@@ -69,7 +70,7 @@ fn reconnect_of(session: Session) -> u32
 {
     match session {
         Session::Absent => 0,
-        Session::Given { reconnect, seconds } => {
+        Session::Given { reconnect, timeout } => {
             if reconnect {
                 return 1;
             }
@@ -78,12 +79,29 @@ fn reconnect_of(session: Session) -> u32
     }
 }
 
-fn seconds_of(session: Session) -> u32
-    ensures { λ r. ⌜ r ≡ secondsOf session ⌝ }
+// The timeout of FT Session in the unit of its form.
+fn timeout_of(session: Session) -> u32
+    ensures { λ r. ⌜ r ≡ timeoutIn session ⌝ }
 {
     match session {
         Session::Absent => 0,
-        Session::Given { reconnect, seconds } => seconds as u32,
+        Session::Given { reconnect, timeout } => match timeout {
+            Timeout::Seconds(n) => n as u32,
+            Timeout::Milliseconds(n) => n,
+        },
+    }
+}
+
+// 1 where FT Session has the published form.
+fn published_of(session: Session) -> u32
+    ensures { λ r. ⌜ r ≡ publishedIn session ⌝ }
+{
+    match session {
+        Session::Absent => 0,
+        Session::Given { reconnect, timeout } => match timeout {
+            Timeout::Seconds(n) => 0,
+            Timeout::Milliseconds(n) => 1,
+        },
     }
 }
 
@@ -133,6 +151,7 @@ pub fn no_message() -> MessageNumbers
         maxpdu: 0,
         requestid: 0,
         statusid: 0,
+        published: 0,
     }
 }
 
@@ -146,7 +165,12 @@ pub fn whole_message(m: &[u8], found: Found) -> MessageNumbers
     let number = message::number_in(m);
     let id = message::id_in(m);
     let requestid = value::id_at(m, found.requestid, 0);
-    let kind = message::kind_for(message::type_of(number), value::field_at(m, found.status), id, requestid);
+    let kind = message::kind_for(
+        message::type_of(number),
+        value::field_at(m, found.status),
+        id,
+        requestid,
+    );
     let part = value::part_at(m, found.fec);
     let session = value::session_at(m, found.session);
     let parameters = value::parameters_at(m, found.parameters);
@@ -163,10 +187,11 @@ pub fn whole_message(m: &[u8], found: Found) -> MessageNumbers
         number: ft_number(value::number_at(m, found.protection)),
         ack: ft_number(value::number_at(m, found.ack)),
         reconnect: reconnect_of(session),
-        timeout: seconds_of(session),
+        timeout: timeout_of(session),
         keepalive: keepalive_of(parameters),
         maxpdu: maxpdu_of(parameters),
         requestid: id_number(requestid),
         statusid: id_number(value::id_at(m, found.status, 4)),
+        published: published_of(session),
     }
 }

@@ -1,6 +1,6 @@
 // A phase and its numbers, both ways.
 ghost use mathlib.Core.Path.{_≡_};
-ghost use Rattle.ldp_ft.specs.Session.{bitOf, sessionOf, awaitingOf, givenOf, sessionLeft};
+ghost use Rattle.ldp_ft.specs.Session.{bitOf, sessionOf, givenOf, sessionLeft};
 use crate::Given;
 use crate::SessionNumbers;
 use calls::Effect;
@@ -30,7 +30,7 @@ pub fn session_of(phase: Phase) -> SessionNumbers
         },
         Phase::InitWait(v) => SessionNumbers {
             phase: 1,
-            value: v.timeout as u32,
+            value: v.timeout,
             flags: 0,
         },
         Phase::UpFT(u) => SessionNumbers {
@@ -51,17 +51,6 @@ pub fn session_of(phase: Phase) -> SessionNumbers
     }
 }
 
-fn awaiting(value: u32) -> Given
-    ensures { λ r. ⌜ r ≡ awaitingOf value ⌝ }
-{
-    if 65535 < value {
-        return Given::Unknown;
-    }
-    Given::Known(Phase::InitWait(Waiting {
-        timeout: value as u16,
-    }))
-}
-
 // The phase that the numbers stand for.
 pub fn phase_given(s: SessionNumbers) -> Given
     ensures { λ r. ⌜ r ≡ givenOf s ⌝ }
@@ -69,7 +58,7 @@ pub fn phase_given(s: SessionNumbers) -> Given
     let phase = s.phase;
     match phase {
         0 => Given::Known(Phase::Idle),
-        1 => awaiting(s.value),
+        1 => Given::Known(Phase::InitWait(Waiting { timeout: s.value })),
         2 => Given::Known(Phase::UpFT(Progress {
             sent: s.value,
             resumed: s.flags % 2 == 1,

@@ -30,7 +30,7 @@ pub extern "C" fn ldp_ft_connection_failed(image: &mut [u8], s: SessionNumbers) 
     }
 }
 
-// So many seconds have passed since the connection failed.
+// So many milliseconds have passed since the connection failed.
 #[no_mangle]
 pub extern "C" fn ldp_ft_time_passed(
     image: &mut [u8],

@@ -4,7 +4,7 @@ ghost use mathlib.Core.Path.{_≡_};
 ghost use Rattle.connect.specs.Start.{formatOf, restoreOf};
 ghost use Rattle.connect.specs.Writers.{openOf};
 ghost use Rattle.init.specs.Received.{initReceivedOf};
-ghost use Rattle.ldp_ft.specs.Opening.{idOf, parametersOf, proposalGiven};
+ghost use Rattle.ldp_ft.specs.Opening.{idOf, parametersOf, formOf, timeoutGiven, proposalGiven};
 ghost use Rattle.ldp_ft.specs.Outcome.{shown, shownFrom, idle, shownCall};
 use crate::Given;
 use crate::OutcomeNumbers;
@@ -14,8 +14,10 @@ use crate::outcome::refuse_unknown;
 use crate::phases::phase_given;
 use crate::phases::session_of;
 use calls::Phase;
+use ft_number::Form;
 use ft_number::MessageId;
 use ft_number::Proposal;
+use ft_number::Timeout;
 use message_writer::OwnParameters;
 
 // A new image.
@@ -36,13 +38,37 @@ pub extern "C" fn ldp_ft_restore(image: &mut [u8]) -> OutcomeNumbers
     outcome_numbers(session_of(Phase::Idle), restored)
 }
 
-fn proposal_of(given: bool, seconds: u16) -> Proposal
-    ensures { λ r. ⌜ r ≡ proposalGiven given seconds ⌝ }
+fn form_of(published: bool) -> Form
+    ensures { λ r. ⌜ r ≡ formOf published ⌝ }
+{
+    if published {
+        return Form::Published;
+    }
+    Form::Draft
+}
+
+// A timeout in the unit of its form; the draft's can say no more than 65,535 seconds.
+fn timeout_given(form: Form, proposal: u32) -> Timeout
+    ensures { λ r. ⌜ r ≡ timeoutGiven form proposal ⌝ }
+{
+    match form {
+        Form::Draft => {
+            if 65535 < proposal {
+                return Timeout::Seconds(65535);
+            }
+            Timeout::Seconds(proposal as u16)
+        }
+        Form::Published => Timeout::Milliseconds(proposal),
+    }
+}
+
+fn proposal_of(given: bool, form: Form, proposal: u32) -> Proposal
+    ensures { λ r. ⌜ r ≡ proposalGiven given form proposal ⌝ }
 {
     if given {
-        return Proposal::Seconds(seconds);
+        return Proposal::Given(timeout_given(form, proposal));
     }
-    Proposal::NotGiven
+    Proposal::NotGiven(form)
 }
 
 // Our Init.
@@ -56,11 +82,12 @@ pub extern "C" fn ldp_ft_open(
     lsr: u32,
     space: u16,
     given: bool,
-    seconds: u16,
+    proposal: u32,
     ondemand: bool,
+    published: bool,
     out: &mut [u8],
 ) -> OutcomeNumbers
-    ensures { λ r. ⌜ shown r (now (image .entry)) (now (out .exit)) ≡ shownCall s (now (image .entry)) (now (out .entry)) (λ ph. openOf (now (image .entry)) ph (idOf id) (parametersOf keepalive maxpdu lsr space ondemand) (proposalGiven given seconds) (now (out .entry))) ⌝ }
+    ensures { λ r. ⌜ shown r (now (image .entry)) (now (out .exit)) ≡ shownCall s (now (image .entry)) (now (out .entry)) (λ ph. openOf (now (image .entry)) ph (idOf id) (parametersOf keepalive maxpdu lsr space ondemand) (proposalGiven given (formOf published) proposal) (now (out .entry))) ⌝ }
 {
     let parameters = OwnParameters {
         keepalive: keepalive,
@@ -69,10 +96,10 @@ pub extern "C" fn ldp_ft_open(
         space: space,
         ondemand: ondemand,
     };
-    let proposal = proposal_of(given, seconds);
+    let proposed = proposal_of(given, form_of(published), proposal);
     match phase_given(s) {
         Given::Known(phase) => {
-            let o = connect::open_session(image, phase, MessageId(id), parameters, proposal, out);
+            let o = connect::open_session(image, phase, MessageId(id), parameters, proposed, out);
             outcome_numbers(s, o)
         }
         Given::Unknown => refuse_unknown(image, s),

@@ -8,6 +8,8 @@ use Rattle.octets.proofs.Be.{beAt-lt}
 use Rattle.octets.proofs.Choice.{no}
 use Rattle.ft_number.specs.declared.FtNumber.{FtNumber}
 use Rattle.ft_number.specs.declared.MessageId.{MessageId}
+use Rattle.ft_number.specs.declared.Timeout.{Timeout}
+use Rattle.ft_number.specs.Timeout.{TimeoutFits}
 use Rattle.tlv.specs.declared.Found.{Found}
 use Rattle.tlv.specs.declared.FtField.{FtField}
 use Rattle.tlv.specs.declared.IdField.{IdField}
@@ -24,7 +26,7 @@ pub record Widths (g : Message) : Type 0 where
   pub ack : (a : FtNumber) → g .ack ≡ FtField.Number a → a .0 < 4294967296
   pub protection : (a : FtNumber) → g .protection ≡ FtField.Number a → a .0 < 4294967296
   pub parameters : (ka mp : ℕ) → g .parameters ≡ Parameters.Given ka mp → (ka < 65536) × (mp < 65536)
-  pub session : (r : Bool) (n : ℕ) → g .session ≡ Session.Given r n → n < 65536
+  pub session : (r : Bool) (t : Timeout) → g .session ≡ Session.Given r t → TimeoutFits t
   pub requestid : (id : MessageId) → g .requestid ≡ IdField.Id id → id .0 < 4294967296
   pub statusid : (id : MessageId) → g .statusid ≡ IdField.Id id → id .0 < 4294967296
 

@@ -1,11 +1,12 @@
 -- Our Init and KeepAlive are read back as they were written. Assumes nothing.
-use Prim.Native.Nat.{ℕ, _+_, _^_, _<_}
+use Prim.Native.Nat.{ℕ, _^_, _<_}
 use mathlib.Core.Path.{_≡_}
 use native.Mathlib.Omega.{arith}
 use borrow.Author.Tests.{le-leb, lt-leb}
-use Rattle.octets.specs.Be.{beAt, bytes}
+use Rattle.octets.specs.Be.{beAt}
 use Rattle.octets.specs.Fix.{fix, steps}
 use Rattle.ft_number.specs.declared.MessageId.{MessageId}
+use Rattle.ft_number.specs.declared.Timeout.{Timeout}
 use Rattle.tlv.specs.declared.FtField.{FtField}
 use Rattle.tlv.specs.Tlv.{tlvOf}
 use Rattle.tlv.specs.Value.{partAt, fecAt, fieldAt, numberAt, idAt, parametersAt, sessionAt, topBitWeight}
@@ -13,7 +14,7 @@ use Rattle.tlv.specs.Walk.{notedOf, turnOf, walkOf, tlvsOf}
 use Rattle.message.specs.declared.Reading.{Reading}
 use Rattle.message.specs.Reading.{typeOf, messageOf, placesOf, readingOf}
 use Rattle.message_writer.specs.declared.OwnParameters.{OwnParameters}
-use Rattle.message_writer.specs.Forms.{initBytes, keepaliveBytes}
+use Rattle.message_writer.specs.Forms.{sessionValue, initBytes, keepaliveBytes}
 use Rattle.message_writer.specs.ReadBack.{AckFits, InitFits, initMessage, keepaliveMessage}
 use Rattle.message_writer.proofs.Raised.{bytes-read}
 
@@ -23,31 +24,41 @@ unfolding readingOf placesOf messageOf tlvsOf walkOf turnOf notedOf tlvOf typeOf
 keepalive-reads id FtField.Absent small fits = simp (bytes-read 4 (id .0) small)
 keepalive-reads id (FtField.Number a) small fits = simp (bytes-read 4 (id .0) small, bytes-read 4 (a .0) fits)
 
--- so is our Init
-pub init-reads : (id : MessageId) (p : OwnParameters) (seconds : ℕ) (ack : FtField) → InitFits id p seconds ack
-    → readingOf (initBytes id p seconds ack) ≡ Reading.Whole (initMessage id p seconds ack)
+-- so is our Init, in either form: R stands first, the timeout where the form has it
+pub init-reads : (id : MessageId) (p : OwnParameters) (t : Timeout) (ack : FtField) → InitFits id p t ack
+    → readingOf (initBytes id p t ack) ≡ Reading.Whole (initMessage id p t ack)
 unfolding readingOf placesOf messageOf tlvsOf walkOf turnOf notedOf tlvOf typeOf fix steps partAt fecAt fieldAt numberAt idAt parametersAt sessionAt
-init-reads id p seconds FtField.Absent fits =
-    let number : beAt 4 (bytes 4 seconds) 0 ≡ seconds = bytes-read 4 seconds (omega (arith, fits .seconds)) in
-    let last : beAt 2 (bytes 4 seconds) 2 ≡ seconds = omega (arith, fits .seconds) in
+init-reads id p (Timeout.Seconds s) FtField.Absent fits =
+    let value : ℕ = beAt 4 (sessionValue FtField.Absent (Timeout.Seconds s)) 0 in
     simp (
       bytes-read 4 (id .0) (fits .id),
       bytes-read 2 (p .keepalive) (fits .keepalive),
       bytes-read 2 (p .pdulength) (fits .pdulength),
-      number,
-      last,
-      lt-leb topBitWeight seconds (omega (arith, fits .seconds)),
+      lt-leb topBitWeight value (omega (arith, fits .timeout)),
+      bytes-read 2 s (fits .timeout),
     )
-init-reads id p seconds (FtField.Number a) fits =
-    let v : ℕ = topBitWeight + seconds in
-    let number : beAt 4 (bytes 4 v) 0 ≡ v = bytes-read 4 v (omega (arith, fits .seconds)) in
-    let last : beAt 2 (bytes 4 v) 2 ≡ seconds = omega (arith, fits .seconds) in
+init-reads id p (Timeout.Seconds s) (FtField.Number a) fits =
+    let value : ℕ = beAt 4 (sessionValue (FtField.Number a) (Timeout.Seconds s)) 0 in
     simp (
       bytes-read 4 (id .0) (fits .id),
       bytes-read 2 (p .keepalive) (fits .keepalive),
       bytes-read 2 (p .pdulength) (fits .pdulength),
+      le-leb topBitWeight value (omega arith),
+      bytes-read 2 s (fits .timeout),
       bytes-read 4 (a .0) (fits .ack),
-      number,
-      last,
-      le-leb topBitWeight v (omega arith),
+    )
+init-reads id p (Timeout.Milliseconds n) FtField.Absent fits =
+    simp (
+      bytes-read 4 (id .0) (fits .id),
+      bytes-read 2 (p .keepalive) (fits .keepalive),
+      bytes-read 2 (p .pdulength) (fits .pdulength),
+      bytes-read 4 n (fits .timeout),
+    )
+init-reads id p (Timeout.Milliseconds n) (FtField.Number a) fits =
+    simp (
+      bytes-read 4 (id .0) (fits .id),
+      bytes-read 2 (p .keepalive) (fits .keepalive),
+      bytes-read 2 (p .pdulength) (fits .pdulength),
+      bytes-read 4 n (fits .timeout),
+      bytes-read 4 (a .0) (fits .ack),
     )

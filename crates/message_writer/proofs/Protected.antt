@@ -13,14 +13,16 @@ use Rattle.octets.specs.Pick.{pick}
 use Rattle.octets.proofs.Bytes.{beAt-behind}
 use Rattle.octets.proofs.Choice.{where-same}
 use Rattle.ft_number.specs.declared.FtNumber.{FtNumber}
+use Rattle.ft_number.specs.declared.Timeout.{Timeout}
 use Rattle.tlv.specs.declared.Fec.{Fec}
 use Rattle.tlv.specs.declared.Field.{Field}
 use Rattle.tlv.specs.declared.Found.{Found}
 use Rattle.tlv.specs.declared.FtField.{FtField}
+use Rattle.tlv.specs.declared.Session.{Session}
 use Rattle.tlv.specs.declared.walk.Tlv.{Tlv}
 use Rattle.tlv.specs.declared.walk.Walk.{Walk}
-use Rattle.tlv.specs.Tlv.{tlvOf, lengthFits, headOf, labelValue, protectionType, ackType}
-use Rattle.tlv.specs.Value.{Within, Places, partAt, fecAt, fieldAt, numberAt, idAt, parametersAt, sessionAt}
+use Rattle.tlv.specs.Tlv.{tlvOf, publishedLength, lengthFits, headOf, labelValue, protectionType, ackType}
+use Rattle.tlv.specs.Value.{Within, Places, partAt, fecAt, fieldAt, numberAt, idAt, parametersAt, topBit, timeoutAt, sessionAt}
 use Rattle.tlv.specs.Walk.{placeOf, placedOf, notedOf, turnOf, walkOf, headSize, tlvsOf}
 use Rattle.tlv.proofs.Places.{Each, Lies, found-lies, places}
 use Rattle.tlv.proofs.Turns.{walk-step}
@@ -88,13 +90,23 @@ module _ (m t : List ℕ) (same : (w at : ℕ) → headSize ≤ at → at + w �
         let b : beAt 2 t (p + 10) ≡ beAt 2 m (p + 10) = value-same 2 6 (λ y. omega (arith, within y)) z in
         cc)
 
+    timeout-same : Within m p 4 → (p ≡ 0 → ⊥) → timeoutAt t p ≡ timeoutAt m p
+    timeout-same within z =
+        ap (λ (n : ℕ). pick (eqb n publishedLength) (Timeout.Milliseconds (beAt 4 t (p + 8))) (Timeout.Seconds (beAt 2 t (p + 6)))) (length-same z)
+        ∙ by-length (eqb (beAt 2 m (p + 2)) publishedLength) refl
+      where
+        by-length : (b : Bool) → eqb (beAt 2 m (p + 2)) publishedLength ≡ b
+            → pick b (Timeout.Milliseconds (beAt 4 t (p + 8))) (Timeout.Seconds (beAt 2 t (p + 6))) ≡ pick b (Timeout.Milliseconds (beAt 4 m (p + 8))) (Timeout.Seconds (beAt 2 m (p + 6)))
+        by-length true q =
+            ap Timeout.Milliseconds (value-same 4 4 (λ y. omega (arith, lies y .within, eqb-true (beAt 2 m (p + 2)) publishedLength q)) z)
+        by-length false q = ap Timeout.Seconds (value-same 2 2 within z)
+
     session-same : Within m p 4 → sessionAt t p ≡ sessionAt m p
     unfolding sessionAt
     session-same within =
         where-same p 0 _ _ (λ z.
         let a : beAt 4 t (p + 4) ≡ beAt 4 m (p + 4) = value-same 4 0 within z in
-        let b : beAt 2 t (p + 6) ≡ beAt 2 m (p + 6) = value-same 2 2 within z in
-        rw (a, b))
+        rw a (ap (Session.Given (topBit (beAt 4 m (p + 4)))) (timeout-same within z)))
 
     fec-same : fecAt t p ≡ fecAt m p
     unfolding fecAt

@@ -1,7 +1,8 @@
 -- The messages that we write, byte by byte.
 -- 01: "Our Init: parameters (protocol version 1, KeepAlive time, A, D and PVLim zero, maximum PDU length, receiver identifier), FT Session,
 -- then FT ACK if R is 1: 34 or 42 bytes. KeepAlive .. carries FT ACK in UpFT, 16 bytes, and none in UpPlain, 8 bytes."
--- 02: "bit A of our Init, as Open says".
+-- 02: "bit A of our Init, as Open says"; "the session writes the one its owner names", the draft's FT Session or RFC 3479's, "setting S alone of its new flags, Recovery Time to 0":
+-- 34 or 42 bytes, or 42 or 50.
 -- "adds at its end FT Protection, then FT ACK if asked, raising its length"; "on writing FT Session begins 85 03".
 use Prim.Native.Nat.{ℕ, _+_, _-_}
 use mathlib.Core.Bool.{Bool, true, false}
@@ -11,9 +12,9 @@ use Rattle.octets.specs.Be.{bytes}
 use Rattle.octets.specs.Laid.{laid}
 use Rattle.ft_number.specs.declared.FtNumber.{FtNumber}
 use Rattle.ft_number.specs.declared.MessageId.{MessageId}
+use Rattle.ft_number.specs.declared.Timeout.{Timeout}
 use Rattle.tlv.specs.declared.FtField.{FtField}
 use Rattle.tlv.specs.Tlv.{parametersType, sessionType, protectionType, ackType}
-use Rattle.tlv.specs.Value.{topBitWeight}
 use Rattle.message.specs.Reading.{initializationType, keepaliveType}
 use Rattle.message_writer.specs.declared.OwnParameters.{OwnParameters}
 
@@ -44,25 +45,46 @@ parametersTlv p =
     tlvBytes parametersType
     (bytes 2 1 ++ (bytes 2 (p .keepalive) ++ (bytes 1 (modeByte (p .ondemand)) ++ (bytes 1 0 ++ (bytes 2 (p .pdulength) ++ (bytes 4 (p .lsr) ++ bytes 2 (p .space)))))))
 
--- the 32 bits of FT Session: the top bit is R, set where there is an ACK; the last 16 are the seconds
-abbrev pub sessionValue : FtField → ℕ → ℕ
-sessionValue FtField.Absent seconds = seconds
-sessionValue (FtField.Number a) seconds = topBitWeight + seconds
+-- the flags of FT Session: R, set where there is an ACK
+abbrev pub reconnectFlag : FtField → ℕ
+reconnectFlag FtField.Absent = 0
+reconnectFlag (FtField.Number a) = 0x8000
+
+-- RFC 3479's flag S
+abbrev pub saveFlag : ℕ
+saveFlag = 0x0008
+
+-- the value of the draft's FT Session: flags (2), seconds (2)
+abbrev pub draftValue : ℕ → ℕ → List ℕ
+draftValue flags seconds = bytes 2 flags ++ bytes 2 seconds
+
+-- that of RFC 3479's: flags (2), reserved (2), FT reconnect timeout in milliseconds (4), recovery time (4)
+abbrev pub publishedValue : ℕ → ℕ → List ℕ
+publishedValue flags milliseconds = bytes 2 flags ++ (bytes 2 0 ++ (bytes 4 milliseconds ++ bytes 4 0))
+
+abbrev pub sessionValue : FtField → Timeout → List ℕ
+sessionValue ack (Timeout.Seconds s) = draftValue (reconnectFlag ack) s
+sessionValue ack (Timeout.Milliseconds n) = publishedValue (reconnectFlag ack + saveFlag) n
 
 -- the U bit, the top one of a TLV's first 16: who does not know the type passes the TLV over
 abbrev pub unknownBit : ℕ
 unknownBit = 0x8000
 
 -- FT Session, its U bit set
-abbrev pub sessionTlv : ℕ → List ℕ
-sessionTlv session = tlvBytes (unknownBit + sessionType) (bytes 4 session)
+abbrev pub sessionTlv : FtField → Timeout → List ℕ
+sessionTlv ack t = tlvBytes (unknownBit + sessionType) (sessionValue ack t)
+
+-- where an Init's FT Session ends, in the form of its timeout
+abbrev pub sessionEnd : Timeout → ℕ
+sessionEnd (Timeout.Seconds s) = 34
+sessionEnd (Timeout.Milliseconds n) = 42
 
 -- an Init up to its FT Session, with the length of the whole
-abbrev pub initHead : ℕ → MessageId → OwnParameters → ℕ → List ℕ
-initHead size id p session = headBytes initializationType size (id .0) ++ (parametersTlv p ++ sessionTlv session)
+abbrev pub initHead : ℕ → MessageId → OwnParameters → FtField → Timeout → List ℕ
+initHead size id p ack t = headBytes initializationType size (id .0) ++ (parametersTlv p ++ sessionTlv ack t)
 
-abbrev pub initBytes : MessageId → OwnParameters → ℕ → FtField → List ℕ
-initBytes id p seconds ack = messageBytes initializationType id (parametersTlv p ++ (sessionTlv (sessionValue ack seconds) ++ ackTlv ack))
+abbrev pub initBytes : MessageId → OwnParameters → Timeout → FtField → List ℕ
+initBytes id p t ack = messageBytes initializationType id (parametersTlv p ++ (sessionTlv ack t ++ ackTlv ack))
 
 abbrev pub keepaliveBytes : MessageId → FtField → List ℕ
 keepaliveBytes id ack = messageBytes keepaliveType id (ackTlv ack)

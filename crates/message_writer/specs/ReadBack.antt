@@ -3,6 +3,8 @@ use Prim.Native.Nat.{ℕ, _+_, _^_, _<_}
 use mathlib.Core.Bool.{Bool, true, false}
 use Rattle.ft_number.specs.declared.FtNumber.{FtNumber}
 use Rattle.ft_number.specs.declared.MessageId.{MessageId}
+use Rattle.ft_number.specs.declared.Timeout.{Timeout}
+use Rattle.ft_number.specs.Timeout.{TimeoutFits}
 use Rattle.tlv.specs.declared.Fec.{Fec}
 use Rattle.tlv.specs.declared.Field.{Field}
 use Rattle.tlv.specs.declared.Found.{Found}
@@ -17,6 +19,7 @@ use Rattle.message.specs.declared.Message.{Message}
 use Rattle.message.specs.declared.MessageType.{MessageType}
 use Rattle.message.specs.Reading.{initializationType, keepaliveType}
 use Rattle.message_writer.specs.declared.OwnParameters.{OwnParameters}
+use Rattle.message_writer.specs.Forms.{sessionEnd}
 
 -- an ACK that is given has 32 bits
 abbrev pub AckFits : FtField → Type 0
@@ -24,11 +27,11 @@ AckFits FtField.Absent = Unit {0}
 AckFits (FtField.Number a) = a .0 < 256 ^ 4
 
 -- each value of an Init has its width
-pub record InitFits (m : MessageId) (p : OwnParameters) (s : ℕ) (a : FtField) : Type 0 where
+pub record InitFits (m : MessageId) (p : OwnParameters) (t : Timeout) (a : FtField) : Type 0 where
   pub id : m .0 < 256 ^ 4
   pub keepalive : p .keepalive < 256 ^ 2
   pub pdulength : p .pdulength < 256 ^ 2
-  pub seconds : s < 256 ^ 2
+  pub timeout : TimeoutFits t
   pub ack : AckFits a
 
 -- the places with those of FT Protection and FT ACK
@@ -94,11 +97,11 @@ abbrev pub reconnects : FtField → Bool
 reconnects FtField.Absent = false
 reconnects (FtField.Number a) = true
 
-abbrev pub initMessage : MessageId → OwnParameters → ℕ → FtField → Message
-initMessage id p seconds ack =
+abbrev pub initMessage : MessageId → OwnParameters → Timeout → FtField → Message
+initMessage id p t ack =
     ownMessage MessageType.Initialization initializationType id
-    (ackPlaces (placedOf (placedOf noneFound Tlv.Parameters headSize) Tlv.Session 26) 34 ack)
-    (Parameters.Given (p .keepalive) (p .pdulength)) (record { start = 12; end = 26 }) (Session.Given (reconnects ack) seconds) ack
+    (ackPlaces (placedOf (placedOf noneFound Tlv.Parameters headSize) Tlv.Session 26) (sessionEnd t) ack)
+    (Parameters.Given (p .keepalive) (p .pdulength)) (record { start = 12; end = 26 }) (Session.Given (reconnects ack) t) ack
 
 abbrev pub keepaliveMessage : MessageId → FtField → Message
 keepaliveMessage id ack =

@@ -5,11 +5,12 @@ ghost use mathlib.Core.Path.{_≡_};
 ghost use lib.ListN.{length};
 ghost use Rattle.octets.specs.Be.{bytes};
 ghost use Rattle.octets.specs.Laid.{laid};
-ghost use Rattle.tlv.specs.Tlv.{protectionType};
-ghost use Rattle.message_writer.specs.Forms.{tlvBytes, headBytes, modeByte, parametersTlv, initHead, initBytes, keepaliveBytes, raisedTo, protectedBytes};
+ghost use Rattle.tlv.specs.Tlv.{sessionType, protectionType};
+ghost use Rattle.message_writer.specs.Forms.{tlvBytes, headBytes, modeByte, parametersTlv, reconnectFlag, draftValue, publishedValue, unknownBit, sessionTlv, sessionEnd, initHead, initBytes, keepaliveBytes, raisedTo, protectedBytes};
 ghost use Rattle.message_writer.specs.Written.{writtenOf};
 use ft_number::FtNumber;
 use ft_number::MessageId;
+use ft_number::Timeout;
 use tlv::FtField;
 
 // What our Init proposes: KeepAlive time, maximum PDU length, the receiver's LDP identifier (LSR ID and label space), and whether labels
@@ -73,42 +74,105 @@ fn put_parameters(out: &mut [u8], p: OwnParameters)
     octets::put_u16(out, 24, p.space);
 }
 
-// Writes an Init up to its FT Session TLV.
-fn put_init(out: &mut [u8], size: u16, id: MessageId, p: OwnParameters, session: u32)
+// The flags of FT Session: R, set where there is an ACK.
+fn reconnect_flag(ack: FtField) -> u16
+    ensures { λ r. ⌜ r ≡ reconnectFlag ack ⌝ }
+{
+    match ack {
+        FtField::Absent => 0,
+        FtField::Number(_) => 0x8000,
+    }
+}
+
+// Where an Init's FT Session ends, in the form of its timeout.
+fn session_end(timeout: Timeout) -> usize
+    ensures { λ r. ⌜ r ≡ sessionEnd timeout ⌝ }
+{
+    match timeout {
+        Timeout::Seconds(_) => 34,
+        Timeout::Milliseconds(_) => 42,
+    }
+}
+
+// Writes the draft's FT Session behind an Init's parameters.
+fn put_draft(out: &mut [u8], flags: u16, seconds: u16)
     requires { ⌜ 34 ≤ length (now out) ⌝ }
-    ensures { λ _. ⌜ now (out .exit) ≡ laid (now (out .entry)) 0 (initHead size id p session) ⌝ }
+    ensures { λ _. ⌜ now (out .exit) ≡ laid (now (out .entry)) 26 (tlvBytes (unknownBit + sessionType) (draftValue flags seconds)) ⌝ }
+{
+    octets::put_u32(out, 26, 0x85030004);
+    octets::put_u16(out, 30, flags);
+    octets::put_u16(out, 32, seconds);
+}
+
+// Writes the published FT Session there, reserved bytes and recovery time zero.
+fn put_published(out: &mut [u8], flags: u16, milliseconds: u32)
+    requires { ⌜ 42 ≤ length (now out) ⌝ }
+    ensures { λ _. ⌜ now (out .exit) ≡ laid (now (out .entry)) 26 (tlvBytes (unknownBit + sessionType) (publishedValue flags milliseconds)) ⌝ }
+{
+    octets::put_u32(out, 26, 0x8503000C);
+    octets::put_u16(out, 30, flags);
+    octets::put_u16(out, 32, 0);
+    octets::put_u32(out, 34, milliseconds);
+    octets::put_u32(out, 38, 0);
+}
+
+// Writes FT Session in the form of its timeout; of the published form's new flags S alone is set.
+fn put_session(out: &mut [u8], ack: FtField, timeout: Timeout)
+    requires { ⌜ sessionEnd timeout ≤ length (now out) ⌝ }
+    ensures { λ _. ⌜ now (out .exit) ≡ laid (now (out .entry)) 26 (sessionTlv ack timeout) ⌝ }
+{
+    let flags = reconnect_flag(ack);
+    match timeout {
+        Timeout::Seconds(s) => put_draft(out, flags, s),
+        Timeout::Milliseconds(n) => put_published(out, flags + 0x0008, n),
+    }
+}
+
+// Writes an Init up to its FT Session TLV.
+fn put_init(
+    out: &mut [u8],
+    size: u16,
+    id: MessageId,
+    p: OwnParameters,
+    ack: FtField,
+    timeout: Timeout,
+)
+    requires { ⌜ sessionEnd timeout ≤ length (now out) ⌝ }
+    ensures { λ _. ⌜ now (out .exit) ≡ laid (now (out .entry)) 0 (initHead size id p ack timeout) ⌝ }
 {
     put_head(out, 0x0200, size, id.0);
     put_parameters(out, p);
-    put_tlv(out, 26, 0x8503, session);
+    put_session(out, ack, timeout);
 }
 
-// Writes our Init: with an ACK R is set and it has 42 bytes, without one R is clear and it has 34. Where the output is too short (9) no byte
-// is written; else it stands at its start, and no byte after it changes. Exact room is enough.
+// Writes our Init: with an ACK R is set and FT ACK stands at its end, without one R is clear. It has 34 or 42 bytes with a timeout in seconds,
+// 42 or 50 with one in milliseconds. Where the output is too short (9) no byte is written; else it stands at its start, and no byte after it
+// changes. Exact room is enough.
 pub fn write_init(
     out: &mut [u8],
     id: MessageId,
     p: OwnParameters,
-    seconds: u16,
+    timeout: Timeout,
     ack: FtField,
 ) -> Written
-    ensures { λ r. ⌜ (r, now (out .exit)) ≡ writtenOf (now (out .entry)) (initBytes id p seconds ack) ⌝ }
+    ensures { λ r. ⌜ (r, now (out .exit)) ≡ writtenOf (now (out .entry)) (initBytes id p timeout ack) ⌝ }
 {
+    let end = session_end(timeout);
     match ack {
         FtField::Absent => {
-            if out.len() < 34 {
+            if out.len() < end {
                 return Written::TooShort;
             }
-            put_init(out, 30, id, p, seconds as u32);
-            Written::Bytes(34)
+            put_init(out, (end - 4) as u16, id, p, ack, timeout);
+            Written::Bytes(end)
         }
         FtField::Number(a) => {
-            if out.len() < 42 {
+            if out.len() < end + 8 {
                 return Written::TooShort;
             }
-            put_init(out, 38, id, p, 0x80000000 + seconds as u32);
-            put_tlv(out, 34, 0x0504, a.0);
-            Written::Bytes(42)
+            put_init(out, (end + 4) as u16, id, p, ack, timeout);
+            put_tlv(out, end, 0x0504, a.0);
+            Written::Bytes(end + 8)
         }
     }
 }

@@ -2,9 +2,11 @@
 // The expected lines are made by tests/numbers/make.py.
 use ft_number::Ack;
 use ft_number::Distance;
+use ft_number::Form;
 use ft_number::FtNumber;
 use ft_number::Proposal;
 use ft_number::Steps;
+use ft_number::Timeout;
 use ft_number::Turn;
 
 const STDOUT: i32 = 1;
@@ -29,7 +31,8 @@ const RELEASED: [u32; 6] = [0, 0, 4294967294, 1, 4294967295, 5];
 
 const ISSUED: [u32; 6] = [0, 5, 1, 65, 64, 5];
 
-const TIMEOUTS: [u32; 6] = [0, 1, 4, 5, 30, 65535];
+// 0 is for ever; seconds and milliseconds, the most that each form says in milliseconds.
+const TIMEOUTS: [u32; 6] = [0, 1, 5, 30000, 65535000, 4294967295];
 
 fn text(s: &[u8]) {
     io::write_all(STDOUT, s);
@@ -174,10 +177,40 @@ fn timeouts(a: u32) {
     }
 }
 
+// A timeout as its form says it.
+fn said(t: Timeout) {
+    match t {
+        Timeout::Seconds(s) => {
+            text(b" seconds");
+            number(s as u32);
+        }
+        Timeout::Milliseconds(n) => {
+            text(b" milliseconds");
+            number(n);
+        }
+    }
+}
+
+// What is proposed, and that in milliseconds.
 fn proposal(p: Proposal) {
+    let t = ft_number::proposed_timeout(p);
     text(b"proposed");
-    number(ft_number::proposed_timeout(p) as u32);
+    said(t);
+    text(b" is");
+    number(ft_number::milliseconds(t));
     end();
+}
+
+// The default of each form, and each form's proposals at the ends of its range.
+fn proposals() {
+    proposal(Proposal::NotGiven(Form::Draft));
+    proposal(Proposal::Given(Timeout::Seconds(0)));
+    proposal(Proposal::Given(Timeout::Seconds(5)));
+    proposal(Proposal::Given(Timeout::Seconds(65535)));
+    proposal(Proposal::NotGiven(Form::Published));
+    proposal(Proposal::Given(Timeout::Milliseconds(0)));
+    proposal(Proposal::Given(Timeout::Milliseconds(5)));
+    proposal(Proposal::Given(Timeout::Milliseconds(4294967295)));
 }
 
 fn edges() {
@@ -201,7 +234,5 @@ fn tables() {
 fn main() {
     edges();
     tables();
-    proposal(Proposal::NotGiven);
-    proposal(Proposal::Seconds(0));
-    proposal(Proposal::Seconds(5));
+    proposals();
 }

@@ -7,7 +7,6 @@ use native.Mathlib.Omega.{arith}
 use lib.Dec.{ltb}
 use lib.ListN.{length-append, length-drop}
 use Rattle.octets.proofs.Choice.{pick-all}
-use Rattle.ft_number.specs.Timeout.{proposedOf}
 use Rattle.message.specs.declared.Reading.{Reading}
 use Rattle.message.specs.Reading.{readingOf}
 use Rattle.protocol.specs.declared.Answer.{Answer}
@@ -19,8 +18,8 @@ use Rattle.protocol.specs.Calls.{step, Call, opens, fails, formats, gree
 use Rattle.protocol.specs.ConnectionFailed.{connectionFailed}
 use Rattle.protocol.specs.Init.{fresh, resumed, startState, initReceived, initStart}
 use Rattle.protocol.specs.KeepAlive.{keepalive, aliveBytes}
-use Rattle.protocol.specs.Open.{openSession, openBytes}
-use Rattle.protocol.specs.Phases.{issuedCount, isUp, mayOpen, waitingFor}
+use Rattle.protocol.specs.Open.{openSession, openBytes, awaiting}
+use Rattle.protocol.specs.Phases.{issuedCount, isUp, mayOpen}
 use Rattle.protocol.specs.Receive.{receivedState, taken, takenAs, ackCount, ackOn, receive}
 use Rattle.protocol.specs.Send.{sentState, numbered, sendNext, placeSent}
 use Rattle.protocol.specs.State.{State, held, capacity}
@@ -84,7 +83,7 @@ module _ (s : State) (few : Few s) where
     few-held formats room = omega arith
     few-held restores room = few
     few-held fails room = settled-few _ _ (λ t. few)
-    few-held (opens id p q) room = writer-few (mayOpen ph) (waitingFor (proposedOf q)) (openBytes s id p q) room
+    few-held (opens id p q) room = writer-few (mayOpen ph) (awaiting q) (openBytes s id p q) room
     few-held (greets m) room = settled-few _ _ (λ t. begun-few (initStart s ph m))
     few-held (passes elapsed) room = settled-few _ _ (λ t. pick-all Left (expired s elapsed) (omega arith) few)
     few-held (submits m) room = settled-few _ _ (λ t. submitted-few ph m (done-is (submitRule s ph m) (admitted-done s ph (submitRule s ph m) t)))

@@ -8,6 +8,7 @@ use Rattle.octets.specs.Pick.{pick, both}
 use Rattle.octets.proofs.Choice.{by-test, no}
 use Rattle.ft_number.specs.declared.Ack.{Ack}
 use Rattle.ft_number.specs.declared.FtNumber.{FtNumber}
+use Rattle.ft_number.specs.declared.Timeout.{Timeout}
 use Rattle.ft_number.specs.Ack.{ackOf}
 use Rattle.tlv.specs.declared.FtField.{FtField}
 use Rattle.tlv.specs.declared.Parameters.{Parameters}
@@ -44,7 +45,7 @@ module _ (s : State) (p : ℕ) (g : Message) where
   abbrev Here : Start → Type 0
   Here st = StartCase s p (Reading.Whole g) st
 
-  both-case : {ka mp n : ℕ} {a : FtNumber} → Reconnects s g ka mp n a → Here (bothSet s (termsOf p n ka mp) (a .0))
+  both-case : {ka mp : ℕ} {n : Timeout} {a : FtNumber} → Reconnects s g ka mp n a → Here (bothSet s (termsOf p n ka mp) (a .0))
   unfolding bothSet
   both-case {ka} {mp} {n} {a} b = by (eqb (s .terms .keepalive) ka) refl (eqb (s .terms .maxpdu) mp) refl (ackOf (s .released .0) (s .issued .0) (a .0)) refl
     where
@@ -55,7 +56,7 @@ module _ (s : State) (p : ℕ) (g : Message) where
       by true e false f k q = parameters-changed b (λ same. eqb-false (s .terms .maxpdu) mp f (same .1))
       by false e y f k q = parameters-changed b (λ same. eqb-false (s .terms .keepalive) ka e (same .0))
 
-  peer-case : {ka mp n : ℕ} → InitWith g ka mp → g .session ≡ Session.Given true n → (ack : FtField) → g .ack ≡ ack → Here (peerSet s (termsOf p n ka mp) ack)
+  peer-case : {ka mp : ℕ} {n : Timeout} → InitWith g ka mp → g .session ≡ Session.Given true n → (ack : FtField) → g .ack ≡ ack → Here (peerSet s (termsOf p n ka mp) ack)
   peer-case i e FtField.Absent q = without-ack i e q
   peer-case {ka} {mp} {n} i e (FtField.Number a) q = by (s .kept) refl
     where
@@ -89,7 +90,7 @@ module _ (s : State) (p : ℕ) where
   unfolding startOf
   init-is i e = rw (i .init, i .parameters, e)
 
-  both-is : {g : Message} {ka mp n : ℕ} {a : FtNumber} → Reconnects s g ka mp n a → startOf s p (Reading.Whole g) ≡ bothSet s (termsOf p n ka mp) (a .0)
+  both-is : {g : Message} {ka mp : ℕ} {n : Timeout} {a : FtNumber} → Reconnects s g ka mp n a → startOf s p (Reading.Whole g) ≡ bothSet s (termsOf p n ka mp) (a .0)
   both-is b = init-is (b .init) (b .session) ∙ rw (b .ack, b .kept)
 
   same-is : (ka mp : ℕ) → SameParameters s ka mp → both (eqb (s .terms .keepalive) ka) (eqb (s .terms .maxpdu) mp) ≡ true

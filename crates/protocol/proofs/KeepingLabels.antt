@@ -66,8 +66,8 @@ table-law words ids b =
         valid = b .valid;
         ids = counting-length 0 isRequest words ids ∙ b .words;
         width = λ i. by-test (isRequest (getD words i 0))
-        (λ t. rw (counting-at 0 isRequest words ids i t (request-inside words i t)) (b .width i))
-        (λ f. rw (counting-none 0 isRequest words ids i f) (omega arith));
+            (λ t. rw (counting-at 0 isRequest words ids i t (request-inside words i t)) (b .width i))
+            (λ f. rw (counting-none 0 isRequest words ids i f) (omega arith));
         once = once-counting words ids (omega (arith, b .words, b .ids)) ∙ b .once;
       };
       counted = counting-twice 0 isRequest words ids;

@@ -212,7 +212,7 @@ module _ (s : State) (law : Lawful s) (kept : s .kept ≡ true) where
       }
 
   -- a session is resumed
-  pub lawful-resumed : (t : Terms) (k a : ℕ) → t .timeout < 65536 → a < 4294967296 → ackOf (s .released .0) (s .issued .0) a ≡ Ack.Releases k → Lawful (resumed s t k a)
+  pub lawful-resumed : (t : Terms) (k a : ℕ) → t .timeout < 4294967296 → a < 4294967296 → ackOf (s .released .0) (s .issued .0) a ≡ Ack.Releases k → Lawful (resumed s t k a)
   unfolding resumed acked
   lawful-resumed t k a lt la e =
       let n = lawful-acked s law a k la e in

@@ -6,7 +6,9 @@ use mathlib.Core.Path.{_≡_, refl}
 use native.Mathlib.Omega.{arith}
 use Rattle.octets.proofs.Choice.{pick-all}
 use Rattle.ft_number.specs.declared.FtNumber.{FtNumber}
-use Rattle.ft_number.proofs.Timeout.{lesser-zero}
+use Rattle.ft_number.specs.declared.Timeout.{Timeout}
+use Rattle.ft_number.specs.Timeout.{millisOf}
+use Rattle.ft_number.proofs.Timeouts.{lesser-zero}
 use Rattle.tlv.specs.declared.Session.{Session}
 use Rattle.message.specs.declared.Message.{Message}
 use Rattle.message.specs.declared.Reading.{Reading}
@@ -53,8 +55,8 @@ resumed-leaves s t k a = record {
 }
 
 -- ---- "35 and 34 arise only with both R set"
-both-of : {s : State} {g : Message} {ka mp n : ℕ} {a : FtNumber} → Reconnects s g ka mp n a → BothR s (Reading.Whole g)
-both-of {g = g} {n = n} b = record { message = g; seconds = n; read = refl; peers = b .session; ours = b .kept }
+both-of : {s : State} {g : Message} {ka mp : ℕ} {n : Timeout} {a : FtNumber} → Reconnects s g ka mp n a → BothR s (Reading.Whole g)
+both-of {g = g} {n = n} b = record { message = g; timeout = n; read = refl; peers = b .session; ours = b .kept }
 
 releasing-case : {s : State} {p : ℕ} {rd : Reading} {st : Start} → StartCase s p rd st → 30 ≤ answerNumber (startAnswer st) → BothR s rd
 releasing-case unread l = absurd (omega arith)
@@ -73,18 +75,18 @@ pub both-needed : (s : State) (p : ℕ) (rd : Reading) → 30 ≤ answerNumber (
 both-needed s p rd l = releasing-case (start-cases s p rd) l
 
 -- ---- the agreed terms
-agreed-of : (p : ℕ) {g : Message} {r : Bool} {ka mp n : ℕ} {t : Terms} → InitWith g ka mp → g .session ≡ Session.Given r n → termsOf p n ka mp ≡ t → Agreed p (Reading.Whole g) t
+agreed-of : (p : ℕ) {g : Message} {r : Bool} {ka mp : ℕ} {n : Timeout} {t : Terms} → InitWith g ka mp → g .session ≡ Session.Given r n → termsOf p n ka mp ≡ t → Agreed p (Reading.Whole g) t
 agreed-of p {g} {r} {ka} {mp} {n} {t} i e q =
     rw (← q)
     (record {
       message = g;
       reconnect = r;
-      seconds = n;
+      peers = n;
       read = refl;
       session = e;
       parameters = i .parameters;
       timeout = refl;
-      forever = lesser-zero p n;
+      forever = lesser-zero p (millisOf n);
     })
 
 agreed-case : {s : State} {p : ℕ} {rd : Reading} {st : Start} (t : Terms) → StartCase s p rd st → BearsTerms st t → Agreed p rd t

@@ -6,14 +6,19 @@ use mathlib.Core.Logic.{⊎-elim}
 use mathlib.Core.Path.{_≡_, refl, sym, ap, _∙_}
 use lib.Dec.{ltb}
 use Rattle.octets.proofs.Choice.{cleared, no, pick-all}
+use Rattle.ft_number.specs.declared.Form.{Form}
 use Rattle.ft_number.specs.declared.MessageId.{MessageId}
 use Rattle.ft_number.specs.declared.Proposal.{Proposal}
-use Rattle.ft_number.specs.Timeout.{lesserOf, proposedOf}
+use Rattle.ft_number.specs.declared.Timeout.{Timeout}
+use Rattle.ft_number.specs.Timeout.{lesserOf, proposedOf, millisOf}
+use Rattle.ft_number.proofs.Timeouts.{lesser-commutes}
 use Rattle.tlv.specs.declared.Session.{Session}
 use Rattle.message.specs.declared.Message.{Message}
 use Rattle.message.specs.declared.Reading.{Reading}
 use Rattle.message.specs.Reading.{readingOf}
 use Rattle.message_writer.specs.declared.OwnParameters.{OwnParameters}
+use Rattle.message_writer.specs.ReadBack.{InitFits}
+use Rattle.message_writer.proofs.Own.{init-reads}
 use Rattle.protocol.specs.declared.Answer.{Answer}
 use Rattle.protocol.specs.declared.Phase.{Phase}
 use Rattle.protocol.specs.declared.Start.{Start}
@@ -26,8 +31,8 @@ use Rattle.protocol.specs.InitCases.{StartCase, another-type, without-pa
 use Rattle.protocol.specs.Judged.{done}
 use Rattle.protocol.specs.MeaningInit.{Agreed, BearsTerms}
 use Rattle.protocol.specs.MeaningTimeout.{TakenInit, TimeoutFrom, stays, released, agreed}
-use Rattle.protocol.specs.Open.{openBytes, openSession}
-use Rattle.protocol.specs.Phases.{awaits, isUpFT, issuedCount, mayOpen, phaseFits, proposalOf, waitingFor}
+use Rattle.protocol.specs.Open.{openBytes, openSession, awaiting, keptAck}
+use Rattle.protocol.specs.Phases.{awaits, isUpFT, issuedCount, mayOpen, phaseFits, proposalOf}
 use Rattle.protocol.specs.Receive.{receivedState, taken, takenAs}
 use Rattle.protocol.specs.Send.{numbered, sentState, placeSent}
 use Rattle.protocol.specs.State.{State}
@@ -55,7 +60,7 @@ module _ (s : State) (ph : Phase) where
             answer = refl;
             message = a .message;
             reconnect = a .reconnect;
-            seconds = a .seconds;
+            peers = a .peers;
             read = a .read;
             session = a .session;
             timeout = rw e (same ∙ a .timeout);
@@ -104,30 +109,30 @@ module _ (s : State) (ph : Phase) where
   unfolding openSession
   open-timeout id own proposal room =
       ⊎-elim
-      (λ (w : Wrote s (mayOpen ph) (waitingFor (proposedOf proposal)) (openBytes s id own proposal) (openSession s ph id own proposal room)). ap (λ (x : Step). x .state .terms .timeout) (w .is))
+      (λ (w : Wrote s (mayOpen ph) (awaiting proposal) (openBytes s id own proposal) (openSession s ph id own proposal room)). ap (λ (x : Step). x .state .terms .timeout) (w .is))
       (λ (q : Quiet s ph (openSession s ph id own proposal room)). ap (λ (x : State). x .terms .timeout) (q .state))
-      (writer-says s ph (mayOpen ph) (waitingFor (proposedOf proposal)) (openBytes s id own proposal) room)
+      (writer-says s ph (mayOpen ph) (awaiting proposal) (openBytes s id own proposal) room)
 
 -- ---- an Init that is taken, of the call itself
-seconds-same : {x : Session} {r t : Bool} {k n : ℕ} → x ≡ Session.Given r k → x ≡ Session.Given t n → k ≡ n
-seconds-same e q = cc
+peers-same : {x : Session} {r t : Bool} {k n : Timeout} → x ≡ Session.Given r k → x ≡ Session.Given t n → k ≡ n
+peers-same e q = cc
 
-case-agrees : {s : State} {p : ℕ} {g : Message} {st : Start} {r : Bool} {n : ℕ} → StartCase s p (Reading.Whole g) st → g .session ≡ Session.Given r n → startAnswer st ≡ Answer.Done
-    → startState s st .terms .timeout ≡ lesserOf p n
+case-agrees : {s : State} {p : ℕ} {g : Message} {st : Start} {r : Bool} {n : Timeout} → StartCase s p (Reading.Whole g) st → g .session ≡ Session.Given r n → startAnswer st ≡ Answer.Done
+    → startState s st .terms .timeout ≡ lesserOf p (millisOf n)
 unfolding fresh resumed acked
 case-agrees (another-type i) e d = no (cc)
 case-agrees (without-parameters i q) e d = no (cc)
 case-agrees (without-ack i q a) e d = no (cc)
 case-agrees (without-session i q) e d = no (cc)
-case-agrees {p = p} (peer-clear i q) e d = ap (lesserOf p) (seconds-same q e)
-case-agrees {p = p} (ours-clear i q a k) e d = ap (lesserOf p) (seconds-same q e)
+case-agrees {p = p} (peer-clear i q) e d = ap (λ (t : Timeout). lesserOf p (millisOf t)) (peers-same q e)
+case-agrees {p = p} (ours-clear i q a k) e d = ap (λ (t : Timeout). lesserOf p (millisOf t)) (peers-same q e)
 case-agrees (parameters-changed b q) e d = no (cc)
 case-agrees (sequence-error b q a) e d = no (cc)
-case-agrees {p = p} (resumes b q a) e d = ap (lesserOf p) (seconds-same (b .session) e)
+case-agrees {p = p} (resumes b q a) e d = ap (λ (t : Timeout). lesserOf p (millisOf t)) (peers-same (b .session) e)
 
 -- an Init with FT Session that is answered Done leaves the lesser of our proposal, which the phase bears, and the peer's, whatever was stored before
-pub init-agrees : (s : State) (ph : Phase) (m : List ℕ) {g : Message} {r : Bool} {n : ℕ} → readingOf m ≡ Reading.Whole g → g .session ≡ Session.Given r n
-    → initReceived s ph m .answer ≡ Answer.Done → initReceived s ph m .state .terms .timeout ≡ lesserOf (proposalOf ph) n
+pub init-agrees : (s : State) (ph : Phase) (m : List ℕ) {g : Message} {r : Bool} {n : Timeout} → readingOf m ≡ Reading.Whole g → g .session ≡ Session.Given r n
+    → initReceived s ph m .answer ≡ Answer.Done → initReceived s ph m .state .terms .timeout ≡ lesserOf (proposalOf ph) (millisOf n)
 unfolding admitted
 init-agrees s ph m {g} read e d =
     let own : Answer = startAnswer (initStart s ph m) in
@@ -136,8 +141,18 @@ init-agrees s ph m {g} read e d =
     let start : StartCase s (proposalOf ph) (Reading.Whole g) (initStart s ph m) = rw (← read) (start-cases s (proposalOf ph) (readingOf m)) in
     rw (init-does s ph m d) (case-agrees start e accepted)
 
--- an Init of a peer that proposes 5 seconds still makes it 5, where we gave no proposal of our own
-pub five-agreed : (s : State) (m : List ℕ) {g : Message} {r : Bool} → readingOf m ≡ Reading.Whole g → g .session ≡ Session.Given r 5
-    → initReceived s (waitingFor (proposedOf Proposal.NotGiven)) m .answer ≡ Answer.Done → initReceived s (waitingFor (proposedOf Proposal.NotGiven)) m .state .terms .timeout ≡ 5
+-- an Init of a peer that proposes 5 seconds still makes it 5, in whichever form it says so, where we gave no proposal of our own, whichever form our Init has
+pub five-agreed : (s : State) (form : Form) (m : List ℕ) {g : Message} {r : Bool} {n : Timeout} → readingOf m ≡ Reading.Whole g → g .session ≡ Session.Given r n → millisOf n ≡ 5000
+    → initReceived s (awaiting (Proposal.NotGiven form)) m .answer ≡ Answer.Done → initReceived s (awaiting (Proposal.NotGiven form)) m .state .terms .timeout ≡ 5000
 unfolding lesserOf
-five-agreed s m read e d = init-agrees s (waitingFor (proposedOf Proposal.NotGiven)) m read e d
+five-agreed s Form.Draft m read e five d = init-agrees s (awaiting (Proposal.NotGiven Form.Draft)) m read e d ∙ rw five
+five-agreed s Form.Published m read e five d = init-agrees s (awaiting (Proposal.NotGiven Form.Published)) m read e d ∙ rw five
+
+-- two ends agree on the same time, whichever form each has named: what each makes of the other's Init
+pub agree-alike : (s t : State) (id id′ : MessageId) (own own′ : OwnParameters) (p q : Proposal) → InitFits id own (proposedOf p) (keptAck s) → InitFits id′ own′ (proposedOf q) (keptAck t)
+    → initReceived s (awaiting p) (openBytes t id′ own′ q) .answer ≡ Answer.Done → initReceived t (awaiting q) (openBytes s id own p) .answer ≡ Answer.Done
+    → initReceived s (awaiting p) (openBytes t id′ own′ q) .state .terms .timeout ≡ initReceived t (awaiting q) (openBytes s id own p) .state .terms .timeout
+agree-alike s t id id′ own own′ p q f f′ d e =
+    init-agrees s (awaiting p) (openBytes t id′ own′ q) (init-reads id′ own′ (proposedOf q) (keptAck t) f′) refl d
+    ∙ lesser-commutes (millisOf (proposedOf p)) (millisOf (proposedOf q))
+    ∙ sym (init-agrees t (awaiting q) (openBytes s id own p) (init-reads id own (proposedOf p) (keptAck s) f) refl e)

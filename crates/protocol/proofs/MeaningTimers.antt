@@ -91,7 +91,7 @@ module _ (s : State) (fits : phaseFits Phase.Failed s ≡ true) (elapsed : ℕ) 
         late = λ p l. passed-is true (rw (ne-eqb t 0 (λ (z : t ≡ 0). omega arith), le-leb t elapsed l));
       }
 
--- "timeout 5, elapsed 4 keeps, 5 releases"
-pub five-seconds : (s : State) → phaseFits Phase.Failed s ≡ true → s .terms .timeout ≡ 5
-    → (timePassed s Phase.Failed 4 ≡ unchanged Answer.Done s Phase.Failed) × (timePassed s Phase.Failed 5 ≡ releasedWith Answer.Done)
-five-seconds s fits e = (passed-leaves s fits 4 .early (omega arith), passed-leaves s fits 5 .late (omega arith) (omega arith))
+-- "timeout 5, elapsed 4 keeps, 5 releases": of 5 seconds the last millisecond that keeps, and the first that releases
+pub five-seconds : (s : State) → phaseFits Phase.Failed s ≡ true → s .terms .timeout ≡ 5000
+    → (timePassed s Phase.Failed 4999 ≡ unchanged Answer.Done s Phase.Failed) × (timePassed s Phase.Failed 5000 ≡ releasedWith Answer.Done)
+five-seconds s fits e = (passed-leaves s fits 4999 .early (omega arith), passed-leaves s fits 5000 .late (omega arith) (omega arith))

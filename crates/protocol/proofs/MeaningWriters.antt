@@ -16,8 +16,8 @@ use Rattle.protocol.specs.declared.Phase.{Phase}
 use Rattle.protocol.specs.declared.Progress.{Progress}
 use Rattle.protocol.specs.KeepAlive.{aliveBytes, keepalive}
 use Rattle.protocol.specs.MeaningWriters.{OpenedFrom, AliveFrom}
-use Rattle.protocol.specs.Open.{keptAck, openBytes, openSession}
-use Rattle.protocol.specs.Phases.{phaseFits, mayOpen, waitingFor}
+use Rattle.protocol.specs.Open.{keptAck, openBytes, openSession, awaiting}
+use Rattle.protocol.specs.Phases.{phaseFits, mayOpen}
 use Rattle.protocol.specs.State.{State}
 use Rattle.protocol.specs.Step.{stepped, roomFor, whereOpen}
 use Rattle.protocol.specs.Writer.{writer}
@@ -31,10 +31,10 @@ module _ (s : State) (ph : Phase) (id : MessageId) (own : OwnParameters) (propos
   opened {ack} e =
       let bytes : List ℕ = openBytes s id own proposal in
       let d : whereOpen (mayOpen ph) (roomFor bytes room) ≡ Answer.Done = rw (may, le-ltb room (length bytes) enough) in
-      rw (admitted-does s ph fits (whereOpen (mayOpen ph) (roomFor bytes room)) d (stepped Answer.Done s (waitingFor (proposedOf proposal)) bytes))
+      rw (admitted-does s ph fits (whereOpen (mayOpen ph) (roomFor bytes room)) d (stepped Answer.Done s (awaiting proposal) bytes))
       (record { answer = refl; state = refl; phase = refl; reads = rw e (init-reads id own (proposedOf proposal) ack) })
 
-  -- our Init as the peer reads it: with kept state R, the ACK S and the seconds proposed
+  -- our Init as the peer reads it: with kept state R, the ACK S and the timeout proposed, in the form that was named
   pub open-kept : s .kept ≡ true → OpenedFrom s id own proposal (FtField.Number (s .secured)) (openSession s ph id own proposal room)
   unfolding keptAck
   open-kept k = opened (rw k)

@@ -9,7 +9,6 @@ use lib.ListN.{drop}
 use Rattle.octets.proofs.Choice.{by-test, pick-all}
 use Rattle.ft_number.specs.declared.MessageId.{MessageId}
 use Rattle.ft_number.specs.declared.Proposal.{Proposal}
-use Rattle.ft_number.specs.Timeout.{proposedOf}
 use Rattle.message.specs.declared.Reading.{Reading}
 use Rattle.message.specs.Reading.{readingOf}
 use Rattle.message_writer.specs.declared.OwnParameters.{OwnParameters}
@@ -20,8 +19,8 @@ use Rattle.protocol.specs.Answers.{answerNumber, isDone}
 use Rattle.protocol.specs.Begin.{restore}
 use Rattle.protocol.specs.ConnectionFailed.{connectionFailed}
 use Rattle.protocol.specs.KeepAlive.{aliveBytes, keepalive}
-use Rattle.protocol.specs.Open.{openBytes, openSession}
-use Rattle.protocol.specs.Phases.{connected, isUp, issuedCount, mayOpen, waiting, waitingFor}
+use Rattle.protocol.specs.Open.{openBytes, openSession, awaiting}
+use Rattle.protocol.specs.Phases.{connected, isUp, issuedCount, mayOpen, waiting}
 use Rattle.protocol.specs.Receive.{ackCount, ackOn, receive, receivedState, takenAs, taken}
 use Rattle.protocol.specs.Send.{numbered, sendBytes, sendNext, sendRule, sentState, placeSent}
 use Rattle.protocol.specs.State.{State}
@@ -84,7 +83,7 @@ module _ (s : State) (ph : Phase) where
 
   pub open-moves : (id : MessageId) (p : OwnParameters) (q : Proposal) (room : ℕ) → Still (openSession s ph id p q room .state)
   unfolding openSession
-  open-moves id p q room = writer-moves (mayOpen ph) (waitingFor (proposedOf q)) (openBytes s id p q) room
+  open-moves id p q room = writer-moves (mayOpen ph) (awaiting q) (openBytes s id p q) room
 
   pub notice-moves : Still (connectionFailed s ph .state)
   unfolding connectionFailed

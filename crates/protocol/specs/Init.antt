@@ -8,8 +8,9 @@ use mathlib.Core.List.{List, []}
 use lib.Dec.{eqb}
 use Rattle.octets.specs.Pick.{pick, both}
 use Rattle.ft_number.specs.declared.Ack.{Ack}
+use Rattle.ft_number.specs.declared.Timeout.{Timeout}
 use Rattle.ft_number.specs.Ack.{ackOf}
-use Rattle.ft_number.specs.Timeout.{lesserOf}
+use Rattle.ft_number.specs.Timeout.{lesserOf, millisOf}
 use Rattle.tlv.specs.declared.FtField.{FtField}
 use Rattle.tlv.specs.declared.Parameters.{Parameters}
 use Rattle.tlv.specs.declared.Session.{Session}
@@ -25,9 +26,9 @@ use Rattle.protocol.specs.Received.{isInit}
 use Rattle.protocol.specs.State.{State, keptBy, releasedState, withTimeout}
 use Rattle.protocol.specs.Step.{Step, admitted, settle, stepped, whereOpen}
 
--- what both ends keep of the two Inits: the lesser timeout and the peer's two parameters
-abbrev pub termsOf : ℕ → ℕ → ℕ → ℕ → Terms
-termsOf proposed seconds ka mp = record { timeout = lesserOf proposed seconds; keepalive = ka; maxpdu = mp }
+-- what both ends keep of the two Inits: the lesser timeout, in milliseconds whatever the form of the peer's FT Session, and the peer's two parameters
+abbrev pub termsOf : ℕ → Timeout → ℕ → ℕ → Terms
+termsOf proposed peers ka mp = record { timeout = lesserOf proposed (millisOf peers); keepalive = ka; maxpdu = mp }
 
 -- "34: ACK sequence error"
 abbrev pub resumedBy : Terms → ℕ → Ack → Start
@@ -62,11 +63,11 @@ abbrev pub peerSet : State → Terms → FtField → Start
 peerSet s t FtField.Absent = Start.Refused Answer.BadInit
 peerSet s t (FtField.Number a) = pick (s .kept) (bothSet s t (a .0)) (Start.Fresh t)
 
--- with our proposed timeout, the peer's KeepAlive time and maximum PDU length, its FT ACK and its FT Session: R and seconds
+-- with our proposed timeout, the peer's KeepAlive time and maximum PDU length, its FT ACK and its FT Session: R and its own proposal
 abbrev pub sessionStart : State → ℕ → ℕ → ℕ → FtField → Session → Start
 sessionStart s proposed ka mp ack Session.Absent = Start.Plain
-sessionStart s proposed ka mp ack (Session.Given true seconds) = peerSet s (termsOf proposed seconds ka mp) ack
-sessionStart s proposed ka mp ack (Session.Given false seconds) = Start.Fresh (termsOf proposed seconds ka mp)
+sessionStart s proposed ka mp ack (Session.Given true peers) = peerSet s (termsOf proposed peers ka mp) ack
+sessionStart s proposed ka mp ack (Session.Given false peers) = Start.Fresh (termsOf proposed peers ka mp)
 
 -- "23: Init without parameters"
 abbrev pub parametersStart : State → ℕ → FtField → Session → Parameters → Start

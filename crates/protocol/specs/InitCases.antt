@@ -5,6 +5,7 @@ use mathlib.Core.Bool.{true, false}
 use mathlib.Core.Path.{_≡_}
 use Rattle.ft_number.specs.declared.Ack.{Ack}
 use Rattle.ft_number.specs.declared.FtNumber.{FtNumber}
+use Rattle.ft_number.specs.declared.Timeout.{Timeout}
 use Rattle.ft_number.specs.Ack.{ackOf}
 use Rattle.tlv.specs.declared.FtField.{FtField}
 use Rattle.tlv.specs.declared.Parameters.{Parameters}
@@ -22,10 +23,10 @@ pub record InitWith (g : Message) (ka mp : ℕ) : Type 0 where
   pub init : isInit (g .typename) ≡ true
   pub parameters : g .parameters ≡ Parameters.Given ka mp
 
--- both R set: the peer's, with its seconds and its ACK, and ours, since the state is kept
-pub record Reconnects (s : State) (g : Message) (ka mp n : ℕ) (a : FtNumber) : Type 0 where
+-- both R set: the peer's, with its proposal and its ACK, and ours, since the state is kept
+pub record Reconnects (s : State) (g : Message) (ka mp : ℕ) (peers : Timeout) (a : FtNumber) : Type 0 where
   pub init : InitWith g ka mp
-  pub session : g .session ≡ Session.Given true n
+  pub session : g .session ≡ Session.Given true peers
   pub ack : g .ack ≡ FtField.Number a
   pub kept : s .kept ≡ true
 
@@ -40,21 +41,21 @@ pub data StartCase (s : State) (proposed : ℕ) : Reading → Start → Type 0 w
   -- "23: Init without parameters, or R set without ACK"
   without-parameters : {g : Message} → isInit (g .typename) ≡ true → g .parameters ≡ Parameters.Absent
       → StartCase s proposed (Reading.Whole g) (Start.Refused Answer.BadInit)
-  without-ack : {g : Message} {ka mp n : ℕ} → InitWith g ka mp → g .session ≡ Session.Given true n → g .ack ≡ FtField.Absent
+  without-ack : {g : Message} {ka mp : ℕ} {peers : Timeout} → InitWith g ka mp → g .session ≡ Session.Given true peers → g .ack ≡ FtField.Absent
       → StartCase s proposed (Reading.Whole g) (Start.Refused Answer.BadInit)
   -- "no FT Session, state released, UpPlain"
   without-session : {g : Message} {ka mp : ℕ} → InitWith g ka mp → g .session ≡ Session.Absent → StartCase s proposed (Reading.Whole g) Start.Plain
   -- "a zero R on either side, state released, then fresh UpFT"
-  peer-clear : {g : Message} {ka mp n : ℕ} → InitWith g ka mp → g .session ≡ Session.Given false n
-      → StartCase s proposed (Reading.Whole g) (Start.Fresh (termsOf proposed n ka mp))
-  ours-clear : {g : Message} {ka mp n : ℕ} {a : FtNumber} → InitWith g ka mp → g .session ≡ Session.Given true n → g .ack ≡ FtField.Number a → s .kept ≡ false
-      → StartCase s proposed (Reading.Whole g) (Start.Fresh (termsOf proposed n ka mp))
+  peer-clear : {g : Message} {ka mp : ℕ} {peers : Timeout} → InitWith g ka mp → g .session ≡ Session.Given false peers
+      → StartCase s proposed (Reading.Whole g) (Start.Fresh (termsOf proposed peers ka mp))
+  ours-clear : {g : Message} {ka mp : ℕ} {peers : Timeout} {a : FtNumber} → InitWith g ka mp → g .session ≡ Session.Given true peers → g .ack ≡ FtField.Number a → s .kept ≡ false
+      → StartCase s proposed (Reading.Whole g) (Start.Fresh (termsOf proposed peers ka mp))
   -- "35: parameters changed"
-  parameters-changed : {g : Message} {ka mp n : ℕ} {a : FtNumber} → Reconnects s g ka mp n a → (SameParameters s ka mp → ⊥)
+  parameters-changed : {g : Message} {ka mp : ℕ} {peers : Timeout} {a : FtNumber} → Reconnects s g ka mp peers a → (SameParameters s ka mp → ⊥)
       → StartCase s proposed (Reading.Whole g) (Start.Refused Answer.ParametersChanged)
   -- "34: ACK sequence error"
-  sequence-error : {g : Message} {ka mp n : ℕ} {a : FtNumber} → Reconnects s g ka mp n a → SameParameters s ka mp
+  sequence-error : {g : Message} {ka mp : ℕ} {peers : Timeout} {a : FtNumber} → Reconnects s g ka mp peers a → SameParameters s ka mp
       → ackOf (s .released .0) (s .issued .0) (a .0) ≡ Ack.SequenceError → StartCase s proposed (Reading.Whole g) (Start.Refused Answer.AckSequenceError)
   -- "both R set and parameters equal, ACK applied, UpFT"
-  resumes : {g : Message} {ka mp n k : ℕ} {a : FtNumber} → Reconnects s g ka mp n a → SameParameters s ka mp
-      → ackOf (s .released .0) (s .issued .0) (a .0) ≡ Ack.Releases k → StartCase s proposed (Reading.Whole g) (Start.Resumed (termsOf proposed n ka mp) k a)
+  resumes : {g : Message} {ka mp k : ℕ} {peers : Timeout} {a : FtNumber} → Reconnects s g ka mp peers a → SameParameters s ka mp
+      → ackOf (s .released .0) (s .issued .0) (a .0) ≡ Ack.Releases k → StartCase s proposed (Reading.Whole g) (Start.Resumed (termsOf proposed peers ka mp) k a)

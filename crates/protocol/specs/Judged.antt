@@ -1,6 +1,5 @@
 -- Every call is judged, and its answer settled: what its tests answer, and what it does where they answer Done (`settles` in proofs/Settles.antt).
 use Prim.Native.Nat.{ℕ}
-use Rattle.ft_number.specs.Timeout.{proposedOf}
 use Rattle.message.specs.Reading.{readingOf}
 use Rattle.protocol.specs.declared.Answer.{Answer}
 use Rattle.protocol.specs.declared.Phase.{Phase}
@@ -9,8 +8,8 @@ use Rattle.protocol.specs.Calls.{Call, formats, restores, fails, opens, 
 use Rattle.protocol.specs.ConnectionFailed.{failRule, failDeed}
 use Rattle.protocol.specs.Init.{initRule, initDeed}
 use Rattle.protocol.specs.KeepAlive.{aliveBytes}
-use Rattle.protocol.specs.Open.{openBytes}
-use Rattle.protocol.specs.Phases.{waitingFor, mayOpen, isUp}
+use Rattle.protocol.specs.Open.{openBytes, awaiting}
+use Rattle.protocol.specs.Phases.{mayOpen, isUp}
 use Rattle.protocol.specs.Receive.{receiveRule, takenAs}
 use Rattle.protocol.specs.Send.{sendRule, sendRoom, sendDeed}
 use Rattle.protocol.specs.State.{State}
@@ -37,7 +36,7 @@ unfoldable pub done : Call → State → Phase → Step
 done formats s ph = format
 done restores s ph = restore s
 done fails s ph = failDeed s
-done (opens id own proposal) s ph = writerDeed s (waitingFor (proposedOf proposal)) (openBytes s id own proposal)
+done (opens id own proposal) s ph = writerDeed s (awaiting proposal) (openBytes s id own proposal)
 done (greets m) s ph = initDeed s ph m
 done (passes elapsed) s ph = timeDeed s ph elapsed
 done (submits m) s ph = submitDeed s ph m

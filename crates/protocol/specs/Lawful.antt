@@ -22,7 +22,7 @@ pub record Window (s : State) : Type 0 where
 
 -- each number has its width
 pub record TermsFit (t : Terms) : Type 0 where
-  pub timeout : t .timeout < 65536
+  pub timeout : t .timeout < 4294967296
   pub keepalive : t .keepalive < 65536
   pub maxpdu : t .maxpdu < 65536
 

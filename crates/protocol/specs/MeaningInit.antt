@@ -4,7 +4,8 @@ use mathlib.Core.Bool.{Bool, true}
 use mathlib.Core.List.{[]}
 use mathlib.Core.Path.{_≡_}
 use lib.ListN.{take, drop}
-use Rattle.ft_number.specs.Timeout.{lesserOf}
+use Rattle.ft_number.specs.declared.Timeout.{Timeout}
+use Rattle.ft_number.specs.Timeout.{lesserOf, millisOf}
 use Rattle.label_list.specs.Requests.{openIds}
 use Rattle.tlv.specs.declared.Parameters.{Parameters}
 use Rattle.tlv.specs.declared.Session.{Session}
@@ -22,9 +23,9 @@ use Rattle.protocol.specs.Step.{Step}
 -- R is set on both sides: the state is kept, and the peer's FT Session says so
 pub record BothR (s : State) (rd : Reading) : Type 0 where
   pub message : Message
-  pub seconds : ℕ
+  pub timeout : Timeout
   pub read : rd ≡ Reading.Whole message
-  pub peers : message .session ≡ Session.Given true seconds
+  pub peers : message .session ≡ Session.Given true timeout
   pub ours : s .kept ≡ true
 
 -- the terms that a start bears
@@ -38,12 +39,12 @@ BearsTerms (Start.Resumed u k a) t = u ≡ t
 pub record Agreed (proposed : ℕ) (rd : Reading) (t : Terms) : Type 0 where
   pub message : Message
   pub reconnect : Bool
-  pub seconds : ℕ
+  pub peers : Timeout
   pub read : rd ≡ Reading.Whole message
-  pub session : message .session ≡ Session.Given reconnect seconds
+  pub session : message .session ≡ Session.Given reconnect peers
   pub parameters : message .parameters ≡ Parameters.Given (t .keepalive) (t .maxpdu)
-  pub timeout : t .timeout ≡ lesserOf proposed seconds
-  pub forever : t .timeout ≡ 0 → (proposed ≡ 0) × (seconds ≡ 0)
+  pub timeout : t .timeout ≡ lesserOf proposed (millisOf peers)
+  pub forever : t .timeout ≡ 0 → (proposed ≡ 0) × (millisOf peers ≡ 0)
 
 -- a session that began: the state is the start's, and so is the phase
 pub record BegunFrom (s : State) (ph : Phase) (st : Start) (x : Step) : Type 0 where

@@ -3,7 +3,8 @@ use Prim.Native.Nat.{ℕ}
 use mathlib.Core.Bool.{Bool}
 use mathlib.Core.List.{List}
 use mathlib.Core.Path.{_≡_}
-use Rattle.ft_number.specs.Timeout.{lesserOf}
+use Rattle.ft_number.specs.declared.Timeout.{Timeout}
+use Rattle.ft_number.specs.Timeout.{lesserOf, millisOf}
 use Rattle.tlv.specs.declared.Session.{Session}
 use Rattle.message.specs.declared.Message.{Message}
 use Rattle.message.specs.declared.Reading.{Reading}
@@ -20,10 +21,10 @@ pub record TakenInit (ph : Phase) (m : List ℕ) (x : Step) : Type 0 where
   pub answer : x .answer ≡ Answer.Done
   pub message : Message
   pub reconnect : Bool
-  pub seconds : ℕ
+  pub peers : Timeout
   pub read : readingOf m ≡ Reading.Whole message
-  pub session : message .session ≡ Session.Given reconnect seconds
-  pub timeout : x .state .terms .timeout ≡ lesserOf (proposalOf ph) seconds
+  pub session : message .session ≡ Session.Given reconnect peers
+  pub timeout : x .state .terms .timeout ≡ lesserOf (proposalOf ph) (millisOf peers)
 
 -- of a call that leaves x of the state s: the timeout stays, the state is released and has none, or the call takes an Init
 pub data TimeoutFrom (s : State) (ph : Phase) : Call → Step → Type 0 where

@@ -24,7 +24,7 @@ pub record FailedFrom (s : State) (x : Step) : Type 0 where
   pub idle : s .kept ≡ false → x .phase ≡ Phase.Idle
   pub output : x .output ≡ []
 
--- "Time passed (Failed): releases, then Idle, if the timeout isn't zero and elapsed seconds are at least it; else nothing changes"
+-- "Time passed (Failed): releases, then Idle, if the timeout isn't zero and elapsed seconds are at least it; else nothing changes"; 02: "Time passed counts milliseconds."
 pub record TimePassed (s : State) (elapsed : ℕ) : Type 0 where
   pub forever : s .terms .timeout ≡ 0 → timePassed s Phase.Failed elapsed ≡ unchanged Answer.Done s Phase.Failed
   pub early : elapsed < s .terms .timeout → timePassed s Phase.Failed elapsed ≡ unchanged Answer.Done s Phase.Failed

@@ -12,7 +12,7 @@ use Rattle.message_writer.specs.declared.OwnParameters.{OwnParameters}
 use Rattle.message_writer.specs.ReadBack.{AckFits, InitFits, initMessage, keepaliveMessage}
 use Rattle.protocol.specs.declared.Answer.{Answer}
 use Rattle.protocol.specs.declared.Phase.{Phase}
-use Rattle.protocol.specs.Phases.{waitingFor}
+use Rattle.protocol.specs.Open.{awaiting}
 use Rattle.protocol.specs.State.{State}
 use Rattle.protocol.specs.Step.{Step}
 
@@ -21,7 +21,7 @@ pub record OpenedFrom (s : State) (id : MessageId) (own : OwnParameters) (propos
   pub answer : x .answer ≡ Answer.Done
   pub state : x .state ≡ s
   -- "it bears our proposed timeout"
-  pub phase : x .phase ≡ waitingFor (proposedOf proposal)
+  pub phase : x .phase ≡ awaiting proposal
   pub reads : InitFits id own (proposedOf proposal) ack → readingOf (x .output) ≡ Reading.Whole (initMessage id own (proposedOf proposal) ack)
 
 -- "carries FT ACK in UpFT, 16 bytes, and none in UpPlain, 8 bytes"

@@ -4,7 +4,7 @@ use mathlib.Core.List.{List}
 use Rattle.octets.specs.Pick.{pick}
 use Rattle.ft_number.specs.declared.MessageId.{MessageId}
 use Rattle.ft_number.specs.declared.Proposal.{Proposal}
-use Rattle.ft_number.specs.Timeout.{proposedOf}
+use Rattle.ft_number.specs.Timeout.{millisOf, proposedOf}
 use Rattle.tlv.specs.declared.FtField.{FtField}
 use Rattle.message_writer.specs.declared.OwnParameters.{OwnParameters}
 use Rattle.message_writer.specs.Forms.{initBytes}
@@ -21,6 +21,9 @@ keptAck s = pick (s .kept) (FtField.Number (s .secured)) FtField.Absent
 abbrev pub openBytes : State → MessageId → OwnParameters → Proposal → List ℕ
 openBytes s id p t = initBytes id p (proposedOf t) (keptAck s)
 
--- then the peer's Init is awaited; the phase bears our proposed timeout
+-- then the peer's Init is awaited; the phase bears our proposed timeout. 02: the form is this call's alone: "the session writes the one its owner names, in whose unit it proposes"
+abbrev pub awaiting : Proposal → Phase
+awaiting t = waitingFor (millisOf (proposedOf t))
+
 unfoldable pub openSession : State → Phase → MessageId → OwnParameters → Proposal → ℕ → Step
-openSession s ph id p t room = writer s ph (mayOpen ph) (waitingFor (proposedOf t)) (openBytes s id p t) room
+openSession s ph id p t room = writer s ph (mayOpen ph) (awaiting t) (openBytes s id p t) room

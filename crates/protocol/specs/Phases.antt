@@ -31,9 +31,9 @@ abbrev pub restingPhase : State → Phase
 restingPhase s = pick (s .kept) Phase.Failed Phase.Idle
 
 -- ---- what a phase bears
--- InitWait: "it bears our proposed timeout"
+-- InitWait: "it bears our proposed timeout"; 02: it counts milliseconds, whatever the form of our Init
 abbrev pub waitingFor : ℕ → Phase
-waitingFor seconds = Phase.InitWait (record { timeout = seconds })
+waitingFor millis = Phase.InitWait (record { timeout = millis })
 
 abbrev pub proposalOf : Phase → ℕ
 proposalOf Phase.Idle = 0

@@ -121,12 +121,12 @@ keptBy s t = record {
 
 -- another timeout is agreed; the peer's two parameters stay
 abbrev pub withTimeout : State → ℕ → State
-withTimeout s seconds = record {
+withTimeout s millis = record {
   released = s .released;
   issued = s .issued;
   secured = s .secured;
   kept = s .kept;
-  terms = record { timeout = seconds; keepalive = s .terms .keepalive; maxpdu = s .terms .maxpdu };
+  terms = record { timeout = millis; keepalive = s .terms .keepalive; maxpdu = s .terms .maxpdu };
   marks = s .marks;
   table = s .table;
   queue = s .queue;

@@ -1,4 +1,5 @@
 -- Time passed: "Time passed (Failed): releases, then Idle, if the timeout isn't zero and elapsed seconds are at least it; else nothing changes." Answer: 1.
+-- 02: "Time passed counts milliseconds."
 use Prim.Native.Nat.{ℕ}
 use mathlib.Core.Bool.{Bool, false}
 use lib.Dec.{eqb, leb}

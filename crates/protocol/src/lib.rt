@@ -1,9 +1,9 @@
 // The session's protocol: the types that its rules speak of. The rules are definitions and stand in specs/; there is no code here.
 use ft_number::FtNumber;
 
-// What InitWait bears: our proposed timeout.
+// What InitWait bears: our proposed timeout in milliseconds.
 pub struct Waiting {
-    pub timeout: u16,
+    pub timeout: u32,
 }
 
 // What UpFT bears: the count sent on this connection, and whether the connection is resumed: both ends' Inits had R set.
@@ -60,9 +60,9 @@ pub enum Effect {
     Act,
 }
 
-// What both ends keep of the two Inits: the agreed timeout, and the peer's two parameters that are read.
+// What both ends keep of the two Inits: the agreed timeout in milliseconds, and the peer's two parameters that are read.
 pub struct Terms {
-    pub timeout: u16,
+    pub timeout: u32,
     pub keepalive: u16,
     pub maxpdu: u16,
 }

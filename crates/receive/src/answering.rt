@@ -47,7 +47,7 @@ fn find_open(image: &[u8], words: &[u32], id: MessageId) -> Found
     requires { ⌜ length (now image) ≡ imageSize ⌝ }
     ensures { λ r. ⌜ r ≡ openAt id (now (words .entry)) (storedIds (now (image .entry))) ⌝ }
 {
-    let mut ids = [0u32; label_list::WORD_COUNT];
+    let mut ids = [0u32; request_ids::ID_COUNT];
     image::ids_of(image, &mut ids);
     label_list::find_request(words, &ids, id)
 }

@@ -1,5 +1,5 @@
 -- Block 65 that was written, where only some IDs have their width: those are read back, so the ones that count are, and decide. Assumes nothing.
-use Prim.Native.Nat.{ℕ, zero, suc, _%_, _<_, _/_}
+use Prim.Native.Nat.{ℕ, zero, suc, _%_, _≤_, _<_, _/_}
 use mathlib.Core.Bool.{true}
 use mathlib.Core.List.{List, [], _∷_, _++_, map}
 use mathlib.Core.Path.{_≡_, refl, sym, ap, ap₂, _∙_}
@@ -12,11 +12,11 @@ use Rattle.octets.proofs.Choice.{by-test}
 use Rattle.block.specs.Check.{sealed}
 use Rattle.block.specs.Run.{spelled, wordBytes, Words}
 use Rattle.label_list.specs.Requests.{openIds, onceOf}
-use Rattle.label_list.specs.Word.{wordCount, isRequest}
+use Rattle.label_list.specs.Word.{isRequest}
 use Rattle.label_list.proofs.Counting.{counting-length, counting-at, counting-none}
 use Rattle.label_list.proofs.OpenIds.{request-inside, once-counting}
 use Rattle.request_ids.specs.Fields.{IdsGood, idsOk}
-use Rattle.request_ids.specs.Layout.{idsOf, idBlock}
+use Rattle.request_ids.specs.Layout.{idCount, idsOf, idBlock}
 use Rattle.request_ids.proofs.Written.{idBlock-sound, idBlock-rest, ids-idBlock, length-ids}
 
 -- the low 32 bits
@@ -39,12 +39,12 @@ spelled-low zero ids = refl
 spelled-low (suc n) [] = refl
 spelled-low (suc n) (x ∷ ids) = ap₂ (λ (p q : List ℕ). p ++ q) (bytes-low x) (spelled-low n ids)
 
-module _ (ids : List ℕ) (count : length ids ≡ wordCount) where
+module _ (ids : List ℕ) (count : length ids ≡ idCount) where
   idBlock-low : idBlock (map low ids) ≡ idBlock ids
   unfolding idBlock wordBytes
-  idBlock-low = ap (λ (p : List ℕ). sealed (p ++ replicate 28 0)) (spelled-low wordCount ids)
+  idBlock-low = ap (λ (p : List ℕ). sealed (p ++ replicate 28 0)) (spelled-low idCount ids)
 
-  low-words : Words wordCount (map low ids)
+  low-words : Words idCount (map low ids)
   unfolding low
   low-words = record { count = length-map ids low ∙ count; each = λ i. rw (List·getD-map low ids i 0) (omega arith) }
 
@@ -57,7 +57,7 @@ module _ (ids : List ℕ) (count : length ids ≡ wordCount) where
       ∙ List·getD-map low ids i 0
       ∙ mod-eq-of-lt small
 
-  module _ (ls : List ℕ) (fits : Words wordCount (openIds ls ids)) where
+  module _ (ls : List ℕ) (fits : (i : ℕ) → getD (openIds ls ids) i 0 < 4294967296) where
     -- so those that count are
     pub open-idBlock : openIds ls (idsOf (idBlock ids)) ≡ openIds ls ids
     open-idBlock =
@@ -67,10 +67,10 @@ module _ (ids : List ℕ) (count : length ids ≡ wordCount) where
         (λ t.
         let inside : i < length ls = request-inside ls i t in
         let same : getD (openIds ls ids) i 0 ≡ getD ids i 0 = counting-at 0 isRequest ls ids i t inside in
-        counting-at 0 isRequest ls (idsOf (idBlock ids)) i t inside ∙ id-idBlock i (rw same at (fits .each i)) ∙ sym same)
+        counting-at 0 isRequest ls (idsOf (idBlock ids)) i t inside ∙ id-idBlock i (rw same at (fits i)) ∙ sym same)
         (λ f. counting-none 0 isRequest ls (idsOf (idBlock ids)) i f ∙ sym (counting-none 0 isRequest ls ids i f)))
 
-    module _ (words : length ls ≡ wordCount) where
+    module _ (words : length ls ≤ idCount) where
       pub once-idBlock : onceOf ls (idsOf (idBlock ids)) ≡ onceOf ls ids
       once-idBlock =
           sym (once-counting ls (idsOf (idBlock ids)) (omega (arith, length-ids (idBlock ids))))

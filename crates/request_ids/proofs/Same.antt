@@ -20,9 +20,8 @@ use Rattle.block.specs.Zeros.{allZero}
 use Rattle.block.proofs.Same.{words-same, sealed-same}
 use Rattle.block.proofs.WordRun.{length-wordBytes, length-wordsAt, word-put, zero-words}
 use Rattle.block.proofs.ZeroBytes.{zero-bytes}
-use Rattle.label_list.specs.Word.{wordCount}
 use Rattle.request_ids.specs.Fields.{restZero}
-use Rattle.request_ids.specs.Layout.{idsEnd, idsOf, idBlock, noIds}
+use Rattle.request_ids.specs.Layout.{idCount, idsEnd, idsOf, idBlock, noIds}
 
 -- bytes that are all zero
 zeros-are : (s : List ℕ) (n : ℕ) → length s ≡ n → allZero s ≡ true → s ≡ replicate n 0
@@ -39,25 +38,25 @@ unfolding idBlock
 none-put b long ez p =
     let all : take checkAt (laid b 0 (replicate checkAt 0)) ≡ replicate checkAt 0 =
     ap (λ (k : ℕ). take k (laid b 0 (replicate checkAt 0))) (sym (length-zeros checkAt)) ∙ take-laid b (replicate checkAt 0) (omega (arith, length-zeros checkAt)) in
-    p ∙ ap sealed (ap (take checkAt) ez ∙ all ∙ ap (λ (l : List ℕ). l ++ replicate 28 0) (sym (zero-words wordCount)))
+    p ∙ ap sealed (ap (take checkAt) ez ∙ all ∙ ap (λ (l : List ℕ). l ++ replicate 28 0) (sym (zero-words idCount)))
 
 module _ (b : List ℕ) (long : length b ≡ blockSize) (byte : Bytes b) where
   words : List ℕ
-  words = wordBytes wordCount (idsOf b)
+  words = wordBytes idCount (idsOf b)
 
   long-words : length words ≡ idsEnd
   unfolding words
-  long-words = length-wordBytes wordCount (idsOf b)
+  long-words = length-wordBytes idCount (idsOf b)
 
   rest : List ℕ
   rest = drop idsEnd b
 
   in-parts : b ≡ words ++ rest
   unfolding words rest idsOf
-  in-parts = sym (take-append-drop idsEnd b) ∙ ap (λ (l : List ℕ). l ++ drop idsEnd b) (sym (words-same wordCount b 0 byte (omega arith)))
+  in-parts = sym (take-append-drop idsEnd b) ∙ ap (λ (l : List ℕ). l ++ drop idsEnd b) (sym (words-same idCount b 0 byte (omega arith)))
 
   -- one ID is another
-  pub id-put : (i v : ℕ) {n z x : List ℕ} → i < wordCount → n ≡ laid b (i * 4) (bytes 4 v) → z ≡ laid n idsEnd (replicate 28 0) → x ≡ sealed (take checkAt z)
+  pub id-put : (i v : ℕ) {n z x : List ℕ} → i < idCount → n ≡ laid b (i * 4) (bytes 4 v) → z ≡ laid n idsEnd (replicate 28 0) → x ≡ sealed (take checkAt z)
       → x ≡ idBlock (set (idsOf b) i v)
   unfolding idBlock words rest idsOf
   id-put i v {n} {z} l en ez p =
@@ -70,17 +69,17 @@ module _ (b : List ℕ) (long : length b ≡ blockSize) (byte : Bytes b) where
       ∙ ap₂ (λ (s : List ℕ) (k : ℕ). laid s k (replicate 28 0)) one there
       ∙ laid-behind put rest 0 (replicate 28 0)
       ∙ ap (λ (s : List ℕ). put ++ s) (laid-front rest (replicate 28 0) (omega (arith, length-drop idsEnd b))) in
-      let count : length (wordsAt wordCount b 0) ≡ wordCount = length-wordsAt wordCount b 0 in
+      let count : length (wordsAt idCount b 0) ≡ idCount = length-wordsAt idCount b 0 in
       p
       ∙ ap sealed
       (ap (take checkAt) (clear ∙ sym (append-assoc put (replicate 28 0) (drop 28 rest)))
       ∙ take-at (put ++ replicate 28 0) (drop 28 rest) checkAt (length-append put (replicate 28 0) ∙ omega (arith, size))
-      ∙ ap (λ (s : List ℕ). s ++ replicate 28 0) (sym (word-put wordCount (wordsAt wordCount b 0) i v l (omega arith))))
+      ∙ ap (λ (s : List ℕ). s ++ replicate 28 0) (sym (word-put idCount (wordsAt idCount b 0) i v l (omega arith))))
 
   -- a store of what the block says already changes nothing
   pub idBlock-same : sound b ≡ true → restZero b ≡ true → idBlock (idsOf b) ≡ b
   unfolding idBlock words rest idsOf
   idBlock-same s zero =
       ap (λ (l : List ℕ). sealed (words ++ l)) (sym (zeros-are (part b idsEnd checkAt) 28 (length-part b idsEnd checkAt (omega arith)) zero))
-      ∙ ap sealed (ap (λ (l : List ℕ). l ++ part b idsEnd checkAt) (words-same wordCount b 0 byte (omega arith)) ∙ sym (take-add idsEnd 28 b))
+      ∙ ap sealed (ap (λ (l : List ℕ). l ++ part b idsEnd checkAt) (words-same idCount b 0 byte (omega arith)) ∙ sym (take-add idsEnd 28 b))
       ∙ sealed-same b long byte s

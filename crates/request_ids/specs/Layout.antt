@@ -1,21 +1,25 @@
--- Block 65: 02: "its message ID at the same place of a further lent list of 120 numbers, stored in block 65 (then zeros)".
+-- Block 65: 02: "its message ID at the same place of a further lent list of 120 numbers, stored in block 65 (then zeros)". Of the 119 label words of
+-- version 2 none stands beside the last of these places: what it holds is never looked at.
 use Prim.Native.Nat.{ℕ, _-_, _*_}
 use mathlib.Core.List.{List, _++_}
 use lib.ListN.{replicate}
 use Rattle.block.specs.Check.{checkAt, sealed}
 use Rattle.block.specs.Run.{wordsAt, wordBytes}
-use Rattle.label_list.specs.Word.{wordCount}
+
+-- the places of IDs
+abbrev pub idCount : ℕ
+idCount = 120
 
 -- where the zeros begin
 abbrev pub idsEnd : ℕ
-idsEnd = wordCount * 4
+idsEnd = idCount * 4
 
 unfoldable pub idsOf : List ℕ → List ℕ
-idsOf b = wordsAt wordCount b 0
+idsOf b = wordsAt idCount b 0
 
 -- the block: the IDs, zeros, and the check of these 508 bytes
 unfoldable pub idBlock : List ℕ → List ℕ
-idBlock ids = sealed (wordBytes wordCount ids ++ replicate (checkAt - idsEnd) 0)
+idBlock ids = sealed (wordBytes idCount ids ++ replicate (checkAt - idsEnd) 0)
 
 abbrev pub noIds : List ℕ
-noIds = replicate wordCount 0
+noIds = replicate idCount 0

@@ -4,7 +4,8 @@ use mathlib.Core.Bool.{Bool}
 use mathlib.Core.List.{List}
 use mathlib.Core.Path.{_≡_, sym, ap, _∙_}
 use lib.ListN.{length}
-use Rattle.ft_number.specs.Timeout.{lesserOf}
+use Rattle.ft_number.specs.declared.Timeout.{Timeout}
+use Rattle.ft_number.specs.Timeout.{lesserOf, millisOf}
 use Rattle.tlv.specs.declared.Session.{Session}
 use Rattle.message.specs.declared.Message.{Message}
 use Rattle.message.specs.declared.Reading.{Reading}
@@ -30,8 +31,8 @@ module _ (im : List ℕ) (ph : Phase) (st : Standing im ph) (out : List ℕ) whe
   timeout-stored c p = rw (refines im ph st out c p) (timeout-from (stateOf im) ph c (length out))
 
   -- an Init with FT Session that is answered Done stores the lesser of our proposal, which the phase bears, and the peer's
-  pub agreed-stored : (m : List ℕ) → Proper (greets m) ph → {g : Message} {r : Bool} {n : ℕ} → readingOf m ≡ Reading.Whole g → g .session ≡ Session.Given r n
-      → seen (leaves (greets m) im ph out) .answer ≡ Answer.Done → seen (leaves (greets m) im ph out) .state .terms .timeout ≡ lesserOf (proposalOf ph) n
+  pub agreed-stored : (m : List ℕ) → Proper (greets m) ph → {g : Message} {r : Bool} {n : Timeout} → readingOf m ≡ Reading.Whole g → g .session ≡ Session.Given r n
+      → seen (leaves (greets m) im ph out) .answer ≡ Answer.Done → seen (leaves (greets m) im ph out) .state .terms .timeout ≡ lesserOf (proposalOf ph) (millisOf n)
   unfolding step
   agreed-stored m p read e d =
       let same : seen (leaves (greets m) im ph out) ≡ initReceived (stateOf im) ph m = refines im ph st out (greets m) p in

@@ -1,9 +1,12 @@
 // The ten calls, each with the numbers of its line.
+use crate::script::NONE;
 use crate::script::Numbers;
 use calls::Outcome;
 use calls::Phase;
+use ft_number::Form;
 use ft_number::MessageId;
 use ft_number::Proposal;
+use ft_number::Timeout;
 use message_writer::OwnParameters;
 
 // One of the ten.
@@ -40,12 +43,33 @@ fn parameters(place: u32, ondemand: bool) -> OwnParameters {
     }
 }
 
-// A timeout in seconds, or none.
-fn proposal(n: u32) -> Proposal {
-    if n > 65535 {
-        return Proposal::NotGiven;
+// Whether Open asks for labels on demand: 1, or 3 with the published form.
+fn is_on_demand(n: u32) -> bool {
+    match n {
+        1 => true,
+        3 => true,
+        _ => false,
     }
-    Proposal::Seconds(n as u16)
+}
+
+// The form of its Init: 2 or 3 for the published one.
+fn form_of(n: u32) -> Form {
+    match n {
+        2 => Form::Published,
+        3 => Form::Published,
+        _ => Form::Draft,
+    }
+}
+
+// A timeout in the unit of its form, or none.
+fn proposal(n: u32, form: Form) -> Proposal {
+    if n == NONE {
+        return Proposal::NotGiven(form);
+    }
+    match form {
+        Form::Draft => Proposal::Given(Timeout::Seconds((n % 65536) as u16)),
+        Form::Published => Proposal::Given(Timeout::Milliseconds(n)),
+    }
 }
 
 // Makes a call; the room for its output is `out`.
@@ -61,8 +85,9 @@ pub fn make(
         Call::Format => session::format(image),
         Call::Restore => session::restore(image),
         Call::Open => {
-            let own = parameters(n.place, n.fourth == 1);
-            session::open_session(image, phase, MessageId(1), own, proposal(n.third), out)
+            let own = parameters(n.place, is_on_demand(n.fourth));
+            let proposed = proposal(n.third, form_of(n.fourth));
+            session::open_session(image, phase, MessageId(1), own, proposed, out)
         }
         Call::Init => session::init_received(image, phase, msg),
         Call::Submit => session::submit(image, phase, msg),

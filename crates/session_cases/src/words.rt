@@ -8,8 +8,9 @@ use calls::Waiting;
 
 // What a line asks for.
 pub enum Deed {
-    // Open has the room for its output, the timeout that it proposes, if any (no number stands for none), and 1 for labels on demand; Send
-    // the room, and 1 for an ACK; KeepAlive the room; TimePassed seconds. Init, Submit and Receive have a message.
+    // Open has the room for its output, the timeout that it proposes, if any (no number stands for none), and 1 for labels on demand, 2
+    // for the published form, whose timeout is milliseconds, 3 for both; Send the room, and 1 for an ACK; KeepAlive the room; TimePassed
+    // milliseconds. Init, Submit and Receive have a message.
     Make(Call),
     // Prints no more than the name, and has no place.
     Title,
@@ -48,7 +49,7 @@ pub fn deed_of(word: &[u8], n: Numbers) -> Deed {
         14 => Deed::Spoil,
         15 => Deed::Put(Phase::Idle),
         16 => Deed::Put(Phase::InitWait(Waiting {
-            timeout: (n.second % 65536) as u16,
+            timeout: n.second,
         })),
         17 => Deed::Put(Phase::UpFT(Progress {
             sent: n.second,

@@ -10,11 +10,12 @@ use Rattle.block.specs.Check.{blockSize, checkAt, checkOf, sealed}
 use Rattle.block.specs.Run.{spelled, wordBytes}
 use Rattle.label_list.specs.Word.{wordCount}
 use Rattle.block0.specs.declared.Header.{Header}
-use Rattle.block0.specs.Layout.{block0, values, widths, releasedHeader, noLabels}
+use Rattle.block0.specs.declared.Version.the-variants.{Two}
+use Rattle.block0.specs.Layout.{block0, blockBy, values, widths, releasedHeader, noLabels}
 use Rattle.message.specs.declared.Submission.{Submission}
 use Rattle.message.specs.Storable.{kindIn, labelIn}
 use Rattle.message.specs.Submission.{submissionOf}
-use Rattle.request_ids.specs.Layout.{idBlock, idsEnd, noIds}
+use Rattle.request_ids.specs.Layout.{idBlock, idCount, idsEnd, noIds}
 use Rattle.slot.specs.Held.{slotFor}
 use Rattle.slot.specs.Layout.{headWidths, messageAt, slotBlock}
 use Rattle.image.specs.Events.{newImage}
@@ -39,10 +40,10 @@ unfolding sealed
 bytes-sealed body byte = append-each body (bytes 4 (checkOf body)) byte (number-octets 4 (checkOf body) .each)
 
 bytes-block0 : (h : Header) (ls : List ℕ) → Bytes (block0 h ls)
-unfolding block0 wordBytes
+unfolding blockBy wordBytes
 bytes-block0 h ls =
-    bytes-sealed (spelled widths (values h) ++ spelled (replicate wordCount 4) ls)
-    (append-each (spelled widths (values h)) (spelled (replicate wordCount 4) ls) (bytes-spelled widths (values h)) (bytes-spelled (replicate wordCount 4) ls))
+    bytes-sealed (spelled (widths Two) (values Two h) ++ spelled (replicate wordCount 4) ls)
+    (append-each (spelled (widths Two) (values Two h)) (spelled (replicate wordCount 4) ls) (bytes-spelled (widths Two) (values Two h)) (bytes-spelled (replicate wordCount 4) ls))
 
 bytes-slot : (m : List ℕ) (kind label : ℕ) → Bytes m → Bytes (slotBlock m kind label)
 unfolding slotBlock
@@ -66,8 +67,8 @@ bytes-storeSlot im k m byte letters =
 bytes-ids : (ids : List ℕ) → Bytes (idBlock ids)
 unfolding idBlock wordBytes
 bytes-ids ids =
-    bytes-sealed (spelled (replicate wordCount 4) ids ++ replicate (checkAt - idsEnd) 0)
-    (append-each (spelled (replicate wordCount 4) ids) (replicate (checkAt - idsEnd) 0) (bytes-spelled (replicate wordCount 4) ids) (bytes-zeros (checkAt - idsEnd)))
+    bytes-sealed (spelled (replicate idCount 4) ids ++ replicate (checkAt - idsEnd) 0)
+    (append-each (spelled (replicate idCount 4) ids) (replicate (checkAt - idsEnd) 0) (bytes-spelled (replicate idCount 4) ids) (bytes-zeros (checkAt - idsEnd)))
 
 -- a new image
 pub bytes-new : Bytes newImage

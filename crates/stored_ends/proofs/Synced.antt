@@ -7,7 +7,7 @@ use native.Mathlib.Omega.{arith}
 use lib.ListN.{length}
 use Rattle.octets.specs.Pick.{pick, both}
 use Rattle.octets.proofs.Choice.{pick-all}
-use Rattle.ft_number.specs.Timeout.{proposedOf}
+use Rattle.ft_number.specs.Timeout.{proposedOf, millisOf}
 use Rattle.message.specs.declared.Reading.{Reading}
 use Rattle.message.specs.Reading.{readingOf}
 use Rattle.protocol.specs.declared.Answer.{Answer}
@@ -34,9 +34,9 @@ use Rattle.session.proofs.Medium.{all-stored}
 use Rattle.session.proofs.Refines.{refines, stands}
 use Rattle.stored_ends.specs.Pair.{Cabinet}
 
--- ---- the proposed timeout of the phase has 16 bits, as the code's types say
+-- ---- the proposed timeout of the phase has 32 bits, as the code's types say
 abbrev pub Timed : Phase → Type 0
-Timed ph = proposalOf ph < 65536
+Timed ph = proposalOf ph < 4294967296
 
 resting-timed : (s : State) → Timed (restingPhase s)
 resting-timed s = pick-all Timed (s .kept) {x = Phase.Failed} {y = Phase.Idle} (omega arith) (omega arith)
@@ -60,7 +60,7 @@ abbrev pub Proposes : Call → Type 0
 Proposes formats = Unit {0}
 Proposes restores = Unit {0}
 Proposes fails = Unit {0}
-Proposes (opens id own proposal) = proposedOf proposal < 65536
+Proposes (opens id own proposal) = millisOf (proposedOf proposal) < 4294967296
 Proposes (greets m) = Unit {0}
 Proposes (passes elapsed) = Unit {0}
 Proposes (submits m) = Unit {0}

@@ -16,7 +16,7 @@ use Rattle.stored_ends.specs.Pair.{AllProperHappenings, Happening, Pair,
 use Rattle.stored_ends.specs.Start.{Holder, Sound, begins, cabinetOf, openerOf}
 use Rattle.stored_ends.proofs.Follows.{Followed, run-follows}
 use Rattle.stored_ends.proofs.Synced.{Synced}
-use Rattle.stored_ends.proofs.Tracks.{Both, seconds-low}
+use Rattle.stored_ends.proofs.Tracks.{Both, proposed-low}
 
 -- the states are those that the media stand for
 pub on-media : (z : Pair) → Both z → z .world ≡ storedWorld z
@@ -34,7 +34,7 @@ on-media z b =
 
 -- ---- the start
 pub fit : (o : Holder) → Sound o → Fit (openerOf o)
-fit o s = let law = lawful-image (o .image) (s .sound) (s .range) in record { few = law .few; range = law .secured; widths = s .widths; seconds = s .seconds }
+fit o s = let law = lawful-image (o .image) (s .sound) (s .range) in record { few = law .few; range = law .secured; widths = s .widths; proposal = s .proposal }
 
 synced : (o : Holder) (s : Sound o) → Synced (openingEnd (openerOf o)) (cabinetOf o)
 unfolding phaseFits
@@ -42,7 +42,7 @@ synced o s = record {
   stand = record { sound = s .sound; range = s .range; fits = refl };
   state = refl;
   medium = refl;
-  timed = seconds-low (o .proposal) (s .seconds);
+  timed = proposed-low (o .proposal) (s .proposal);
 }
 
 pub begins-both : (x y : Holder) → Sound x → Sound y → Both (begins x y)

@@ -11,7 +11,8 @@ use Rattle.octets.specs.Bytes.{Bytes}
 use Rattle.octets.specs.Pick.{pick}
 use Rattle.ft_number.specs.declared.MessageId.{MessageId}
 use Rattle.ft_number.specs.declared.Proposal.{Proposal}
-use Rattle.ft_number.specs.Timeout.{proposedOf}
+use Rattle.ft_number.specs.Timeout.{proposedOf, millisOf}
+use Rattle.ft_number.proofs.Timeouts.{millis-fits}
 use Rattle.message_writer.specs.declared.OwnParameters.{OwnParameters}
 use Rattle.image.specs.State.{decode}
 use Rattle.image.specs.Verdict.{verdict}
@@ -37,8 +38,9 @@ use Rattle.protocol.specs.TimePassed.{timePassed}
 use Rattle.calls.specs.Outcomes.{After, untouched}
 use Rattle.calls.specs.State.{stateOf}
 use Rattle.two_ends.specs.Calls.{accepts, beginning, disconnected, called, counts, delivery, greeted, greets, on, opened, plainly, put, receives, replaced, offered, took, wrote, sent, sentHistory}
-use Rattle.two_ends.specs.Runs.{Event, ProperEvent, Seconds, act, breaks, delivers, keepalives, notices, opens, passes, restarts, sends, submits}
+use Rattle.two_ends.specs.Runs.{Event, ProperEvent, act, breaks, delivers, keepalives, notices, opens, passes, restarts, sends, submits, ProposalFits}
 use Rattle.two_ends.specs.World.{End, World}
+use Rattle.two_ends.proofs.Opening.{proposed-fits}
 use Rattle.call_meaning.specs.Medium.{Same, committed, stores}
 use Rattle.call_meaning.specs.Seen.{seen}
 use Rattle.call_meaning.specs.Standing.{Standing}
@@ -63,9 +65,8 @@ pub record Tracks (z : Pair) (w : World) : Type 0 where
   pub world : z .world ≡ w
   pub both : Both z
 
-pub seconds-low : (t : Proposal) → Seconds t → proposedOf t < 65536
-seconds-low (Proposal.Seconds n) l = l
-seconds-low Proposal.NotGiven l = omega arith
+pub proposed-low : (t : Proposal) → ProposalFits t → millisOf (proposedOf t) < 4294967296
+proposed-low t f = millis-fits (proposedOf t) (proposed-fits t f)
 
 -- ---- the call of an end
 module _ (w : World) (own peer : Cabinet) (s : Synced (w .a) own) (r : Synced (w .b) peer) where
@@ -132,13 +133,13 @@ module _ (w : World) (own peer : Cabinet) (s : Synced (w .a) own) (r : Synced (w
     both = pair-after Calls.fails [] refl tt tt w (called (w .a) (seen (leaves Calls.fails im ph [])) (w .a .history)) (w .ab) (w .ba) refl refl refl;
   }
 
-  module _ (id : MessageId) (p : OwnParameters) (t : Proposal) (out : List ℕ) (low : Seconds t) where
+  module _ (id : MessageId) (p : OwnParameters) (t : Proposal) (out : List ℕ) (low : ProposalFits t) where
     x : After
     x = leaves (Calls.opens id p t) im ph out
 
     opened-by : (e : End) (ab : List (List ℕ)) → e .state ≡ stateOf (leaves (Calls.opens id p t) im ph out .image) → e .phase ≡ leaves (Calls.opens id p t) im ph out .outcome .phase
         → Both (record { world = replaced w e ab (w .ba); own = after (own .medium) (leaves (Calls.opens id p t) im ph out); peer = peer })
-    opened-by e ab st q = pair-after (Calls.opens id p t) out refl tt (seconds-low t low) w e ab (w .ba) refl st q
+    opened-by e ab st q = pair-after (Calls.opens id p t) out refl tt (proposed-low t low) w e ab (w .ba) refl st q
 
     opened-both : (b : Bool) → Both (record {
       world = pick b (replaced w (on (called (w .a) (seen (leaves (Calls.opens id p t) im ph out)) (w .a .history))) (put true (w .ab) (seen (leaves (Calls.opens id p t) im ph out))) (w .ba))

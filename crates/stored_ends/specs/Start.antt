@@ -7,7 +7,7 @@ use Rattle.message_writer.specs.declared.OwnParameters.{OwnParameters}
 use Rattle.image.specs.State.{InRange, decode}
 use Rattle.image.specs.Verdict.{IsSound}
 use Rattle.calls.specs.State.{stateOf}
-use Rattle.two_ends.specs.Runs.{Seconds, Widths}
+use Rattle.two_ends.specs.Runs.{Widths, ProposalFits}
 use Rattle.two_ends.specs.Start.{Opener, start}
 use Rattle.stored_ends.specs.Pair.{Cabinet, Pair}
 
@@ -23,7 +23,7 @@ pub record Sound (o : Holder) : Type 0 where
   pub sound : IsSound (o .image)
   pub range : InRange (decode (o .image))
   pub widths : Widths (o .id) (o .parameters)
-  pub seconds : Seconds (o .proposal)
+  pub proposal : ProposalFits (o .proposal)
 
 abbrev pub openerOf : Holder → Opener
 openerOf o = record { state = stateOf (o .image); id = o .id; parameters = o .parameters; proposal = o .proposal }

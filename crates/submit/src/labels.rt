@@ -83,7 +83,7 @@ fn accept_request(image: &[u8], id: MessageId) -> Accepted
     ensures { λ r. ⌜ (r .acceptance ≡ acceptedBy (decode (now (image .entry)) .labels) (askedPlan (decode (now (image .entry)) .labels) (decode (now (image .entry)) .ids) id) .0) × (r .change ≡ planChange (askedPlan (decode (now (image .entry)) .labels) (decode (now (image .entry)) .ids) id)) ⌝ }
 {
     let mut words = [0u32; label_list::WORD_COUNT];
-    let mut ids = [0u32; label_list::WORD_COUNT];
+    let mut ids = [0u32; request_ids::ID_COUNT];
     image::labels_of(image, &mut words);
     image::ids_of(image, &mut ids);
     label_events::ask(&mut words, &mut ids, id)
@@ -95,7 +95,7 @@ fn accept_abort(image: &[u8], id: MessageId) -> Accepted
     ensures { λ r. ⌜ (r .acceptance ≡ acceptedBy (decode (now (image .entry)) .labels) (abortedPlan (decode (now (image .entry)) .labels) (decode (now (image .entry)) .ids) id) .0) × (r .change ≡ planChange (abortedPlan (decode (now (image .entry)) .labels) (decode (now (image .entry)) .ids) id)) ⌝ }
 {
     let mut words = [0u32; label_list::WORD_COUNT];
-    let mut ids = [0u32; label_list::WORD_COUNT];
+    let mut ids = [0u32; request_ids::ID_COUNT];
     image::labels_of(image, &mut words);
     image::ids_of(image, &mut ids);
     label_events::abort(&mut words, &ids, id)

@@ -17,6 +17,7 @@ unfoldable pub connectionFailedOf : List ℕ → Phase → After
 connectionFailedOf im ph = callOf im ph [] stay (connectionFailed (stateOf im) ph)
 
 -- "Time passed (Failed): releases, then Idle, if the timeout isn't zero and elapsed seconds are at least it; else nothing changes."
+-- 02: "Time passed counts milliseconds."
 unfoldable pub timePassedOf : List ℕ → Phase → ℕ → After
 timePassedOf im ph elapsed = callOf im ph [] (pick (expired (stateOf im) elapsed) empty stay) (timePassed (stateOf im) ph elapsed)
 

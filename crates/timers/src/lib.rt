@@ -58,7 +58,7 @@ fn has_expired(h: Header, elapsed: u32) -> bool
     if h.timeout == 0 {
         return false;
     }
-    elapsed >= h.timeout as u32
+    elapsed >= h.timeout
 }
 
 // The connection failed: labels used without protection are freed; the session waits in Failed if its state is kept, and else is Idle.
@@ -72,7 +72,7 @@ pub fn connection_failed(image: &mut [u8], phase: Phase) -> Outcome
     calls::fail(image, Answer::Done)
 }
 
-// So many seconds have passed since the connection failed: the state is released once the agreed timeout has passed.
+// So many milliseconds have passed since the connection failed: the state is released once the agreed timeout has passed.
 pub fn time_passed(image: &mut [u8], phase: Phase, elapsed: u32) -> Outcome
     ensures { λ r. ⌜ afterWith r (now (image .exit)) [] ≡ timePassedOf (now (image .entry)) phase elapsed ⌝ }
 {

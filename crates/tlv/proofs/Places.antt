@@ -12,12 +12,13 @@ use borrow.Author.Tests.{eqb-true, ltb-false}
 use Rattle.octets.specs.Be.{beAt}
 use Rattle.octets.specs.Pick.{pick}
 use Rattle.octets.proofs.Bytes.{beAt-drop}
+use Rattle.octets.proofs.Choice.{by-test}
 use Rattle.octets.proofs.Fix.{size-ind}
 use Rattle.tlv.specs.declared.Found.{Found}
 use Rattle.tlv.specs.declared.walk.Tlv.{Tlv}
 use Rattle.tlv.specs.declared.walk.Turn.{Turn}
 use Rattle.tlv.specs.declared.walk.Walk.{Walk}
-use Rattle.tlv.specs.Tlv.{tlvOf, lengthFits, typeRange, headOf, labelValue, largestLabel}
+use Rattle.tlv.specs.Tlv.{tlvOf, draftLength, publishedLength, lengthFits, typeRange, headOf, labelValue, largestLabel}
 use Rattle.tlv.specs.Value.{Within, Places}
 use Rattle.tlv.specs.Walk.{noneFound, placeOf, placedOf, malformedUnless, notedOf, turnOf, Rest, leftOf, onTurn, walkOf, headSize, tlvsOf}
 use Rattle.tlv.proofs.Turns.{Goes, goes, walkRest, walk-step}
@@ -167,6 +168,13 @@ lies-within m tlv p n l long z = omega (arith, l z .within, long (beAt 2 m (p + 
 lies-whole : (m : List ℕ) (tlv : Tlv) (p : ℕ) → Lies m tlv p → Within m p (beAt 2 m (p + 2))
 lies-whole m tlv p l z = l z .within
 
+-- FT Session has 4 bytes or 12
+session-long : (k : ℕ) → lengthFits Tlv.Session k ≡ true → draftLength ≤ k
+session-long k e =
+    by-test (eqb k draftLength)
+    (λ (h : eqb k draftLength ≡ true). omega (arith, eqb-true k draftLength h))
+    (λ (h : eqb k draftLength ≡ false). omega (arith, eqb-true k publishedLength (rw h at e)))
+
 -- the TLVs found lie within the message: what the readers of values ask for
 pub places : (m : List ℕ) (f : Found) → tlvsOf m ≡ Walk.Whole f → Places m f
 places m f e =
@@ -178,7 +186,8 @@ places m f e =
       status = lies-within m Tlv.Status (f .status) 10 (l .status) (λ k z. omega (arith, eqb-true k 10 z));
       parameters = lies-within m Tlv.Parameters (f .parameters) 14 (l .parameters) (λ k z. omega (arith, eqb-true k 14 z));
       parametersvalue = lies-whole m Tlv.Parameters (f .parameters) (l .parameters);
-      session = lies-within m Tlv.Session (f .session) 4 (l .session) (λ k z. omega (arith, eqb-true k 4 z));
+      session = lies-within m Tlv.Session (f .session) 4 (l .session) session-long;
+      sessionvalue = lies-whole m Tlv.Session (f .session) (l .session);
       protection = lies-within m Tlv.Protection (f .protection) 4 (l .protection) (λ k z. omega (arith, eqb-true k 4 z));
       ack = lies-within m Tlv.Ack (f .ack) 4 (l .ack) (λ k z. omega (arith, eqb-true k 4 z));
       requestid = lies-within m Tlv.RequestId (f .requestid) 4 (l .requestid) (λ k z. omega (arith, eqb-true k 4 z));

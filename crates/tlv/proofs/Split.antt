@@ -128,22 +128,24 @@ module _ (m : List ℕ) where
       let w : Walked noneFound f headSize (drop headSize m) =
       walked-tlvs f (record { at = headSize; bytes = drop headSize m; found = noneFound }) (omega arith) (h .tlvs) in
       let stands : Each (PlaceIs headSize (w .tlvs)) f = rw (w .found) at (each-of (PlaceIs headSize (w .tlvs)) (placesIn (w .tlvs)) (λ tlv l.
-      found-place noneFound headSize (w .tlvs) tlv l (w .once) (none-placed tlv))) in
-      (w .tlvs, record {
-        head = h .head;
-        adds = h .adds;
-        joined = rw (w .joined) (take-append-drop headSize m);
-        whole = w .whole;
-        once = w .once;
-        fec = stands .fec;
-        label = stands .label;
-        status = stands .status;
-        parameters = stands .parameters;
-        session = stands .session;
-        protection = stands .protection;
-        ack = stands .ack;
-        requestid = stands .requestid;
-      })
+      found-place noneFound headSize (w .tlvs) tlv l (w .once) (none-placed tlv))) in (
+        w .tlvs,
+        record {
+          head = h .head;
+          adds = h .adds;
+          joined = rw (w .joined) (take-append-drop headSize m);
+          whole = w .whole;
+          once = w .once;
+          fec = stands .fec;
+          label = stands .label;
+          status = stands .status;
+          parameters = stands .parameters;
+          session = stands .session;
+          protection = stands .protection;
+          ack = stands .ack;
+          requestid = stands .requestid;
+        },
+      )
 
   -- and all that there is: a head and whole TLVs are taken, with the places where they stand
   pub has-tlvs-whole : (tlvs : List (List ℕ)) (f : Found) → HasTlvs m tlvs f → tlvsOf m ≡ Walk.Whole f

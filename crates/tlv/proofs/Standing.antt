@@ -41,9 +41,9 @@ module _ (f : Found) (tlv : Tlv) (at : ℕ) where
   placed-free once [] free = tt
   placed-free once (t ∷ ts) free = (
     ⊎-elim
-    (λ (e : headOf t ≡ tlv). rw e once)
-    (λ (apart : headOf t ≡ tlv → ⊥). sym (placed-other f tlv at (headOf t) apart) ∙ free .0)
-    (same-or-not (headOf t) tlv),
+        (λ (e : headOf t ≡ tlv). rw e once)
+        (λ (apart : headOf t ≡ tlv → ⊥). sym (placed-other f tlv at (headOf t) apart) ∙ free .0)
+        (same-or-not (headOf t) tlv),
     placed-free once ts (free .1),
   )
 

@@ -12,9 +12,11 @@ use Rattle.octets.specs.Bytes.{Bytes}
 use Rattle.octets.specs.Pick.{pick}
 use Rattle.octets.proofs.Be.{beAt-lt}
 use Rattle.octets.proofs.Bytes.{beAt-drop}
-use Rattle.octets.proofs.Choice.{cleared}
+use Rattle.octets.proofs.Choice.{cleared, pick-all}
 use Rattle.ft_number.specs.declared.FtNumber.{FtNumber}
 use Rattle.ft_number.specs.declared.MessageId.{MessageId}
+use Rattle.ft_number.specs.declared.Timeout.{Timeout}
+use Rattle.ft_number.specs.Timeout.{TimeoutFits}
 use Rattle.tlv.specs.declared.Field.{Field}
 use Rattle.tlv.specs.declared.FtField.{FtField}
 use Rattle.tlv.specs.declared.IdField.{IdField}
@@ -22,8 +24,8 @@ use Rattle.tlv.specs.declared.Parameters.{Parameters}
 use Rattle.tlv.specs.declared.Part.{Part}
 use Rattle.tlv.specs.declared.Session.{Session}
 use Rattle.tlv.specs.declared.walk.Tlv.{Tlv}
-use Rattle.tlv.specs.Tlv.{largestLabel}
-use Rattle.tlv.specs.Value.{Within, partAt, fieldAt, numberAt, idAt, parametersAt, sessionAt, topBit}
+use Rattle.tlv.specs.Tlv.{publishedLength, largestLabel}
+use Rattle.tlv.specs.Value.{Within, partAt, fieldAt, numberAt, idAt, parametersAt, topBit, timeoutAt, sessionAt}
 use Rattle.tlv.proofs.Places.{Lies}
 
 -- the value's part lies within the message
@@ -72,9 +74,14 @@ module _ (m : List ℕ) (byte : Bytes m) (place : ℕ) where
       let n : beAt 2 m (place + 10) ≡ mp = cc (p .1) in
       (rw (← k) (beAt-lt 2 m (place + 6) byte), rw (← n) (beAt-lt 2 m (place + 10) byte))
 
-  pub session-width : (r : Bool) (n : ℕ) → sessionAt m place ≡ Session.Given r n → n < 65536
+  timeout-width : TimeoutFits (timeoutAt m place)
+  timeout-width =
+      pick-all TimeoutFits (eqb (beAt 2 m (place + 2)) publishedLength) {x = Timeout.Milliseconds (beAt 4 m (place + 8))} {y = Timeout.Seconds (beAt 2 m (place + 6))}
+      (beAt-lt 4 m (place + 8) byte) (beAt-lt 2 m (place + 6) byte)
+
+  pub session-width : (r : Bool) (t : Timeout) → sessionAt m place ≡ Session.Given r t → TimeoutFits t
   unfolding sessionAt
-  session-width r n e =
-      let p = cleared (eqb place 0) Session.Absent (Session.Given (topBit (beAt 4 m (place + 4))) (beAt 2 m (place + 6))) (Session.Given r n) (λ z. cc) e in
-      let k : beAt 2 m (place + 6) ≡ n = cc (p .1) in
-      rw (← k) (beAt-lt 2 m (place + 6) byte)
+  session-width r t e =
+      let p = cleared (eqb place 0) Session.Absent (Session.Given (topBit (beAt 4 m (place + 4))) (timeoutAt m place)) (Session.Given r t) (λ z. cc) e in
+      let k : timeoutAt m place ≡ t = cc (p .1) in
+      rw (← k) timeout-width

@@ -2,11 +2,13 @@
 -- 01: "TLV: U, F, 14-bit type (2), length (2), value. TLVs: FEC 0x0100, Generic Label 0x0200 (length 4), Status 0x0300 (10, ..),
 -- Common Session Parameters 0x0500 (14), FT Session 0x0503 (4: ..), FT Protection 0x0203 (4), FT ACK 0x0504 (4). The last three are the FT TLVs."
 -- 02: "TLV 0x0600, length 4": RFC 3036's Label Request Message ID.
+-- 02: "The draft became RFC 3479. Its FT Session TLV has length 12 ..; Both TLV forms are read".
 use Prim.Native.Nat.{ℕ, _+_, _%_}
 use mathlib.Core.Bool.{Bool, true}
 use mathlib.Core.List.{List, [], _∷_}
 use lib.Dec.{eqb}
 use Rattle.octets.specs.Be.{beAt}
+use Rattle.octets.specs.Pick.{pick}
 use Rattle.tlv.specs.declared.walk.Tlv.{Tlv}
 use Rattle.tlv.specs.Table.{lookup}
 
@@ -60,8 +62,12 @@ statusLength = 10
 abbrev pub parametersLength : ℕ
 parametersLength = 14
 
-abbrev pub sessionLength : ℕ
-sessionLength = 4
+-- FT Session has one of two lengths, by which its form is known
+abbrev pub draftLength : ℕ
+draftLength = 4
+
+abbrev pub publishedLength : ℕ
+publishedLength = 12
 
 abbrev pub protectionLength : ℕ
 protectionLength = 4
@@ -78,7 +84,7 @@ lengthFits Tlv.Fec n = true
 lengthFits Tlv.Label n = eqb n labelLength
 lengthFits Tlv.Status n = eqb n statusLength
 lengthFits Tlv.Parameters n = eqb n parametersLength
-lengthFits Tlv.Session n = eqb n sessionLength
+lengthFits Tlv.Session n = pick (eqb n draftLength) true (eqb n publishedLength)
 lengthFits Tlv.Protection n = eqb n protectionLength
 lengthFits Tlv.Ack n = eqb n ackLength
 lengthFits Tlv.RequestId n = eqb n requestIdLength

@@ -7,6 +7,7 @@ use lib.Dec.{eqb, leb}
 use lib.ListN.{length}
 use Rattle.octets.specs.Be.{beAt}
 use Rattle.octets.specs.Pick.{pick}
+use Rattle.ft_number.specs.declared.Timeout.{Timeout}
 use Rattle.tlv.specs.declared.Fec.{Fec}
 use Rattle.tlv.specs.declared.Field.{Field}
 use Rattle.tlv.specs.declared.Found.{Found}
@@ -15,14 +16,14 @@ use Rattle.tlv.specs.declared.IdField.{IdField}
 use Rattle.tlv.specs.declared.Parameters.{Parameters}
 use Rattle.tlv.specs.declared.Part.{Part}
 use Rattle.tlv.specs.declared.Session.{Session}
-use Rattle.tlv.specs.Tlv.{labelLength, statusLength, parametersLength, sessionLength, protectionLength, ackLength, requestIdLength}
+use Rattle.tlv.specs.Tlv.{labelLength, statusLength, parametersLength, draftLength, publishedLength, protectionLength, ackLength, requestIdLength}
 use Rattle.tlv.specs.Walk.{headSize}
 
 -- n bytes of the value lie within the message
 abbrev pub Within : List ℕ → ℕ → ℕ → Type 0
 Within m place n = (place ≡ 0 → ⊥) → place + 4 + n ≤ length m
 
--- the TLVs that were found lie within the message, each with its length
+-- the TLVs that were found lie within the message, each with its length; FT Session with the lesser of its two
 pub record Places (m : List ℕ) (f : Found) : Type 0 where
   pub head : headSize ≤ length m
   pub fec : Within m (f .fec) (beAt 2 m (f .fec + 2))
@@ -30,7 +31,8 @@ pub record Places (m : List ℕ) (f : Found) : Type 0 where
   pub status : Within m (f .status) statusLength
   pub parameters : Within m (f .parameters) parametersLength
   pub parametersvalue : Within m (f .parameters) (beAt 2 m (f .parameters + 2))
-  pub session : Within m (f .session) sessionLength
+  pub session : Within m (f .session) draftLength
+  pub sessionvalue : Within m (f .session) (beAt 2 m (f .session + 2))
   pub protection : Within m (f .protection) protectionLength
   pub ack : Within m (f .ack) ackLength
   pub requestid : Within m (f .requestid) requestIdLength
@@ -69,6 +71,11 @@ topBitWeight = 2147483648
 abbrev pub topBit : ℕ → Bool
 topBit v = leb topBitWeight v
 
--- 01: "FT Session 0x0503 (4: top bit R, then seconds in the last 2 bytes)"
+-- 01: "FT Session 0x0503 (4: top bit R, then seconds in the last 2 bytes)"; RFC 3479: flags, of which the top bit is R (2), reserved (2), FT reconnect timeout in
+-- milliseconds (4), recovery time (4). 02: "heeding R alone"
+abbrev pub timeoutAt : List ℕ → ℕ → Timeout
+timeoutAt m place =
+    pick (eqb (beAt 2 m (place + 2)) publishedLength) (Timeout.Milliseconds (beAt 4 m (place + 8))) (Timeout.Seconds (beAt 2 m (place + 6)))
+
 unfoldable pub sessionAt : List ℕ → ℕ → Session
-sessionAt m place = pick (eqb place 0) Session.Absent (Session.Given (topBit (beAt 4 m (place + 4))) (beAt 2 m (place + 6)))
+sessionAt m place = pick (eqb place 0) Session.Absent (Session.Given (topBit (beAt 4 m (place + 4))) (timeoutAt m place))

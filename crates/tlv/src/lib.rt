@@ -1,6 +1,7 @@
 // The TLVs of one message: where each listed one stands, or that they are malformed, and what they say.
 use ft_number::FtNumber;
 use ft_number::MessageId;
+use ft_number::Timeout;
 
 pub mod walk; // walk.rt: the walk over a message's TLVs
 pub mod value; // value.rt: what the TLVs that were found say
@@ -54,8 +55,8 @@ pub enum Parameters {
     Given { keepalive: u16, pdulength: u16 },
 }
 
-// The FT Session TLV: the R bit and the reconnection timeout in seconds.
+// The FT Session TLV: the R bit and the reconnection timeout, in the unit of the TLV's form.
 pub enum Session {
     Absent,
-    Given { reconnect: bool, seconds: u16 },
+    Given { reconnect: bool, timeout: Timeout },
 }

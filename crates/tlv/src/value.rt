@@ -1,8 +1,9 @@
 // What a TLV that was found says: its place is 0 where it does not stand, and its value lies within the message.
-ghost use Prim.Native.Nat.{_+_};
+ghost use Prim.Native.Nat.{_+_, _≤_};
 ghost use mathlib.Core.Path.{_≡_};
+ghost use lib.ListN.{length};
 ghost use Rattle.octets.specs.Be.{beAt};
-ghost use Rattle.tlv.specs.Value.{Within, partAt, fecAt, fieldAt, numberAt, idAt, parametersAt, sessionAt};
+ghost use Rattle.tlv.specs.Value.{Within, partAt, fecAt, fieldAt, numberAt, idAt, parametersAt, timeoutAt, sessionAt};
 use crate::Fec;
 use crate::Field;
 use crate::FtField;
@@ -12,6 +13,7 @@ use crate::Part;
 use crate::Session;
 use ft_number::FtNumber;
 use ft_number::MessageId;
+use ft_number::Timeout;
 
 // The value's part of the message; from 0 to 0 where the TLV does not stand.
 pub fn part_at(m: &[u8], place: usize) -> Part
@@ -94,18 +96,29 @@ pub fn parameters_at(m: &[u8], place: usize) -> Parameters
     }
 }
 
-// The R bit and the seconds, or absent.
+// The timeout of the FT Session TLV at a place, whose form is known by its length.
+fn timeout_at(m: &[u8], place: usize) -> Timeout
+    requires { ⌜ (place + 8 ≤ length (now m)) × (place + 4 + beAt 2 (now m) (place + 2) ≤ length (now m)) ⌝ }
+    ensures { λ r. ⌜ r ≡ timeoutAt (now (m .entry)) place ⌝ }
+{
+    if octets::get_u16(m, place + 2) == 12 {
+        return Timeout::Milliseconds(octets::get_u32(m, place + 8));
+    }
+    Timeout::Seconds(octets::get_u16(m, place + 6))
+}
+
+// The R bit, which stands first in either form, and the timeout, or absent.
 pub fn session_at(m: &[u8], place: usize) -> Session
-    requires { ⌜ Within (now m) place 4 ⌝ }
+    requires { ⌜ Within (now m) place 4 × Within (now m) place (beAt 2 (now m) (place + 2)) ⌝ }
     ensures { λ r. ⌜ r ≡ sessionAt (now (m .entry)) place ⌝ }
 {
     if place == 0 {
         return Session::Absent;
     }
     let reconnect = 2147483648 <= octets::get_u32(m, place + 4);
-    let seconds = octets::get_u16(m, place + 6);
+    let timeout = timeout_at(m, place);
     Session::Given {
         reconnect: reconnect,
-        seconds: seconds,
+        timeout: timeout,
     }
 }

@@ -41,7 +41,7 @@ fn length_fits(tlv: Tlv, n: usize) -> bool
         Tlv::Label => n == 4,
         Tlv::Status => n == 10,
         Tlv::Parameters => n == 14,
-        Tlv::Session => n == 4,
+        Tlv::Session => n == 4 || n == 12,
         Tlv::Protection => n == 4,
         Tlv::Ack => n == 4,
         Tlv::RequestId => n == 4,

@@ -65,13 +65,13 @@ module _ (b : End) (ab : List (List ℕ)) where
 
   each : Oldests Answered b ab
   each = record {
-    firsts = λ now t h id p seconds ack qs lead i l. rw (first-begins now t h id p seconds ack (i .back .fines .0) lead) taken;
-    agains = λ now t h id p seconds a qs i l.
-        let m = bytesOf (again id p seconds a) in
-        let ts = terms now t id p seconds in
-        let st = again-start now t h id p seconds a i in
+    firsts = λ now t h id p said ack qs lead i l. rw (first-begins now t h id p said ack (i .back .fines .0) lead) taken;
+    agains = λ now t h id p said a qs i l.
+        let m = bytesOf (again id p said a) in
+        let ts = terms now t id p said in
+        let st = again-start now t h id p said a i in
         ⊎-elim
-        (λ (e : initStart now (waitingFor t) m ≡ Start.Resumed ts (st .0) a). rw (again-begins now t h id p seconds a i (st .0) e) taken)
+        (λ (e : initStart now (waitingFor t) m ≡ Start.Resumed ts (st .0) a). rw (again-begins now t h id p said a i (st .0) e) taken)
         (λ (e : initStart now (waitingFor t) m ≡ Start.Refused Answer.ParametersChanged). rw (changed-init now t m e) changed)
         (st .2);
     alives = λ now re sent h id n qs i l.

@@ -23,7 +23,7 @@ use Rattle.two_ends.specs.Start.{Opener, openingEnd, start, Fit, RZero, 
 use Rattle.two_ends.specs.World.{noHistory}
 use Rattle.two_ends.proofs.Half.{Half}
 use Rattle.two_ends.proofs.Invariant.{sideOf, sndOf, rcvOf, Leads, Ready, Dir, Good}
-use Rattle.two_ends.proofs.Opening.{seconds-small}
+use Rattle.two_ends.proofs.Opening.{proposed-fits}
 use Rattle.two_ends.proofs.Packets.{Packet, first, Fine}
 
 -- the first Init of an end
@@ -39,7 +39,7 @@ fine o s = record {
   id = omega (arith, s .widths .id);
   keepalive = omega (arith, s .widths .keepalive);
   pdulength = omega (arith, s .widths .pdulength);
-  seconds = omega (arith, seconds-small (o .proposal) (s .seconds));
+  timeout = proposed-fits (o .proposal) (s .proposal);
   ack = kept-fits (o .state) (s .range);
 }
 

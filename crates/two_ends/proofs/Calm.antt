@@ -7,6 +7,7 @@ use native.Mathlib.Omega.{arith}
 use Rattle.octets.proofs.Choice.{no}
 use Rattle.ft_number.specs.declared.FtNumber.{FtNumber}
 use Rattle.ft_number.specs.declared.MessageId.{MessageId}
+use Rattle.ft_number.specs.declared.Timeout.{Timeout}
 use Rattle.label_list.specs.declared.Protection.{Protection}
 use Rattle.tlv.specs.declared.FtField.{FtField}
 use Rattle.tlv.specs.declared.Parameters.{Parameters}
@@ -70,25 +71,25 @@ module _ (o : OwnParameters) (b : End) (ab : List (List ℕ)) where
   abbrev Calmly : End → List ℕ → List (List ℕ) → Type 0
   Calmly e m rest = Between Labels e b → Says o m → Knows o e → Calm (answerTo e m) × Knows o (hearer e m)
 
-  module _ (now : State) (t : ℕ) (h : History) (id : MessageId) (p : OwnParameters) (seconds : ℕ) {qs : List Packet} {ba : List (List ℕ)} {pa : List Packet} where
-    first-calm : (ack : FtField) → Leads (now .kept) ack → Inv (ended now (waitingFor t) true false h) b ab ba pa (first id p seconds ack ∷ qs)
-        → Calmly (ended now (waitingFor t) true false h) (bytesOf (first id p seconds ack)) (map bytesOf qs)
+  module _ (now : State) (t : ℕ) (h : History) (id : MessageId) (p : OwnParameters) (said : Timeout) {qs : List Packet} {ba : List (List ℕ)} {pa : List Packet} where
+    first-calm : (ack : FtField) → Leads (now .kept) ack → Inv (ended now (waitingFor t) true false h) b ab ba pa (first id p said ack ∷ qs)
+        → Calmly (ended now (waitingFor t) true false h) (bytesOf (first id p said ack)) (map bytesOf qs)
     unfolding fresh
     first-calm ack lead i l s k =
         let fine = i .back .fines .0 in
-        let same = given-same (s .init (initMessage id p seconds ack) (init-reads id p seconds ack fine) refl) in
-        let d = first-begins now t h id p seconds ack fine lead in
+        let same = given-same (s .init (initMessage id p said ack) (init-reads id p said ack fine) refl) in
+        let d = first-begins now t h id p said ack fine lead in
         (rw d taken, rw d (record { keepalive = λ g. same .0; maxpdu = λ g. same .1; mild = λ g. tt }))
 
-    again-calm : (a : FtNumber) → Inv (ended now (waitingFor t) true true h) b ab ba pa (again id p seconds a ∷ qs)
-        → Calmly (ended now (waitingFor t) true true h) (bytesOf (again id p seconds a)) (map bytesOf qs)
+    again-calm : (a : FtNumber) → Inv (ended now (waitingFor t) true true h) b ab ba pa (again id p said a ∷ qs)
+        → Calmly (ended now (waitingFor t) true true h) (bytesOf (again id p said a)) (map bytesOf qs)
     unfolding resumed acked
     again-calm a i l s k =
         let fine = i .back .fines .0 in
-        let same = given-same (s .init (initMessage id p seconds (FtField.Number a)) (init-reads id p seconds (FtField.Number a) fine) refl) in
-        let st = again-start now t h id p seconds a i in
-        let e = starts-same now t id p seconds a (st .0) fine (kept-one (i .own)) (k .keepalive refl ∙ sym (same .0)) (k .maxpdu refl ∙ sym (same .1)) (st .1 .right) in
-        let d = again-begins now t h id p seconds a i (st .0) e in
+        let same = given-same (s .init (initMessage id p said (FtField.Number a)) (init-reads id p said (FtField.Number a) fine) refl) in
+        let st = again-start now t h id p said a i in
+        let e = starts-same now t id p said a (st .0) fine (kept-one (i .own)) (k .keepalive refl ∙ sym (same .0)) (k .maxpdu refl ∙ sym (same .1)) (st .1 .right) in
+        let d = again-begins now t h id p said a i (st .0) e in
         (rw d taken, rw d (record { keepalive = λ g. k .keepalive refl; maxpdu = λ g. k .maxpdu refl; mild = λ g. all-drop Mild (st .0) (now .queue) (k .mild refl) }))
 
   -- an answer below 30 leaves the parameters, and a part of the store
@@ -101,8 +102,8 @@ module _ (o : OwnParameters) (b : End) (ab : List (List ℕ)) where
 
   each : Oldests Calmly b ab
   each = record {
-    firsts = λ now t h id p seconds ack qs lead i. first-calm now t h id p seconds ack lead i;
-    agains = λ now t h id p seconds a qs i. again-calm now t h id p seconds a i;
+    firsts = λ now t h id p said ack qs lead i. first-calm now t h id p said ack lead i;
+    agains = λ now t h id p said a qs i. again-calm now t h id p said a i;
     alives = λ now re sent h id n qs i l s k.
         let m = bytesOf (alive id n) in
         calmly now re sent h m (rw (rule-answers now re sent m (g₁ now re sent h id n) (alive-read now re sent h id n i) h i, alive-done now re sent h id n i) taken) k;

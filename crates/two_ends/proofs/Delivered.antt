@@ -27,8 +27,8 @@ module _ (w : World) (g : Good w) where
 
   each : Oldests Heard (w .b) (w .ab)
   each = record {
-    firsts = λ now t h id p seconds ack qs l i k. greet-first now t h id p seconds ack i l;
-    agains = λ now t h id p seconds a qs i k. greet-again now t h id p seconds a i k;
+    firsts = λ now t h id p said ack qs l i k. greet-first now t h id p said ack i l;
+    agains = λ now t h id p said a qs i k. greet-again now t h id p said a i k;
     alives = λ now re sent h id n qs i k. alive-arrives now re sent h id n i k;
     carries = λ now re sent h m n ack qs i k. carried-arrives now re sent h m n ack i k;
   }

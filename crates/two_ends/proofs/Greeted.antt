@@ -6,6 +6,7 @@ use mathlib.Core.Logic.{inl}
 use mathlib.Core.Path.{_≡_, refl}
 use native.Mathlib.Omega.{arith}
 use Rattle.ft_number.specs.declared.MessageId.{MessageId}
+use Rattle.ft_number.specs.declared.Timeout.{Timeout}
 use Rattle.tlv.specs.declared.FtField.{FtField}
 use Rattle.message_writer.specs.declared.OwnParameters.{OwnParameters}
 use Rattle.protocol.specs.declared.Answer.{Answer}
@@ -30,22 +31,22 @@ greetedBy now t bg h q =
     greeted (ended now (waitingFor t) true bg h) (initStart now (waitingFor t) (bytesOf q)) (initReceived now (waitingFor t) (bytesOf q))
 
 -- ---- the Init of the start
-module _ (now : State) (t : ℕ) (h : History) (id : MessageId) (p : OwnParameters) (seconds : ℕ) (ack : FtField) where
+module _ (now : State) (t : ℕ) (h : History) (id : MessageId) (p : OwnParameters) (said : Timeout) (ack : FtField) where
   abbrev m₁ : List ℕ
-  m₁ = bytesOf (first id p seconds ack)
+  m₁ = bytesOf (first id p said ack)
 
   abbrev ts : Terms
-  ts = terms now t id p seconds
+  ts = terms now t id p said
 
-  pub fresh-start : Fine (first id p seconds ack) → Leads (now .kept) ack → initStart now (waitingFor t) m₁ ≡ Start.Fresh ts
-  fresh-start f l = starts-fresh now t id p seconds ack f l
+  pub fresh-start : Fine (first id p said ack) → Leads (now .kept) ack → initStart now (waitingFor t) m₁ ≡ Start.Fresh ts
+  fresh-start f l = starts-fresh now t id p said ack f l
 
-  pub first-begins : Fine (first id p seconds ack) → Leads (now .kept) ack → initReceived now (waitingFor t) m₁ ≡ stepped Answer.Done (fresh ts) (upWith false 0) []
+  pub first-begins : Fine (first id p said ack) → Leads (now .kept) ack → initReceived now (waitingFor t) m₁ ≡ stepped Answer.Done (fresh ts) (upWith false 0) []
   first-begins f l = let e = fresh-start f l in begins now t m₁ (fresh ts) (rw e) (rw e) false (rw e)
 
   module _ {b : End} {ab ba : List (List ℕ)} {pa qs : List Packet} where
-    pub greet-first : Inv (ended now (waitingFor t) true false h) b ab ba pa (first id p seconds ack ∷ qs) → Leads (now .kept) ack
-        → Settled (greetedBy now t false h (first id p seconds ack)) b ab (map bytesOf qs)
+    pub greet-first : Inv (ended now (waitingFor t) true false h) b ab ba pa (first id p said ack ∷ qs) → Leads (now .kept) ack
+        → Settled (greetedBy now t false h (first id p said ack)) b ab (map bytesOf qs)
     unfolding fresh
     greet-first i l =
         let e = fresh-start (i .back .fines .0) l in
@@ -70,8 +71,8 @@ module _ (now : State) (t : ℕ) (h : History) (id : MessageId) (p : OwnParamete
               lineB = refl;
               own = own;
               peer = i .peer;
-              out = rw nothing (dir-fresh (now .kept) t ts true id p seconds ack (rw nothing at (i .out)));
-              back = rw nothing (dir-fresh-peer (now .kept) t ts true id p seconds ack (rw nothing at (i .back)));
+              out = rw nothing (dir-fresh (now .kept) t ts true id p said ack (rw nothing at (i .out)));
+              back = rw nothing (dir-fresh-peer (now .kept) t ts true id p said ack (rw nothing at (i .back)));
               agree = i .agree;
             },
           ),

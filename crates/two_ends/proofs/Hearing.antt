@@ -6,6 +6,7 @@ use mathlib.Core.Logic.{⊎-elim}
 use mathlib.Core.Path.{_≡_, refl, sym, _∙_, ap}
 use Rattle.ft_number.specs.declared.FtNumber.{FtNumber}
 use Rattle.ft_number.specs.declared.MessageId.{MessageId}
+use Rattle.ft_number.specs.declared.Timeout.{Timeout}
 use Rattle.tlv.specs.declared.FtField.{FtField}
 use Rattle.label_events.specs.Requests.{endedAt}
 use Rattle.message.specs.Kinds.{kindOf}
@@ -51,26 +52,26 @@ module _ {May : State → List ℕ → Type 0} {R : State → History → State 
   abbrev pub Heard : End → List ℕ → List (List ℕ) → Type 0
   Heard e m rest = Between R e b → keeps (hearer e m) ≡ true → Between R (hearer e m) b
 
-  module _ (now : State) (t : ℕ) (h : History) (id : MessageId) (p : OwnParameters) (seconds : ℕ) {qs : List Packet} {ba : List (List ℕ)} {pa : List Packet} where
-    hears-first : (ack : FtField) → Leads (now .kept) ack → Inv (ended now (waitingFor t) true false h) b ab ba pa (first id p seconds ack ∷ qs)
-        → Heard (ended now (waitingFor t) true false h) (bytesOf (first id p seconds ack)) (map bytesOf qs)
+  module _ (now : State) (t : ℕ) (h : History) (id : MessageId) (p : OwnParameters) (said : Timeout) {qs : List Packet} {ba : List (List ℕ)} {pa : List Packet} where
+    hears-first : (ack : FtField) → Leads (now .kept) ack → Inv (ended now (waitingFor t) true false h) b ab ba pa (first id p said ack ∷ qs)
+        → Heard (ended now (waitingFor t) true false h) (bytesOf (first id p said ack)) (map bytesOf qs)
     unfolding fresh
     hears-first ack lead i l k =
         let fine = i .back .fines .0 in
-        let ts = terms now t id p seconds in
-        rw (fresh-start now t h id p seconds ack fine lead, first-begins now t h id p seconds ack fine lead) (c .same l (fresh ts) refl refl refl)
+        let ts = terms now t id p said in
+        rw (fresh-start now t h id p said ack fine lead, first-begins now t h id p said ack fine lead) (c .same l (fresh ts) refl refl refl)
 
-    hears-again : (a : FtNumber) → Inv (ended now (waitingFor t) true true h) b ab ba pa (again id p seconds a ∷ qs)
-        → Heard (ended now (waitingFor t) true true h) (bytesOf (again id p seconds a)) (map bytesOf qs)
+    hears-again : (a : FtNumber) → Inv (ended now (waitingFor t) true true h) b ab ba pa (again id p said a ∷ qs)
+        → Heard (ended now (waitingFor t) true true h) (bytesOf (again id p said a)) (map bytesOf qs)
     unfolding resumed acked
     hears-again a i l k =
-        let m = bytesOf (again id p seconds a) in
-        let ts = terms now t id p seconds in
-        let st = again-start now t h id p seconds a i in
+        let m = bytesOf (again id p said a) in
+        let ts = terms now t id p said in
+        let st = again-start now t h id p said a i in
         ⊎-elim
         (λ (e : initStart now (waitingFor t) m ≡ Start.Resumed ts (st .0) a).
         let s : State = resumed now ts (st .0) (a .0) in
-        rw (again-begins now t h id p seconds a i (st .0) e, let-go now (stepped Answer.Done s (upWith true 0) []) (st .0) (st .1 .few) refl)
+        rw (again-begins now t h id p said a i (st .0) e, let-go now (stepped Answer.Done s (upWith true 0) []) (st .0) (st .1 .few) refl)
         (c .same (c .freed l (st .0) (a .0)) s refl refl refl))
         (λ (e : initStart now (waitingFor t) m ≡ Start.Refused Answer.ParametersChanged).
         released-ends Phase.Idle true true h refl (ap (λ (z : Step). z .state .kept) (sym (changed now t m e)) ∙ k))
@@ -111,8 +112,8 @@ module _ {May : State → List ℕ → Type 0} {R : State → History → State 
 
   pub hears : Oldests Heard b ab
   hears = record {
-    firsts = λ now t h id p seconds ack qs lead i. hears-first now t h id p seconds ack lead i;
-    agains = λ now t h id p seconds a qs i. hears-again now t h id p seconds a i;
+    firsts = λ now t h id p said ack qs lead i. hears-first now t h id p said ack lead i;
+    agains = λ now t h id p said a qs i. hears-again now t h id p said a i;
     alives = λ now re sent h id n qs i. hears-alive now re sent h id n i;
     carries = λ now re sent h m n ack qs i. hears-carried now re sent h m n ack i;
   }

@@ -56,8 +56,8 @@ Leads kept ack = (ack ≡ FtField.Absent) ⊎ (kept ≡ false)
 -- the reader has not read the sender's Init yet: it comes first, and once; the reader has begun or not, and its state has that kept
 abbrev pub Headed : Bool → Bool → List Packet → Type 0
 Headed begun kept [] = ⊥
-Headed begun kept (first id p seconds ack ∷ ps) = (begun ≡ false) × Leads kept ack × NoInit ps
-Headed begun kept (again id p seconds s ∷ ps) = (begun ≡ true) × NoInit ps
+Headed begun kept (first id p said ack ∷ ps) = (begun ≡ false) × Leads kept ack × NoInit ps
+Headed begun kept (again id p said s ∷ ps) = (begun ≡ true) × NoInit ps
 Headed begun kept (alive id s ∷ ps) = ⊥
 Headed begun kept (carried m n ack ∷ ps) = ⊥
 

@@ -10,7 +10,6 @@ use Rattle.octets.proofs.Choice.{pick-all}
 use Rattle.ft_number.specs.declared.Ack.{Ack}
 use Rattle.ft_number.specs.declared.MessageId.{MessageId}
 use Rattle.ft_number.specs.declared.Proposal.{Proposal}
-use Rattle.ft_number.specs.Timeout.{proposedOf}
 use Rattle.message.specs.declared.Message.{Message}
 use Rattle.message.specs.declared.Reading.{Reading}
 use Rattle.message.specs.Reading.{readingOf}
@@ -21,8 +20,8 @@ use Rattle.protocol.specs.Acked.{acked}
 use Rattle.protocol.specs.Answers.{isDone}
 use Rattle.protocol.specs.ConnectionFailed.{connectionFailed}
 use Rattle.protocol.specs.KeepAlive.{aliveBytes, keepalive}
-use Rattle.protocol.specs.Open.{openBytes, openSession}
-use Rattle.protocol.specs.Phases.{isUp, issuedCount, mayOpen, sentOf, waitingFor, upWith}
+use Rattle.protocol.specs.Open.{openBytes, openSession, awaiting}
+use Rattle.protocol.specs.Phases.{isUp, issuedCount, mayOpen, sentOf, upWith}
 use Rattle.protocol.specs.Receive.{taken, ackOn, ftRule, receive, receivedPhase, receivedState, leftBefore}
 use Rattle.protocol.specs.Send.{numbered, queueNumber, sendNext, sentState, sendRule, sendRoom, sendDeed, placeSent}
 use Rattle.protocol.specs.State.{State, withIssued}
@@ -67,7 +66,7 @@ module _ {May : State → List ℕ → Type 0} {R : State → History → State 
 
   pub open-leaves : (id : MessageId) (p : OwnParameters) (q : Proposal) (room : ℕ) → Leaves (openSession now ph id p q room .state)
   unfolding openSession
-  open-leaves id p q room = written (mayOpen ph) (waitingFor (proposedOf q)) (openBytes now id p q) room
+  open-leaves id p q room = written (mayOpen ph) (awaiting q) (openBytes now id p q) room
 
   pub notice-leaves : Leaves (connectionFailed now ph .state)
   unfolding connectionFailed

@@ -65,24 +65,28 @@ module _ (rule : Rule) (l : ℕ) where
     ack-given : (d : ℕ) (ms : List (List ℕ)) (ls : List ℕ) → validOf ls ≡ true → Fits rule l (codeAt ls Given l) d out back → Fits rule l (codeAt (releasedLabels ms ls) Given l) d out back
     ack-given d ms ls v f =
         released-keeps (λ (ws : List ℕ). (validOf ws ≡ true) × Fits rule l (codeAt ws Given l) d out back)
-        (λ ws p m k. (step-valid ws (Acked m k) (p .0),
-        ⊎-elim
-        (λ (same : codeAt (afterEvent ws (Acked m k)) Given l ≡ codeAt ws Given l). rw same (p .1))
-        (λ (move : Moves (Acked m k) Given l (codeAt ws Given l) (codeAt (afterEvent ws (Acked m k)) Given l)).
-        record { codes = ack-codes (given-acked move) (p .1 .codes); tidy = p .1 .tidy })
-        (moved ws (p .0) (Acked m k) Given l)))
+        (λ ws p m k. (
+          step-valid ws (Acked m k) (p .0),
+          ⊎-elim
+              (λ (same : codeAt (afterEvent ws (Acked m k)) Given l ≡ codeAt ws Given l). rw same (p .1))
+              (λ (move : Moves (Acked m k) Given l (codeAt ws Given l) (codeAt (afterEvent ws (Acked m k)) Given l)).
+              record { codes = ack-codes (given-acked move) (p .1 .codes); tidy = p .1 .tidy })
+              (moved ws (p .0) (Acked m k) Given l),
+        ))
         ms ls (v, f) .1
 
     ack-used : (c : ℕ) (ms : List (List ℕ)) (ls : List ℕ) → validOf ls ≡ true → Fits rule l c (codeAt ls Used l) out back → Fits rule l c (codeAt (releasedLabels ms ls) Used l) out back
     ack-used c ms ls v f =
         released-keeps (λ (ws : List ℕ). (validOf ws ≡ true) × Fits rule l c (codeAt ws Used l) out back)
-        (λ ws p m k. (step-valid ws (Acked m k) (p .0),
-        ⊎-elim
-        (λ (same : codeAt (afterEvent ws (Acked m k)) Used l ≡ codeAt ws Used l). rw same (p .1))
-        (λ (move : Moves (Acked m k) Used l (codeAt ws Used l) (codeAt (afterEvent ws (Acked m k)) Used l)).
-        let five = used-acked move in
-        rw (five .1) (fits-absent (rw (five .0) at (p .1))))
-        (moved ws (p .0) (Acked m k) Used l)))
+        (λ ws p m k. (
+          step-valid ws (Acked m k) (p .0),
+          ⊎-elim
+              (λ (same : codeAt (afterEvent ws (Acked m k)) Used l ≡ codeAt ws Used l). rw same (p .1))
+              (λ (move : Moves (Acked m k) Used l (codeAt ws Used l) (codeAt (afterEvent ws (Acked m k)) Used l)).
+              let five = used-acked move in
+              rw (five .1) (fits-absent (rw (five .0) at (p .1))))
+              (moved ws (p .0) (Acked m k) Used l),
+        ))
         ms ls (v, f) .1
 
   module _ {xl : List ℕ} {xh : History} {yl : List ℕ} {yh : History} where

@@ -8,11 +8,12 @@ use Rattle.octets.specs.Bytes.{Bytes}
 use Rattle.octets.specs.Laid.{laid}
 use Rattle.ft_number.specs.declared.FtNumber.{FtNumber}
 use Rattle.ft_number.specs.declared.MessageId.{MessageId}
+use Rattle.ft_number.specs.declared.Timeout.{Timeout}
 use Rattle.tlv.specs.declared.FtField.{FtField}
 use Rattle.tlv.specs.Tlv.{parametersType, sessionType, protectionType, ackType}
 use Rattle.message.specs.Reading.{initializationType, keepaliveType}
 use Rattle.message_writer.specs.declared.OwnParameters.{OwnParameters}
-use Rattle.message_writer.specs.Forms.{tlvBytes, messageBytes, ackTlv, parametersTlv, modeByte, sessionValue, unknownBit, initBytes, keepaliveBytes, raisedTo, raised, ftTlvs, protectedBytes}
+use Rattle.message_writer.specs.Forms.{tlvBytes, messageBytes, ackTlv, parametersTlv, modeByte, unknownBit, initBytes, keepaliveBytes, raisedTo, raised, ftTlvs, protectedBytes, sessionTlv, reconnectFlag, saveFlag}
 
 pub record Octets (s : List ℕ) : Type 0 where
   pub each : Bytes s
@@ -52,12 +53,12 @@ number-octets zero v = none
 number-octets (suc w) v = joins (number-octets w (v / 256)) (one (omega arith))
 
 -- ---- the messages that we write
-tlv-octets : (number v : ℕ) → Octets (tlvBytes number (bytes 4 v))
-tlv-octets number v = joins (number-octets 2 number) (joins (number-octets 2 4) (number-octets 4 v))
+tlv-octets : (number : ℕ) {value : List ℕ} → Octets value → Octets (tlvBytes number value)
+tlv-octets number {value} a = joins (number-octets 2 number) (joins (number-octets 2 (length value)) a)
 
 ack-octets : (ack : FtField) → Octets (ackTlv ack)
 ack-octets FtField.Absent = none
-ack-octets (FtField.Number a) = tlv-octets ackType (a .0)
+ack-octets (FtField.Number a) = tlv-octets ackType (number-octets 4 (a .0))
 
 message-octets : (number : ℕ) (id : MessageId) {tlvs : List ℕ} → Octets tlvs → Octets (messageBytes number id tlvs)
 message-octets number id {tlvs} a = joins (joins (number-octets 2 number) (joins (number-octets 2 (4 + length tlvs)) (number-octets 4 (id .0)))) a
@@ -67,9 +68,15 @@ parameters-octets p =
     joins (number-octets 2 parametersType) (joins (number-octets 2 14) (joins (number-octets 2 1) (joins (number-octets 2 (p .keepalive))
     (joins (number-octets 1 (modeByte (p .ondemand))) (joins (number-octets 1 0) (joins (number-octets 2 (p .pdulength)) (joins (number-octets 4 (p .lsr)) (number-octets 2 (p .space)))))))))
 
-pub init-octets : (id : MessageId) (p : OwnParameters) (seconds : ℕ) (ack : FtField) → Octets (initBytes id p seconds ack)
-init-octets id p seconds ack =
-    message-octets initializationType id (joins (parameters-octets p) (joins (tlv-octets (unknownBit + sessionType) (sessionValue ack seconds)) (ack-octets ack)))
+session-octets : (ack : FtField) (said : Timeout) → Octets (sessionTlv ack said)
+session-octets ack (Timeout.Seconds n) = tlv-octets (unknownBit + sessionType) (joins (number-octets 2 (reconnectFlag ack)) (number-octets 2 n))
+session-octets ack (Timeout.Milliseconds n) =
+    tlv-octets (unknownBit + sessionType)
+    (joins (number-octets 2 (reconnectFlag ack + saveFlag)) (joins (number-octets 2 0) (joins (number-octets 4 n) (number-octets 4 0))))
+
+pub init-octets : (id : MessageId) (p : OwnParameters) (said : Timeout) (ack : FtField) → Octets (initBytes id p said ack)
+init-octets id p said ack =
+    message-octets initializationType id (joins (parameters-octets p) (joins (session-octets ack said) (ack-octets ack)))
 
 pub alive-octets : (id : MessageId) (ack : FtField) → Octets (keepaliveBytes id ack)
 alive-octets id ack = message-octets keepaliveType id (ack-octets ack)
@@ -79,4 +86,4 @@ unfolding raised
 protected-octets m n ack a =
     let size : ℕ = length m + length (ftTlvs n ack) - 4 in
     let head : Octets (raisedTo m size) = record { each = laid-each m 2 (bytes 2 size) (a .each) (number-octets 2 size .each) } in
-    joins head (joins (tlv-octets protectionType (n .0)) (ack-octets ack))
+    joins head (joins (tlv-octets protectionType (number-octets 4 (n .0))) (ack-octets ack))

@@ -5,6 +5,7 @@ use mathlib.Core.List.{List, map, _∷_}
 use mathlib.Core.Path.{_≡_, refl, sym}
 use Rattle.ft_number.specs.declared.FtNumber.{FtNumber}
 use Rattle.ft_number.specs.declared.MessageId.{MessageId}
+use Rattle.ft_number.specs.declared.Timeout.{Timeout}
 use Rattle.tlv.specs.declared.FtField.{FtField}
 use Rattle.message_writer.specs.declared.OwnParameters.{OwnParameters}
 use Rattle.protocol.specs.declared.Phase.{Phase}
@@ -29,13 +30,13 @@ up-reads false bg k ps q s = nil-cons (s .0)
 module _ (Q : End → List ℕ → List (List ℕ) → Type 0) (b : End) (ab : List (List ℕ)) where
   pub record Oldests : Type 0 where
     -- the Init of the start, at an end that has not begun: R is zero in it, or in that end's own
-    pub firsts : (now : State) (t : ℕ) (h : History) (id : MessageId) (p : OwnParameters) (seconds : ℕ) (ack : FtField) (qs : List Packet) {ba : List (List ℕ)} {pa : List Packet}
-        → Leads (now .kept) ack → Inv (ended now (waitingFor t) true false h) b ab ba pa (first id p seconds ack ∷ qs)
-        → Q (ended now (waitingFor t) true false h) (bytesOf (first id p seconds ack)) (map bytesOf qs)
+    pub firsts : (now : State) (t : ℕ) (h : History) (id : MessageId) (p : OwnParameters) (said : Timeout) (ack : FtField) (qs : List Packet) {ba : List (List ℕ)} {pa : List Packet}
+        → Leads (now .kept) ack → Inv (ended now (waitingFor t) true false h) b ab ba pa (first id p said ack ∷ qs)
+        → Q (ended now (waitingFor t) true false h) (bytesOf (first id p said ack)) (map bytesOf qs)
     -- a later Init
-    pub agains : (now : State) (t : ℕ) (h : History) (id : MessageId) (p : OwnParameters) (seconds : ℕ) (a : FtNumber) (qs : List Packet) {ba : List (List ℕ)} {pa : List Packet}
-        → Inv (ended now (waitingFor t) true true h) b ab ba pa (again id p seconds a ∷ qs)
-        → Q (ended now (waitingFor t) true true h) (bytesOf (again id p seconds a)) (map bytesOf qs)
+    pub agains : (now : State) (t : ℕ) (h : History) (id : MessageId) (p : OwnParameters) (said : Timeout) (a : FtNumber) (qs : List Packet) {ba : List (List ℕ)} {pa : List Packet}
+        → Inv (ended now (waitingFor t) true true h) b ab ba pa (again id p said a ∷ qs)
+        → Q (ended now (waitingFor t) true true h) (bytesOf (again id p said a)) (map bytesOf qs)
     -- a KeepAlive
     pub alives : (now : State) (re : Bool) (sent : ℕ) (h : History) (id : MessageId) (n : FtNumber) (qs : List Packet) {ba : List (List ℕ)} {pa : List Packet}
         → Inv (ended now (upWith re sent) true true h) b ab ba pa (alive id n ∷ qs)
@@ -48,17 +49,17 @@ module _ (Q : End → List ℕ → List (List ℕ) → Type 0) (b : End) (ab : L
   module _ (c : Oldests) (now : State) (h : History) {ba : List (List ℕ)} {pa qs : List Packet} where
     init-case : (t : ℕ) (bg : Bool) (q : Packet) → Headed bg (now .kept) (q ∷ qs) → Inv (ended now (waitingFor t) true bg h) b ab ba pa (q ∷ qs)
         → Q (ended now (waitingFor t) true bg h) (bytesOf q) (map bytesOf qs)
-    init-case t true (first id p seconds ack) w i = never (w .0)
-    init-case t false (first id p seconds ack) w i = c .firsts now t h id p seconds ack qs (w .1) i
-    init-case t true (again id p seconds a) w i = c .agains now t h id p seconds a qs i
-    init-case t false (again id p seconds a) w i = never (sym (w .0))
+    init-case t true (first id p said ack) w i = never (w .0)
+    init-case t false (first id p said ack) w i = c .firsts now t h id p said ack qs (w .1) i
+    init-case t true (again id p said a) w i = c .agains now t h id p said a qs i
+    init-case t false (again id p said a) w i = never (sym (w .0))
     init-case t bg (alive id n) w i = absurd w
     init-case t bg (carried m n ack) w i = absurd w
 
     message-case : (re : Bool) (sent : ℕ) (q : Packet) → NoInit (q ∷ qs) → Inv (ended now (upWith re sent) true true h) b ab ba pa (q ∷ qs)
         → Q (ended now (upWith re sent) true true h) (bytesOf q) (map bytesOf qs)
-    message-case re sent (first id p seconds ack) none i = absurd none
-    message-case re sent (again id p seconds a) none i = absurd none
+    message-case re sent (first id p said ack) none i = absurd none
+    message-case re sent (again id p said a) none i = absurd none
     message-case re sent (alive id n) none i = c .alives now re sent h id n qs i
     message-case re sent (carried m n ack) none i = c .carries now re sent h m n ack qs i
 

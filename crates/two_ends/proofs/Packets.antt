@@ -5,6 +5,7 @@ use mathlib.Core.Path.{_≡_, refl, ap}
 use Rattle.octets.specs.Bytes.{Bytes}
 use Rattle.ft_number.specs.declared.FtNumber.{FtNumber}
 use Rattle.ft_number.specs.declared.MessageId.{MessageId}
+use Rattle.ft_number.specs.declared.Timeout.{Timeout}
 use Rattle.tlv.specs.declared.FtField.{FtField}
 use Rattle.message.specs.Storable.{Storable}
 use Rattle.message_writer.specs.declared.OwnParameters.{OwnParameters}
@@ -14,14 +15,14 @@ use Rattle.two_ends.proofs.Octets.{init-octets, alive-octets, protected
 
 -- the Init of the start, a later Init, a KeepAlive in UpFT, and a message with its number
 pub data Packet : Type 0 where
-  first : MessageId → OwnParameters → ℕ → FtField → Packet
-  again : MessageId → OwnParameters → ℕ → FtNumber → Packet
+  first : MessageId → OwnParameters → Timeout → FtField → Packet
+  again : MessageId → OwnParameters → Timeout → FtNumber → Packet
   alive : MessageId → FtNumber → Packet
   carried : List ℕ → FtNumber → FtField → Packet
 
 abbrev pub bytesOf : Packet → List ℕ
-bytesOf (first id p seconds ack) = initBytes id p seconds ack
-bytesOf (again id p seconds s) = initBytes id p seconds (FtField.Number s)
+bytesOf (first id p said ack) = initBytes id p said ack
+bytesOf (again id p said s) = initBytes id p said (FtField.Number s)
 bytesOf (alive id s) = keepaliveBytes id (FtField.Number s)
 bytesOf (carried m n ack) = protectedBytes m n ack
 
@@ -36,8 +37,8 @@ Okays (m ∷ ms) = Okay m × Okays ms
 
 -- its values have their width
 abbrev pub Fine : Packet → Type 0
-Fine (first id p seconds ack) = InitFits id p seconds ack
-Fine (again id p seconds s) = InitFits id p seconds (FtField.Number s)
+Fine (first id p said ack) = InitFits id p said ack
+Fine (again id p said s) = InitFits id p said (FtField.Number s)
 Fine (alive id s) = (id .0 < 256 ^ 4) × (s .0 < 256 ^ 4)
 Fine (carried m n ack) = Okay m × (n .0 < 256 ^ 4) × AckFits ack
 
@@ -48,24 +49,24 @@ Fines (p ∷ ps) = Fine p × Fines ps
 -- no Init is among them
 abbrev pub NoInit : List Packet → Type 0
 NoInit [] = Unit {0}
-NoInit (first id p seconds ack ∷ ps) = ⊥
-NoInit (again id p seconds s ∷ ps) = ⊥
+NoInit (first id p said ack ∷ ps) = ⊥
+NoInit (again id p said s ∷ ps) = ⊥
 NoInit (alive id s ∷ ps) = NoInit ps
 NoInit (carried m n ack ∷ ps) = NoInit ps
 
 -- the messages of a line, with their numbers
 abbrev pub datas : List Packet → List (ℕ × List ℕ)
 datas [] = []
-datas (first id p seconds ack ∷ ps) = datas ps
-datas (again id p seconds s ∷ ps) = datas ps
+datas (first id p said ack ∷ ps) = datas ps
+datas (again id p said s ∷ ps) = datas ps
 datas (alive id s ∷ ps) = datas ps
 datas (carried m n ack ∷ ps) = (n .0, m) ∷ datas ps
 
 -- the acknowledgements of a line; the Init of the start says that nothing is secured, whatever it bears
 abbrev pub acksOf : List Packet → List ℕ
 acksOf [] = []
-acksOf (first id p seconds ack ∷ ps) = 0 ∷ acksOf ps
-acksOf (again id p seconds s ∷ ps) = s .0 ∷ acksOf ps
+acksOf (first id p said ack ∷ ps) = 0 ∷ acksOf ps
+acksOf (again id p said s ∷ ps) = s .0 ∷ acksOf ps
 acksOf (alive id s ∷ ps) = s .0 ∷ acksOf ps
 acksOf (carried m n FtField.Absent ∷ ps) = acksOf ps
 acksOf (carried m n (FtField.Number s) ∷ ps) = s .0 ∷ acksOf ps
@@ -73,15 +74,15 @@ acksOf (carried m n (FtField.Number s) ∷ ps) = s .0 ∷ acksOf ps
 -- ---- one more at the end
 pub datas-append : (ps qs : List Packet) → datas (ps ++ qs) ≡ datas ps ++ datas qs
 datas-append [] qs = refl
-datas-append (first id p seconds ack ∷ ps) qs = datas-append ps qs
-datas-append (again id p seconds s ∷ ps) qs = datas-append ps qs
+datas-append (first id p said ack ∷ ps) qs = datas-append ps qs
+datas-append (again id p said s ∷ ps) qs = datas-append ps qs
 datas-append (alive id s ∷ ps) qs = datas-append ps qs
 datas-append (carried m n ack ∷ ps) qs = ap (λ (l : List (ℕ × List ℕ)). (n .0, m) ∷ l) (datas-append ps qs)
 
 pub acks-append : (ps qs : List Packet) → acksOf (ps ++ qs) ≡ acksOf ps ++ acksOf qs
 acks-append [] qs = refl
-acks-append (first id p seconds ack ∷ ps) qs = ap (λ (l : List ℕ). 0 ∷ l) (acks-append ps qs)
-acks-append (again id p seconds s ∷ ps) qs = ap (λ (l : List ℕ). s .0 ∷ l) (acks-append ps qs)
+acks-append (first id p said ack ∷ ps) qs = ap (λ (l : List ℕ). 0 ∷ l) (acks-append ps qs)
+acks-append (again id p said s ∷ ps) qs = ap (λ (l : List ℕ). s .0 ∷ l) (acks-append ps qs)
 acks-append (alive id s ∷ ps) qs = ap (λ (l : List ℕ). s .0 ∷ l) (acks-append ps qs)
 acks-append (carried m n FtField.Absent ∷ ps) qs = acks-append ps qs
 acks-append (carried m n (FtField.Number s) ∷ ps) qs = ap (λ (l : List ℕ). s .0 ∷ l) (acks-append ps qs)
@@ -92,8 +93,8 @@ fines-snoc (q ∷ ps) p f g = (f .0, fines-snoc ps p (f .1) g)
 
 pub noinit-snoc : (ps : List Packet) (p : Packet) → NoInit ps → NoInit (p ∷ []) → NoInit (ps ++ (p ∷ []))
 noinit-snoc [] p f g = g
-noinit-snoc (first id q seconds ack ∷ ps) p f g = absurd f
-noinit-snoc (again id q seconds s ∷ ps) p f g = absurd f
+noinit-snoc (first id q said ack ∷ ps) p f g = absurd f
+noinit-snoc (again id q said s ∷ ps) p f g = absurd f
 noinit-snoc (alive id s ∷ ps) p f g = noinit-snoc ps p f g
 noinit-snoc (carried m n ack ∷ ps) p f g = noinit-snoc ps p f g
 
@@ -103,7 +104,7 @@ okays-snoc (x ∷ ms) m f g = (f .0, okays-snoc ms m (f .1) g)
 
 -- ---- a line of such messages is a line of bytes
 pub fine-bytes : (p : Packet) → Fine p → Bytes (bytesOf p)
-fine-bytes (first id p seconds ack) f = init-octets id p seconds ack .each
-fine-bytes (again id p seconds s) f = init-octets id p seconds (FtField.Number s) .each
+fine-bytes (first id p said ack) f = init-octets id p said ack .each
+fine-bytes (again id p said s) f = init-octets id p said (FtField.Number s) .each
 fine-bytes (alive id s) f = alive-octets id (FtField.Number s) .each
 fine-bytes (carried m n ack) f = protected-octets m n ack (record { each = f .0 .bytes }) .each

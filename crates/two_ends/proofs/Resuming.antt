@@ -8,6 +8,7 @@ use native.Mathlib.Omega.{arith}
 use lib.ListN.{take, length-drop}
 use Rattle.ft_number.specs.declared.FtNumber.{FtNumber}
 use Rattle.ft_number.specs.declared.MessageId.{MessageId}
+use Rattle.ft_number.specs.declared.Timeout.{Timeout}
 use Rattle.message_writer.specs.declared.OwnParameters.{OwnParameters}
 use Rattle.protocol.specs.declared.Answer.{Answer}
 use Rattle.protocol.specs.declared.Phase.{Phase}
@@ -32,26 +33,26 @@ use Rattle.two_ends.proofs.Takes.{dir-resume, dir-resume-peer}
 use Rattle.two_ends.proofs.Worlds.{ended, kept-one, Settled}
 
 -- ---- a later Init
-module _ (now : State) (t : ℕ) (h : History) (id : MessageId) (p : OwnParameters) (seconds : ℕ) (a : FtNumber) where
+module _ (now : State) (t : ℕ) (h : History) (id : MessageId) (p : OwnParameters) (said : Timeout) (a : FtNumber) where
   abbrev m₂ : List ℕ
-  m₂ = bytesOf (again id p seconds a)
+  m₂ = bytesOf (again id p said a)
 
   abbrev ts : Terms
-  ts = terms now t id p seconds
+  ts = terms now t id p said
 
-  module _ {b : End} {ab ba : List (List ℕ)} {pa qs : List Packet} (i : Inv (ended now (waitingFor t) true true h) b ab ba pa (again id p seconds a ∷ qs)) where
+  module _ {b : End} {ab ba : List (List ℕ)} {pa qs : List Packet} (i : Inv (ended now (waitingFor t) true true h) b ab ba pa (again id p said a ∷ qs)) where
     -- its ACK is right; the session is resumed, or its parameters are others
     pub again-start : (j : ℕ) × Freed (sndOf now h) 0 true (rcvOf (sideOf b .state) (b .history)) (datas pa) (acksOf qs) (a .0) j
         × ((initStart now (waitingFor t) m₂ ≡ Start.Resumed ts j a) ⊎ (initStart now (waitingFor t) m₂ ≡ Start.Refused Answer.ParametersChanged))
     again-start =
         let free = half-init true (λ r i l few. tt) (i .out .half) in
-        (free .0, free .1, starts-again now t id p seconds a (free .0) (i .back .fines .0) (kept-one (i .own)) (free .1 .right))
+        (free .0, free .1, starts-again now t id p said a (free .0) (i .back .fines .0) (kept-one (i .own)) (free .1 .right))
 
     pub again-begins : (j : ℕ) → initStart now (waitingFor t) m₂ ≡ Start.Resumed ts j a → initReceived now (waitingFor t) m₂ ≡ stepped Answer.Done (resumed now ts j (a .0)) (upWith true 0) []
     again-begins j e = begins now t m₂ (resumed now ts j (a .0)) (rw e) (rw e) true (rw e)
 
     resumes : (j : ℕ) → Freed (sndOf now h) 0 true (rcvOf (sideOf b .state) (b .history)) (datas pa) (acksOf qs) (a .0) j → initStart now (waitingFor t) m₂ ≡ Start.Resumed ts j a
-        → Settled (greetedBy now t true h (again id p seconds a)) b ab (map bytesOf qs)
+        → Settled (greetedBy now t true h (again id p said a)) b ab (map bytesOf qs)
     unfolding resumed acked
     resumes j free e =
         let s : State = resumed now ts j (a .0) in
@@ -76,14 +77,14 @@ module _ (now : State) (t : ℕ) (h : History) (id : MessageId) (p : OwnParamete
               lineB = refl;
               own = own;
               peer = i .peer;
-              out = dir-resume now t h a ts j id p seconds free (i .out);
-              back = dir-resume-peer now t h a ts j id p seconds (i .back);
+              out = dir-resume now t h a ts j id p said free (i .out);
+              back = dir-resume-peer now t h a ts j id p said (i .back);
               agree = i .agree;
             },
           ),
         ))
 
-    pub greet-again : keeps (greetedBy now t true h (again id p seconds a)) ≡ true → Settled (greetedBy now t true h (again id p seconds a)) b ab (map bytesOf qs)
+    pub greet-again : keeps (greetedBy now t true h (again id p said a)) ≡ true → Settled (greetedBy now t true h (again id p said a)) b ab (map bytesOf qs)
     greet-again k =
         let st = again-start in
         ⊎-elim

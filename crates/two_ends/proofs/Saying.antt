@@ -7,6 +7,7 @@ use native.Mathlib.Omega.{arith}
 use lib.ListN.{length, getD, drop}
 use Rattle.ft_number.specs.declared.FtNumber.{FtNumber}
 use Rattle.ft_number.specs.declared.MessageId.{MessageId}
+use Rattle.ft_number.specs.declared.Timeout.{Timeout}
 use Rattle.tlv.specs.declared.FtField.{FtField}
 use Rattle.tlv.specs.declared.Parameters.{Parameters}
 use Rattle.message.specs.declared.Message.{Message}
@@ -56,10 +57,10 @@ says-by o m r e i f = record {
   mild = λ g q. let same : r ≡ g = cc (sym e ∙ q) in rw same at f;
 }
 
-pub init-says : (o : OwnParameters) (id : MessageId) (p : OwnParameters) (seconds : ℕ) (ack : FtField) → InitFits id p seconds ack
-    → p .keepalive ≡ o .keepalive → p .pdulength ≡ o .pdulength → Says o (initBytes id p seconds ack)
-init-says o id p seconds ack f k l =
-    says-by o (initBytes id p seconds ack) (initMessage id p seconds ack) (init-reads id p seconds ack f) (λ t. rw (k, l)) (λ t. absurd (true≢false t))
+pub init-says : (o : OwnParameters) (id : MessageId) (p : OwnParameters) (said : Timeout) (ack : FtField) → InitFits id p said ack
+    → p .keepalive ≡ o .keepalive → p .pdulength ≡ o .pdulength → Says o (initBytes id p said ack)
+init-says o id p said ack f k l =
+    says-by o (initBytes id p said ack) (initMessage id p said ack) (init-reads id p said ack f) (λ t. rw (k, l)) (λ t. absurd (true≢false t))
 
 pub alive-says : (o : OwnParameters) (id : MessageId) (ack : FtField) → id .0 < 256 ^ 4 → AckFits ack → Says o (keepaliveBytes id ack)
 alive-says o id ack small fits =

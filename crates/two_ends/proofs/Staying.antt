@@ -9,6 +9,7 @@ use Rattle.octets.specs.Pick.{both}
 use Rattle.octets.proofs.Choice.{pick-all}
 use Rattle.ft_number.specs.declared.FtNumber.{FtNumber}
 use Rattle.ft_number.specs.declared.MessageId.{MessageId}
+use Rattle.ft_number.specs.declared.Timeout.{Timeout}
 use Rattle.message_writer.specs.declared.OwnParameters.{OwnParameters}
 use Rattle.protocol.specs.declared.Answer.{Answer}
 use Rattle.protocol.specs.declared.Phase.{Phase}
@@ -65,17 +66,17 @@ module _ (b : End) (ab : List (List ℕ)) where
   abbrev Mildly : End → List ℕ → List (List ℕ) → Type 0
   Mildly e m rest = e .begun ≡ true → (30 ≤ answerNumber (answerTo e m) → ⊥) → Holds e m
 
-  resumed-holds : (now : State) (t : ℕ) (h : History) (id : MessageId) (p : OwnParameters) (seconds : ℕ) (a : FtNumber) {qs : List Packet} {ba : List (List ℕ)} {pa : List Packet}
-      → Inv (ended now (waitingFor t) true true h) b ab ba pa (again id p seconds a ∷ qs)
-      → Mildly (ended now (waitingFor t) true true h) (bytesOf (again id p seconds a)) (map bytesOf qs)
+  resumed-holds : (now : State) (t : ℕ) (h : History) (id : MessageId) (p : OwnParameters) (said : Timeout) (a : FtNumber) {qs : List Packet} {ba : List (List ℕ)} {pa : List Packet}
+      → Inv (ended now (waitingFor t) true true h) b ab ba pa (again id p said a ∷ qs)
+      → Mildly (ended now (waitingFor t) true true h) (bytesOf (again id p said a)) (map bytesOf qs)
   unfolding resumed acked
-  resumed-holds now t h id p seconds a i g low =
-      let m = bytesOf (again id p seconds a) in
-      let ts = terms now t id p seconds in
-      let st = again-start now t h id p seconds a i in
+  resumed-holds now t h id p said a i g low =
+      let m = bytesOf (again id p said a) in
+      let ts = terms now t id p said in
+      let st = again-start now t h id p said a i in
       ⊎-elim
       (λ (e : initStart now (waitingFor t) m ≡ Start.Resumed ts (st .0) a).
-      let d = again-begins now t h id p seconds a i (st .0) e in
+      let d = again-begins now t h id p said a i (st .0) e in
       record { begun = refl; keeping = rw d (kept-one (i .own)); same = λ u k. rw (d, e, k) })
       (λ (e : initStart now (waitingFor t) m ≡ Start.Refused Answer.ParametersChanged). absurd (low (rw (changed-init now t m e) (omega arith))))
       (st .2)
@@ -86,8 +87,8 @@ module _ (b : End) (ab : List (List ℕ)) where
 
   each : Oldests Mildly b ab
   each = record {
-    firsts = λ now t h id p seconds ack qs lead i g. absurd (true≢false (sym g));
-    agains = λ now t h id p seconds a qs i. resumed-holds now t h id p seconds a i;
+    firsts = λ now t h id p said ack qs lead i g. absurd (true≢false (sym g));
+    agains = λ now t h id p said a qs i. resumed-holds now t h id p said a i;
     alives = λ now re sent h id n qs i g. taken-holds now re sent h (bytesOf (alive id n)) i;
     carries = λ now re sent h m n ack qs i g. taken-holds now re sent h (bytesOf (carried m n ack)) i;
   }

@@ -15,8 +15,8 @@ use Rattle.message_writer.specs.ReadBack.{AckFits}
 use Rattle.protocol.specs.declared.Phase.{Phase}
 use Rattle.protocol.specs.Answers.{isDone}
 use Rattle.protocol.specs.KeepAlive.{aliveAck, aliveBytes, keepalive}
-use Rattle.protocol.specs.Open.{keptAck, openBytes, openSession}
-use Rattle.protocol.specs.Phases.{awaits, isUp, isUpFT, mayOpen, waitingFor}
+use Rattle.protocol.specs.Open.{keptAck, openBytes, openSession, awaiting}
+use Rattle.protocol.specs.Phases.{awaits, isUp, isUpFT, mayOpen}
 use Rattle.protocol.specs.Send.{placeSent, queueMessage, queueNumber, ackAsked, sendBytes, sendDeed, sendRoom, sendRule, sendNext}
 use Rattle.protocol.specs.State.{State}
 use Rattle.protocol.specs.Step.{Step, admitted}
@@ -28,14 +28,14 @@ use Rattle.protocol.proofs.Sends.{Sendable, sendable}
 use Rattle.protocol.proofs.Settling.{admitted-done}
 use Rattle.protocol.proofs.Writers.{Wrote, writer-says}
 use Rattle.two_ends.specs.Calls.{accepts, disconnected, called, counts, on, opened, plainly, put, offered, wrote, replaced, sent, sentHistory}
-use Rattle.two_ends.specs.Runs.{Seconds, Widths}
+use Rattle.two_ends.specs.Runs.{Widths, ProposalFits}
 use Rattle.two_ends.specs.Steady.{Mild}
 use Rattle.two_ends.specs.World.{End, History, Lasts, World}
 use Rattle.two_ends.proofs.Acts.{by-open, by-plain, by-submit, by-write}
 use Rattle.two_ends.proofs.Begun.{kept-fits}
 use Rattle.two_ends.proofs.Direction.{half-secured}
 use Rattle.two_ends.proofs.Invariant.{Good, Some, Waiting}
-use Rattle.two_ends.proofs.Opening.{seconds-small}
+use Rattle.two_ends.proofs.Opening.{proposed-fits}
 use Rattle.two_ends.proofs.Saying.{All, alive-says, all-append, all-at, all-drop, init-says, Says, carried-says}
 use Rattle.two_ends.proofs.Sending.{sends-fine}
 use Rattle.two_ends.proofs.Worlds.{begun-else, ended, next}
@@ -172,20 +172,20 @@ module _ (oa ob : OwnParameters) (w : World) (g : Good w) (k : Lasts w) (s : Ste
       let b = begun-by (d .up) (λ q. silent ph q .2) in
       sent-says oa now ph (w .a .joined) (w .a .begun) (w .a .history) ask d b (g k) (s .a .mild b)))
 
-  pub open-steady : (id : MessageId) (p : OwnParameters) (t : Proposal) (room : ℕ) → Widths id p → Seconds t → p .keepalive ≡ oa .keepalive → p .pdulength ≡ oa .pdulength
+  pub open-steady : (id : MessageId) (p : OwnParameters) (t : Proposal) (room : ℕ) → Widths id p → ProposalFits t → p .keepalive ≡ oa .keepalive → p .pdulength ≡ oa .pdulength
       → Steadies oa ob (opened w (openSession now ph id p t room))
   unfolding openSession
-  open-steady id p t room widths seconds ek el =
+  open-steady id p t room widths fits ek el =
       let x = openSession now ph id p t room in
       let bytes = openBytes now id p t in
       let m = open-moves now ph id p t room in
-      let said = wrote-says oa now ph (mayOpen ph) (waitingFor (proposedOf t)) bytes x (writer-says now ph (mayOpen ph) (waitingFor (proposedOf t)) bytes room) (λ q.
+      let said = wrote-says oa now ph (mayOpen ph) (awaiting t) bytes x (writer-says now ph (mayOpen ph) (awaiting t) bytes room) (λ q.
       init-says oa id p (proposedOf t) (keptAck now)
       (record {
         id = omega (arith, widths .id);
         keepalive = omega (arith, widths .keepalive);
         pdulength = omega (arith, widths .pdulength);
-        seconds = omega (arith, seconds-small t seconds);
+        timeout = proposed-fits t fits;
         ack = kept-fits now (small (begun-by q (λ r. silent ph r .1)));
       }) ek el) in
       by-open (Steadies oa ob) (broken-steady oa ob) w x

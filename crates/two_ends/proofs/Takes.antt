@@ -8,6 +8,7 @@ use lib.ListN.{take}
 use Rattle.ft_number.specs.declared.Ack.{Ack}
 use Rattle.ft_number.specs.declared.FtNumber.{FtNumber}
 use Rattle.ft_number.specs.declared.MessageId.{MessageId}
+use Rattle.ft_number.specs.declared.Timeout.{Timeout}
 use Rattle.ft_number.specs.Ack.{ackOf}
 use Rattle.ft_number.specs.Circle.{stepsOf}
 use Rattle.tlv.specs.declared.FtField.{FtField}
@@ -44,8 +45,8 @@ module _ (k : Bool) (t : ℕ) (terms : Terms) (k′ : Bool) where
   abbrev begun : Side
   begun = side (fresh terms) k′ (upWith false 0) true true noHistory
 
-  module _ (id : MessageId) (p : OwnParameters) (seconds : ℕ) (ack : FtField) {y : Side} {to rest : List Packet} where
-    pub dir-fresh : Dir unbegun y to (first id p seconds ack ∷ rest) → Dir begun y to rest
+  module _ (id : MessageId) (p : OwnParameters) (said : Timeout) (ack : FtField) {y : Side} {to rest : List Packet} where
+    pub dir-fresh : Dir unbegun y to (first id p said ack ∷ rest) → Dir begun y to rest
     unfolding fresh ackOf stepsOf
     dir-fresh d = record { half = by (half-init {x = sndOf releasedState noHistory} false (λ r i l few. (omega arith, refl)) (d .half)); shape = d .shape; fines = d .fines }
       where
@@ -56,11 +57,11 @@ module _ (k : Bool) (t : ℕ) (terms : Terms) (k′ : Bool) where
             let z : f .0 ≡ 0 = cc in
             rw z at (f .1 .half)
 
-    pub dir-fresh-peer : Dir y unbegun (first id p seconds ack ∷ rest) to → Dir y begun rest to
+    pub dir-fresh-peer : Dir y unbegun (first id p said ack ∷ rest) to → Dir y begun rest to
     unfolding fresh
     dir-fresh-peer d = record { half = d .half; shape = by (y .joined) (d .shape); fines = d .fines .1 }
       where
-        by : (jo : Bool) → Shape jo false false k (first id p seconds ack ∷ rest) → Shape jo true true k′ rest
+        by : (jo : Bool) → Shape jo false false k (first id p said ack ∷ rest) → Shape jo true true k′ rest
         by true h = h .2
         by false h = nil-cons (h .0)
 
@@ -72,17 +73,17 @@ module _ (s : State) (t : ℕ) (h : History) (a : FtNumber) (terms : Terms) (j :
   abbrev greeted : Side
   greeted = side (resumed s terms j (a .0)) (resumed s terms j (a .0) .kept) (upWith true 0) true true (takes (take j (s .queue)) [] h)
 
-  module _ (id : MessageId) (p : OwnParameters) (seconds : ℕ) {y : Side} {to rest : List Packet} where
+  module _ (id : MessageId) (p : OwnParameters) (said : Timeout) {y : Side} {to rest : List Packet} where
     pub dir-resume : Freed (sndOf s h) 0 true (rcvOf (y .state) (y .history)) (datas to) (acksOf rest) (a .0) j
-        → Dir greeting y to (again id p seconds a ∷ rest) → Dir greeted y to rest
+        → Dir greeting y to (again id p said a ∷ rest) → Dir greeted y to rest
     unfolding resumed acked
     dir-resume f d = let z : 0 - j ≡ 0 = omega arith in record { half = rw z at (f .half); shape = d .shape; fines = d .fines }
 
-    pub dir-resume-peer : Dir y greeting (again id p seconds a ∷ rest) to → Dir y greeted rest to
+    pub dir-resume-peer : Dir y greeting (again id p said a ∷ rest) to → Dir y greeted rest to
     unfolding resumed acked
     dir-resume-peer d = record { half = rw (append-nil (h .secured)) (d .half); shape = by (y .joined) (d .shape); fines = d .fines .1 }
       where
-        by : (jo : Bool) → Shape jo false true (s .kept) (again id p seconds a ∷ rest) → Shape jo true true (s .kept) rest
+        by : (jo : Bool) → Shape jo false true (s .kept) (again id p said a ∷ rest) → Shape jo true true (s .kept) rest
         by true q = q .1
         by false q = nil-cons (q .0)
 

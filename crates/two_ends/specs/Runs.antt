@@ -5,6 +5,7 @@ use mathlib.Core.List.{List, [], _∷_}
 use Rattle.octets.specs.Bytes.{Bytes}
 use Rattle.ft_number.specs.declared.MessageId.{MessageId}
 use Rattle.ft_number.specs.declared.Proposal.{Proposal}
+use Rattle.ft_number.specs.Timeout.{TimeoutFits}
 use Rattle.message_writer.specs.declared.OwnParameters.{OwnParameters}
 use Rattle.protocol.specs.Begin.{restore}
 use Rattle.protocol.specs.ConnectionFailed.{connectionFailed}
@@ -36,15 +37,15 @@ pub record Widths (n : MessageId) (p : OwnParameters) : Type 0 where
   pub keepalive : p .keepalive < 65536
   pub pdulength : p .pdulength < 65536
 
-abbrev pub Seconds : Proposal → Type 0
-Seconds (Proposal.Seconds n) = n < 65536
-Seconds Proposal.NotGiven = Unit {0}
+abbrev pub ProposalFits : Proposal → Type 0
+ProposalFits (Proposal.Given t) = TimeoutFits t
+ProposalFits (Proposal.NotGiven form) = Unit {0}
 
 abbrev pub ProperEvent : Event → Type 0
 ProperEvent (submits m) = Bytes m
 ProperEvent (sends ask room) = Unit {0}
 ProperEvent (keepalives id room) = id .0 < 4294967296
-ProperEvent (opens id p t room) = Widths id p × Seconds t
+ProperEvent (opens id p t room) = Widths id p × ProposalFits t
 ProperEvent (passes elapsed) = Unit {0}
 ProperEvent delivers = Unit {0}
 ProperEvent breaks = Unit {0}

@@ -8,12 +8,10 @@ use mathlib.Core.Logic.{_⊎_}
 use mathlib.Core.Path.{_≡_}
 use Rattle.ft_number.specs.declared.MessageId.{MessageId}
 use Rattle.ft_number.specs.declared.Proposal.{Proposal}
-use Rattle.ft_number.specs.Timeout.{proposedOf}
 use Rattle.message_writer.specs.declared.OwnParameters.{OwnParameters}
-use Rattle.protocol.specs.Open.{openBytes}
-use Rattle.protocol.specs.Phases.{waitingFor}
+use Rattle.protocol.specs.Open.{openBytes, awaiting}
 use Rattle.protocol.specs.State.{State, held, capacity}
-use Rattle.two_ends.specs.Runs.{Widths, Seconds}
+use Rattle.two_ends.specs.Runs.{Widths, ProposalFits}
 use Rattle.two_ends.specs.World.{End, World, noHistory}
 
 -- a cabinet that opens: its state, and what its owner gives
@@ -24,7 +22,7 @@ pub record Opener : Type 0 where
   pub proposal : Proposal
 
 abbrev pub openingEnd : Opener → End
-openingEnd o = record { state = o .state; phase = waitingFor (proposedOf (o .proposal)); joined = true; begun = false; history = noHistory }
+openingEnd o = record { state = o .state; phase = awaiting (o .proposal); joined = true; begun = false; history = noHistory }
 
 abbrev pub firstInit : Opener → List ℕ
 firstInit o = openBytes (o .state) (o .id) (o .parameters) (o .proposal)
@@ -37,7 +35,7 @@ pub record Fit (o : Opener) : Type 0 where
   pub few : held (o .state) ≤ capacity
   pub range : o .state .secured .0 < 4294967296
   pub widths : Widths (o .id) (o .parameters)
-  pub seconds : Seconds (o .proposal)
+  pub proposal : ProposalFits (o .proposal)
 
 -- "R = kept"
 abbrev pub RZero : Opener → Type 0

@@ -1,15 +1,18 @@
 -- The runs, computed. Assumes nothing.
 use mathlib.Core.List.{[], _++_}
 use mathlib.Core.Path.{_≡_, refl}
+use Rattle.ft_number.specs.declared.Form.{Form}
+use Rattle.ft_number.specs.declared.Proposal.{Proposal}
 use Rattle.protocol.specs.declared.Answer.{Answer}
 use Rattle.protocol.specs.State.{held}
 use Rattle.protocol.specs.Submit.{submit}
 use Rattle.two_ends.specs.Staying.{Stays}
 use Rattle.two_ends.specs.World.{swap}
-use Rattle.two_ends_runs.specs.Breaks.{situation, halfOpen, halfOpen-ends, rejoined, rejoined-ends, over, over-begins, afresh, afresh-begins, exchange, exchanged, waits, waits-4, waits-5, returns, returns-4, returns-5}
+use Rattle.two_ends_runs.specs.Breaks.{situation, halfOpen, halfOpen-ends, rejoined, rejoined-ends, over, over-begins, afresh, afresh-begins, exchange, exchanged, waits, waits-keeps, waits-releases, returns, returns-keeps, returns-releases}
 use Rattle.two_ends_runs.specs.Cabinets.{address, mapping}
+use Rattle.two_ends_runs.specs.Forms.{draft, published, openedBy, timeouts, exchangedForms}
 use Rattle.two_ends_runs.specs.Race.{race, labels, race-ends, race-asked, race-asked-ends}
-use Rattle.two_ends_runs.specs.Tales.{ending, begin, again, again-ends, restart, restart-ends, early, early-ends, full, full-ends}
+use Rattle.two_ends_runs.specs.Tales.{ending, begin, again, again-ends, restart, restart-ends, tooEarly, tooEarly-ends, full, full-ends}
 use Rattle.two_ends_runs.specs.Withdrawal.{stages, asked, asked-codes, acked-first, acked-first-codes, released-first, released-first-codes, acknowledged, mapped-anew, mapped-anew-codes, through}
 use Rattle.two_ends_runs.proofs.Opened.{everything}
 
@@ -26,9 +29,9 @@ pub restart-is : ending restart ≡ restart-ends
 unfolding everything
 restart-is = refl
 
-pub early-is : ending early ≡ early-ends
+pub too-early-is : ending tooEarly ≡ tooEarly-ends
 unfolding everything
-early-is = refl
+too-early-is = refl
 
 pub race-is : labels race ≡ race-ends
 unfolding everything
@@ -75,13 +78,26 @@ unfolding everything
 exchange-is = (refl, refl)
 
 -- "timeout 5, elapsed 4 keeps, 5 releases"
-pub timeout-is : (situation (waits 4 []) ≡ waits-4) × (situation (waits 5 []) ≡ waits-5)
+pub timeout-is : (situation (waits 4999 []) ≡ waits-keeps) × (situation (waits 5000 []) ≡ waits-releases)
 unfolding everything
 timeout-is = (refl, refl)
 
-pub returns-is : (ending (returns 4) ≡ returns-4) × (situation (returns 5) ≡ returns-5)
+pub returns-is : (ending (returns 4999) ≡ returns-keeps) × (situation (returns 5000) ≡ returns-releases)
 unfolding everything
 returns-is = (refl, refl)
+
+-- ---- forms that differ: the lesser of 5 seconds and 5,250 milliseconds, of 0 and 250, of two zeros, and of two that are not given
+pub agreed-is : (timeouts (openedBy (draft 5) (published 5250) []) ≡ (5000, 5000))
+    × (timeouts (openedBy (draft 0) (published 250) []) ≡ (250, 250))
+    × (timeouts (openedBy (published 0) (draft 0) []) ≡ (0, 0))
+    × (timeouts (openedBy (Proposal.NotGiven Form.Published) (Proposal.NotGiven Form.Draft) []) ≡ (30000, 30000))
+unfolding everything
+agreed-is = (refl, refl, refl, refl)
+
+-- over a break in which both change their form
+pub forms-is : (timeouts exchangedForms ≡ (3001, 3001)) × (ending exchangedForms ≡ exchanged 7)
+unfolding everything
+forms-is = (refl, refl)
 
 -- ---- a label to its end
 pub acked-first-is : stages (begin []) (asked ++ acked-first) ≡ asked-codes ++ acked-first-codes

@@ -12,7 +12,6 @@ use Rattle.octets.specs.Bytes.{Bytes}
 use Rattle.octets.specs.Pick.{both}
 use Rattle.octets.proofs.Choice.{both-true}
 use Rattle.block.specs.Check.{blockSize}
-use Rattle.ft_number.specs.declared.Proposal.{Proposal}
 use Rattle.block0.specs.Layout.{slotCount}
 use Rattle.image.specs.Events.{newImage}
 use Rattle.image.specs.Sizes.{block, blockOf}
@@ -48,7 +47,7 @@ use Rattle.stored_ends.proofs.StoredBytes.{bytes-stored, bytes-new}
 use Rattle.stored_ends.proofs.Theorem.{begins-both, fit}
 use Rattle.stored_ends.proofs.Tracks.{Both, Tracks}
 use Rattle.stored_ends.proofs.Uncut.{uncut-is}
-use Rattle.two_ends_runs.specs.Cabinets.{openerWith, deliver, id, parameters}
+use Rattle.two_ends_runs.specs.Cabinets.{openerWith, deliver, id, parameters, five}
 use Rattle.two_ends_runs.specs.PowerCut.{newCabinet, onMedia}
 use Rattle.two_ends_runs.specs.Tales.{begin}
 use Rattle.two_ends_runs.proofs.Opened.{everything}
@@ -78,7 +77,7 @@ new-stands = record {
   sound = new-sound;
   range = rw new-decodes in-range-released;
   widths = record { id = omega arith; keepalive = omega arith; pdulength = omega arith };
-  seconds = omega arith;
+  proposal = omega arith;
 }
 
 -- so a run on the media is the run by the rules, as long as it lasts
@@ -111,11 +110,11 @@ greeted : leaves (Calls.greets init) newImage ph₀ [] .outcome .answer ≡ Answ
 unfolding everything step
 greeted =
     ap (λ (y : Step). y .answer) (refines newImage ph₀ (begun₀ .own .stand) [] (Calls.greets init) proper₀)
-    ∙ ap (λ (s : State). initReceived s ph₀ (openBytes s id parameters (Proposal.Seconds 5)) .answer) new-state
+    ∙ ap (λ (s : State). initReceived s ph₀ (openBytes s id parameters five) .answer) new-state
 
 emptied : startSlots (initStart (stateOf newImage) ph₀ init) ≡ empty
 unfolding everything
-emptied = ap (λ (s : State). startSlots (initStart s ph₀ (openBytes s id parameters (Proposal.Seconds 5)))) new-state
+emptied = ap (λ (s : State). startSlots (initStart s ph₀ (openBytes s id parameters five))) new-state
 
 abbrev pub up : Pair
 up = onMedia []

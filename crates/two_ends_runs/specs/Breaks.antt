@@ -125,13 +125,13 @@ exchanged n = record {
   unreleased = true;
 }
 
--- ---- a timeout of 5 seconds: 7 is sent and lost in a break, which a notices; then so many seconds pass
+-- ---- a timeout of 5 seconds: 7 is sent and lost in a break, which a notices; then so many milliseconds pass
 abbrev pub waits : ℕ → List (Bool × Event) → World
-waits seconds vs = begin (offer true 7 ∷ send true ∷ (true, breaks) ∷ (true, notices) ∷ (true, passes seconds) ∷ vs)
+waits millis vs = begin (offer true 7 ∷ send true ∷ (true, breaks) ∷ (true, notices) ∷ (true, passes millis) ∷ vs)
 
--- "elapsed 4 keeps"
-abbrev pub waits-4 : Situation
-waits-4 = record {
+-- "elapsed 4 keeps", to the last millisecond
+abbrev pub waits-keeps : Situation
+waits-keeps = record {
   phase = Phase.Failed;
   joined = false;
   kept = true;
@@ -163,18 +163,18 @@ gone = record {
   unreleased = false;
 }
 
-abbrev pub waits-5 : Situation
-waits-5 = record { phase = Phase.Idle; joined = false; kept = false; out = []; ending = gone }
+abbrev pub waits-releases : Situation
+waits-releases = record { phase = Phase.Idle; joined = false; kept = false; out = []; ending = gone }
 
 -- both open again, and a sends what it holds
 abbrev pub returns : ℕ → World
-returns seconds =
-    waits seconds
+returns millis =
+    waits millis
     ((false, notices) ∷ reopen true ∷ reopen false ∷ deliver true ∷ deliver false ∷ send true ∷ deliver false ∷ alive false ∷ deliver true ∷ [])
 
--- after 4 seconds that is 7, as in any break; after 5 it is nothing, in a fresh session
-abbrev pub returns-4 : Ending
-returns-4 = exchanged 7
+-- before 5 seconds that is 7, as in any break; from then on it is nothing, in a fresh session
+abbrev pub returns-keeps : Ending
+returns-keeps = exchanged 7
 
-abbrev pub returns-5 : Situation
-returns-5 = record { phase = upWith false 0; joined = true; kept = true; out = []; ending = gone }
+abbrev pub returns-releases : Situation
+returns-releases = record { phase = upWith false 0; joined = true; kept = true; out = []; ending = gone }

@@ -4,6 +4,7 @@ use mathlib.Core.Bool.{Bool, true, false}
 use mathlib.Core.List.{List, [], _∷_}
 use Rattle.ft_number.specs.declared.MessageId.{MessageId}
 use Rattle.ft_number.specs.declared.Proposal.{Proposal}
+use Rattle.ft_number.specs.declared.Timeout.{Timeout}
 use Rattle.message_writer.specs.declared.OwnParameters.{OwnParameters}
 use Rattle.protocol.specs.State.{State, noTable, noMarks}
 use Rattle.two_ends.specs.Runs.{Event, submits, sends, keepalives, opens, delivers}
@@ -35,7 +36,7 @@ abort n named = 4 ∷ 4 ∷ 0 ∷ 16 ∷ 0 ∷ 0 ∷ 0 ∷ n ∷ 1 ∷ 0 ∷ 0 �
 
 -- room for the output of a writer
 abbrev pub room : ℕ
-room = 42
+room = 50
 
 abbrev pub id : MessageId
 id = record { 0 = 1 }
@@ -43,9 +44,16 @@ id = record { 0 = 1 }
 abbrev pub parameters : OwnParameters
 parameters = record { keepalive = 15; pdulength = 4096; lsr = 1; space = 0; ondemand = false }
 
--- a cabinet that opens with that state
+-- 5 seconds, in the draft's form
+abbrev pub five : Proposal
+five = Proposal.Given (Timeout.Seconds 5)
+
+-- a cabinet that opens with that state, and with that proposal
+abbrev pub openerBy : Proposal → State → Opener
+openerBy proposal s = record { state = s; id = id; parameters = parameters; proposal = proposal }
+
 abbrev pub openerWith : State → Opener
-openerWith s = record { state = s; id = id; parameters = parameters; proposal = Proposal.Seconds 5 }
+openerWith s = openerBy five s
 
 -- a state that holds nothing, kept, with these R and I, and S
 abbrev pub keptWith : ℕ → ℕ → State
@@ -54,7 +62,7 @@ keptWith issued secured = record {
   issued = record { 0 = issued };
   secured = record { 0 = secured };
   kept = true;
-  terms = record { timeout = 5; keepalive = 15; maxpdu = 4096 };
+  terms = record { timeout = 5000; keepalive = 15; maxpdu = 4096 };
   marks = noMarks;
   table = noTable;
   queue = [];
@@ -70,8 +78,11 @@ send at = (at, sends true room)
 abbrev pub alive : Bool → Bool × Event
 alive at = (at, keepalives id room)
 
+abbrev pub reopenBy : Proposal → Bool → Bool × Event
+reopenBy proposal at = (at, opens id parameters proposal room)
+
 abbrev pub reopen : Bool → Bool × Event
-reopen at = (at, opens id parameters (Proposal.Seconds 5) room)
+reopen at = reopenBy five at
 
 abbrev pub deliver : Bool → Bool × Event
 deliver at = (at, delivers)

@@ -2,6 +2,7 @@ pub mod Cabinets
 pub mod Tales
 pub mod Race
 pub mod Breaks
+pub mod Forms
 pub mod Withdrawal
 pub mod PowerCut
 pub mod Wrap

@@ -78,13 +78,13 @@ restart-ends = record {
 
 -- why a connection that breaks before both are fresh is no start: a is fresh and has sent 7, b still has an old state with S 1. Both R are now set,
 -- b's Init acknowledges 1, and a lets 7 go, which nobody has secured
-abbrev pub early : World
-early =
+abbrev pub tooEarly : World
+tooEarly =
     run (start (openerWith releasedState) (openerWith (keptWith 0 1)))
     (deliver true ∷ offer true 7 ∷ send true ∷ (true, breaks) ∷ (true, notices) ∷ (false, notices) ∷ reopen true ∷ reopen false ∷ deliver true ∷ [])
 
-abbrev pub early-ends : Ending
-early-ends = record {
+abbrev pub tooEarly-ends : Ending
+tooEarly-ends = record {
   accepted = address 7 ∷ [];
   letgo = address 7 ∷ [];
   held = [];

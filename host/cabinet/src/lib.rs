@@ -14,7 +14,9 @@ pub const BLOCKS: usize = 66;
 /// The most messages that are held, each in a slot of its own.
 pub const SLOTS: usize = 64;
 /// The label words.
-pub const PLACES: usize = 120;
+pub const PLACES: usize = 119;
+/// The message IDs beside them: the last has no word, and may be anything.
+pub const ID_PLACES: usize = 120;
 /// The block of the open Requests' message IDs, by its number.
 pub const REQUEST_BLOCK: usize = 65;
 /// The size of an image that a release without Requests stored: it lacks the last block.
@@ -44,8 +46,8 @@ pub mod flags {
     pub const RESUMED: u32 = 1;
 }
 
-/// The part of the state that is not in the image: the phase and, by phase, our proposed timeout or the count sent, and
-/// whether the connection is resumed.
+/// The part of the state that is not in the image: the phase and, by phase, our proposed timeout in milliseconds or the
+/// count sent, and whether the connection is resumed.
 #[derive(Clone, Copy, Debug, Default, PartialEq, Eq)]
 pub struct Session {
     pub phase: u32,
@@ -97,9 +99,12 @@ pub struct Opening {
     pub max_pdu_length: u16,
     pub receiver_lsr: u32,
     pub receiver_space: u16,
-    pub proposal: Option<u16>,
+    /// Milliseconds in the published form; in the draft's seconds, where more than 65,535 are 65,535.
+    pub proposal: Option<u32>,
     /// Bit A: labels are asked for before they are offered.
     pub on_demand: bool,
+    /// FT Session of our Init in RFC 3479's form, else in the draft's.
+    pub published: bool,
 }
 
 /// A whole PDU judged: answer 0 or 4, and the number of its messages.
@@ -150,6 +155,8 @@ pub struct Message {
     pub max_pdu_length: u32,
     pub request_id: u32,
     pub status_id: u32,
+    /// 1: FT Session is in RFC 3479's form, and the timeout in milliseconds; 0: it is in seconds, or there is none.
+    pub published: u32,
 }
 
 /// The Request that a label word stands for: open 1 and its message ID, or 0 and 0.
@@ -173,7 +180,7 @@ pub struct Summary {
     pub pended: u32,
     /// The words that are not free.
     pub labels: u32,
-    /// Seconds, 0 for ever.
+    /// Milliseconds, 0 for ever.
     pub timeout: u32,
     pub keepalive_time: u32,
     pub max_pdu_length: u32,
@@ -192,6 +199,14 @@ pub struct Words {
 pub struct Extended {
     pub answer: u32,
     pub further: u32,
+}
+
+/// An image moved to another version: answer 0 and the bytes written; else no byte, and the block that 10 and 11 name.
+#[derive(Clone, Copy, Debug, Default, PartialEq, Eq)]
+pub struct Converted {
+    pub answer: u32,
+    pub block: u32,
+    pub length: u32,
 }
 
 /// Whether a number may come next, and how many were left out before it: answer 0; or 20 or 30, and none.
@@ -215,6 +230,7 @@ pub trait Cabinet {
     fn open(&self, image: &[u8], session: Session, opening: &Opening, out: &mut [u8]) -> Outcome;
     fn init_received(&self, image: &mut [u8], session: Session, msg: &[u8]) -> Outcome;
     fn connection_failed(&self, image: &mut [u8], session: Session) -> Outcome;
+    /// So many milliseconds have passed since the connection failed.
     fn time_passed(&self, image: &mut [u8], session: Session, elapsed: u32) -> Outcome;
     fn submit(&self, image: &mut [u8], session: Session, msg: &[u8]) -> Outcome;
     fn send_next(&self, image: &mut [u8], session: Session, ack: bool, out: &mut [u8]) -> Outcome;
@@ -238,4 +254,8 @@ pub trait Cabinet {
     /// The message held at a place, 0 the oldest, as a part of the image.
     fn held(&self, image: &[u8], place: u32) -> Part;
     fn extend(&self, image: &mut [u8], stored_len: usize) -> Extended;
+    /// Version 1 to 2, into the output.
+    fn convert_forward(&self, image: &[u8], out: &mut [u8]) -> Converted;
+    /// Version 2 to 1, into the output.
+    fn convert_back(&self, image: &[u8], out: &mut [u8]) -> Converted;
 }

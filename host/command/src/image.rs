@@ -25,7 +25,7 @@ pub fn report(image: &[u8], json: bool) -> Report {
             Report { text, refused: false }
         }
         Err(summary) => {
-            let reason = reason(image, &summary);
+            let reason = reason(image, summary.answer, summary.block);
             let text = if json {
                 format!("{}\n", refusal(&summary, reason))
             } else {
@@ -36,38 +36,55 @@ pub fn report(image: &[u8], json: bool) -> Report {
     }
 }
 
-/// Which check an image fails, and where.
-fn reason(image: &[u8], summary: &Summary) -> String {
-    let start = summary.block as usize * BLOCK_SIZE;
-    match (summary.answer, image.get(start..start + BLOCK_SIZE)) {
+/// Which check an image fails, and where; of an image of the earlier version that there is a converter.
+fn reason(image: &[u8], answer: u32, block: u32) -> String {
+    if (answer, block, version(image)) == (11, 0, Some(EARLIER)) {
+        return format!(
+            "block 0 has version {EARLIER}, as an earlier release stores it: `ldp-ft convert forward` or \
+             ldp_ft_convert_forward makes it one of version 2"
+        );
+    }
+    failed_check(image, answer, block)
+}
+
+/// The version of images that the converter takes forward.
+pub const EARLIER: u32 = 1;
+
+/// The version that block 0 says it has, whether or not that is known.
+pub fn version(image: &[u8]) -> Option<u32> {
+    image.first_chunk().map(|bytes| u32::from_be_bytes(*bytes))
+}
+
+/// Which check an image fails, by the answer and the block that it names.
+pub fn failed_check(image: &[u8], answer: u32, number: u32) -> String {
+    let start = number as usize * BLOCK_SIZE;
+    match (answer, image.get(start..start + BLOCK_SIZE)) {
         (10, Some(block)) => {
             let stored = block.last_chunk().map_or(0, |check| u32::from_be_bytes(*check));
             let right = Library.block_check(block);
-            format!(
-                "the check of {} is wrong: 0x{stored:08x} is stored, 0x{right:08x} is right",
-                block_in_words(summary)
-            )
+            let block = block_in_words(number);
+            format!("the check of {block} is wrong: 0x{stored:08x} is stored, 0x{right:08x} is right")
         }
-        (11, _) => format!("a field of {} is out of its range; its check is right", block_in_words(summary)),
+        (11, _) => format!("a field of {} is out of its range; its check is right", block_in_words(number)),
         _ => size_in_words(image.len()),
     }
 }
 
 /// A block by its number and by what it is for.
-fn block_in_words(summary: &Summary) -> String {
-    let what = match summary.block as usize {
+fn block_in_words(number: u32) -> String {
+    let what = match number as usize {
         0 => "the session's numbers and its label list",
         REQUEST_BLOCK => "the message IDs of open Requests",
         _ => "a message held",
     };
-    format!("block {} ({what})", summary.block)
+    format!("block {number} ({what})")
 }
 
 fn size_in_words(length: usize) -> String {
     match length {
         IMAGE_SIZE_WITHOUT_REQUESTS => format!(
             "an image of {length} bytes is one of an earlier release, without its block of Requests: \
-             ldp_ft_extend makes it one of {IMAGE_SIZE}"
+             `ldp-ft convert forward`, or ldp_ft_extend and then ldp_ft_convert_forward, makes it one of {IMAGE_SIZE}"
         ),
         _ if length > IMAGE_SIZE => format!("it has more than the {IMAGE_SIZE} bytes of an image"),
         _ => format!("it has {length} bytes, and an image has {IMAGE_SIZE}"),
@@ -100,7 +117,7 @@ fn words(holdings: &Holdings) -> String {
 
 /// What was agreed with the peer, and whether Requests are stopped.
 fn agreed(holdings: &Holdings) -> String {
-    let Summary { timeout: seconds, keepalive_time, max_pdu_length, .. } = holdings.summary;
+    let Summary { timeout: milliseconds, keepalive_time, max_pdu_length, .. } = holdings.summary;
     let stopped = match (holdings.stopped, holdings.stopping) {
         (false, false) => "are not stopped",
         (true, false) => "are stopped: the peer has no label resources",
@@ -111,7 +128,7 @@ fn agreed(holdings: &Holdings) -> String {
         "state is kept over a break {}\n\
          the peer's KeepAlive time is {keepalive_time} s, its maximum PDU length {max_pdu_length}\n\
          Requests {stopped}\n",
-        timeout(seconds)
+        timeout(u64::from(milliseconds))
     )
 }
 
@@ -143,7 +160,7 @@ fn record(holdings: Holdings) -> Value {
         ("held", held.into()),
         ("pended", pended.into()),
         ("labels", labels.into()),
-        ("timeout_seconds", timeout.into()),
+        ("timeout_milliseconds", timeout.into()),
         ("keepalive_time", keepalive_time.into()),
         ("max_pdu_length", max_pdu_length.into()),
         ("stopped_by_peer", holdings.stopped.into()),

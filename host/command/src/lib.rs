@@ -1,6 +1,7 @@
-//! The tool for people: `ldp-ft image`, `ldp-ft dump` and `ldp-ft watch`, on the library's C boundary.
+//! The tool for people: `ldp-ft image`, `ldp-ft convert`, `ldp-ft dump` and `ldp-ft watch`, on the library's C boundary.
 
 mod addresses;
+mod convert;
 pub mod dump;
 mod holdings;
 pub mod image;
@@ -61,6 +62,7 @@ fn obey(name: &str, rest: &[OsString]) -> Ended {
     };
     match name {
         "image" => image_command(&options(&FILE)?),
+        "convert" => convert::run(&options(&convert::KNOWN)?),
         "dump" => dump_command(&options(&FILE)?),
         "watch" => watch::run(&options(&watch::KNOWN)?),
         watch::CABINET => watch::run_cabinet(&options(&watch::KNOWN_CABINET)?),
@@ -74,12 +76,16 @@ fn obey(name: &str, rest: &[OsString]) -> Ended {
 const FILE: Known = Known { flags: &["json"], values: &[], files: 1 };
 
 fn image_command(options: &Options) -> Ended {
-    let mut image = Vec::new();
-    let file = &options.files[0];
-    open(file)?.take(image::LONGEST).read_to_end(&mut image).map_err(|error| of_file(file, error))?;
-    let report = image::report(&image, options.is_given("json"));
+    let report = image::report(&read_image(&options.files[0])?, options.is_given("json"));
     print(&report.text)?;
     Ok(if report.refused { status::REFUSED } else { status::DONE })
+}
+
+/// The bytes of a file, no more than tell an image from what is none.
+fn read_image(file: &OsStr) -> Result<Vec<u8>, String> {
+    let mut image = Vec::new();
+    open(file)?.take(image::LONGEST).read_to_end(&mut image).map_err(|error| of_file(file, error))?;
+    Ok(image)
 }
 
 fn dump_command(options: &Options) -> Ended {

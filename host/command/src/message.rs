@@ -162,19 +162,31 @@ fn status(read: &Message) -> Field {
     field("status", value, format!("status 0x{:08x} {name}{about}", read.status))
 }
 
+/// FT Session in its own unit for scripts: the draft's form has seconds, RFC 3479's milliseconds.
 fn ft_session(read: &Message) -> Field {
-    let value =
-        Value::Record(vec![("reconnect", (read.reconnect == 1).into()), ("timeout_seconds", read.timeout.into())]);
+    let published = read.published == 1;
+    let (form, key, milliseconds) = if published {
+        ("published", "timeout_milliseconds", u64::from(read.timeout))
+    } else {
+        ("draft", "timeout_seconds", 1_000 * u64::from(read.timeout))
+    };
+    let value = Value::Record(vec![
+        ("form", form.into()),
+        ("reconnect", (read.reconnect == 1).into()),
+        (key, read.timeout.into()),
+    ]);
+    let name = if published { "FT Session of RFC 3479" } else { "FT Session" };
     let reconnect = if read.reconnect == 1 { "reconnects" } else { "begins" };
-    field("ft_session", value, format!("FT Session {reconnect}, keeps state {}", timeout(read.timeout)))
+    field("ft_session", value, format!("{name} {reconnect}, keeps state {}", timeout(milliseconds)))
 }
 
-/// Seconds of a timeout in words.
-pub fn timeout(seconds: u32) -> String {
-    match seconds {
-        0 => "for ever".to_string(),
-        1 => "for 1 second".to_string(),
-        _ => format!("for {seconds} seconds"),
+/// Milliseconds of a timeout in words: seconds, with three places where they are not whole.
+pub fn timeout(milliseconds: u64) -> String {
+    match (milliseconds / 1_000, milliseconds % 1_000) {
+        (0, 0) => "for ever".to_string(),
+        (1, 0) => "for 1 second".to_string(),
+        (seconds, 0) => format!("for {seconds} seconds"),
+        (seconds, part) => format!("for {seconds}.{part:03} seconds"),
     }
 }
 

@@ -127,6 +127,32 @@ fn fault_tolerance_in_words() {
     assert!(sound);
 }
 
+/// Both forms of FT Session, each in its own unit for scripts.
+#[test]
+fn both_forms_of_ft_session() {
+    let init = || Message::new(types::INITIALIZATION, 1);
+    let forms =
+        [init().ft_session(true, 5), init().ft_session_published(true, 5_250), init().ft_session_published(false, 0)];
+    let stream = pdu(1, &forms.map(|message| message.bytes()));
+    let (text, sound) = dumped(&stream, false);
+    assert_eq!(
+        text,
+        "PDU 0 from 0.0.0.1:0, 74 bytes\n\
+         \x20 Initialization 0x0200 ID 1: FT Session reconnects, keeps state for 5 seconds\n\
+         \x20 Initialization 0x0200 ID 1: FT Session of RFC 3479 reconnects, keeps state for 5.250 seconds\n\
+         \x20 Initialization 0x0200 ID 1: FT Session of RFC 3479 begins, keeps state for ever\n"
+    );
+    assert!(sound);
+    let (json, _) = dumped(&stream, true);
+    for record in [
+        "\"ft_session\":{\"form\":\"draft\",\"reconnect\":true,\"timeout_seconds\":5}",
+        "\"ft_session\":{\"form\":\"published\",\"reconnect\":true,\"timeout_milliseconds\":5250}",
+        "\"ft_session\":{\"form\":\"published\",\"reconnect\":false,\"timeout_milliseconds\":0}",
+    ] {
+        assert!(json.contains(record), "{record}\n{json}");
+    }
+}
+
 #[test]
 fn what_is_malformed_is_named_and_the_rest_shown() {
     let keepalive = |id: u32| Message::new(types::KEEPALIVE, id).bytes();

@@ -7,8 +7,15 @@ use tool::{run_on, run_unread, stderr, stdout, tool};
 
 #[test]
 fn help_is_printed() {
-    for arguments in [&["--help"][..], &["-h"], &["help"], &["image", "--help"], &["dump", "-h"], &["watch", "--help"]]
-    {
+    for arguments in [
+        &["--help"][..],
+        &["-h"],
+        &["help"],
+        &["image", "--help"],
+        &["convert", "--help"],
+        &["dump", "-h"],
+        &["watch", "--help"],
+    ] {
         let output = run_on(arguments, b"");
         assert_eq!((output.status.code(), stderr(&output).as_str()), (Some(0), ""));
         let text = stdout(&output);
@@ -27,12 +34,17 @@ fn wrong_usage_is_refused_in_a_line() {
         &["image", "a", "b"],
         &["image", "--jsn", "a"],
         &["image", "--json", "--json", "a"],
+        &["convert"],
+        &["convert", "forward", "a"],
+        &["convert", "forward", "a", "b", "c"],
+        &["convert", "sideways", "a", "b"],
+        &["convert", "forward", "--force", "a", "b"],
         &["dump"],
         &["dump", "-x", "a"],
         &["watch", "file"],
         &["watch", "--labels"],
         &["watch", "--labels", "0"],
-        &["watch", "--labels", "61"],
+        &["watch", "--labels", "60"],
         &["watch", "--labels", "many"],
         &["watch", "--labels", "-3"],
         &["watch", "--labels", "12", "--labels", "13"],
@@ -41,6 +53,8 @@ fn wrong_usage_is_refused_in_a_line() {
         &["watch", "--kill-every", "18446744073709551616"],
         &["watch", "--on-demand", "yes"],
         &["watch", "--ondemand"],
+        &["watch", "--form"],
+        &["watch", "--form", "rfc"],
         &["cabinet", "--name", "west", "."],
     ] {
         let output = run_on(arguments, b"");
@@ -87,7 +101,7 @@ fn output_that_takes_nothing() {
 fn arguments_that_are_no_text() {
     use std::os::unix::ffi::OsStrExt;
     let wrong = std::ffi::OsStr::from_bytes(b"\xFF\xFE");
-    for command in ["image", "dump", "watch"] {
+    for command in ["image", "convert", "dump", "watch"] {
         let output = tool(&[command]).arg(wrong).stdin(Stdio::null()).output().unwrap();
         assert_eq!(output.status.code(), Some(2), "{command}");
     }

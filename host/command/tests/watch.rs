@@ -78,6 +78,25 @@ fn a_quiet_pair() {
     assert!(!text.contains("re-sends"));
 }
 
+/// Each of the two may write either form: they come to terms, resume over cuts and kills, and keep their state equally long.
+#[test]
+fn pairs_of_every_form_that_are_cut_and_killed() {
+    let forms = [("draft", ["draft", "draft"]), ("published", ["published"; 2]), ("mixed", ["draft", "published"])];
+    for (form, [north, south]) in forms {
+        let text = watch(&["--labels", "20", "--cut-every", "7", "--kill-every", "11", "--form", form]);
+        assert_eq!(accounted(&text), (64, 0));
+        for (name, ours, theirs) in [("north", north, south), ("south", south, north)] {
+            let inits = format!("; Inits: ours {ours}, the peer's {theirs}; state is kept for 60 seconds");
+            let told: Vec<&str> = text.lines().filter(|line| line.contains(&inits)).collect();
+            assert!(
+                told.iter().any(|line| line.contains(&format!("{name:<6} resumes its session"))),
+                "{inits}\n{text}"
+            );
+        }
+        assert_eq!(text.matches("; Inits: ").count(), text.matches("state is kept for 60 seconds").count());
+    }
+}
+
 /// What a pair on demand says; one that is killed may die before it says what it has just done.
 fn assert_asked(text: &str) {
     for what in ["Request 10000", "Abort for Request", "'No label resources' for", "'Label resources available'"] {

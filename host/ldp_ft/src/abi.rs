@@ -59,6 +59,7 @@ pub struct ldp_ft_message {
     pub max_pdu_length: u32,
     pub request_id: u32,
     pub status_id: u32,
+    pub published: u32,
 }
 
 /// The Request that a label word stands for.
@@ -73,6 +74,14 @@ pub struct ldp_ft_request {
 pub struct ldp_ft_extended {
     pub answer: u32,
     pub further: u32,
+}
+
+/// An image moved to another version.
+#[repr(C)]
+pub struct ldp_ft_converted {
+    pub answer: u32,
+    pub block: u32,
+    pub length: u32,
 }
 
 /// What an image holds, in numbers.
@@ -127,8 +136,9 @@ extern "C" {
         receiver_lsr: u32,
         receiver_space: u16,
         proposal_given: bool,
-        proposal: u16,
+        proposal: u32,
         on_demand: bool,
+        published: bool,
         out: *mut u8,
         out_len: usize,
     ) -> ldp_ft_outcome;
@@ -185,4 +195,7 @@ extern "C" {
     pub fn ldp_ft_labels(image: *const u8, image_len: usize, words: *mut u32, words_len: usize) -> ldp_ft_words;
     pub fn ldp_ft_held(image: *const u8, image_len: usize, place: u32) -> ldp_ft_part;
     pub fn ldp_ft_extend(image: *mut u8, image_len: usize, stored_len: usize) -> ldp_ft_extended;
+    pub fn ldp_ft_convert_forward(image: *const u8, image_len: usize, out: *mut u8, out_len: usize)
+        -> ldp_ft_converted;
+    pub fn ldp_ft_convert_back(image: *const u8, image_len: usize, out: *mut u8, out_len: usize) -> ldp_ft_converted;
 }

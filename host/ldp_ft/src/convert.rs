@@ -1,7 +1,7 @@
 //! Results as C has them and as Rust has them, both ways, field by field.
 
 use crate::abi::*;
-use cabinet::{Distance, Extended, Message, Next, Outcome, Part, Pdu, Request, Session, Summary, Words};
+use cabinet::{Converted, Distance, Extended, Message, Next, Outcome, Part, Pdu, Request, Session, Summary, Words};
 
 /// Conversions between two structs with the same fields.
 macro_rules! same_fields {
@@ -27,6 +27,7 @@ same_fields!(Next, ldp_ft_next: answer, left_out);
 same_fields!(Distance, ldp_ft_distance_result: answer, steps);
 same_fields!(Request, ldp_ft_request: open, id);
 same_fields!(Extended, ldp_ft_extended: answer, further);
+same_fields!(Converted, ldp_ft_converted: answer, block, length);
 same_fields!(Words, ldp_ft_words: answer, block, count);
 same_fields!(
     Summary, ldp_ft_summary:
@@ -83,6 +84,7 @@ impl From<ldp_ft_message> for Message {
             max_pdu_length: c.max_pdu_length,
             request_id: c.request_id,
             status_id: c.status_id,
+            published: c.published,
         }
     }
 }
@@ -107,6 +109,7 @@ impl From<Message> for ldp_ft_message {
             max_pdu_length: rust.max_pdu_length,
             request_id: rust.request_id,
             status_id: rust.status_id,
+            published: rust.published,
         }
     }
 }

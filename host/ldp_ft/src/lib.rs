@@ -5,7 +5,8 @@ mod convert;
 
 use abi::*;
 use cabinet::{
-    Cabinet, Distance, Extended, Message, Next, Opening, Outcome, Part, Pdu, Request, Session, Summary, Words,
+    Cabinet, Converted, Distance, Extended, Message, Next, Opening, Outcome, Part, Pdu, Request, Session, Summary,
+    Words,
 };
 use core::ptr::{null, null_mut};
 
@@ -59,6 +60,7 @@ impl Cabinet for Library {
                 opening.proposal.is_some(),
                 opening.proposal.unwrap_or(0),
                 opening.on_demand,
+                opening.published,
                 start_mut(out),
                 out.len(),
             )
@@ -171,5 +173,15 @@ impl Cabinet for Library {
     fn extend(&self, image: &mut [u8], stored_len: usize) -> Extended {
         // SAFETY: as for `format`; `stored_len` may be any number.
         unsafe { ldp_ft_extend(start_mut(image), image.len(), stored_len) }.into()
+    }
+
+    fn convert_forward(&self, image: &[u8], out: &mut [u8]) -> Converted {
+        // SAFETY: as for `open`.
+        unsafe { ldp_ft_convert_forward(start(image), image.len(), start_mut(out), out.len()) }.into()
+    }
+
+    fn convert_back(&self, image: &[u8], out: &mut [u8]) -> Converted {
+        // SAFETY: as for `open`.
+        unsafe { ldp_ft_convert_back(start(image), image.len(), start_mut(out), out.len()) }.into()
     }
 }

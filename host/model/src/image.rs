@@ -1,31 +1,16 @@
-//! The stored image: the layout of its blocks, and the checks that restore and every other call make.
+//! The stored image: its blocks, and the checks that restore and every other call make.
 
 use crate::check::{self, COVERED};
-use crate::message::{self, kinds};
+use crate::layout::{at, Layout, TWO};
+use crate::message;
 use crate::octets::{all_zero, be16, be32, put16, put32};
 use crate::{labels, number, requests};
-use cabinet::{further, marks, BLOCK_SIZE, IMAGE_SIZE, PLACES, REQUEST_BLOCK, SLOTS};
+use cabinet::{further, marks, BLOCK_SIZE, ID_PLACES, IMAGE_SIZE, REQUEST_BLOCK, SLOTS};
 use core::ops::Range;
 
 pub const SHORTEST: usize = 8;
 pub const LONGEST: usize = 480;
-const VERSION: u32 = 1;
 const ALL_MARKS: u8 = marks::STOPPED | marks::STOPPING;
-
-/// Places in block 0.
-mod at {
-    pub const RELEASED: usize = 4;
-    pub const ISSUED: usize = 8;
-    pub const SECURED: usize = 12;
-    pub const FIRST: usize = 16;
-    pub const HELD: usize = 18;
-    pub const TIMEOUT: usize = 20;
-    pub const KEPT: usize = 22;
-    pub const MARKS: usize = cabinet::marks::AT;
-    pub const KEEPALIVE_TIME: usize = 24;
-    pub const MAX_PDU_LENGTH: usize = 26;
-    pub const LABELS: usize = 28;
-}
 
 /// Places in a slot.
 mod slot_at {
@@ -37,7 +22,7 @@ mod slot_at {
 }
 
 /// The bytes of the Requests' IDs in their block.
-const IDS: usize = 4 * PLACES;
+const IDS: usize = 4 * ID_PLACES;
 
 /// An answer that changes nothing, with the block it names.
 #[derive(Clone, Copy, Debug)]
@@ -60,7 +45,8 @@ pub struct Head {
     pub secured: u32,
     pub first: usize,
     pub held: usize,
-    pub timeout: u16,
+    /// Milliseconds.
+    pub timeout: u32,
     pub kept: bool,
     pub stopped: bool,
     pub keepalive_time: u16,
@@ -71,14 +57,15 @@ pub struct Head {
 
 impl Head {
     /// Reads a block 0 that passed its checks.
-    fn read(block: &[u8], numbered: u32) -> Self {
+    #[inline]
+    fn read(block: &[u8], layout: Layout, numbered: u32) -> Self {
         Head {
             released: be32(block, at::RELEASED),
             issued: be32(block, at::ISSUED),
             secured: be32(block, at::SECURED),
             first: usize::from(be16(block, at::FIRST)),
             held: usize::from(be16(block, at::HELD)),
-            timeout: be16(block, at::TIMEOUT),
+            timeout: layout.timeout(block),
             kept: block[at::KEPT] == 1,
             stopped: block[at::MARKS] & marks::STOPPED != 0,
             keepalive_time: be16(block, at::KEEPALIVE_TIME),
@@ -93,27 +80,36 @@ impl Head {
     }
 }
 
-/// All of restore's checks: size, block 0, its fields, each live slot in ring order, then the Requests' IDs.
+/// All of restore's checks.
 pub fn examine(image: &[u8]) -> Result<Head, Refusal> {
+    examine_as(TWO, image)
+}
+
+/// Restore's checks of an image of a version: size, block 0, its fields, each live slot in ring order, then the Requests'
+/// IDs. The version is known where it is called, and this is compiled for it.
+#[inline(always)]
+pub fn examine_as(layout: Layout, image: &[u8]) -> Result<Head, Refusal> {
     let image: &[u8; IMAGE_SIZE] = image.try_into().map_err(|_| Refusal::of(12))?;
     let block = &image[..BLOCK_SIZE];
     if check::stored(block) != check::sums(&block[..COVERED]) {
         return Err(Refusal::of(10));
     }
-    let numbered = judge_fields(block).ok_or(Refusal::of(11))?;
-    let head = Head::read(block, numbered);
+    let numbered = judge_fields(layout, block).ok_or(Refusal::of(11))?;
+    let head = Head::read(block, layout, numbered);
     for after in 0..head.held {
         let number = head.block_of(after);
         judge_slot(slot(image, number)).map_err(|answer| Refusal { answer, block: number as u32 })?;
     }
-    judge_requests(slot(image, REQUEST_BLOCK), list(block))
+    judge_requests(slot(image, REQUEST_BLOCK), layout.list(block))
         .map_err(|answer| Refusal { answer, block: REQUEST_BLOCK as u32 })?;
     Ok(head)
 }
 
 /// The steps from released to issued, where every field of block 0 is in its range.
-fn judge_fields(block: &[u8]) -> Option<u32> {
-    if be32(block, 0) != VERSION || block[at::KEPT] > 1 || block[at::MARKS] & !ALL_MARKS != 0 {
+#[inline(always)]
+fn judge_fields(layout: Layout, block: &[u8]) -> Option<u32> {
+    let known = be32(block, at::VERSION) == layout.version && layout.has_zeros(block);
+    if !known || block[at::KEPT] > 1 || block[at::MARKS] & !ALL_MARKS != 0 {
         return None;
     }
     if block[at::KEPT] == 0 {
@@ -124,7 +120,7 @@ fn judge_fields(block: &[u8]) -> Option<u32> {
         return None;
     }
     let numbered = number::steps(be32(block, at::RELEASED), be32(block, at::ISSUED))?;
-    (numbered <= u32::from(held) && labels::is_sound(list(block))).then_some(numbered)
+    (numbered <= u32::from(held) && labels::is_sound(layout.list(block))).then_some(numbered)
 }
 
 /// Answers 10 or 11 for a live slot whose check or fields are wrong.
@@ -229,95 +225,5 @@ pub fn write_no_ids(image: &mut [u8; IMAGE_SIZE]) -> u32 {
 
 /// The bytes of the label list in block 0.
 pub fn list(block: &[u8]) -> &[u8] {
-    &block[at::LABELS..COVERED]
-}
-
-/// Block 0 while it is rewritten: a copy that goes back as a whole, or not at all.
-pub struct Draft([u8; BLOCK_SIZE]);
-
-impl Draft {
-    /// A copy of an image's block 0.
-    pub fn of(image: &[u8]) -> Self {
-        let mut block = [0; BLOCK_SIZE];
-        block.copy_from_slice(&image[..BLOCK_SIZE]);
-        Draft(block)
-    }
-
-    /// Block 0 with kept 0: state released.
-    pub fn released() -> Self {
-        let mut block = [0; BLOCK_SIZE];
-        put32(&mut block, 0, VERSION);
-        Draft(block)
-    }
-
-    /// Block 0 of a fresh session.
-    pub fn fresh(keepalive_time: u16, max_pdu_length: u16) -> Self {
-        let mut draft = Draft::released();
-        draft.0[at::KEPT] = 1;
-        put16(&mut draft.0, at::KEEPALIVE_TIME, keepalive_time);
-        put16(&mut draft.0, at::MAX_PDU_LENGTH, max_pdu_length);
-        draft
-    }
-
-    pub fn list(&self) -> &[u8] {
-        list(&self.0)
-    }
-
-    pub fn list_mut(&mut self) -> &mut [u8] {
-        &mut self.0[at::LABELS..COVERED]
-    }
-
-    pub fn set_issued(&mut self, number: u32) {
-        put32(&mut self.0, at::ISSUED, number);
-    }
-
-    pub fn set_secured(&mut self, number: u32) {
-        put32(&mut self.0, at::SECURED, number);
-    }
-
-    pub fn set_timeout(&mut self, seconds: u16) {
-        put16(&mut self.0, at::TIMEOUT, seconds);
-    }
-
-    pub fn set_held(&mut self, held: usize) {
-        put16(&mut self.0, at::HELD, held as u16);
-    }
-
-    /// A message tells whether there are labels to be had: the mark stands from one that says no until one that says yes.
-    pub fn mark_resources(&mut self, kind: u32, mark: u8) {
-        match kind {
-            kinds::NO_RESOURCES => self.0[at::MARKS] |= mark,
-            kinds::RESOURCES_AVAILABLE => self.0[at::MARKS] &= !mark,
-            _ => {}
-        }
-    }
-
-    /// Lets go of the oldest held through the number acknowledged, which stands so many steps after the released one.
-    pub fn let_go(&mut self, image: &[u8], head: &Head, ack: u32, steps: usize) {
-        for after in 0..steps {
-            let slot = slot(image, head.block_of(after));
-            labels::acknowledged(self.list_mut(), slot_kind(slot), slot_label(slot));
-        }
-        put32(&mut self.0, at::RELEASED, ack);
-        put16(&mut self.0, at::FIRST, ((head.first + steps) % SLOTS) as u16);
-        self.set_held(head.held - steps);
-    }
-
-    /// Puts the block back where its bytes differ; 1 where they do.
-    pub fn store(mut self, image: &mut [u8]) -> u32 {
-        if self.0[..COVERED] == image[..COVERED] {
-            return 0;
-        }
-        let sums = check::sums(&self.0[..COVERED]);
-        check::store(&mut self.0, sums);
-        image[..BLOCK_SIZE].copy_from_slice(&self.0);
-        1
-    }
-}
-
-/// Writes a new image: kept 0, 64 slots of zeros, and no IDs.
-pub fn format(image: &mut [u8; IMAGE_SIZE]) {
-    image.fill(0);
-    write_no_ids(image);
-    Draft::released().store(image);
+    TWO.list(block)
 }

@@ -1,4 +1,5 @@
-//! The label list: 120 words of label + 1,048,576 x code in block 0, read and rewritten word by word.
+//! The label list: words of label + 1,048,576 x code in block 0, 119 of them, 120 in version 1; read and rewritten word by
+//! word.
 //!
 //! Codes: 1 given, 2 withdrawing, 8 withdrawn and the ACK has come, 9 withdrawn and the Release has come (our side);
 //! 3 using, 4 asked back, 5 releasing, 6 using without protection (theirs). Code 7 is an open Request: it has no label

@@ -6,8 +6,11 @@
 #![forbid(unsafe_code)]
 
 mod check;
+mod convert;
+mod draft;
 mod image;
 mod labels;
+mod layout;
 mod message;
 mod number;
 mod octets;
@@ -20,7 +23,8 @@ mod session;
 mod write;
 
 use cabinet::{
-    Cabinet, Distance, Extended, Message, Next, Opening, Outcome, Part, Pdu, Request, Session, Summary, Words,
+    Cabinet, Converted, Distance, Extended, Message, Next, Opening, Outcome, Part, Pdu, Request, Session, Summary,
+    Words,
 };
 
 /// True where the model was compiled with no vector instructions.
@@ -125,5 +129,13 @@ impl Cabinet for Model {
 
     fn extend(&self, image: &mut [u8], stored_len: usize) -> Extended {
         session::extend(image, stored_len)
+    }
+
+    fn convert_forward(&self, image: &[u8], out: &mut [u8]) -> Converted {
+        convert::convert(layout::ONE, layout::TWO, image, out)
+    }
+
+    fn convert_back(&self, image: &[u8], out: &mut [u8]) -> Converted {
+        convert::convert(layout::TWO, layout::ONE, image, out)
     }
 }

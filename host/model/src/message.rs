@@ -42,6 +42,8 @@ pub mod kinds {
     pub const NO_RESOURCES: u32 = 9;
 }
 
+/// A second in milliseconds.
+pub const SECOND: u32 = 1_000;
 const LARGEST_LABEL: u32 = 0xF_FFFF;
 const STATUS_E: u32 = 0x8000_0000;
 const STATUS_CODE: u32 = 0x3FFF_FFFF;
@@ -49,6 +51,8 @@ const NO_LABEL_RESOURCES: u32 = 0x0000_000E;
 const LABEL_RESOURCES_AVAILABLE: u32 = 0x0000_000F;
 /// Type, length and message ID.
 const HEAD: usize = 8;
+/// The length of FT Session as RFC 3479 has it: flags, two zeros, reconnect timeout, recovery time. The draft's has 4.
+pub const PUBLISHED_SESSION: usize = 12;
 
 /// Reads a whole message; none where it is malformed in any phase.
 pub fn read(msg: &[u8]) -> Option<Message> {
@@ -90,8 +94,11 @@ fn take_tlv(message: &mut Message, msg: &[u8], at: usize) -> Option<usize> {
             message.max_pdu_length = u32::from(be16(parameters, 6));
         }
         tlvs::FT_SESSION => {
-            let session = number(message, has::FT_SESSION, value)?;
-            (message.reconnect, message.timeout) = (session >> 31, session & 0xFFFF);
+            let published = value.len() == PUBLISHED_SESSION;
+            let session = listed(message, has::FT_SESSION, value, if published { PUBLISHED_SESSION } else { 4 })?;
+            message.reconnect = u32::from(session[0] >> 7);
+            message.timeout = if published { be32(session, 4) } else { u32::from(be16(session, 2)) };
+            message.published = u32::from(published);
         }
         tlvs::FT_PROTECTION => message.number = number(message, has::FT_PROTECTION, value)?,
         tlvs::FT_ACK => message.ack = number(message, has::FT_ACK, value)?,
@@ -135,6 +142,15 @@ fn notification_kind(message: &Message) -> u32 {
         NO_LABEL_RESOURCES => kinds::NO_RESOURCES,
         LABEL_RESOURCES_AVAILABLE => kinds::RESOURCES_AVAILABLE,
         _ => 0,
+    }
+}
+
+/// The timeout of an Init in milliseconds, whatever form it has.
+pub fn milliseconds(init: &Message) -> u32 {
+    if init.published == 1 {
+        init.timeout
+    } else {
+        init.timeout * SECOND
     }
 }
 

@@ -35,7 +35,7 @@ pub fn summarize(image: &[u8]) -> Summary {
             held: head.held as u32,
             pended: head.held as u32 - head.numbered,
             labels: used(image),
-            timeout: u32::from(head.timeout),
+            timeout: head.timeout,
             keepalive_time: u32::from(head.keepalive_time),
             max_pdu_length: u32::from(head.max_pdu_length),
         },

@@ -1,6 +1,7 @@
 //! Receive: the ACK acts first, then the message, judged by the labels as the ACK leaves them.
 
-use crate::image::{self, Draft, Head, Refusal};
+use crate::draft::Draft;
+use crate::image::{self, Head, Refusal};
 use crate::labels::{self, Entry};
 use crate::message::{self, kinds, types};
 use crate::session::{apply_ack, break_off, enter, release_state, up};

@@ -2,12 +2,12 @@
 //!
 //! An ID counts only beside such a word; the others are what earlier Requests left.
 
-use crate::labels::{word, words, Seen, REQUEST};
-use cabinet::PLACES;
+use crate::labels::{words, Seen, REQUEST};
 
 /// The place of the open Request that has an ID.
 pub fn find(list: &[u8], ids: &[u8], id: u32) -> Option<usize> {
-    (0..PLACES).find(|place| word(list, *place) == REQUEST && word(ids, *place) == id)
+    let mut beside = words(list).zip(words(ids));
+    beside.position(|(word, own)| word == REQUEST && own == id)
 }
 
 /// True where no two open Requests have the same ID.
@@ -16,5 +16,6 @@ pub fn stand_once(list: &[u8], ids: &[u8]) -> bool {
         return true;
     }
     let mut seen = Seen::default();
-    (0..PLACES).all(|place| word(list, place) != REQUEST || seen.add(word(ids, place)))
+    let mut beside = words(list).zip(words(ids));
+    beside.all(|(word, id)| word != REQUEST || seen.add(id))
 }

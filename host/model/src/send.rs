@@ -1,6 +1,7 @@
 //! Send next: the oldest held message not sent on this connection, but for the Requests that their Aborts undo.
 
-use crate::image::{self, Draft, Head, Refusal};
+use crate::draft::Draft;
+use crate::image::{self, Head, Refusal};
 use crate::message::{self, kinds};
 use crate::octets::be32;
 use crate::session::{enter, up};

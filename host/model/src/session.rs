@@ -1,14 +1,17 @@
 //! The session's calls but send next and receive: each examines the image, judges the phase, and stores block 0 last.
 
-use crate::image::{self, Draft, Head, Refusal};
+use crate::draft::{self, Draft};
+use crate::image::{self, Head, Refusal};
 use crate::labels::{self, Entry};
-use crate::message::{self, kinds, types};
-use crate::{number, requests, write};
+use crate::message::{self, kinds, types, SECOND};
+use crate::write::{self, Proposal};
+use crate::{number, requests};
 use cabinet::{
     further, has, marks, phase, Extended, Message, Opening, Outcome, Session, IMAGE_SIZE, IMAGE_SIZE_WITHOUT_REQUESTS,
     SLOTS,
 };
 
+/// Seconds that are proposed where the owner gives none.
 const DEFAULT_PROPOSAL: u16 = 30;
 
 impl Refusal {
@@ -50,7 +53,7 @@ pub fn enter(image: &[u8], session: Session, phases: &[u32]) -> Result<Head, Ref
 fn is_possible(session: Session, head: &Head) -> bool {
     match session.phase {
         phase::IDLE | phase::UP_PLAIN => !head.kept,
-        phase::INIT_WAIT => session.value <= u32::from(u16::MAX),
+        phase::INIT_WAIT => true,
         phase::UP_FT => head.kept && session.value <= head.numbered,
         phase::FAILED => head.kept,
         _ => false,
@@ -85,7 +88,7 @@ pub fn apply_ack(draft: &mut Draft, image: &[u8], head: &Head, ack: u32) -> Opti
 pub fn format(image: &mut [u8]) -> Outcome {
     match <&mut [u8; IMAGE_SIZE]>::try_from(image) {
         Ok(image) => {
-            image::format(image);
+            draft::format(image);
             Outcome { block0: 1, further: further::REQUESTS, ..Outcome::default() }
         }
         Err(_) => Refusal::of(12).outcome(Session::default()),
@@ -112,12 +115,22 @@ pub fn restore(image: &mut [u8]) -> Outcome {
 pub fn open(image: &[u8], session: Session, opening: &Opening, out: &mut [u8]) -> Result<Outcome, Refusal> {
     let head = enter(image, session, &[phase::IDLE, phase::FAILED])?;
     let ack = head.kept.then_some(head.secured);
-    let length = write::INIT + if head.kept { write::FT_TLV } else { 0 };
+    let proposal = proposal(opening);
+    let length = proposal.init() + if head.kept { write::FT_TLV } else { 0 };
     let out = out.get_mut(..length).ok_or(Refusal::of(9))?;
-    let proposal = opening.proposal.unwrap_or(DEFAULT_PROPOSAL);
     write::init(out, opening, proposal, ack);
-    let session = Session::new(phase::INIT_WAIT, u32::from(proposal));
+    let session = Session::new(phase::INIT_WAIT, proposal.milliseconds());
     Ok(Outcome { session, length: length as u32, ..Outcome::default() })
+}
+
+/// What the owner proposes in the form that it names, or the default; the draft's form has its longest for more.
+fn proposal(opening: &Opening) -> Proposal {
+    if opening.published {
+        Proposal::Milliseconds(opening.proposal.unwrap_or(u32::from(DEFAULT_PROPOSAL) * SECOND))
+    } else {
+        let longest = u32::from(u16::MAX);
+        Proposal::Seconds(opening.proposal.map_or(DEFAULT_PROPOSAL, |seconds| seconds.min(longest) as u16))
+    }
 }
 
 pub fn init_received(image: &mut [u8], session: Session, msg: &[u8]) -> Result<Outcome, Refusal> {
@@ -140,7 +153,7 @@ pub fn init_received(image: &mut [u8], session: Session, msg: &[u8]) -> Result<O
     };
     Ok(match draft {
         Ok(mut draft) => {
-            draft.set_timeout(number::lesser_timeout(session.value, init.timeout) as u16);
+            draft.set_timeout(number::lesser_timeout(session.value, message::milliseconds(&init)));
             let block0 = draft.store(image);
             Outcome { session: up(0, resumes), block0, ..Outcome::default() }
         }
@@ -167,7 +180,7 @@ pub fn connection_failed(image: &mut [u8], session: Session) -> Result<Outcome, 
 
 pub fn time_passed(image: &mut [u8], session: Session, elapsed: u32) -> Result<Outcome, Refusal> {
     let head = enter(image, session, &[phase::FAILED])?;
-    if head.timeout != 0 && elapsed >= u32::from(head.timeout) {
+    if head.timeout != 0 && elapsed >= head.timeout {
         Ok(release_state(image, 0, phase::IDLE))
     } else {
         Ok(done(session))

@@ -1,6 +1,6 @@
 //! The writers: Init, KeepAlive, and a held message with its FT TLVs added at the end.
 
-use crate::message::{tlvs, types};
+use crate::message::{tlvs, types, PUBLISHED_SESSION, SECOND};
 use crate::octets::{put16, put32};
 use cabinet::Opening;
 
@@ -11,13 +11,63 @@ const RECONNECT: u16 = 0x8000;
 /// Bit A of the parameters, above D and PVLim.
 const ON_DEMAND: u16 = 0x8000;
 
+/// Of the flags that RFC 3479 adds the one that is set: labels are kept over a break.
+const SAVE_STATE: u16 = 0x0008;
+
 pub const FT_TLV: usize = 8;
 pub const KEEPALIVE: usize = 8;
-/// Init without FT ACK.
-pub const INIT: usize = 34;
+/// Init up to FT Session.
+const PARAMETERS: usize = 26;
+
+/// A proposed timeout, as the form of FT Session that bears it counts.
+#[derive(Clone, Copy)]
+pub enum Proposal {
+    /// The draft's form.
+    Seconds(u16),
+    /// The published form.
+    Milliseconds(u32),
+}
+
+impl Proposal {
+    pub fn milliseconds(self) -> u32 {
+        match self {
+            Proposal::Seconds(seconds) => u32::from(seconds) * SECOND,
+            Proposal::Milliseconds(milliseconds) => milliseconds,
+        }
+    }
+
+    /// The length of an Init that bears it, without FT ACK.
+    pub fn init(self) -> usize {
+        PARAMETERS
+            + match self {
+                Proposal::Seconds(_) => FT_TLV,
+                Proposal::Milliseconds(_) => 4 + PUBLISHED_SESSION,
+            }
+    }
+
+    /// FT Session; R is set where state is kept.
+    fn write(self, out: &mut [u8], kept: bool) {
+        let reconnect = if kept { RECONNECT } else { 0 };
+        put16(out, 0, U_BIT | tlvs::FT_SESSION);
+        match self {
+            Proposal::Seconds(seconds) => {
+                put16(out, 2, 4);
+                put16(out, 4, reconnect);
+                put16(out, 6, seconds);
+            }
+            Proposal::Milliseconds(milliseconds) => {
+                put16(out, 2, PUBLISHED_SESSION as u16);
+                put16(out, 4, reconnect | SAVE_STATE);
+                put16(out, 6, 0);
+                put32(out, 8, milliseconds);
+                put32(out, 12, 0);
+            }
+        }
+    }
+}
 
 /// Writes an Init of exactly the length given: FT ACK follows where there is a number to bear, and R is then set.
-pub fn init(out: &mut [u8], opening: &Opening, proposal: u16, ack: Option<u32>) {
+pub fn init(out: &mut [u8], opening: &Opening, proposal: Proposal, ack: Option<u32>) {
     head(out, types::INITIALIZATION, opening.message_id);
     put16(out, 8, tlvs::PARAMETERS);
     put16(out, 10, 14);
@@ -27,12 +77,9 @@ pub fn init(out: &mut [u8], opening: &Opening, proposal: u16, ack: Option<u32>) 
     put16(out, 18, opening.max_pdu_length);
     put32(out, 20, opening.receiver_lsr);
     put16(out, 24, opening.receiver_space);
-    put16(out, 26, U_BIT | tlvs::FT_SESSION);
-    put16(out, 28, 4);
-    put16(out, 30, if ack.is_some() { RECONNECT } else { 0 });
-    put16(out, 32, proposal);
+    proposal.write(&mut out[PARAMETERS..], ack.is_some());
     if let Some(number) = ack {
-        ft_tlv(&mut out[INIT..], tlvs::FT_ACK, number);
+        ft_tlv(&mut out[proposal.init()..], tlvs::FT_ACK, number);
     }
 }
 

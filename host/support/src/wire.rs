@@ -96,9 +96,18 @@ impl Message {
         self.tlv(tlvs::PARAMETERS, &value)
     }
 
-    pub fn ft_session(self, reconnect: bool, timeout: u16) -> Self {
-        let [h, l] = timeout.to_be_bytes();
+    /// FT Session in the draft's form.
+    pub fn ft_session(self, reconnect: bool, seconds: u16) -> Self {
+        let [h, l] = seconds.to_be_bytes();
         self.tlv(tlvs::FT_SESSION, &[if reconnect { 0x80 } else { 0 }, 0, h, l])
+    }
+
+    /// FT Session in RFC 3479's form: flags, two zeros, reconnect timeout, recovery time 0. Of the new flags S is set.
+    pub fn ft_session_published(self, reconnect: bool, milliseconds: u32) -> Self {
+        let mut value = vec![if reconnect { 0x80 } else { 0 }, 0x08, 0, 0];
+        value.extend(milliseconds.to_be_bytes());
+        value.extend([0; 4]);
+        self.tlv(tlvs::FT_SESSION, &value)
     }
 
     pub fn protection(self, number: u32) -> Self {

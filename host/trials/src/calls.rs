@@ -2,8 +2,8 @@
 
 use crate::guarded::Guarded;
 use cabinet::{
-    flags, further, phase, Cabinet, Distance, Extended, Message, Next, Opening, Outcome, Part, Pdu, Request, Session,
-    Summary, Words, PLACES, REQUEST_BLOCK,
+    flags, further, phase, Cabinet, Converted, Distance, Extended, Message, Next, Opening, Outcome, Part, Pdu, Request,
+    Session, Summary, Words, PLACES, REQUEST_BLOCK,
 };
 
 /// A call and what its owner gives, but the image.
@@ -33,6 +33,8 @@ pub enum Call {
     Labels { room: usize },
     Held { place: u32 },
     Extend { stored_len: usize },
+    ConvertForward { room: usize },
+    ConvertBack { room: usize },
 }
 
 impl Call {
@@ -62,13 +64,19 @@ impl Call {
             Call::Labels { .. } => "labels",
             Call::Held { .. } => "held",
             Call::Extend { .. } => "extend",
+            Call::ConvertForward { .. } => "convert_forward",
+            Call::ConvertBack { .. } => "convert_back",
         }
     }
 
     /// The bytes of output that are lent.
     fn room(&self) -> usize {
         match self {
-            Call::Open { room, .. } | Call::SendNext { room, .. } | Call::Keepalive { room, .. } => *room,
+            Call::Open { room, .. }
+            | Call::SendNext { room, .. }
+            | Call::Keepalive { room, .. }
+            | Call::ConvertForward { room }
+            | Call::ConvertBack { room } => *room,
             _ => 0,
         }
     }
@@ -110,6 +118,7 @@ pub enum Returned {
     Summary(Summary),
     Words(Words),
     Extended(Extended),
+    Converted(Converted),
 }
 
 impl Returned {
@@ -128,6 +137,7 @@ impl Returned {
             Returned::Summary(summary) => summary.answer,
             Returned::Words(words) => words.answer,
             Returned::Extended(extended) => extended.answer,
+            Returned::Converted(converted) => converted.answer,
         }
     }
 
@@ -200,6 +210,8 @@ pub fn invoke(cabinet: &dyn Cabinet, call: &Call, lent: Lent) -> Returned {
         Call::Labels { .. } => Returned::Words(cabinet.labels(image, words)),
         Call::Held { place } => Returned::Part(cabinet.held(image, place)),
         Call::Extend { stored_len } => Returned::Extended(cabinet.extend(image, stored_len)),
+        Call::ConvertForward { .. } => Returned::Converted(cabinet.convert_forward(image, out)),
+        Call::ConvertBack { .. } => Returned::Converted(cabinet.convert_back(image, out)),
     }
 }
 
@@ -216,6 +228,7 @@ pub fn misconduct(before: &[u8], call: &Call, seen: &Observed) -> Option<&'stati
     let outcome = match seen.returned {
         Returned::Outcome(outcome) => outcome,
         Returned::Extended(extended) => Outcome { further: extended.further, ..Outcome::default() },
+        Returned::Converted(converted) => Outcome { length: converted.length, ..Outcome::default() },
         _ => Outcome::default(),
     };
     if !seen.output.is_unwritten_after(outcome.length as usize) {

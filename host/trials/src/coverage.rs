@@ -1,6 +1,8 @@
-//! Which answer of which call a run reached, which answers each call has, and how many messages calls left out.
+//! Which answer of which call a run reached, which answers each call has, how many messages calls left out, which Inits were
+//! written, and why an image was not moved to another version.
 
-use crate::calls::Returned;
+use crate::calls::{Call, Returned};
+use crate::stored::{Stored, Version};
 use std::collections::BTreeMap;
 use std::fmt;
 
@@ -31,24 +33,64 @@ pub const ANSWERS: &[(&str, &[u32])] = &[
     ("labels", &[0, 9, 10, 11, 12]),
     ("held", &[0, 8, 10, 11, 12]),
     ("extend", &[0, 12]),
+    ("convert_forward", &[0, 9, 10, 11, 12, 16]),
+    ("convert_back", &[0, 9, 10, 11, 12, 16]),
 ];
+
+/// The lengths of our Inits: fresh and resuming, in the draft's form and in the published one.
+pub const INITS: [(bool, u32); 4] = [(false, 34), (false, 42), (true, 42), (true, 50)];
+
+/// Why a sound image cannot be moved to the other version.
+#[derive(Clone, Copy, Debug, PartialEq, Eq, PartialOrd, Ord)]
+pub enum Unmovable {
+    /// Version 1: the 120th word is in use.
+    LastWord,
+    /// Version 2: milliseconds that are no whole seconds.
+    PartOfSecond,
+    /// Version 2: more than 65,535 seconds.
+    TooLong,
+}
+
+pub const UNMOVABLE: [Unmovable; 3] = [Unmovable::LastWord, Unmovable::PartOfSecond, Unmovable::TooLong];
+
+impl Unmovable {
+    /// Why an image that was answered with 16 is not moved.
+    fn of(image: &[u8]) -> Self {
+        let stored = Stored::read(image);
+        match stored.version {
+            Version::One => Unmovable::LastWord,
+            Version::Two if !stored.timeout.is_multiple_of(1_000) => Unmovable::PartOfSecond,
+            Version::Two => Unmovable::TooLong,
+        }
+    }
+}
 
 /// The calls that tell how many messages were left out.
 const LEAVE_OUT: [&str; 3] = ["receive", "send_next", "next_number"];
 
-/// How often each answer of each call came, and each number of messages left out.
+/// How often each answer of each call came, each number of messages left out, each Init, and each reason of 16.
 #[derive(Clone, Debug, Default)]
 pub struct Coverage {
     answers: BTreeMap<(&'static str, u32), u64>,
     left_out: BTreeMap<(&'static str, u32), u64>,
+    inits: BTreeMap<(bool, u32), u64>,
+    unmovable: BTreeMap<Unmovable, u64>,
 }
 
 impl Coverage {
-    pub fn note(&mut self, call: &'static str, returned: &Returned) {
-        let answer = returned.answer();
-        *self.answers.entry((call, answer)).or_default() += 1;
-        if answer == 0 {
-            *self.left_out.entry((call, returned.left_out())).or_default() += 1;
+    /// Notes what a call on an image returned.
+    pub fn note(&mut self, image: &[u8], call: &Call, returned: &Returned) {
+        let (name, answer) = (call.name(), returned.answer());
+        *self.answers.entry((name, answer)).or_default() += 1;
+        match (call, returned) {
+            (_, Returned::Converted(_)) if answer == 16 => {
+                *self.unmovable.entry(Unmovable::of(image)).or_default() += 1;
+            }
+            (Call::Open { opening, .. }, Returned::Outcome(outcome)) if answer == 0 => {
+                *self.inits.entry((opening.published, outcome.length)).or_default() += 1;
+            }
+            _ if answer == 0 => *self.left_out.entry((name, returned.left_out())).or_default() += 1,
+            _ => {}
         }
     }
 
@@ -59,6 +101,16 @@ impl Coverage {
     /// How often a call was done with so many messages left out.
     pub fn left_out(&self, call: &'static str, left_out: u32) -> u64 {
         self.left_out.get(&(call, left_out)).copied().unwrap_or(0)
+    }
+
+    /// How often an Init of this form and length was written.
+    pub fn inits(&self, init: (bool, u32)) -> u64 {
+        self.inits.get(&init).copied().unwrap_or(0)
+    }
+
+    /// How often an image was not moved for this reason.
+    pub fn unmovable(&self, why: Unmovable) -> u64 {
+        self.unmovable.get(&why).copied().unwrap_or(0)
     }
 
     pub fn total(&self) -> u64 {
@@ -93,6 +145,12 @@ impl fmt::Display for Coverage {
             let most = self.left_out.keys().filter(|(name, _)| *name == call).map(|(_, left_out)| left_out).max();
             writeln!(f, "{call:>18}  left out: {some} times, at most {}", most.unwrap_or(&0))?;
         }
+        let inits = INITS.map(|init| (init.1, self.inits(init)));
+        let [fresh, resuming, published, published_resuming] =
+            inits.map(|(length, count)| format!("{length}: {count}"));
+        writeln!(f, "{:>18}  {fresh}  {resuming}  published {published}  {published_resuming}", "Inits by length")?;
+        let [last_word, part, long] = UNMOVABLE.map(|why| self.unmovable(why));
+        writeln!(f, "{:>18}  last word {last_word}, part of a second {part}, too long {long}", "not moved")?;
         write!(f, "{:>18}  {} calls", "in all", self.total())
     }
 }

@@ -82,16 +82,14 @@ impl<'a> Run<'a> {
 
     /// A state, and some calls one after another on its image; mostly no further than its state is released.
     fn walk(&mut self) -> Result<(), Box<Difference>> {
-        let mut stored = states::state(&mut self.random);
+        let mut stored = states::any_version(&mut self.random);
         let mut image = damage::image(&mut self.random, &stored);
         let pure = calls::pure(&mut self.random, &stored);
         self.call(&[], &pure)?;
         for _ in 0..self.random.between(1, 6) {
             let call = calls::on_image(&mut self.random, &stored);
             let seen = self.call(&image, &call)?;
-            let looks_only = matches!(call, Call::Label { .. } | Call::RequestAt { .. } | Call::Extend { .. });
-            let may_be_unsound = looks_only || (10..=12).contains(&seen.returned.answer());
-            if may_be_unsound {
+            if may_be_unsound(&call, &seen) {
                 return Ok(());
             }
             image = seen.image.content().to_vec();
@@ -107,7 +105,13 @@ impl<'a> Run<'a> {
     pub fn call(&mut self, image: &[u8], call: &Call) -> Result<Observed, Box<Difference>> {
         let alignment = self.random.below(8);
         let seen = compare(self.reference, self.tested, image, call, alignment)?;
-        self.coverage.note(call.name(), &seen.returned);
+        self.coverage.note(image, call, &seen.returned);
         Ok(seen)
     }
+}
+
+/// True where it is not known that the image passes the checks: a call refused it, or does not tell.
+fn may_be_unsound(call: &Call, seen: &Observed) -> bool {
+    let tells_nothing = matches!(call, Call::Label { .. } | Call::RequestAt { .. } | Call::Extend { .. });
+    tells_nothing || (10..=12).contains(&seen.returned.answer())
 }

@@ -9,6 +9,7 @@ pub mod crash;
 pub mod differential;
 pub mod generate;
 pub mod guarded;
+pub mod inits;
 pub mod random;
 pub mod stored;
 pub mod under_test;

@@ -1,14 +1,65 @@
 //! Stored images as the trials write and read them: plain records laid out and read back by the paper's words.
 
 pub use cabinet::marks::{STOPPED, STOPPING};
-pub use cabinet::{PLACES, SLOTS};
+pub use cabinet::{ID_PLACES, PLACES, SLOTS};
 
 use crate::wire::{message_id, request_id};
 use cabinet::{BLOCK_SIZE, IMAGE_SIZE, REQUEST_BLOCK};
+use std::ops::Range;
 
 pub const NO_LABEL: u32 = u32::MAX;
 /// The word of an open Request: code 7, label part 0.
 pub const REQUEST: u32 = 7 << 20;
+
+/// The versions of an image, which differ in block 0 alone.
+#[derive(Clone, Copy, Debug, PartialEq, Eq)]
+pub enum Version {
+    /// Seconds in bytes 20 and 21, 120 words from 28.
+    One,
+    /// Bytes 20 and 21 zero, milliseconds in bytes 28 to 31, 119 words from 32.
+    Two,
+}
+
+impl Version {
+    pub const fn number(self) -> u8 {
+        match self {
+            Version::One => 1,
+            Version::Two => 2,
+        }
+    }
+
+    /// The version that an image says it has.
+    pub fn of(image: &[u8]) -> Option<Self> {
+        [Version::One, Version::Two].into_iter().find(|version| image.starts_with(&[0, 0, 0, version.number()]))
+    }
+
+    pub const fn timeout_at(self) -> Range<usize> {
+        match self {
+            Version::One => 20..22,
+            Version::Two => 28..32,
+        }
+    }
+
+    pub const fn words_at(self) -> usize {
+        match self {
+            Version::One => 28,
+            Version::Two => 32,
+        }
+    }
+
+    /// How many label words there are.
+    pub const fn places(self) -> usize {
+        (508 - self.words_at()) / 4
+    }
+
+    /// The unit of the timeout in milliseconds.
+    pub const fn unit(self) -> u32 {
+        match self {
+            Version::One => 1_000,
+            Version::Two => 1,
+        }
+    }
+}
 
 /// A message in the send store, with the kind and label that its slot shows.
 #[derive(Clone, Debug, PartialEq, Eq)]
@@ -21,18 +72,21 @@ pub struct Queued {
 /// Everything that an image holds.
 #[derive(Clone, Debug, PartialEq, Eq)]
 pub struct Stored {
+    pub version: Version,
     pub released: u32,
     pub issued: u32,
     pub secured: u32,
     pub first: u16,
-    pub timeout: u16,
+    /// In the unit of its version.
+    pub timeout: u32,
     pub kept: bool,
     pub marks: u8,
     pub keepalive_time: u16,
     pub max_pdu_length: u16,
-    pub labels: [u32; PLACES],
+    /// As many words as its version has.
+    pub labels: Vec<u32>,
     /// The message IDs beside the words; one counts only where its word is an open Request's.
-    pub ids: [u32; PLACES],
+    pub ids: [u32; ID_PLACES],
     pub queue: Vec<Queued>,
 }
 
@@ -40,6 +94,7 @@ impl Stored {
     /// Nothing kept.
     pub fn idle() -> Self {
         Stored {
+            version: Version::Two,
             released: 0,
             issued: 0,
             secured: 0,
@@ -49,10 +104,23 @@ impl Stored {
             marks: 0,
             keepalive_time: 0,
             max_pdu_length: 0,
-            labels: [0; PLACES],
-            ids: [0; PLACES],
+            labels: vec![0; PLACES],
+            ids: [0; ID_PLACES],
             queue: Vec::new(),
         }
+    }
+
+    /// The same state in another version, as 02's fifth ticket moves it; none where that has no room for it: a word that it
+    /// lacks is in use, or the timeout is none of its own.
+    pub fn moved(&self, to: Version) -> Option<Self> {
+        let milliseconds = u64::from(self.timeout) * u64::from(self.version.unit());
+        let (timeout, rest) = (milliseconds / u64::from(to.unit()), milliseconds % u64::from(to.unit()));
+        let longest = if to == Version::One { u64::from(u16::MAX) } else { u64::from(u32::MAX) };
+        let mut labels = self.labels.clone();
+        let beyond = labels.drain(to.places().min(labels.len())..).any(|word| word != 0);
+        labels.resize(to.places(), 0);
+        let has_room = rest == 0 && timeout <= longest && !beyond;
+        has_room.then(|| Stored { version: to, timeout: timeout as u32, labels, ..self.clone() })
     }
 
     /// Lays the record out as an image; slots that are not live are filled with the byte given.
@@ -60,18 +128,19 @@ impl Stored {
         let mut image = vec![dead; IMAGE_SIZE];
         let block = &mut image[..BLOCK_SIZE];
         block.fill(0);
-        block[3] = 1;
+        block[3] = self.version.number();
         block[4..8].copy_from_slice(&self.released.to_be_bytes());
         block[8..12].copy_from_slice(&self.issued.to_be_bytes());
         block[12..16].copy_from_slice(&self.secured.to_be_bytes());
         block[16..18].copy_from_slice(&self.first.to_be_bytes());
         block[18..20].copy_from_slice(&(self.queue.len() as u16).to_be_bytes());
-        block[20..22].copy_from_slice(&self.timeout.to_be_bytes());
+        let timeout = self.version.timeout_at();
+        block[timeout.clone()].copy_from_slice(&self.timeout.to_be_bytes()[4 - timeout.len()..]);
         block[22] = self.kept.into();
         block[23] = self.marks;
         block[24..26].copy_from_slice(&self.keepalive_time.to_be_bytes());
         block[26..28].copy_from_slice(&self.max_pdu_length.to_be_bytes());
-        put_words(&mut block[28..508], &self.labels);
+        put_words(&mut block[self.version.words_at()..508], &self.labels);
         for (after, queued) in self.queue.iter().enumerate() {
             write_slot(&mut image, self.block_of(after), queued);
         }
@@ -89,10 +158,10 @@ impl Stored {
         beside.filter(|(word, _)| **word == REQUEST).map(|(_, id)| id).collect()
     }
 
-    /// The state that the record stands for: IDs that do not count are 0.
+    /// The state that the record stands for: IDs that do not count are 0, also the one that has no word.
     pub fn state(mut self) -> Self {
-        for (id, word) in self.ids.iter_mut().zip(self.labels) {
-            if word != REQUEST {
+        for (place, id) in self.ids.iter_mut().enumerate() {
+            if self.labels.get(place) != Some(&REQUEST) {
                 *id = 0;
             }
         }
@@ -128,19 +197,23 @@ impl Stored {
         1 + (usize::from(self.first) + after) % SLOTS
     }
 
-    /// Reads an image whose fields are in their ranges.
+    /// Reads an image of any version whose fields are in their ranges.
     pub fn read(image: &[u8]) -> Self {
+        let version = Version::of(image).unwrap_or(Version::Two);
+        let word = |place: usize| u32_at(image, version.words_at() + 4 * place);
+        let timeout = &image[version.timeout_at()];
         let mut stored = Stored {
+            version,
             released: u32_at(image, 4),
             issued: u32_at(image, 8),
             secured: u32_at(image, 12),
             first: u16_at(image, 16),
-            timeout: u16_at(image, 20),
+            timeout: timeout.iter().fold(0, |number, byte| number << 8 | u32::from(*byte)),
             kept: image[22] == 1,
             marks: image[23],
             keepalive_time: u16_at(image, 24),
             max_pdu_length: u16_at(image, 26),
-            labels: std::array::from_fn(|place| u32_at(image, 28 + 4 * place)),
+            labels: (0..version.places()).map(word).collect(),
             ids: std::array::from_fn(|place| u32_at(image, REQUEST_BLOCK * BLOCK_SIZE + 4 * place)),
             queue: Vec::new(),
         };

@@ -1,13 +1,14 @@
 //! Crash trials in the gate: at least 10,000 power cuts, with the third demand asserted after every step.
 
 use model::Model;
-use trials::crash::{run, run_asking, run_leaving_out, Cut, Tally, CUTS};
+use trials::crash::{run, run_asking, run_converting, run_leaving_out, Cut, Tally, CUTS};
 use trials::under_test::UnderTest;
 
 const SEED: u64 = 0xCAB;
 const CUTS_IN_GATE: u64 = 24_000;
 const CUTS_BEFORE_BLOCK_0: u64 = 10_000;
 const LEFT_OUT: u64 = 5_000;
+const MOVED: u64 = 3_000;
 
 #[test]
 fn nothing_is_lost_and_nothing_comes_twice_over_power_cuts() {
@@ -20,6 +21,7 @@ fn nothing_is_lost_and_nothing_comes_twice_over_power_cuts() {
     assert_eq!(tally.most_held, 64, "the ring was full");
     assert!(tally.full > 0, "a submission was refused for room");
     assert!(tally.given >= 100 && tally.withdrawn >= 100, "labels of both kinds at the end");
+    assert!(tally.mixed >= 1_000, "ends that write other forms than their peers");
     for cut in CUTS {
         assert!(tally.cuts_in("submit", cut) >= 100, "submit cut at {cut:?}");
     }
@@ -54,6 +56,23 @@ fn what_is_left_out_is_all_that_does_not_arrive() {
     assert!(tally.passed_over > tally.left_out, "some were passed over on more than one connection");
     assert!(tally.full > 0, "a submission was refused for room");
     assert_eq!(tally.accepted, tally.secured + tally.left_out, "accepted is secured and left out");
+    assert_eq!(tally.worlds, tally.drained, "each world ends with everything arrived");
+}
+
+/// 02, ticket 5: "A converter moves version 1 to 2 and back". Block 0 alone is stored, with cuts before and after.
+#[test]
+fn nothing_is_lost_where_stores_are_moved_between_versions() {
+    let mut tally = Tally::default();
+    run_converting([&UnderTest, &UnderTest], SEED + 5, MOVED, &mut tally).unwrap();
+    println!("{tally}");
+    for call in ["convert_back", "convert_forward"] {
+        for cut in [Cut::Nothing, Cut::All] {
+            assert!(tally.cuts_in(call, cut) >= 1_000, "{call} cut at {cut:?}");
+        }
+    }
+    assert_eq!(tally.moved_back, tally.moved_forward, "what was moved back was moved forward");
+    assert!(tally.unmovable >= 100, "states for which version 1 has no room");
+    assert!(tally.mixed >= 100, "ends that write other forms than their peers");
     assert_eq!(tally.worlds, tally.drained, "each world ends with everything arrived");
 }
 

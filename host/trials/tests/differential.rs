@@ -3,9 +3,10 @@
 use cabinet::{Cabinet, IMAGE_SIZE, REQUEST_BLOCK};
 use model::Model;
 use trials::calls::{Call, Returned};
-use trials::crafted::{self, calls_on_images, two_held};
+use trials::coverage::{INITS, UNMOVABLE};
+use trials::crafted::{self, asking, calls_on_images, two_held};
 use trials::differential::Run;
-use trials::stored::{check, Stored};
+use trials::stored::{check, Stored, Version};
 use trials::under_test::UnderTest;
 
 const SEED: u64 = 0x1_D9F7;
@@ -23,6 +24,12 @@ fn generated_calls_are_answered_alike_and_reach_every_answer() {
             assert!(run.coverage.left_out(call, left_out) > 0, "{call} with {left_out} left out");
         }
     }
+    for init in INITS {
+        assert!(run.coverage.inits(init) > 100, "Init of published {}, length {}", init.0, init.1);
+    }
+    for why in UNMOVABLE {
+        assert!(run.coverage.unmovable(why) > 0, "16 for {why:?}");
+    }
 }
 
 #[test]
@@ -38,11 +45,26 @@ fn every_call_refuses_every_crafted_image_in_its_way() {
 #[test]
 fn a_sound_image_is_refused_by_no_call() {
     for stored in crafted::sound() {
-        let image = stored.image(0xD1);
-        let mut run = Run::new(&Model, &UnderTest, SEED);
-        for call in calls_on_images(stored.kept) {
-            let answer = run.call(&image, &call).unwrap().returned.answer();
-            assert!(!(10..=12).contains(&answer), "{} answered {answer}", call.name());
+        for version in [Version::One, Version::Two] {
+            let Some(stored) = stored.moved(version) else { continue };
+            let mut run = Run::new(&Model, &UnderTest, SEED);
+            for call in calls_on_images(version, stored.kept) {
+                let answer = run.call(&stored.image(0xD1), &call).unwrap().returned.answer();
+                assert!(!(10..=12).contains(&answer), "{} answered {answer}", call.name());
+            }
+        }
+    }
+}
+
+/// 02: "version 2, the only one outside the converter": a sound image of the other version is 11 in block 0.
+#[test]
+fn a_sound_image_of_the_other_version_is_refused_by_every_call() {
+    for stored in [two_held(), asking(), Stored::idle()] {
+        for (version, other) in [(Version::One, Version::Two), (Version::Two, Version::One)] {
+            let image = stored.moved(other).unwrap().image(0xD1);
+            let kept = stored.kept;
+            let crafted = crafted::Crafted { why: format!("{other:?}"), image, version, kept, answer: 11, block: 0 };
+            crafted::check_refused(&mut Run::new(&Model, &UnderTest, SEED), &crafted).unwrap();
         }
     }
 }

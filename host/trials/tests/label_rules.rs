@@ -207,7 +207,7 @@ fn release_received() {
 /// A state that lists one label for each code given.
 fn listing_all(codes: &[u32]) -> Stored {
     let mut stored = listing(FREE);
-    stored.labels = [0; 120];
+    stored.labels.fill(0);
     for (place, code) in codes.iter().enumerate().filter(|(_, code)| **code != FREE) {
         stored.labels[place] = word(LABEL + place as u32, *code);
     }

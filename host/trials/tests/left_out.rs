@@ -37,7 +37,7 @@ fn holding(messages: &[Vec<u8>], numbered: u64) -> Stored {
     };
     let queued = |msg: &Vec<u8>| Queued { kind: kind(msg), label: NO_LABEL, bytes: msg.clone() };
     let queue = messages.iter().map(queued).collect();
-    Stored { issued: numbered as u32, kept: true, timeout: 5, queue, ..Stored::idle() }
+    Stored { issued: numbered as u32, kept: true, timeout: 5_000, queue, ..Stored::idle() }
 }
 
 /// The Request is lost with the connection, its Abort is queued during the break: neither it nor its number comes again.

@@ -23,19 +23,23 @@ fn mapping(label: u32) -> Vec<u8> {
 /// A kept session with so many Mappings held, of which so many have numbers.
 fn holding(held: u32, released: u32, issued: u32) -> Stored {
     let queue = (0..held).map(|n| Queued { kind: 1, label: 16 + n, bytes: mapping(16 + n) }).collect();
-    let mut stored = Stored { released, issued, timeout: 5, kept: true, queue, ..Stored::idle() };
+    let mut stored = Stored { released, issued, timeout: 5_000, kept: true, queue, ..Stored::idle() };
     for n in 0..held {
         stored.labels[n as usize] = word(16 + n, 1);
     }
     stored
 }
 
+/// Plain numbers: in seconds of the draft's form as the paper has them, and as many in milliseconds.
 #[test]
 fn p1_to_p3_lesser_timeout() {
     for cabinet in both() {
         assert_eq!(cabinet.lesser_timeout(0, 5), 5);
         assert_eq!(cabinet.lesser_timeout(0, 0), 0);
         assert_eq!(cabinet.lesser_timeout(65_535, 0), 65_535);
+        for (a, b) in [(0, 5), (0, 0), (65_535, 0), (5, 30)] {
+            assert_eq!(cabinet.lesser_timeout(1_000 * a, 1_000 * b), 1_000 * cabinet.lesser_timeout(a, b));
+        }
     }
 }
 
@@ -67,16 +71,17 @@ fn p8_and_p9_distances() {
     }
 }
 
+/// In the draft's form: "R set, 5 s".
 #[test]
 fn p10_init_with_reconnect() {
     for cabinet in both() {
         let image = Stored { secured: 9, ..holding(0, 0, 0) }.image(0);
         let mut out = [0; 64];
-        let opening = Opening { proposal: Some(5), ..Opening::default() };
+        let opening = Opening { proposal: Some(5), published: false, ..Opening::default() };
         let outcome = cabinet.open(&image, FAILED, &opening, &mut out);
         assert_eq!((outcome.answer, outcome.length), (0, 42));
         assert_eq!(out[26..42], [0x85, 3, 0, 4, 0x80, 0, 0, 5, 5, 4, 0, 4, 0, 0, 0, 9]);
-        assert_eq!(outcome.session, Session::new(phase::INIT_WAIT, 5));
+        assert_eq!(outcome.session, Session::new(phase::INIT_WAIT, 5_000));
     }
 }
 
@@ -99,12 +104,14 @@ fn p12_check_of_a_zero_block() {
     }
 }
 
+/// In seconds, as the paper has it; time passed counts milliseconds.
 #[test]
 fn timeout_5_elapsed_4_keeps_and_5_releases() {
     for cabinet in both() {
         let mut image = holding(1, 0, 0).image(0);
-        assert_eq!(cabinet.time_passed(&mut image, FAILED, 4).session.phase, phase::FAILED);
-        assert_eq!(cabinet.time_passed(&mut image, FAILED, 5).session.phase, phase::IDLE);
+        assert_eq!(cabinet.time_passed(&mut image, FAILED, 4_000).session.phase, phase::FAILED);
+        assert_eq!(cabinet.time_passed(&mut image, FAILED, 4_999).session.phase, phase::FAILED);
+        assert_eq!(cabinet.time_passed(&mut image, FAILED, 5_000).session.phase, phase::IDLE);
         assert_eq!(image[..512], Stored::idle().image(0)[..512]);
     }
 }
@@ -122,8 +129,8 @@ fn without_a_proposal_29_keeps_and_30_releases() {
             let init = Message::new(types::INITIALIZATION, 1).parameters(30, 4096).ft_session(false, peers).bytes();
             assert_eq!(cabinet.init_received(&mut image, opened.session, &init).session, up(0));
             assert_eq!(cabinet.connection_failed(&mut image, up(0)).session, FAILED);
-            assert_eq!(cabinet.time_passed(&mut image, FAILED, agreed - 1).session.phase, phase::FAILED);
-            assert_eq!(cabinet.time_passed(&mut image, FAILED, agreed).session.phase, phase::IDLE);
+            assert_eq!(cabinet.time_passed(&mut image, FAILED, 1_000 * agreed - 1).session.phase, phase::FAILED);
+            assert_eq!(cabinet.time_passed(&mut image, FAILED, 1_000 * agreed).session.phase, phase::IDLE);
         }
     }
 }
@@ -164,14 +171,14 @@ fn a_fresh_session_from_a_new_image() {
         let formatted = cabinet.format(&mut image);
         assert_eq!((formatted.block0, formatted.further, formatted.slot), (1, further::REQUESTS, 0));
         let opened = cabinet.open(&image, Session::default(), &Opening::default(), &mut out);
-        assert_eq!((opened.answer, opened.length, opened.session.value), (0, 34, 30));
+        assert_eq!((opened.answer, opened.length, opened.session.value), (0, 34, 30_000));
         let init = Message::new(types::INITIALIZATION, 1).parameters(30, 4096).ft_session(true, 0).ack(8).bytes();
         let outcome = cabinet.init_received(&mut image, opened.session, &init);
         assert_eq!((outcome.answer, outcome.session, outcome.block0), (0, up(0), 1));
         let submitted = cabinet.submit(&mut image, up(0), &mapping(16));
         assert_eq!((submitted.answer, submitted.slot, submitted.block0), (0, 1, 1));
         let stored = Stored::read(&image);
-        assert_eq!((stored.timeout, stored.keepalive_time, stored.max_pdu_length), (30, 30, 4096));
+        assert_eq!((stored.timeout, stored.keepalive_time, stored.max_pdu_length), (30_000, 30, 4096));
         assert_eq!((stored.issued, stored.queue.len(), stored.labels[0]), (0, 1, word(16, 1)));
     }
 }

@@ -1,6 +1,6 @@
 //! A peer that leaves out messages: which numbers may come next, on the library and on the model.
 
-use cabinet::{flags, phase, Cabinet, Next, Outcome, Session};
+use cabinet::{flags, phase, Cabinet, Next, Outcome, Session, PLACES};
 use model::Model;
 use trials::stored::{steps_after, word, Queued, Stored, NO_LABEL};
 use trials::under_test::UnderTest;
@@ -17,7 +17,7 @@ fn both() -> [&'static dyn Cabinet; 2] {
 const SECURED: [u32; 7] = [0, 1, 700, 0xFFFF_FFBE, 0xFFFF_FFBF, 0xFFFF_FFF0, 0xFFFF_FFFF];
 
 fn kept(secured: u32) -> Stored {
-    Stored { secured, kept: true, timeout: 5, ..Stored::idle() }
+    Stored { secured, kept: true, timeout: 5_000, ..Stored::idle() }
 }
 
 fn mapping(label: u32) -> Message {
@@ -85,7 +85,7 @@ fn all_other_numbers_are_out_of_turn() {
 
 /// All words in use, so that a Mapping of another label needs one more.
 fn full(secured: u32) -> Stored {
-    Stored { labels: std::array::from_fn(|place| word(16 + place as u32, 3)), ..kept(secured) }
+    Stored { labels: (0..PLACES as u32).map(|place| word(16 + place, 3)).collect(), ..kept(secured) }
 }
 
 /// Zero is no number, and comes before what is said of the ACK, the labels and the turn; 20 comes after these, before 21.
@@ -167,7 +167,7 @@ fn resumed_is_one_bit_of_a_session_that_is_up() {
 fn a_connection_is_resumed_where_both_inits_have_r_set() {
     let stored = Stored { keepalive_time: 30, max_pdu_length: 4096, ..kept(9) };
     let init = |reconnect| Message::new(types::INITIALIZATION, 1).parameters(30, 4096).ft_session(reconnect, 5).ack(0);
-    let waiting = Session { phase: phase::INIT_WAIT, value: 5, flags: flags::RESUMED };
+    let waiting = Session { phase: phase::INIT_WAIT, value: 5_000, flags: flags::RESUMED };
     for cabinet in both() {
         let up = |stored: &Stored, message: Message| {
             let outcome = cabinet.init_received(&mut stored.image(0), waiting, &message.bytes());

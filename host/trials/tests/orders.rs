@@ -1,6 +1,6 @@
 //! The order of the answers: of several faults at once the first in the paper's order is named.
 
-use cabinet::{phase, Cabinet, Opening, Session};
+use cabinet::{phase, Cabinet, Opening, Session, PLACES};
 use model::Model;
 use trials::stored::{word, Queued, Stored, REQUEST, STOPPED, STOPPING};
 use trials::under_test::UnderTest;
@@ -16,7 +16,7 @@ fn in_phase(phase: u32) -> Session {
 
 /// A kept state that has secured 10 and lists labels with the codes given, from label 700 on.
 fn listing(codes: &[u32]) -> Stored {
-    let mut stored = Stored { secured: 10, kept: true, timeout: 5, ..Stored::idle() };
+    let mut stored = Stored { secured: 10, kept: true, timeout: 5_000, ..Stored::idle() };
     for (place, code) in codes.iter().enumerate() {
         stored.labels[place] = word(700 + place as u32, *code);
     }
@@ -45,10 +45,10 @@ fn receive_in_up_ft() {
     up(&listing(&[3]), mapping(700).ack(9), 34);
     up(&listing(&[3]), mapping(700).ack(0), 33);
     up(&listing(&[6]), mapping(700).protection(99).ack(0), 32);
-    up(&listing(&[3; 120]), mapping(16).protection(99).ack(0), 20);
-    up(&listing(&[3; 120]), mapping(16).protection(11).ack(0), 21);
-    up(&listing(&[3; 120]), mapping(16).ack(0), 21);
-    up(&listing(&[3; 119]), mapping(16).protection(11).ack(0), 0);
+    up(&listing(&[3; PLACES]), mapping(16).protection(99).ack(0), 20);
+    up(&listing(&[3; PLACES]), mapping(16).protection(11).ack(0), 21);
+    up(&listing(&[3; PLACES]), mapping(16).ack(0), 21);
+    up(&listing(&[3; PLACES - 1]), mapping(16).protection(11).ack(0), 0);
 }
 
 #[test]
@@ -80,7 +80,7 @@ fn labels_are_judged_as_the_ack_leaves_them() {
     let released = holding(&[9], types::WITHDRAW, 2, 700);
     assert_received(&released, phase::UP_FT, release(), 33);
     assert_received(&released, phase::UP_FT, release().ack(1), 0);
-    let mut full = holding(&[3; 120], types::RELEASE, 3, 700);
+    let mut full = holding(&[3; PLACES], types::RELEASE, 3, 700);
     full.labels[0] = word(700, 5);
     assert_received(&full, phase::UP_FT, mapping(16).protection(11), 21);
     assert_received(&full, phase::UP_FT, mapping(16).protection(11).ack(1), 0);
@@ -118,7 +118,7 @@ fn assert_submitted(stored: &Stored, phase: u32, message: Message, answer: u32) 
 
 #[test]
 fn submit() {
-    let full = full_ring(&[2; 120]);
+    let full = full_ring(&[2; PLACES]);
     assert_submitted(&full, phase::IDLE, mapping(1 << 20).padded_to(481), 1);
     assert_submitted(&full, phase::FAILED, mapping(1 << 20).padded_to(481), 3);
     assert_submitted(&full, phase::FAILED, mapping(1 << 20).ack(1), 4);
@@ -126,7 +126,7 @@ fn submit() {
     assert_submitted(&full, phase::FAILED, mapping(700), 6);
     assert_submitted(&full, phase::FAILED, mapping(15), 6);
     assert_submitted(&full, phase::FAILED, mapping(16), 13);
-    assert_submitted(&full_ring(&[1; 120]), phase::FAILED, mapping(700), 7);
+    assert_submitted(&full_ring(&[1; PLACES]), phase::FAILED, mapping(700), 7);
     assert_submitted(&full_ring(&[]), phase::FAILED, mapping(16), 7);
     assert_submitted(&listing(&[1]), phase::FAILED, Message::new(types::MAPPING, 1).label(16), 4);
     assert_submitted(&listing(&[1]), phase::FAILED, Message::new(types::WITHDRAW, 1).fec(&prefix(1)), 5);
@@ -146,7 +146,7 @@ fn asking(stored: Stored, open: usize) -> Stored {
 fn submit_of_a_request() {
     let request = |id| Message::new(types::REQUEST, id).fec(&prefix(1));
     let stopped = |stored| Stored { marks: STOPPED | STOPPING, ..stored };
-    let full = stopped(asking(full_ring(&[]), 120));
+    let full = stopped(asking(full_ring(&[]), PLACES));
     assert_submitted(&full, phase::IDLE, request(5).padded_to(481), 1);
     assert_submitted(&full, phase::FAILED, request(5).padded_to(481), 3);
     assert_submitted(&full, phase::FAILED, Message::new(types::REQUEST, 5), 4);
@@ -161,20 +161,20 @@ fn submit_of_a_request() {
         assert_submitted(&full, phase, request(5), 6);
     }
     assert_submitted(&full, phase::UP_FT, request(500), 13);
-    assert_submitted(&asking(full_ring(&[]), 119), phase::UP_FT, request(500), 7);
-    assert_submitted(&asking(listing(&[]), 119), phase::UP_FT, request(500), 0);
+    assert_submitted(&asking(full_ring(&[]), PLACES - 1), phase::UP_FT, request(500), 7);
+    assert_submitted(&asking(listing(&[]), PLACES - 1), phase::UP_FT, request(500), 0);
 }
 
 /// 02: "6 also for .. an Abort of none"; 14 and 15 are for Requests alone.
 #[test]
 fn submit_of_an_abort() {
     let abort = |id| Message::new(types::ABORT, 5).fec(&prefix(1)).request_id(id);
-    let full = Stored { marks: STOPPED, ..asking(full_ring(&[]), 120) };
+    let full = Stored { marks: STOPPED, ..asking(full_ring(&[]), PLACES) };
     assert_submitted(&full, phase::FAILED, Message::new(types::ABORT, 5).fec(&prefix(1)), 4);
     assert_submitted(&full, phase::FAILED, Message::new(types::ABORT, 5).request_id(1), 4);
     assert_submitted(&full, phase::FAILED, abort(1).protection(1), 5);
-    assert_submitted(&full, phase::FAILED, abort(120), 6);
-    assert_submitted(&full, phase::FAILED, abort(119), 7);
+    assert_submitted(&full, phase::FAILED, abort(119), 6);
+    assert_submitted(&full, phase::FAILED, abort(118), 7);
     let open = Stored { marks: STOPPED, ..asking(listing(&[]), 2) };
     for phase in [phase::INIT_WAIT, phase::UP_FT, phase::FAILED] {
         assert_submitted(&open, phase, abort(0), 0);
@@ -229,10 +229,12 @@ fn writers() {
         assert_eq!(send(&one, up(1), 0), 8);
         assert_eq!(send(&one, up(0), 35), 9);
         assert_eq!(send(&one, up(0), 36), 0);
-        let open = |phase, room: usize| {
-            cabinet.open(&one.image(0), in_phase(phase), &Opening::default(), &mut vec![0; room]).answer
-        };
-        assert_eq!([open(phase::IDLE, 0), open(phase::FAILED, 41), open(phase::FAILED, 42)], [1, 9, 0]);
+        for (published, length) in [(false, 42), (true, 50)] {
+            let opening = Opening { published, ..Opening::default() };
+            let open =
+                |phase, room: usize| cabinet.open(&one.image(0), in_phase(phase), &opening, &mut vec![0; room]).answer;
+            assert_eq!([open(phase::IDLE, 0), open(phase::FAILED, length - 1), open(phase::FAILED, length)], [1, 9, 0]);
+        }
         let keepalive =
             |phase, room: usize| cabinet.keepalive(&one.image(0), in_phase(phase), 1, &mut vec![0; room]).answer;
         assert_eq!(
@@ -248,7 +250,7 @@ fn init_received() {
     let init = || Message::new(types::INITIALIZATION, 1);
     let assert_answer = |stored: &Stored, message: Message, answer: u32| {
         for cabinet in both() {
-            let session = Session::new(phase::INIT_WAIT, 5);
+            let session = Session::new(phase::INIT_WAIT, 5_000);
             let outcome = cabinet.init_received(&mut stored.image(0), session, &message.bytes());
             assert_eq!(outcome.answer, answer, "{message:?}");
         }

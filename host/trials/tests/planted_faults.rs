@@ -13,6 +13,7 @@ const SEED: u64 = 0x1_D9F7;
 const CALLS: u64 = 250_000;
 const CUTS: u64 = 20_000;
 const LEFT_OUT: u64 = 2_000;
+const MOVED: u64 = 1_000;
 
 /// A fault in how zero sums are stored, which generated images are too few to meet.
 const CRAFTED_ONLY: Fault = Fault::TakesBothZeros;
@@ -29,8 +30,16 @@ fn the_differential_run_finds_planted_faults() {
 
 #[test]
 fn the_crafted_images_find_planted_faults() {
-    let faults =
-        [CRAFTED_ONLY, Fault::SkipsPadding, Fault::NamesNoBlock, Fault::SkipsIdsOfIdle, Fault::SkipsZerosAfterIds];
+    let faults = [
+        CRAFTED_ONLY,
+        Fault::SkipsPadding,
+        Fault::NamesNoBlock,
+        Fault::SkipsIdsOfIdle,
+        Fault::SkipsZerosAfterIds,
+        Fault::SkipsBytes20,
+        Fault::RestoresVersion1,
+        Fault::ConvertsOtherVersion,
+    ];
     for fault in faults {
         let tested = Planted(fault);
         let mut run = Run::new(&Model, &tested, SEED);
@@ -68,8 +77,21 @@ fn the_crash_trials_find_planted_faults() {
         Fault::AckEndsRequest,
         Fault::BreakEndsRequests,
         Fault::BreakForgetsMarks,
+        Fault::LesserOfZeroIsZero,
+        Fault::SecondsAreMilliseconds,
+        Fault::CountsElapsedInSeconds,
+        Fault::BearsSeconds,
+        Fault::RefusesLongWait,
+        Fault::IgnoresPublishedForm,
+        Fault::TakesRecoveryTime,
     ];
     assert_found(&faults, |cabinets, tally| crash::run(cabinets, SEED, CUTS, tally));
+}
+
+#[test]
+fn the_crash_trials_find_what_is_wrongly_moved() {
+    let faults = [Fault::RoundsSeconds, Fault::KeepsUnit, Fault::LeavesSeconds, Fault::ConvertsBlock0Alone];
+    assert_found(&faults, |cabinets, tally| crash::run_converting(cabinets, SEED, MOVED, tally));
 }
 
 /// Those that no connection between two such ends shows are the differential run's: a jump of 65, and jumps unresumed.

@@ -46,7 +46,7 @@ fn the_summary_says_what_the_record_holds() {
             held,
             pended: held - numbered(&stored),
             labels: used(&stored),
-            timeout: u32::from(stored.timeout),
+            timeout: stored.timeout,
             keepalive_time: u32::from(stored.keepalive_time),
             max_pdu_length: u32::from(stored.max_pdu_length),
         };
@@ -58,7 +58,7 @@ fn the_summary_says_what_the_record_holds() {
 fn the_words_are_those_of_the_record_and_no_other_is_written() {
     let mut run = run();
     for stored in records(&mut run) {
-        for room in [120, 121, 500] {
+        for room in [119, 120, 500] {
             let seen = run.call(&stored.image(0xD1), &Call::Labels { room }).unwrap();
             assert_eq!(seen.returned, Returned::Words(Words { answer: 0, block: 0, count: used(&stored) }));
             assert_eq!(seen.words.content()[..PLACES], stored.labels);

@@ -16,7 +16,7 @@ fn both() -> [&'static dyn Cabinet; 2] {
 /// A kept state with open Requests 40 and 0 at places 2 and 4, a free word before, between and after them, and the ID of
 /// a Request that is over beside the last.
 fn asking() -> Stored {
-    let mut stored = Stored { secured: 10, kept: true, timeout: 5, ..Stored::idle() };
+    let mut stored = Stored { secured: 10, kept: true, timeout: 5_000, ..Stored::idle() };
     stored.labels[0] = word(LABEL, 1);
     (stored.labels[2], stored.ids[2]) = (REQUEST, 40);
     (stored.labels[4], stored.ids[4]) = (REQUEST, 0);
@@ -90,16 +90,16 @@ fn an_abort_frees_its_requests_word() {
 }
 
 #[test]
-fn of_120_requests_taken_the_121st_is_refused() {
+fn of_119_requests_taken_the_120th_is_refused() {
     for cabinet in both() {
         let mut stored = Stored { kept: true, ..Stored::idle() };
-        for id in 0..120 {
+        for id in 0..119 {
             let (outcome, mut after) = submit(cabinet, &stored, Message::new(types::REQUEST, id).fec(&prefix(1)));
             assert_eq!((outcome.answer, outcome.further), (0, u32::from(id != 0)));
             after.queue.clear();
             stored = after;
         }
-        assert_eq!(submit(cabinet, &stored, Message::new(types::REQUEST, 120).fec(&prefix(1))).0.answer, 13);
+        assert_eq!(submit(cabinet, &stored, Message::new(types::REQUEST, 119).fec(&prefix(1))).0.answer, 13);
         assert_eq!(submit(cabinet, &stored, mapping(LABEL)).0.answer, 13);
     }
 }
@@ -243,7 +243,7 @@ fn a_request_is_shown_where_it_is_open() {
             (request.open, request.id)
         };
         assert_eq!([shown(2), shown(4)], [(1, 40), (1, 0)]);
-        assert_eq!([shown(0), shown(1), shown(5), shown(120), shown(u32::MAX)], [(0, 0); 5]);
+        assert_eq!([shown(0), shown(1), shown(5), shown(119), shown(120), shown(u32::MAX)], [(0, 0); 6]);
         assert_eq!([cabinet.label(&image, 2), cabinet.label(&image, 5)], [REQUEST, 0]);
         assert_eq!(cabinet.request_at(&image[..512], 2).open, 0);
     }

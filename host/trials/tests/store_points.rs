@@ -19,7 +19,7 @@ fn mapping() -> Vec<u8> {
 
 /// A kept state with an empty ring that starts at slot 63, and a label used without protection.
 fn kept() -> Stored {
-    let mut stored = Stored { first: 63, timeout: 5, kept: true, ..Stored::idle() };
+    let mut stored = Stored { first: 63, timeout: 5_000, kept: true, ..Stored::idle() };
     stored.labels[0] = word(20, 6);
     stored
 }
@@ -88,7 +88,7 @@ fn block_65_is_named_only_where_its_bytes_change() {
         same(&asking(), &|image| cabinet.submit(image, UP, &abort));
         same(&asking(), &|image| cabinet.receive(image, UP, &answer));
         same(&asking(), &|image| cabinet.receive(image, UP, &refusal));
-        same(&asking(), &|image| cabinet.time_passed(image, FAILED, 5));
+        same(&asking(), &|image| cabinet.time_passed(image, FAILED, 5_000));
         same(&asking(), &|image| cabinet.restore(image));
     }
 }
@@ -100,7 +100,7 @@ fn a_release_forgets_requests_and_marks_and_leaves_block_65() {
     let stopped = || Stored { marks: STOPPED, ..asking() };
     for cabinet in both() {
         let mut image = stopped().image(0xEE);
-        let waiting = Session::new(phase::INIT_WAIT, 5);
+        let waiting = Session::new(phase::INIT_WAIT, 5_000);
         let fresh = cabinet.init_received(&mut image, waiting, &init);
         assert_eq!((fresh.answer, fresh.session, fresh.further), (0, UP, 0));
         let after = Stored::read(&image);
@@ -129,8 +129,8 @@ fn block_0_is_named_only_where_its_bytes_change() {
         let mut image = kept().image(0xEE);
         assert_eq!(cabinet.restore(&mut image).block0, 1);
         assert_eq!(cabinet.restore(&mut image).block0, 0);
-        assert_eq!(cabinet.time_passed(&mut image, FAILED, 4).block0, 0);
-        assert_eq!(cabinet.time_passed(&mut image, FAILED, 5).block0, 1);
+        assert_eq!(cabinet.time_passed(&mut image, FAILED, 4_999).block0, 0);
+        assert_eq!(cabinet.time_passed(&mut image, FAILED, 5_000).block0, 1);
         let plain = Session::new(phase::UP_PLAIN, 0);
         let fatal = Message::new(types::NOTIFICATION, 1).status(0x8000_0001).bytes();
         let ended = cabinet.receive(&mut image, plain, &fatal);

@@ -10,10 +10,8 @@ pub has-code-at-spec : {M : Type 1} → statement M
 has-code-at-spec =
     let answers = tie.spec
     (λ c. search needs)
-    (λ c. search needs)
-    (λ c. search needs)
     (λ c κs. search needs)
-    (λ c. let p = c .before .before .before .pre in other-byte _ _ _ (λ k. c .before .before .shared-slice-known .given k .fits) (p .1) (p .2) (c .before .get-u8 .ensures) (c .if1 .taken))
+    (λ c. let a = c .before .before .before in other-byte (a .args .block .now) (a .args .at) _ (λ k. c .before .before .shared-slice-known .given k .fits) (a .pre .2) (c .before .get-u8 .ensures) (c .if1 .taken))
     (λ c κs. search needs)
-    (λ c. ap (hasCode _) (c .read-label .ensures)) in
+    (λ c. ap (hasCode _) (c .get-u32 .ensures)) in
     tie.close answers

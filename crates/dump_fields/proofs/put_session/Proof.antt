@@ -1,7 +1,7 @@
 -- `dump_fields::put_session` meets its contract. Assumes nothing.
 use native.Mathlib.Omega.{arith}
 use borrow.Author.Needs.{needs}
-use Rattle.text.proofs.Pieces.{put-none, put-then}
+use Rattle.text.proofs.Pieces.{put-none}
 use Rattle.dump_fields.proofs.put_session.Statement.{statement}
 use Rattle.dump_fields.proofs.put_session.Tie as tie
 
@@ -11,12 +11,7 @@ put-session-spec =
     (λ c. search needs)
     (λ c. search needs)
     (λ c. search needs)
-    (λ c. search needs)
-    (λ c. search needs)
-    (λ c. search needs)
-    (λ c. search needs)
-    (λ c. search needs)
     (λ c. rw (c .enum-told .given .1) (put-none _ _, omega arith))
     (λ c. search needs)
-    (λ c. rw (c .before .before .before .before .before .before .before .before .before .before .before .before .session .given .1, ← c .before .before .before .before .before .before .before .before .bit-of .ensures) (put-then (c .before .before .before .before .before .before .before .put-number .ensures .0) (c .before .before .put-number2 .ensures .0), search needs)) in
+    (λ c. rw (c .before .before .before .before .before .session .given .1) (c .before .before .put-timeout .ensures)) in
     tie.close answers

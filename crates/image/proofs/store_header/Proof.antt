@@ -16,5 +16,5 @@ store-header-spec =
     (λ c. omega arith)
     (λ c κs. search needs)
     (λ c. search needs)
-    (λ c. rw (c .before .before .write-header .ensures) (laid-between _ 0 512 _ (omega arith) (omega arith) (length-block0 _ _))) in
+    (λ c. rw (c .before .before .write-header .ensures) (laid-between _ 0 512 _ (omega arith) (omega arith) (length-block0 _ _ _))) in
     tie.close answers

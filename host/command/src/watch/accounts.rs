@@ -133,6 +133,7 @@ fn clauses(sender: &Left, receiver: &Left) -> Vec<(String, bool)> {
 mod tests {
     use super::*;
     use crate::watch::clock::Clock;
+    use crate::watch::Forms;
     use support::hex;
     use support::store::Directory;
     use support::wire::{prefix, Message};
@@ -164,7 +165,8 @@ mod tests {
     /// Closes the accounts: the verdict, and whether all is right.
     fn closed(scene: &Scene) -> (String, bool) {
         let directory = scene.directory.path().to_path_buf();
-        let setting = Setting { directory, clock: Clock::start(), labels: 1, on_demand: false };
+        let (clock, forms) = (Clock::start(), Forms::Draft);
+        let setting = Setting { directory, clock, labels: 1, on_demand: false, forms };
         for (end, name) in NAMES.iter().enumerate() {
             Store::create(&setting.file(name, "store")).unwrap().write_all(&scene.stores[end].image(0)).unwrap();
             for (what, journal) in ["accepted", "left-out", "secured"].iter().zip(&scene.journals[3 * end..]) {

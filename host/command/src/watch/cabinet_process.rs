@@ -73,6 +73,8 @@ pub struct Process {
     pub left_out: LeftOut,
     pub plan: Plan,
     pub on_demand: bool,
+    /// Its Init is in the published form.
+    pub published: bool,
     /// Since when this process knows that the peer is told of no labels.
     pub stopping_since: Option<Instant>,
     pub broken_at: Instant,
@@ -105,6 +107,7 @@ impl Process {
             left_out: LeftOut::open(&setting.file(name, "left-out"))?,
             plan: plan_of(name, setting),
             on_demand: setting.on_demand,
+            published: setting.forms.is_published(name),
             stopping_since: None,
             image,
             broken_at: now,

@@ -7,8 +7,8 @@ use std::io;
 use std::time::{Duration, Instant};
 
 const RETRY: Duration = Duration::from_millis(30);
-/// Seconds for which state is kept over a break.
-const TIMEOUT: u16 = 60;
+/// For so long state is kept over a break.
+const TIMEOUT: Duration = Duration::from_secs(60);
 
 impl Process {
     /// Cuts the connection. What is sent on it from now on does not leave.
@@ -28,7 +28,7 @@ impl Process {
         }
         self.next_try = now + RETRY;
         if self.session.phase == phase::FAILED {
-            let elapsed = self.broken_at.elapsed().as_secs() as u32;
+            let elapsed = self.broken_at.elapsed().as_millis() as u32;
             let outcome = Library.time_passed(&mut self.image, self.session, elapsed);
             self.keep(&outcome, None)?;
         }
@@ -39,8 +39,9 @@ impl Process {
             max_pdu_length: 4096,
             receiver_lsr: self.lsr ^ 3,
             receiver_space: 0,
-            proposal: Some(TIMEOUT),
+            proposal: Some(self.proposal()),
             on_demand: self.on_demand,
+            published: self.published,
         };
         let mut out = [0; ROOM];
         let outcome = Library.open(&self.image, self.session, &opening, &mut out);
@@ -52,6 +53,12 @@ impl Process {
             self.lose_connection()?;
         }
         Ok(())
+    }
+
+    /// The timeout in the unit of the form that it is proposed in.
+    fn proposal(&self) -> u32 {
+        let unit = if self.published { TIMEOUT.as_millis() } else { u128::from(TIMEOUT.as_secs()) };
+        unit as u32
     }
 
     pub fn lose_connection(&mut self) -> io::Result<()> {

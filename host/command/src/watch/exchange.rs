@@ -3,6 +3,7 @@
 use super::cabinet_process::{Process, Record, ROOM};
 use super::link::Link;
 use super::plan;
+use crate::message::timeout;
 use cabinet::{phase, Cabinet};
 use ldp_ft::Library;
 use std::io;
@@ -12,6 +13,15 @@ use support::wire::{protection_number, without_ft};
 /// A KeepAlive goes out at least this often; without it the last message would stay unacknowledged.
 const KEEPALIVE: Duration = Duration::from_millis(60);
 const MESSAGES_IN_PDU: usize = 4;
+
+/// The form of FT Session in a word.
+fn form(published: bool) -> &'static str {
+    if published {
+        "published"
+    } else {
+        "draft"
+    }
+}
 
 impl Process {
     /// Takes in what has arrived and sends what waits.
@@ -82,7 +92,9 @@ impl Process {
             return Err(io::ErrorKind::InvalidData.into());
         }
         let how = if self.session.is_resumed() { "resumes its session" } else { "begins a fresh session" };
-        self.say(&format!("{how}: {}", self.standing()));
+        let [ours, theirs] = [self.published, Library.message_read(msg).published == 1].map(form);
+        let kept = timeout(u64::from(self.summary().timeout));
+        self.say(&format!("{how}: {}; Inits: ours {ours}, the peer's {theirs}; state is kept {kept}", self.standing()));
         Ok(())
     }
 

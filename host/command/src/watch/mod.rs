@@ -26,16 +26,18 @@ use clock::Clock;
 use std::path::{Path, PathBuf};
 use support::options::{Known, Options};
 
-/// The label list has 120 words for both directions together.
-const MOST_LABELS: u64 = 60;
+/// The label list has 119 words for both directions together.
+const MOST_LABELS: u64 = 59;
 const NAMES: [&str; 2] = ["north", "south"];
 
 /// What `watch` takes.
-pub const KNOWN: Known = Known { flags: &["on-demand"], values: &["labels", "cut-every", "kill-every"], files: 0 };
+pub const KNOWN: Known =
+    Known { flags: &["on-demand"], values: &["labels", "cut-every", "kill-every", "form"], files: 0 };
 
 /// The command by which the supervisor starts a cabinet's process; not one for people. Its file is the pair's directory.
 pub const CABINET: &str = "cabinet";
-pub const KNOWN_CABINET: Known = Known { flags: &["on-demand"], values: &["name", "labels", "since"], files: 1 };
+pub const KNOWN_CABINET: Known =
+    Known { flags: &["on-demand"], values: &["name", "labels", "since", "form"], files: 1 };
 
 /// What the supervisor and both processes are told.
 #[derive(Clone, Debug)]
@@ -44,6 +46,40 @@ struct Setting {
     clock: Clock,
     labels: u32,
     on_demand: bool,
+    forms: Forms,
+}
+
+/// In which form of FT Session the two cabinets write their Inits.
+#[derive(Clone, Copy, Debug)]
+enum Forms {
+    Draft,
+    Published,
+    /// North the draft's, south the published one.
+    Mixed,
+}
+
+impl Forms {
+    fn of(word: &str) -> Result<Self, String> {
+        let known = [Forms::Draft, Forms::Published, Forms::Mixed].into_iter().find(|forms| forms.word() == word);
+        known.ok_or_else(|| format!("--form takes draft, published or mixed, not {word:?}"))
+    }
+
+    /// True where a cabinet writes the published form.
+    fn is_published(self, name: &str) -> bool {
+        match self {
+            Forms::Draft => false,
+            Forms::Published => true,
+            Forms::Mixed => name == NAMES[1],
+        }
+    }
+
+    fn word(self) -> &'static str {
+        match self {
+            Forms::Draft => "draft",
+            Forms::Published => "published",
+            Forms::Mixed => "mixed",
+        }
+    }
 }
 
 impl Setting {
@@ -66,6 +102,7 @@ fn setting(options: &Options, directory: &Path, clock: Clock) -> Result<Setting,
         clock,
         labels: options.number("labels", 40, 1..=MOST_LABELS)? as u32,
         on_demand: options.is_given("on-demand"),
+        forms: Forms::of(options.word("form").unwrap_or("draft"))?,
     })
 }
 

@@ -13,6 +13,7 @@ use trials::under_test::UnderTest;
 const CALLS_IN_ROUND: u64 = 100_000;
 const CUTS_IN_ROUND: u64 = 2_000;
 const LEFT_OUT_IN_ROUND: u64 = 500;
+const MOVED_IN_ROUND: u64 = 300;
 
 const KNOWN: Known = Known { flags: &[], values: &["seconds", "seed"], files: 0 };
 
@@ -40,9 +41,9 @@ fn soak(time: Duration, first: u64) -> ExitCode {
             return ExitCode::FAILURE;
         }
         calls += CALLS_IN_ROUND;
-        let Tally { steps, left_out, .. } = tally;
+        let Tally { steps, left_out, moved_forward, .. } = tally;
         println!(
-            "seed {seed}: {calls} calls alike, {} cuts and {left_out} left out over {steps} steps",
+            "seed {seed}: {calls} calls alike, {} cuts, {left_out} left out and {moved_forward} moved over {steps} steps",
             tally.all_cuts()
         );
         seed += 1;
@@ -58,5 +59,7 @@ fn round(seed: u64, tally: &mut Tally) -> Result<(), String> {
     let cuts = tally.all_cuts() + CUTS_IN_ROUND;
     crash::run([&UnderTest, &UnderTest], seed, cuts, tally)?;
     let left_out = tally.left_out + LEFT_OUT_IN_ROUND;
-    crash::run_leaving_out([&UnderTest, &UnderTest], seed, left_out, tally)
+    crash::run_leaving_out([&UnderTest, &UnderTest], seed, left_out, tally)?;
+    let moved = tally.moved_forward + MOVED_IN_ROUND;
+    crash::run_converting([&UnderTest, &UnderTest], seed, moved, tally)
 }

@@ -14,11 +14,13 @@ const ROOM: usize = 500;
 
 /// One end of the connection.
 pub struct End<'a> {
-    cabinet: &'a dyn Cabinet,
+    pub cabinet: &'a dyn Cabinet,
     pub store: Store,
     /// The image in memory; a power cut loses it.
     pub image: Vec<u8>,
     pub session: Session,
+    /// Its last Init was in the published form.
+    pub published: bool,
     /// Messages accepted to send, as submitted, since the fresh start.
     pub accepted: Vec<Vec<u8>>,
     /// The places among them of those that a Send has passed over.
@@ -46,6 +48,7 @@ impl<'a> End<'a> {
             store,
             image,
             session: Session::default(),
+            published: false,
             accepted: Vec::new(),
             left_out: BTreeSet::new(),
             secured: Vec::new(),

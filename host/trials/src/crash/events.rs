@@ -5,7 +5,7 @@ use super::owner::{self, Known};
 use super::require;
 use super::world::World;
 use crate::calls::Call;
-use crate::stored::{steps_between, u16_at, u32_at, Stored, SLOTS};
+use crate::stored::{steps_between, u32_at, Stored, SLOTS};
 use crate::wire::{protection_number, without_ft};
 use cabinet::{phase, Opening};
 
@@ -20,6 +20,7 @@ pub enum Event {
     Restart,
     Reconnect,
     TimePassed,
+    Convert,
 }
 
 impl World<'_, '_> {
@@ -34,6 +35,9 @@ impl World<'_, '_> {
         }
         if self.random.below(1_000) < self.habits.breaks {
             return Event::Break;
+        }
+        if self.random.below(1_000) < self.habits.moves {
+            return Event::Convert;
         }
         match self.random.below(100) {
             0..=34 => Event::Send,
@@ -57,6 +61,7 @@ impl World<'_, '_> {
             Event::Restart => self.restart(end),
             Event::Reconnect => self.reconnect(end),
             Event::TimePassed => self.time_passed(end),
+            Event::Convert => self.convert(end),
         }
     }
 
@@ -128,6 +133,7 @@ impl World<'_, '_> {
         }
         if waits {
             self.tally.resumed += u64::from(self.begun);
+            self.tally.mixed += u64::from(self.ends[0].published != self.ends[1].published);
             return require(
                 outcome.session.is_resumed() == self.begun,
                 "resumed is not that both ends kept their state",
@@ -163,16 +169,22 @@ impl World<'_, '_> {
         Ok(())
     }
 
+    /// Each end writes the form that it likes, and another on the next connection.
     pub fn open(&mut self, end: usize) -> Result<(), String> {
         let session = self.ends[end].session;
+        let published = self.random.percent(50);
+        let proposals: &[Option<u32>] =
+            if published { &[None, Some(0), Some(90_000), Some(90_250)] } else { &[None, Some(0), Some(90)] };
+        self.ends[end].published = published;
         let opening = Opening {
             message_id: self.serial,
             keepalive_time: 30,
             max_pdu_length: 4096,
             receiver_lsr: 0xC000_0201,
             receiver_space: 0,
-            proposal: self.random.pick(&[None, Some(0), Some(60)]),
+            proposal: self.random.pick(proposals),
             on_demand: self.habits.asks > 0,
+            published,
         };
         self.perform(end, &Call::Open { session, opening, room: 0 })?;
         Ok(())
@@ -181,7 +193,7 @@ impl World<'_, '_> {
     /// Time that is too short to end the session.
     fn time_passed(&mut self, end: usize) -> Result<(), String> {
         let session = self.ends[end].session;
-        let timeout = u32::from(u16_at(&self.ends[end].image, 20));
+        let timeout = Stored::read(&self.ends[end].image).timeout;
         let elapsed = timeout.checked_sub(1).unwrap_or(u32::MAX);
         self.perform(end, &Call::TimePassed { session, elapsed })?;
         Ok(())

@@ -56,6 +56,10 @@ pub struct Habits {
     pub cuts: usize,
     /// How often, in a thousand steps, the connection breaks by itself.
     pub breaks: usize,
+    /// How often, in a thousand steps, a store is moved to version 1 and forward again.
+    pub moves: usize,
+    /// How often, in a hundred points of such a move, the power is cut.
+    pub cuts_in_moving: usize,
 }
 
 impl Habits {
@@ -69,12 +73,19 @@ impl Habits {
             submits: random.pick(&[10, 30, 60]),
             cuts: random.pick(&[2, 6, 20]),
             breaks: random.pick(&[0, 8, 40]),
+            moves: random.pick(&[0, 4]),
+            cuts_in_moving: 30,
         }
     }
 
     /// Owners that ask for labels again and again, with hardly anything cut but that.
     pub fn asking(random: &mut Random) -> Self {
         Habits { asks: 80, aborts: 5, cuts_in_asking: 90, submits: 30, cuts: 2, breaks: 0, ..Habits::any(random) }
+    }
+
+    /// Owners whose stores are moved from version to version again and again.
+    pub fn moving(random: &mut Random) -> Self {
+        Habits { moves: 120, cuts_in_moving: 40, cuts: 2, ..Habits::any(random) }
     }
 
     /// Owners that ask for labels and think better of it, over connections that break again and again.

@@ -30,6 +30,12 @@ pub struct Tally {
     pub breaks: u64,
     pub restarts: u64,
     pub resumed: u64,
+    /// Inits taken by an end that had written its own in the other form.
+    pub mixed: u64,
+    /// Stores moved to version 1, forward to version 2, and those that version 1 has no room for.
+    pub moved_back: u64,
+    pub moved_forward: u64,
+    pub unmovable: u64,
     pub accepted: u64,
     pub secured: u64,
     /// Requests opened, and ended by their Abort or by an answer.
@@ -75,6 +81,9 @@ impl fmt::Display for Tally {
         }
         writeln!(f, "{} worlds, {} steps, {} cuts", self.worlds, self.steps, self.all_cuts())?;
         writeln!(f, "{} breaks, {} restarts, {} resumed", self.breaks, self.restarts, self.resumed)?;
+        let Tally { mixed, moved_back, moved_forward, unmovable, .. } = self;
+        writeln!(f, "{mixed} Inits of another form than the own")?;
+        writeln!(f, "{moved_back} moved back, {moved_forward} forward, {unmovable} not to be moved")?;
         writeln!(f, "{} accepted, {} sent, {} secured", self.accepted, self.sent, self.secured)?;
         let Tally { asked, aborted, answered, stopped, .. } = self;
         writeln!(f, "{asked} Requests, {aborted} aborted, {answered} answered, {stopped} refused while stopped")?;

@@ -33,6 +33,11 @@ pub fn run_leaving_out(cabinets: [&dyn Cabinet; 2], seed: u64, count: u64, tally
     worlds(cabinets, seed, Habits::aborting, |tally| tally.left_out < count, tally)
 }
 
+/// Runs worlds of owners that move their stores to version 1 and forward again, until so many were moved each way.
+pub fn run_converting(cabinets: [&dyn Cabinet; 2], seed: u64, count: u64, tally: &mut Tally) -> Result<(), String> {
+    worlds(cabinets, seed, Habits::moving, |tally| tally.moved_forward < count, tally)
+}
+
 fn worlds(
     cabinets: [&dyn Cabinet; 2],
     seed: u64,
@@ -54,7 +59,7 @@ fn worlds(
     Ok(())
 }
 
-fn text(error: io::Error) -> String {
+pub fn text(error: io::Error) -> String {
     error.to_string()
 }
 
@@ -101,6 +106,8 @@ impl<'a, 't> World<'a, 't> {
         let both_up = self.connected && first.is_up() && second.is_up();
         let agree = first.session.is_resumed() == second.session.is_resumed();
         require(!both_up || agree, "the ends do not agree on whether their connection is resumed")?;
+        let same_time = stores.of(0).timeout == stores.of(1).timeout;
+        require(!both_up || same_time, "the ends do not agree on how long they keep their state")?;
         stores.check(&self.ends, &self.habits)
     }
 
@@ -199,6 +206,7 @@ impl<'a, 't> World<'a, 't> {
         self.tally.restarts += 1;
         self.break_connection();
         loop {
+            self.move_forward(end)?;
             let outcome = self.ends[end].power_up().map_err(text)?;
             if outcome.answer != 0 {
                 return Err(format!("restore answered {} for block {}", outcome.answer, outcome.block));

@@ -1,10 +1,10 @@
 //! Calls that fit a state, and calls that do not: wrong phases, phases that do not exist, counts past issued.
 
-use super::{malformed, messages, states};
+use super::{inits, malformed, messages, states};
 use crate::calls::Call;
 use crate::random::Random;
-use crate::stored::{steps_after, Stored, REQUEST};
-use cabinet::{flags, phase, Opening, Session};
+use crate::stored::{steps_after, Stored, Version, REQUEST};
+use cabinet::{flags, phase, Opening, Session, IMAGE_SIZE};
 
 const EDGES: [u32; 9] = [0, 1, 2, 0x7FFF_FFFF, 0x8000_0000, 0x8000_0001, 0xFFFF_FFFD, 0xFFFF_FFFE, 0xFFFF_FFFF];
 
@@ -21,8 +21,7 @@ fn session(random: &mut Random, stored: &Stored, phases: &[u32]) -> Session {
         },
         phase::INIT_WAIT => match random.below(20) {
             0 => 65_536,
-            1 => random.u32(),
-            _ => u32::from(states::timeout(random)),
+            _ => states::milliseconds(random),
         },
         _ => random.pick(&[0, 0, 7, u32::MAX]),
     };
@@ -61,19 +60,38 @@ fn opening(random: &mut Random) -> Opening {
         max_pdu_length: random.u16(),
         receiver_lsr: random.u32(),
         receiver_space: random.u16(),
-        proposal: if random.percent(30) { None } else { Some(states::timeout(random)) },
+        proposal: if random.percent(30) { None } else { Some(proposal(random)) },
         on_demand: random.percent(50),
+        published: random.percent(50),
     }
 }
 
-/// Seconds around the agreed timeout.
-fn elapsed(random: &mut Random, stored: &Stored) -> u32 {
-    let timeout = u32::from(stored.timeout);
-    random.pick(&[0, timeout.saturating_sub(1), timeout, timeout + 1, 65_536, u32::MAX])
+/// A number that either form takes in its own unit, also one for which the draft's has no room.
+fn proposal(random: &mut Random) -> u32 {
+    match random.below(10) {
+        0..=1 => random.pick(&[65_534, 65_535, 65_536, 65_541, u32::MAX]),
+        2..=4 => states::milliseconds(random),
+        _ => u32::from(states::seconds(random)),
+    }
 }
 
-/// A call on an image of the state.
+/// Milliseconds around the agreed timeout, and as many as if they were seconds.
+fn elapsed(random: &mut Random, stored: &Stored) -> u32 {
+    let timeout = stored.timeout;
+    let (before, after) = (timeout.saturating_sub(1), timeout.saturating_add(1));
+    random.pick(&[0, before, before, timeout, after, timeout / 1_000, 65_536, u32::MAX])
+}
+
+/// A call on an image of the state; mostly the converter on one of version 1, which no other call takes.
 pub fn on_image(random: &mut Random, stored: &Stored) -> Call {
+    if stored.version == Version::One && random.percent(85) {
+        convert(random, stored)
+    } else {
+        any_on_image(random, stored)
+    }
+}
+
+fn any_on_image(random: &mut Random, stored: &Stored) -> Call {
     let session = |random: &mut Random, phases: &[u32]| session(random, stored, &fitting(stored, phases));
     match random.below(100) {
         0 => Call::Format,
@@ -81,10 +99,10 @@ pub fn on_image(random: &mut Random, stored: &Stored) -> Call {
         7..=13 => Call::Open {
             session: session(random, &[phase::IDLE, phase::FAILED]),
             opening: opening(random),
-            room: random.pick(&[0, 33, 34, 35, 41, 42, 43, 64, 64]),
+            room: random.pick(&[0, 33, 34, 35, 41, 42, 43, 49, 50, 51, 64, 64, 64, 64]),
         },
         14..=27 => {
-            Call::InitReceived { session: session(random, &[phase::INIT_WAIT]), msg: messages::init(random, stored) }
+            Call::InitReceived { session: session(random, &[phase::INIT_WAIT]), msg: inits::init(random, stored) }
         }
         28..=32 => {
             Call::ConnectionFailed { session: session(random, &[phase::INIT_WAIT, phase::UP_FT, phase::UP_PLAIN]) }
@@ -99,12 +117,12 @@ pub fn on_image(random: &mut Random, stored: &Stored) -> Call {
             ack: random.percent(50),
             room: random.pick(&[0, 15, 16, 24, 36, 44, 487, 488, 495, 496, 500, 500, 500]),
         },
-        71..=73 => Call::Keepalive {
+        71..=72 => Call::Keepalive {
             session: session(random, &[phase::UP_FT, phase::UP_PLAIN]),
             message_id: random.u32(),
             room: random.pick(&[0, 7, 8, 9, 15, 16, 17, 40]),
         },
-        74..=95 => Call::Receive {
+        73..=93 => Call::Receive {
             session: session(random, &[phase::UP_FT, phase::UP_PLAIN]),
             msg: messages::received(random, stored),
         },
@@ -112,13 +130,24 @@ pub fn on_image(random: &mut Random, stored: &Stored) -> Call {
     }
 }
 
-/// A call that shows what an image holds, or makes it longer before anybody looks.
+/// The converter, mostly from the version that the state has, with room for an image in most cases.
+fn convert(random: &mut Random, stored: &Stored) -> Call {
+    let room = random.pick(&[0, 512, 33_280, IMAGE_SIZE - 1, IMAGE_SIZE, IMAGE_SIZE, IMAGE_SIZE, IMAGE_SIZE + 1]);
+    if (stored.version == Version::One) == random.percent(90) {
+        Call::ConvertForward { room }
+    } else {
+        Call::ConvertBack { room }
+    }
+}
+
+/// A call that shows what an image holds, moves it, or makes it longer before anybody looks.
 fn look(random: &mut Random, stored: &Stored) -> Call {
-    match random.below(8) {
+    match random.below(12) {
+        8.. => convert(random, stored),
         0 => Call::Label { place: place(random, stored) },
         1 => Call::RequestAt { place: place(random, stored) },
         2..=3 => Call::Summarize,
-        4..=5 => Call::Labels { room: random.pick(&[0, 1, 119, 120, 120, 120, 121, 200]) },
+        4..=5 => Call::Labels { room: random.pick(&[0, 1, 118, 119, 119, 119, 120, 200]) },
         6 => Call::Held { place: place_held(random, stored) },
         _ => Call::Extend { stored_len: random.pick(&[33_280, 33_280, 33_280, 33_792, 33_279, 0, usize::MAX]) },
     }
@@ -133,7 +162,7 @@ fn place_held(random: &mut Random, stored: &Stored) -> u32 {
 /// A place of the label list, one of an open Request in many cases, or one that it does not have.
 fn place(random: &mut Random, stored: &Stored) -> u32 {
     let open = stored.labels.iter().position(|word| *word == REQUEST).unwrap_or(60) as u32;
-    random.pick(&[open, open, open, open, 0, 1, 118, 119, 120, 121, u32::MAX])
+    random.pick(&[open, open, open, open, 0, 1, 117, 118, 119, 120, u32::MAX])
 }
 
 fn edge(random: &mut Random) -> u32 {

@@ -1,7 +1,7 @@
 //! Images that fail a check: wrong sizes, bad blocks, and each field wrong in turn with its block sealed again.
 
 use crate::random::Random;
-use crate::stored::{seal, steps_after, u16_at, u32_at, word, Stored, PLACES, REQUEST};
+use crate::stored::{seal, steps_after, u16_at, u32_at, word, Stored, Version, ID_PLACES, REQUEST};
 use cabinet::{BLOCK_SIZE, REQUEST_BLOCK};
 
 /// A fault in one field; the block that bears it is sealed again afterwards.
@@ -19,8 +19,18 @@ fn put(block: &mut [u8], at: usize, bytes: &[u8]) {
     block[at..at + bytes.len()].copy_from_slice(bytes);
 }
 
+/// The version of a block 0 that has one.
+fn version(block: &[u8]) -> Version {
+    Version::of(block).unwrap_or(Version::Two)
+}
+
 fn put_word(block: &mut [u8], place: usize, word: u32) {
-    put(block, 28 + 4 * place, &word.to_be_bytes());
+    put(block, version(block).words_at() + 4 * place, &word.to_be_bytes());
+}
+
+/// Puts the last word but so many.
+fn put_last_word(block: &mut [u8], but: usize, word: u32) {
+    put_word(block, version(block).places() - 1 - but, word);
 }
 
 /// Sets issued so many steps after released.
@@ -29,10 +39,11 @@ fn issue(block: &mut [u8], steps: u64) {
     put(block, 8, &issued.to_be_bytes());
 }
 
-/// Faults of a block 0 with kept 1.
+/// Faults of a block 0 of either version with kept 1.
 pub const KEPT_FAULTS: &[FieldFault] = &[
-    fault("version 0", |b| put(b, 0, &[0, 0, 0, 0])),
-    fault("version 2", |b| put(b, 0, &[0, 0, 0, 2])),
+    fault("version 0", |b| b[3] = 0),
+    fault("the other version", |b| b[3] = 3 - b[3]),
+    fault("version 3", |b| b[3] = 3),
     fault("version's first byte", |b| b[0] = 1),
     fault("first slot 64", |b| put(b, 16, &[0, 64])),
     fault("first slot 256", |b| put(b, 16, &[1, 0])),
@@ -55,7 +66,7 @@ pub const KEPT_FAULTS: &[FieldFault] = &[
         put(b, 4, &[0, 0, 0, 0]);
         put(b, 8, &[0, 0, 0, 65]);
     }),
-    fault("code 0 with a label", |b| put_word(b, 119, 16)),
+    fault("code 0 with a label", |b| put_last_word(b, 0, 16)),
     fault("code 0 with label 1", |b| put_word(b, 0, 1)),
     fault("code 7 with a label", |b| put_word(b, 60, word(500_000, 7))),
     fault("code 10", |b| put_word(b, 60, word(500_000, 10))),
@@ -63,18 +74,18 @@ pub const KEPT_FAULTS: &[FieldFault] = &[
     fault("code 9 with label 15", |b| put_word(b, 60, word(15, 9))),
     fault("label given and withdrawn", |b| {
         put_word(b, 0, word(500_000, 1));
-        put_word(b, 119, word(500_000, 8));
+        put_last_word(b, 0, word(500_000, 8));
     }),
     fault("label twice withdrawn", |b| {
         put_word(b, 0, word(500_000, 9));
-        put_word(b, 119, word(500_000, 8));
+        put_last_word(b, 0, word(500_000, 8));
     }),
     fault("code 4095", |b| put_word(b, 60, word(500_000, 4095))),
     fault("label 15 given", |b| put_word(b, 3, word(15, 1))),
     fault("label 0 used", |b| put_word(b, 3, word(0, 3))),
     fault("label twice on our side", |b| {
         put_word(b, 0, word(500_000, 1));
-        put_word(b, 119, word(500_000, 2));
+        put_last_word(b, 0, word(500_000, 2));
     }),
     fault("label twice given", |b| {
         put_word(b, 7, word(500_000, 1));
@@ -82,28 +93,43 @@ pub const KEPT_FAULTS: &[FieldFault] = &[
     }),
     fault("label twice on their side", |b| {
         put_word(b, 0, word(1_048_575, 3));
-        put_word(b, 119, word(1_048_575, 6));
+        put_last_word(b, 0, word(1_048_575, 6));
     }),
     fault("label asked back and releasing", |b| {
-        put_word(b, 118, word(16, 4));
-        put_word(b, 119, word(16, 5));
+        put_last_word(b, 1, word(16, 4));
+        put_last_word(b, 0, word(16, 5));
     }),
 ];
 
-/// Faults of a block 0 with kept 0.
+/// Faults of a block 0 of version 2, kept or not: where version 1 has its seconds there are zeros.
+pub const SECONDS_FAULTS: &[FieldFault] = &[
+    fault("byte 20", |b| b[20] = 1),
+    fault("byte 21", |b| b[21] = 5),
+    fault("bytes 20 and 21", |b| put(b, 20, &[255, 255])),
+];
+
+/// Faults of a block 0 of either version with kept 0.
 pub const IDLE_FAULTS: &[FieldFault] = &[
-    fault("version 0, kept 0", |b| put(b, 0, &[0, 0, 0, 0])),
+    fault("version 0, kept 0", |b| b[3] = 0),
+    fault("the other version, kept 0", |b| b[3] = 3 - b[3]),
     fault("released, kept 0", |b| b[7] = 1),
     fault("issued, kept 0", |b| b[11] = 1),
     fault("secured, kept 0", |b| b[12] = 1),
     fault("first slot, kept 0", |b| b[17] = 1),
     fault("held, kept 0", |b| b[19] = 1),
-    fault("timeout, kept 0", |b| b[21] = 5),
+    fault("timeout, kept 0", |b| {
+        let last = version(b).timeout_at().end - 1;
+        b[last] = 5;
+    }),
+    fault("timeout's first byte, kept 0", |b| {
+        let first = version(b).timeout_at().start;
+        b[first] = 1;
+    }),
     fault("kept 2, all else zero", |b| b[22] = 2),
     fault("KeepAlive time, kept 0", |b| b[24] = 1),
     fault("maximum PDU length, kept 0", |b| b[27] = 1),
     fault("first word, kept 0", |b| put_word(b, 0, word(16, 1))),
-    fault("last word, kept 0", |b| put_word(b, 119, word(16, 6))),
+    fault("last word, kept 0", |b| put_last_word(b, 0, word(16, 6))),
     fault("open Request, kept 0", |b| put_word(b, 60, REQUEST)),
     fault("byte 507, kept 0", |b| b[507] = 1),
 ];
@@ -187,13 +213,13 @@ pub const ZERO_FAULTS: &[FieldFault] = &[
     fault("a byte among those after the IDs", |b| b[493] = 7),
 ];
 
-/// Faults of the block of the Requests' IDs, where the first three and the last word are open Requests.
+/// Faults of the block of the Requests' IDs, where the first three and the 119th word are open Requests.
 pub const ID_FAULTS: &[FieldFault] = &[
-    fault("one ID twice", |b| b.copy_within(0..4, 476)),
+    fault("one ID twice", |b| b.copy_within(0..4, 472)),
     fault("one ID twice, side by side", |b| b.copy_within(4..8, 8)),
     fault("ID 0 twice", |b| {
         put(b, 0, &[0; 4]);
-        put(b, 476, &[0; 4]);
+        put(b, 472, &[0; 4]);
     }),
 ];
 
@@ -232,6 +258,7 @@ pub fn image(random: &mut Random, stored: &Stored) -> Vec<u8> {
         20 => apply(&mut image, REQUEST_BLOCK, &random.pick(ZERO_FAULTS)),
         21..=22 => repeat_id(random, stored, &mut image),
         23 => spoil_byte(random, &mut image, REQUEST_BLOCK),
+        24 => apply(&mut image, 0, &random.pick(SECONDS_FAULTS)),
         _ => {}
     }
     image
@@ -239,8 +266,13 @@ pub fn image(random: &mut Random, stored: &Stored) -> Vec<u8> {
 
 /// Gives one ID to two places, mostly those of open Requests.
 fn repeat_id(random: &mut Random, stored: &Stored, image: &mut [u8]) {
-    let open: Vec<usize> = (0..PLACES).filter(|place| stored.labels[*place] == REQUEST).collect();
-    let mut place = || if open.is_empty() || random.percent(20) { random.below(PLACES) } else { random.pick(&open) };
+    let open: Vec<usize> = (0..stored.labels.len()).filter(|place| stored.labels[*place] == REQUEST).collect();
+    let mut place = || match random.below(20) {
+        0 => ID_PLACES - 1,
+        1..=3 => random.below(ID_PLACES),
+        _ if open.is_empty() => random.below(ID_PLACES),
+        _ => random.pick(&open),
+    };
     let (from, to) = (4 * place(), 4 * place());
     image[REQUEST_BLOCK * BLOCK_SIZE..].copy_within(from..from + 4, to);
     seal(image, REQUEST_BLOCK);

@@ -17,7 +17,7 @@ pub fn message(random: &mut Random, mut message: Message) -> Vec<u8> {
         tlvs::FT_ACK,
         tlvs::REQUEST_ID,
     ];
-    match random.below(8) {
+    match random.below(9) {
         0 if !message.tlvs.is_empty() => {
             let again = message.tlvs[random.below(message.tlvs.len())].clone();
             message.tlvs.push(again);
@@ -34,6 +34,11 @@ pub fn message(random: &mut Random, mut message: Message) -> Vec<u8> {
         4 if !message.tlvs.is_empty() => {
             let at = random.below(message.tlvs.len());
             message.tlvs[at].1.pop();
+        }
+        5 => {
+            message.tlvs.retain(|(tlv_type, _)| tlv_type & 0x3FFF != tlvs::FT_SESSION);
+            let length = random.pick(&[0, 2, 3, 5, 6, 8, 8, 10, 11, 13, 16]);
+            message = message.tlv(tlvs::FT_SESSION, &random.bytes(length));
         }
         _ => return wrong_lengths(random, message.bytes()),
     }

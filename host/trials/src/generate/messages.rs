@@ -1,5 +1,6 @@
 //! Messages of every type, good and bad, about the labels and numbers of a given state.
 
+use super::inits::{ft_session, init};
 use super::{malformed, states};
 use crate::random::Random;
 use crate::stored::{steps_after, Queued, Stored, NO_LABEL};
@@ -32,7 +33,7 @@ const QUEUED: [u16; 9] = [
 /// Kind 6, with F clear and set; kind 9.
 const AVAILABLE: [u32; 2] = [RESOURCES_AVAILABLE, RESOURCES_AVAILABLE | 0x4000_0000];
 const NONE_LEFT: [u32; 2] = [NO_RESOURCES, NO_RESOURCES | 0x4000_0000];
-const STATUSES: [u32; 11] = [
+pub(super) const STATUSES: [u32; 11] = [
     AVAILABLE[0],
     AVAILABLE[0],
     AVAILABLE[1],
@@ -175,7 +176,7 @@ pub(super) fn shuffled(random: &mut Random, mut message: Message) -> Message {
     message
 }
 
-fn any_type(random: &mut Random) -> u16 {
+pub(super) fn any_type(random: &mut Random) -> u16 {
     match random.below(20) {
         0 => random.u16() & 0x7FFF,
         _ => random.pick(&TYPES),
@@ -197,7 +198,7 @@ pub fn submission(random: &mut Random, stored: &Stored) -> Vec<u8> {
 
 fn ft_tlv_at_random(random: &mut Random, message: Message) -> Message {
     match random.below(3) {
-        0 => message.ft_session(random.percent(50), 5),
+        0 => ft_session(random, message, 50),
         1 => message.protection(random.u32()),
         _ => message.ack(random.u32()),
     }
@@ -214,7 +215,7 @@ pub fn received(random: &mut Random, stored: &Stored) -> Vec<u8> {
         message = message.ack(ack(random, stored));
     }
     if random.percent(3) {
-        message = message.ft_session(random.percent(50), random.u16());
+        message = ft_session(random, message, 50);
     }
     if random.percent(10) {
         message = message.padded_to(random.between(8, 4000));
@@ -237,7 +238,7 @@ fn protection(random: &mut Random, stored: &Stored) -> u32 {
 }
 
 /// Numbers around those that the held messages bear.
-fn ack(random: &mut Random, stored: &Stored) -> u32 {
+pub(super) fn ack(random: &mut Random, stored: &Stored) -> u32 {
     match random.below(20) {
         0 => 0,
         1 => stored.released.wrapping_sub(1),
@@ -247,33 +248,6 @@ fn ack(random: &mut Random, stored: &Stored) -> u32 {
         7..=10 => stored.issued,
         _ => steps_after(stored.released, random.between(0, stored.queue.len()) as u64),
     }
-}
-
-/// An Init: with or without parameters, FT Session and FT ACK, resuming or not.
-pub fn init(random: &mut Random, stored: &Stored) -> Vec<u8> {
-    let mut message = Message::new(types::INITIALIZATION, random.u32());
-    if random.percent(95) {
-        let same = random.percent(85);
-        let time = if same { stored.keepalive_time } else { random.u16() };
-        let pdu = if same || random.percent(50) { stored.max_pdu_length } else { random.u16() };
-        message = message.parameters(time, pdu);
-    }
-    if random.percent(90) {
-        message = message.ft_session(random.percent(75), states::timeout(random));
-    }
-    if random.percent(85) {
-        message = message.ack(ack(random, stored));
-    }
-    if random.percent(5) {
-        message = message.protection(random.u32());
-    }
-    if random.percent(5) {
-        message = message.status(random.pick(&STATUSES));
-    }
-    if random.percent(4) {
-        message.message_type = any_type(random);
-    }
-    finished(random, message)
 }
 
 /// A message that may be anything at all, for the reader.
@@ -295,7 +269,7 @@ pub fn any(random: &mut Random, stored: &Stored) -> Vec<u8> {
 }
 
 /// Bits that are ignored, another order of TLVs, and faults, each at times.
-fn finished(random: &mut Random, mut message: Message) -> Vec<u8> {
+pub(super) fn finished(random: &mut Random, mut message: Message) -> Vec<u8> {
     if random.percent(15) {
         message = with_ignored_bits(random, message);
     }

@@ -2,6 +2,7 @@
 
 pub mod calls;
 pub mod damage;
+pub mod inits;
 pub mod malformed;
 pub mod messages;
 pub mod pairs;

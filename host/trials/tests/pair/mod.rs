@@ -1,5 +1,8 @@
 //! Two ends of one connection, whose calls are expected to do what they are told to.
 
+// Each test file is a program of its own and uses some of this.
+#![allow(dead_code)]
+
 use cabinet::{phase, Cabinet, Opening, Outcome, Session, IMAGE_SIZE};
 use trials::stored::Stored;
 use trials::wire::{protection_number, types, without_ft, Message};
@@ -9,18 +12,20 @@ pub struct End {
     pub cabinet: &'static dyn Cabinet,
     pub image: Vec<u8>,
     pub session: Session,
+    /// How it opens a connection.
+    pub opening: Opening,
     pub written: Vec<u8>,
 }
 
 impl End {
     pub fn new(cabinet: &'static dyn Cabinet, stored: &Stored, session: Session) -> Self {
-        End { cabinet, image: stored.image(0), session, written: Vec::new() }
+        End { cabinet, image: stored.image(0), session, opening: Opening::default(), written: Vec::new() }
     }
 
     pub fn fresh(cabinet: &'static dyn Cabinet) -> Self {
         let mut image = vec![0; IMAGE_SIZE];
         let session = cabinet.format(&mut image).session;
-        End { cabinet, image, session, written: Vec::new() }
+        End { cabinet, image, session, opening: Opening::default(), written: Vec::new() }
     }
 
     pub fn submit(&mut self, msg: &[u8], answer: u32) {
@@ -66,8 +71,8 @@ impl End {
     }
 
     fn init(&mut self) -> Vec<u8> {
-        let mut out = [0; 42];
-        let outcome = self.cabinet.open(&self.image, self.session, &Opening::default(), &mut out);
+        let mut out = [0; 50];
+        let outcome = self.cabinet.open(&self.image, self.session, &self.opening, &mut out);
         self.session = outcome.session;
         out[..outcome.length as usize].to_vec()
     }

@@ -141,9 +141,65 @@ pub enum Fault {
     NextIsAlwaysResumed,
     /// The next number zero is 20.
     NextZeroIsOutOfTurn,
+    /// The peer's seconds are taken for milliseconds.
+    SecondsAreMilliseconds,
+    /// Time passed counts seconds.
+    CountsElapsedInSeconds,
+    /// InitWait bears our proposal in seconds.
+    BearsSeconds,
+    /// InitWait with more than 65,535 is refused.
+    RefusesLongWait,
+    /// Our Init is in the draft's form, whatever is asked for.
+    WritesDraftForm,
+    /// Our Init in the published form has S clear.
+    LacksS,
+    /// Where no proposal is given the published form says 30.
+    ThirtyMilliseconds,
+    /// A proposal for which the draft's form has no room is cut to its low bits.
+    ProposalWraps,
+    /// FT Session of length 12 is passed over.
+    IgnoresPublishedForm,
+    /// FT Session of length 8 is taken.
+    TakesLength8,
+    /// Of the published flags S counts as R.
+    TakesSForR,
+    /// The recovery time is taken for the timeout.
+    TakesRecoveryTime,
+    /// Restore takes an image of version 1.
+    RestoresVersion1,
+    /// Bytes 20 and 21 may be anything.
+    SkipsBytes20,
+    /// The ID that has no word counts.
+    CountsDeadId,
+    /// There is a word at place 119.
+    ShowsWord119,
+    /// The last of 120 words is dropped on the way forward.
+    DropsLastWord,
+    /// Milliseconds are rounded to seconds on the way back.
+    RoundsSeconds,
+    /// Of too many seconds the low bits are kept on the way back.
+    WrapsSeconds,
+    /// The timeout's number is moved as it is.
+    KeepsUnit,
+    /// The seconds stay where they were on the way forward.
+    LeavesSeconds,
+    /// Too little room is told before an image that cannot be moved.
+    RoomBeforeMove,
+    /// An image that cannot be moved is told before its slots are looked at.
+    MovesBeforeSlots,
+    /// An image that has the version already is copied.
+    ConvertsOtherVersion,
+    /// Labels used without protection are freed on the way.
+    ConverterFreesUnprotected,
+    /// Too little room, and the converter writes all the same.
+    FillsShortOutput,
+    /// The converter writes block 0 and no other.
+    ConvertsBlock0Alone,
+    /// The converter does not say how much it wrote.
+    TellsNoLength,
 }
 
-pub const ALL: [Fault; 69] = [
+pub const ALL: [Fault; 97] = [
     Fault::FreesOnWithdraw,
     Fault::WrapsToZero,
     Fault::ZeroTimeoutIsNoWait,
@@ -213,4 +269,32 @@ pub const ALL: [Fault; 69] = [
     Fault::KeepsFlags,
     Fault::NextIsAlwaysResumed,
     Fault::NextZeroIsOutOfTurn,
+    Fault::SecondsAreMilliseconds,
+    Fault::CountsElapsedInSeconds,
+    Fault::BearsSeconds,
+    Fault::RefusesLongWait,
+    Fault::WritesDraftForm,
+    Fault::LacksS,
+    Fault::ThirtyMilliseconds,
+    Fault::ProposalWraps,
+    Fault::IgnoresPublishedForm,
+    Fault::TakesLength8,
+    Fault::TakesSForR,
+    Fault::TakesRecoveryTime,
+    Fault::RestoresVersion1,
+    Fault::SkipsBytes20,
+    Fault::CountsDeadId,
+    Fault::ShowsWord119,
+    Fault::DropsLastWord,
+    Fault::RoundsSeconds,
+    Fault::WrapsSeconds,
+    Fault::KeepsUnit,
+    Fault::LeavesSeconds,
+    Fault::RoomBeforeMove,
+    Fault::MovesBeforeSlots,
+    Fault::ConvertsOtherVersion,
+    Fault::ConverterFreesUnprotected,
+    Fault::FillsShortOutput,
+    Fault::ConvertsBlock0Alone,
+    Fault::TellsNoLength,
 ];

@@ -1,18 +1,20 @@
 //! Cabinets with one fault planted in each: the tests must find every one of them.
 
+mod convert;
 mod faults;
 mod left_out;
+mod published;
 mod reading;
 mod requests;
 
 pub use faults::{Fault, ALL};
 
 use cabinet::{
-    phase, Cabinet, Distance, Extended, Message, Next, Opening, Outcome, Part, Pdu, Request, Session, Summary, Words,
-    IMAGE_SIZE_WITHOUT_REQUESTS, REQUEST_BLOCK,
+    phase, Cabinet, Converted, Distance, Extended, Message, Next, Opening, Outcome, Part, Pdu, Request, Session,
+    Summary, Words, IMAGE_SIZE_WITHOUT_REQUESTS, REQUEST_BLOCK,
 };
 use model::Model;
-use trials::stored::{seal, steps_after, u32_at, word, Stored};
+use trials::stored::{seal, steps_after, u32_at, word, Stored, Version, PLACES};
 use trials::wire;
 
 /// The model with a fault.
@@ -24,15 +26,20 @@ fn put(image: &mut [u8], at: usize, bytes: &[u8]) {
     seal(image, 0);
 }
 
+/// Where a label word stands in block 0.
+fn word_at(place: usize) -> usize {
+    Version::Two.words_at() + 4 * place
+}
+
 /// Moves a word that a call added from the first free place to the last.
 fn move_added_word(before: &[u8], image: &mut [u8]) {
-    let free = |image: &[u8], place: usize| u32_at(image, 28 + 4 * place) == 0;
-    let added = (0..120).find(|place| free(before, *place) && !free(image, *place));
-    let last = (0..120).rev().find(|place| free(image, *place));
+    let free = |image: &[u8], place: usize| u32_at(image, word_at(place)) == 0;
+    let added = (0..PLACES).find(|place| free(before, *place) && !free(image, *place));
+    let last = (0..PLACES).rev().find(|place| free(image, *place));
     if let (Some(added), Some(last)) = (added, last) {
-        let word = u32_at(image, 28 + 4 * added);
-        put(image, 28 + 4 * added, &[0; 4]);
-        put(image, 28 + 4 * last, &word.to_be_bytes());
+        let word = u32_at(image, word_at(added));
+        put(image, word_at(added), &[0; 4]);
+        put(image, word_at(last), &word.to_be_bytes());
     }
 }
 
@@ -45,7 +52,7 @@ impl Planted {
             Fault::FreesOnWithdraw if image[slot + 2] == 2 => {
                 let withdrawn = word(u32_at(image, slot + 4), 2);
                 if let Some(place) = stored.labels.iter().position(|word| *word == withdrawn) {
-                    put(image, 28 + 4 * place, &[0; 4]);
+                    put(image, word_at(place), &[0; 4]);
                 }
             }
             Fault::NumbersAtQueueing => {
@@ -103,17 +110,23 @@ impl Cabinet for Planted {
     fn open(&self, image: &[u8], session: Session, opening: &Opening, out: &mut [u8]) -> Outcome {
         let unknown = self.0 == Fault::TakesUnknownPhase && session.phase > phase::FAILED;
         let session = if unknown { Session::default() } else { session };
-        let opening = Opening { on_demand: opening.on_demand && self.0 != Fault::NeverOnDemand, ..*opening };
-        let outcome = Model.open(image, session, &opening, out);
-        if self.0 == Fault::WritesWhenRefused && outcome.answer == 9 && !out.is_empty() {
-            out[0] = 2;
+        let opening = self.wrong_opening(opening);
+        let mut outcome = Model.open(image, session, &opening, out);
+        match self.0 {
+            Fault::WritesWhenRefused if outcome.answer == 9 && !out.is_empty() => out[0] = 2,
+            Fault::LacksS if outcome.answer == 0 && opening.published => out[31] = 0,
+            Fault::BearsSeconds if outcome.answer == 0 => outcome.session.value /= 1_000,
+            _ => {}
         }
         outcome
     }
 
     fn init_received(&self, image: &mut [u8], session: Session, msg: &[u8]) -> Outcome {
         let before = image.to_vec();
-        let mut outcome = Model.init_received(image, session, msg);
+        if self.0 == Fault::RefusesLongWait && session.value > 65_535 && session.phase == phase::INIT_WAIT {
+            return Outcome { answer: 1, session, ..Outcome::default() };
+        }
+        let mut outcome = Model.init_received(image, session, &self.session_read_wrongly(msg));
         let resumed = outcome.session.phase == phase::UP_FT && before[22] == 1;
         outcome.session = self.wrong_flags(session, outcome.session);
         match self.0 {
@@ -122,8 +135,8 @@ impl Cabinet for Planted {
                 let numbered = Model.distance(stored.released.max(1), stored.issued.max(1)).steps;
                 outcome.session.value = numbered as u32;
             }
-            Fault::KeepsOldTimeout if resumed => {
-                put(image, 20, &before[20..22]);
+            _ if outcome.session.phase == phase::UP_FT => {
+                self.wrong_agreement(&before, image, session, msg);
                 outcome.block0 = u32::from(image[..512] != before[..512]);
             }
             _ => {}
@@ -139,8 +152,10 @@ impl Cabinet for Planted {
     }
 
     fn time_passed(&self, image: &mut [u8], session: Session, elapsed: u32) -> Outcome {
+        let seconds = self.0 == Fault::CountsElapsedInSeconds;
+        let elapsed = if seconds { elapsed.saturating_mul(1_000) } else { elapsed };
         let mut outcome = Model.time_passed(image, session, elapsed);
-        if self.0 == Fault::ZeroTimeoutIsNoWait && outcome.answer == 0 && image[20..22] == [0, 0] {
+        if self.0 == Fault::ZeroTimeoutIsNoWait && outcome.answer == 0 && image[28..32] == [0; 4] {
             image[..512].copy_from_slice(&Stored::idle().image(0)[..512]);
             outcome = Outcome { block0: 1, ..Outcome::default() };
         }
@@ -217,7 +232,7 @@ impl Cabinet for Planted {
     }
 
     fn message_read(&self, msg: &[u8]) -> Message {
-        Model.message_read(msg)
+        Model.message_read(&self.session_read_wrongly(msg))
     }
 
     fn distance(&self, from: u32, to: u32) -> Distance {
@@ -253,7 +268,12 @@ impl Cabinet for Planted {
     }
 
     fn label(&self, image: &[u8], place: u32) -> u32 {
-        Model.label(image, place)
+        let one_more = self.0 == Fault::ShowsWord119 && place == 119 && Model.label(image, 0) != u32::MAX;
+        if one_more {
+            0
+        } else {
+            Model.label(image, place)
+        }
     }
 
     fn request_at(&self, image: &[u8], place: u32) -> Request {
@@ -279,5 +299,13 @@ impl Cabinet for Planted {
     fn extend(&self, image: &mut [u8], stored_len: usize) -> Extended {
         let any = self.0 == Fault::ExtendsAnySize && stored_len.is_multiple_of(512);
         Model.extend(image, if any { IMAGE_SIZE_WITHOUT_REQUESTS } else { stored_len })
+    }
+
+    fn convert_forward(&self, image: &[u8], out: &mut [u8]) -> Converted {
+        self.wrong_move(Version::One, image, out)
+    }
+
+    fn convert_back(&self, image: &[u8], out: &mut [u8]) -> Converted {
+        self.wrong_move(Version::Two, image, out)
     }
 }

@@ -1,6 +1,6 @@
 //! What is done wrong where an image is judged, and where it is only read.
 
-use super::{requests, Fault, Planted};
+use super::{published, requests, word_at, Fault, Planted};
 use cabinet::{Cabinet, Outcome, Part, Summary, Words, BLOCK_SIZE, IMAGE_SIZE, PLACES, REQUEST_BLOCK, SLOTS};
 use model::Model;
 use trials::stored::{check, seal, u16_at, u32_at, Stored, REQUEST};
@@ -12,7 +12,7 @@ fn is_bad(image: &[u8], block: usize) -> bool {
 
 /// The words that are not free, of an image that may be unsound.
 fn used(image: &[u8]) -> u32 {
-    (0..PLACES).filter(|place| u32_at(image, 28 + 4 * place) != 0).count() as u32
+    (0..PLACES).filter(|place| u32_at(image, word_at(*place)) != 0).count() as u32
 }
 
 impl Planted {
@@ -44,6 +44,12 @@ impl Planted {
             Fault::CountsAllIds if outcome.answer == 0 && requests::repeats_id(image) => {
                 outcome = Outcome { answer: 11, block: REQUEST_BLOCK as u32, ..Outcome::default() };
             }
+            Fault::CountsDeadId if outcome.answer == 0 && published::repeats_dead_id(image) => {
+                outcome = Outcome { answer: 11, block: REQUEST_BLOCK as u32, ..Outcome::default() };
+            }
+            Fault::RestoresVersion1 | Fault::SkipsBytes20 if outcome.answer == 11 && outcome.block == 0 => {
+                self.take_block0(image, &mut outcome);
+            }
             _ if outcome.block as usize == REQUEST_BLOCK => self.wrong_refusal(image, &mut outcome),
             _ => {}
         }
@@ -69,7 +75,7 @@ impl Planted {
         let mut result = Model.labels(image, words);
         match self.0 {
             Fault::CountsWhenRefused if result.answer != 0 && image.len() == IMAGE_SIZE => result.count = used(image),
-            Fault::FillsShortWords if result.answer == 9 && room > 0 => words[0] = u32_at(image, 28),
+            Fault::FillsShortWords if result.answer == 9 && room > 0 => words[0] = u32_at(image, word_at(0)),
             Fault::WritesPastWords if result.answer == 0 && room > PLACES => words[PLACES] = 0,
             Fault::AsksRoomFirst if room < PLACES => result = Words { answer: 9, block: 0, count: 0 },
             _ => {}

@@ -1,22 +1,22 @@
 //! What the faults about Requests do wrong, each after the model has made its call rightly.
 
-use super::{put, Fault, Planted};
+use super::{put, word_at, Fault, Planted};
 use cabinet::{further, phase, Cabinet, Outcome, Session, BLOCK_SIZE, REQUEST_BLOCK};
 use model::Model;
 use trials::stored::{seal, u32_at, Stored, PLACES, REQUEST};
 use trials::wire::{self, types};
 
-fn word_at(image: &[u8], place: usize) -> u32 {
-    u32_at(image, 28 + 4 * place)
+fn word(image: &[u8], place: usize) -> u32 {
+    u32_at(image, word_at(place))
 }
 
 fn set_word(image: &mut [u8], place: usize, word: u32) {
-    put(image, 28 + 4 * place, &word.to_be_bytes());
+    put(image, word_at(place), &word.to_be_bytes());
 }
 
 /// The place of a Request that was open before a call and is not after it.
 fn ended(before: &[u8], image: &[u8]) -> Option<usize> {
-    (0..PLACES).find(|place| word_at(before, *place) == REQUEST && word_at(image, *place) != REQUEST)
+    (0..PLACES).find(|place| word(before, *place) == REQUEST && word(image, *place) != REQUEST)
 }
 
 /// Frees the words of Requests with the IDs given.
@@ -80,10 +80,10 @@ impl Planted {
         match self.0 {
             Fault::WipesIds => wipe_id(before, image, outcome),
             Fault::TakesFirstFreeForAnswer => {
-                let taken = ended(before, image).filter(|place| word_at(image, *place) != 0);
-                let free = (0..PLACES).find(|place| word_at(image, *place) == 0);
+                let taken = ended(before, image).filter(|place| word(image, *place) != 0);
+                let free = (0..PLACES).find(|place| word(image, *place) == 0);
                 if let (Some(taken), Some(free)) = (taken, free.filter(|free| Some(*free) < taken)) {
-                    let word = word_at(image, taken);
+                    let word = word(image, taken);
                     set_word(image, taken, 0);
                     set_word(image, free, word);
                 }

@@ -14,8 +14,7 @@ whole-summary-spec =
     (λ c. search needs)
     (λ c. search needs)
     (λ c. search needs)
-    (λ c. search needs)
+    (λ c. omega (arith, c .struct-known5))
     (λ c. omega (arith, c .struct-known6))
-    (λ c. omega (arith, c .struct-known7))
     (λ c. refl) in
     tie.close answers

@@ -42,5 +42,6 @@ whole-message-spec =
     (λ c κs. search needs)
     (λ c κs. λ h. omega (arith, c .before .before .before .before .before .before .before .before .before .before .before .before .before .before .before .before .before .before .before .before .before .before .before .before .before .before .before .pre .0 .status h))
     (λ c κs. search needs)
-    (λ c. simp (c .id-number2 .ensures, c .before .id-at2 .ensures, c .before .before .id-number .ensures, c .before .before .before .maxpdu-of .ensures, c .before .before .before .before .keepalive-of .ensures, c .before .before .before .before .before .seconds-of .ensures, c .before .before .before .before .before .before .reconnect-of .ensures, c .before .before .before .before .before .before .before .ft-number2 .ensures, c .before .before .before .before .before .before .before .before .number-at2 .ensures, c .before .before .before .before .before .before .before .before .before .ft-number .ensures, c .before .before .before .before .before .before .before .before .before .before .number-at .ensures, c .before .before .before .before .before .before .before .before .before .before .before .field-number2 .ensures, c .before .before .before .before .before .before .before .before .before .before .before .before .field-at3 .ensures, c .before .before .before .before .before .before .before .before .before .before .before .before .before .field-number .ensures, c .before .before .before .before .before .before .before .before .before .before .before .before .before .before .field-at2 .ensures, c .before .before .before .before .before .before .before .before .before .before .before .before .before .before .before .before .before .kind-number .ensures, c .before .before .before .before .before .before .before .before .before .before .before .before .before .before .before .before .before .before .parameters-at .ensures, c .before .before .before .before .before .before .before .before .before .before .before .before .before .before .before .before .before .before .before .session-at .ensures, c .before .before .before .before .before .before .before .before .before .before .before .before .before .before .before .before .before .before .before .before .part-at .ensures, c .before .before .before .before .before .before .before .before .before .before .before .before .before .before .before .before .before .before .before .before .before .kind-for .ensures, c .before .before .before .before .before .before .before .before .before .before .before .before .before .before .before .before .before .before .before .before .before .before .field-at .ensures, c .before .before .before .before .before .before .before .before .before .before .before .before .before .before .before .before .before .before .before .before .before .before .before .type-of .ensures, c .before .before .before .before .before .before .before .before .before .before .before .before .before .before .before .before .before .before .before .before .before .before .before .before .id-at .ensures, c .before .before .before .before .before .before .before .before .before .before .before .before .before .before .before .before .before .before .before .before .before .before .before .before .before .id-in .ensures, c .before .before .before .before .before .before .before .before .before .before .before .before .before .before .before .before .before .before .before .before .before .before .before .before .before .before .number-in .ensures, c .before .before .before .before .before .before .before .before .before .before .before .before .before .before .before .before .before .before .before .before .before .before .before .before .before .before .before .has-of .ensures)) in
+    (λ c κs. search needs)
+    (λ c. simp (c .published-of .ensures, c .before .id-number2 .ensures, c .before .before .id-at2 .ensures, c .before .before .before .id-number .ensures, c .before .before .before .before .maxpdu-of .ensures, c .before .before .before .before .before .keepalive-of .ensures, c .before .before .before .before .before .before .timeout-of .ensures, c .before .before .before .before .before .before .before .reconnect-of .ensures, c .before .before .before .before .before .before .before .before .ft-number2 .ensures, c .before .before .before .before .before .before .before .before .before .number-at2 .ensures, c .before .before .before .before .before .before .before .before .before .before .ft-number .ensures, c .before .before .before .before .before .before .before .before .before .before .before .number-at .ensures, c .before .before .before .before .before .before .before .before .before .before .before .before .field-number2 .ensures, c .before .before .before .before .before .before .before .before .before .before .before .before .before .field-at3 .ensures, c .before .before .before .before .before .before .before .before .before .before .before .before .before .before .field-number .ensures, c .before .before .before .before .before .before .before .before .before .before .before .before .before .before .before .field-at2 .ensures, c .before .before .before .before .before .before .before .before .before .before .before .before .before .before .before .before .before .before .kind-number .ensures, c .before .before .before .before .before .before .before .before .before .before .before .before .before .before .before .before .before .before .before .parameters-at .ensures, c .before .before .before .before .before .before .before .before .before .before .before .before .before .before .before .before .before .before .before .before .session-at .ensures, c .before .before .before .before .before .before .before .before .before .before .before .before .before .before .before .before .before .before .before .before .before .part-at .ensures, c .before .before .before .before .before .before .before .before .before .before .before .before .before .before .before .before .before .before .before .before .before .before .kind-for .ensures, c .before .before .before .before .before .before .before .before .before .before .before .before .before .before .before .before .before .before .before .before .before .before .before .field-at .ensures, c .before .before .before .before .before .before .before .before .before .before .before .before .before .before .before .before .before .before .before .before .before .before .before .before .type-of .ensures, c .before .before .before .before .before .before .before .before .before .before .before .before .before .before .before .before .before .before .before .before .before .before .before .before .before .id-at .ensures, c .before .before .before .before .before .before .before .before .before .before .before .before .before .before .before .before .before .before .before .before .before .before .before .before .before .before .id-in .ensures, c .before .before .before .before .before .before .before .before .before .before .before .before .before .before .before .before .before .before .before .before .before .before .before .before .before .before .before .number-in .ensures, c .before .before .before .before .before .before .before .before .before .before .before .before .before .before .before .before .before .before .before .before .before .before .before .before .before .before .before .before .has-of .ensures)) in
     tie.close answers

@@ -10,9 +10,8 @@ pub phase-given-spec : {M : Type 1} → statement M
 unfolding givenOf
 phase-given-spec =
     let answers = tie.spec
-    (λ c κs. search needs)
     (λ c. rw (c .match .keys1))
-    (λ c. rw (c .before .match .keys2) (c .awaiting .ensures))
+    (λ c. rw (c .match .keys2))
     (λ c. rw (c .before .match .keys3))
     (λ c. rw (c .match .keys4))
     (λ c. rw (c .match .keys5))

@@ -10,12 +10,13 @@ ldp-ft-open-spec =
     let answers = tie.spec
     (λ c κs. search needs)
     (λ c κs. search needs)
+    (λ c κs. search needs)
     (λ c. search needs)
     (λ c κs. search needs)
     (λ c κs. narrow-is (c .before .before .open-session .ensures) (open-narrow _ _ _ _ _ _))
     (λ c. search needs)
     (λ c κs. search needs)
     (λ c. search needs)
-    (λ c. called-known _ _ _ _ (c .before .before .before .before .before .before .before .before .phase-given .ensures) (c .before .before .before .before .before .before .phase .given .1) (rw (c .before .before .before .before .before .before .before .before .before .proposal-of .ensures) at (c .before .before .before .open-session .ensures)) (c .outcome-numbers .ensures))
+    (λ c. called-known _ _ _ _ (c .before .before .before .before .before .before .before .before .phase-given .ensures) (c .before .before .before .before .before .before .phase .given .1) (rw (c .before .before .before .before .before .before .before .before .before .proposal-of .ensures, c .before .before .before .before .before .before .before .before .before .before .form-of .ensures) at (c .before .before .before .open-session .ensures)) (c .outcome-numbers .ensures))
     (λ c. called-unknown _ _ _ _ (c .before .before .before .phase-given .ensures) (c .before .enum-told .given .1) (c .refuse-unknown .ensures)) in
     tie.close answers

@@ -1,4 +1,5 @@
 use borrow.Author.Needs.{needs}
+use borrow.Author.Tests.{eq-eqb, ne-eqb}
 use Rattle.tlv.proofs.walk.length_fits.Statement.{statement}
 use Rattle.tlv.proofs.walk.length_fits.Tie as tie
 
@@ -11,7 +12,8 @@ length-fits-spec =
     (λ c. rw (c .enum-told2 .given .1))
     (λ c. rw (c .enum-told3 .given .1))
     (λ c. rw (c .enum-told4 .given .1))
-    (λ c. rw (c .enum-told5 .given .1))
+    (λ c. simp (c .before .enum-told5 .given .1, eq-eqb _ _ (c .if1 .taken)))
+    (λ c. simp (c .before .enum-told5 .given .1, ne-eqb _ _ (c .if1 .left)))
     (λ c. rw (c .enum-told6 .given .1))
     (λ c. rw (c .enum-told7 .given .1))
     (λ c. rw (c .enum-told8 .given .1))

@@ -1,13 +1,13 @@
 //! What is measured: every call at 0, 8 and 64 held, short messages and long ones, label list empty and nearly full.
 
-use cabinet::{phase, Opening, Session, PLACES};
+use cabinet::{phase, Opening, Session, IMAGE_SIZE, PLACES};
 use trials::calls::Call;
 use trials::coverage::ANSWERS;
-use trials::stored::{word, Queued, Stored, NO_LABEL, REQUEST};
+use trials::stored::{word, Queued, Stored, Version, NO_LABEL, REQUEST};
 use trials::wire::{self, prefix, types, Message};
 
 const LONG: usize = 480;
-const NEARLY_FULL: usize = 119;
+const NEARLY_FULL: usize = 118;
 const OPEN: usize = 100;
 
 /// One row of the table.
@@ -47,7 +47,7 @@ impl Fill {
         } else if self.listed == 0 {
             "empty"
         } else {
-            "119 of 120"
+            "118 of 119"
         }
     }
 
@@ -62,7 +62,7 @@ impl Fill {
             issued: 100 + self.held as u32,
             secured: 50,
             first: 40,
-            timeout: 5,
+            timeout: 5_000,
             kept: true,
             keepalive_time: 30,
             max_pdu_length: 4096,
@@ -117,9 +117,18 @@ fn order(call: &Call) -> usize {
 }
 
 fn case(fill: Fill, about: &'static str, call: Call) -> Case {
-    let must_read = 512 * (2 + fill.held) + call.input().len();
+    let must_read = match call {
+        Call::ConvertForward { .. } | Call::ConvertBack { .. } => IMAGE_SIZE,
+        _ => 512 * (2 + fill.held) + call.input().len(),
+    };
     let image = fill.stored().image(0);
     Case { call, image, held: Some(fill.held), messages: fill.messages(), labels: fill.labels(), about, must_read }
+}
+
+/// The same case with its image in version 1.
+fn earlier(case: Case) -> Case {
+    let stored = Stored::read(&case.image).moved(Version::One);
+    Case { image: stored.map_or(Vec::new(), |stored| stored.image(0)), ..case }
 }
 
 /// Calls that are given no message.
@@ -128,22 +137,27 @@ fn without_message(fill: Fill) -> Vec<Case> {
     let all = 100 + fill.held as u32;
     let newest = fill.held.saturating_sub(1) as u32;
     let init = |ack| Message::new(types::INITIALIZATION, 1).parameters(30, 4096).ft_session(true, 5).ack(ack).bytes();
-    let wait = Session::new(phase::INIT_WAIT, 5);
+    let wait = Session::new(phase::INIT_WAIT, 5_000);
     let opening =
         Opening { message_id: 1, keepalive_time: 30, max_pdu_length: 4096, proposal: Some(5), ..Opening::default() };
+    let published = Opening { proposal: Some(5_000), published: true, ..opening };
+    let down = Session::new(phase::FAILED, 0);
     let keepalive = Message::new(types::KEEPALIVE, 1).ack(all).bytes();
     let mut cases = vec![
         case(fill, "", Call::Restore),
-        case(fill, "", Call::Open { session: Session::new(phase::FAILED, 0), opening, room: 64 }),
+        case(fill, "", Call::Open { session: down, opening, room: 64 }),
+        case(fill, "published form", Call::Open { session: down, opening: published, room: 64 }),
         case(fill, "resumes, releases none", Call::InitReceived { session: wait, msg: init(100) }),
         case(fill, "", Call::ConnectionFailed { session: up }),
-        case(fill, "too early", Call::TimePassed { session: Session::new(phase::FAILED, 0), elapsed: 4 }),
+        case(fill, "too early", Call::TimePassed { session: down, elapsed: 4_999 }),
         case(fill, "", Call::Keepalive { session: up, message_id: 1, room: 16 }),
         case(fill, "KeepAlive, ACK of all", Call::Receive { session: up, msg: keepalive }),
         case(fill, "", Call::Label { place: 60 }),
         case(fill, "", Call::Summarize),
         case(fill, "", Call::Labels { room: PLACES }),
         case(fill, if fill.held == 0 { "none held" } else { "the newest" }, Call::Held { place: newest }),
+        case(fill, "", Call::ConvertBack { room: IMAGE_SIZE }),
+        earlier(case(fill, "", Call::ConvertForward { room: IMAGE_SIZE })),
     ];
     if fill.held > 0 {
         cases.push(case(fill, "sent before", Call::SendNext { session: up, ack: true, room: 500 }));

@@ -1,7 +1,8 @@
 //! A model behind a C boundary like the library's, so that both pay for crossing it.
 
 use cabinet::{
-    Cabinet, Distance, Extended, Message, Next, Opening, Outcome, Part, Pdu, Request, Session, Summary, Words,
+    Cabinet, Converted, Distance, Extended, Message, Next, Opening, Outcome, Part, Pdu, Request, Session, Summary,
+    Words,
 };
 use ldp_ft::abi::*;
 
@@ -55,4 +56,6 @@ exported! {
     labels(image: &[u8], words: &mut [u32]) -> ldp_ft_words => Words;
     held(image: &[u8], place: u32) -> ldp_ft_part => Part;
     extend(image: &mut [u8], stored_len: usize) -> ldp_ft_extended => Extended;
+    convert_forward(image: &[u8], out: &mut [u8]) -> ldp_ft_converted => Converted;
+    convert_back(image: &[u8], out: &mut [u8]) -> ldp_ft_converted => Converted;
 }

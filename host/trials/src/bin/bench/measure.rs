@@ -1,7 +1,7 @@
 //! Timing: the subjects take turns within each round; a round's ratio is of times measured next to each other.
 
 use crate::cases::Case;
-use cabinet::{Cabinet, PLACES, REQUEST_BLOCK};
+use cabinet::{Cabinet, IMAGE_SIZE, PLACES, REQUEST_BLOCK};
 use std::hint::black_box;
 use std::time::{Duration, Instant};
 use trials::calls::{invoke, Lent, Returned};
@@ -11,7 +11,8 @@ const BATCH: usize = 16;
 /// About how long one subject is measured within a round.
 const TURN: Duration = Duration::from_micros(150);
 const MOST_BATCHES: u32 = 1_000;
-const ROOM: usize = 500;
+/// Enough for every call: the converter writes a whole image.
+const ROOM: usize = IMAGE_SIZE;
 
 /// Nanoseconds per call: of the library and both models, and the library's ratio to each model.
 pub struct Timing {

@@ -1,0 +1,5 @@
+pub mod Kept
+pub mod Answers
+pub mod Moved
+pub mod Converted
+pub mod Upgraded

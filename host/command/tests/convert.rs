@@ -1,0 +1,155 @@
+//! `ldp-ft convert`: images written in another version, refused ones, and files that must not be lost.
+
+mod tool;
+
+use cabinet::IMAGE_SIZE;
+use std::fs;
+use std::path::PathBuf;
+use std::process::Output;
+use support::store::Directory;
+use tool::{run_on, stderr, stdout, tool};
+use trials::crafted::two_held;
+use trials::stored::{word, Stored, Version};
+
+/// A folder with an image in a file, and the name of another file in it.
+struct Place {
+    _directory: Directory,
+    from: PathBuf,
+    to: PathBuf,
+}
+
+impl Place {
+    fn with(image: &[u8]) -> Self {
+        let directory = Directory::create("test-convert").unwrap();
+        let (from, to) = (directory.file("from.img"), directory.file("to.img"));
+        fs::write(&from, image).unwrap();
+        Place { _directory: directory, from, to }
+    }
+
+    fn convert(&self, way: &str, options: &[&str]) -> Output {
+        tool(&["convert", way]).args(options).arg(&self.from).arg(&self.to).output().unwrap()
+    }
+}
+
+fn earlier() -> Stored {
+    two_held().moved(Version::One).unwrap()
+}
+
+/// What is printed where all went well.
+fn done(output: &Output) -> String {
+    assert_eq!((output.status.code(), stderr(output).as_str()), (Some(0), ""));
+    stdout(output)
+}
+
+#[test]
+fn forward_and_back() {
+    let place = Place::with(&earlier().image(0xD1));
+    assert_eq!(done(&place.convert("forward", &[])), "version 1 converted to version 2\n");
+    assert_eq!(fs::read(&place.to).unwrap(), two_held().image(0xD1));
+    assert_eq!(fs::read(&place.from).unwrap(), earlier().image(0xD1), "the image given stays");
+    let place = Place::with(&two_held().image(0xD1));
+    assert_eq!(done(&place.convert("back", &[])), "version 2 converted to version 1\n");
+    assert_eq!(fs::read(&place.to).unwrap(), earlier().image(0xD1));
+}
+
+/// An image of the first release has 65 blocks.
+#[test]
+fn an_image_of_the_base_is_extended() {
+    let place = Place::with(&earlier().image(0xD1)[..33_280]);
+    let told = "version 1, which had 33280 bytes and was extended, converted to version 2\n";
+    assert_eq!(done(&place.convert("forward", &[])), told);
+    assert_eq!(fs::read(&place.to).unwrap(), two_held().image(0xD1));
+    let shown = run_on(&["image", "-"], &fs::read(&place.to).unwrap());
+    assert!(done(&shown).contains("state is kept over a break for 5 seconds"));
+}
+
+/// A refusal in a line, and nothing is written.
+fn refusal(way: &str, image: &[u8]) -> String {
+    let place = Place::with(image);
+    let output = place.convert(way, &[]);
+    assert_eq!((output.status.code(), stderr(&output).as_str()), (Some(1), ""));
+    assert!(!place.to.exists());
+    assert_eq!(fs::read(&place.from).unwrap(), image);
+    stdout(&output)
+}
+
+#[test]
+fn refusals_in_words() {
+    let mut full = earlier();
+    full.labels[119] = word(700, 3);
+    assert_eq!(
+        refusal("forward", &full.image(0)),
+        "refused 16 block 0: the last of its 120 label words is in use, and version 2 has 119\n"
+    );
+    for timeout in [5_250, 65_536_000] {
+        assert_eq!(
+            refusal("back", &Stored { timeout, ..two_held() }.image(0)),
+            "refused 16 block 0: its timeout is not whole seconds up to 65,535, and version 1 has no other\n"
+        );
+    }
+    assert_eq!(refusal("forward", &two_held().image(0)), "refused 11 block 0: it has version 2 already\n");
+    assert_eq!(refusal("back", &earlier().image(0)), "refused 11 block 0: it has version 1 already\n");
+    let mut unknown = Stored::idle().image(0);
+    unknown[3] = 9;
+    trials::stored::seal(&mut unknown, 0);
+    assert_eq!(refusal("back", &unknown), "refused 11 block 0: it has no version that is known\n");
+    let mut spoilt = earlier().image(0);
+    spoilt[64 * 512 + 20] ^= 1;
+    assert!(
+        refusal("forward", &spoilt).starts_with("refused 10 block 64: the check of block 64 (a message held) is wrong")
+    );
+    assert_eq!(refusal("forward", b"abc"), "refused 12 block 0: it has 3 bytes, and an image has 33792\n");
+    assert!(refusal("forward", &[0; IMAGE_SIZE + 1]).starts_with("refused 12 block 0: it has more than"));
+    assert!(refusal("back", &[0; 33_280]).starts_with("refused 12 block 0: "), "only version 1 had so few");
+}
+
+/// A file that is there is not lost by mistake; where it is meant, it is replaced, also the one that was read.
+#[test]
+fn a_file_that_is_there() {
+    let place = Place::with(&earlier().image(0));
+    fs::write(&place.to, b"dear").unwrap();
+    let output = place.convert("forward", &[]);
+    assert_eq!((output.status.code(), stdout(&output).as_str()), (Some(2), ""));
+    assert!(stderr(&output).contains("is there already; --overwrite replaces it"), "{}", stderr(&output));
+    assert_eq!(fs::read(&place.to).unwrap(), b"dear");
+    done(&place.convert("forward", &["--overwrite"]));
+    assert_eq!(fs::read(&place.to).unwrap(), two_held().image(0));
+    let itself = Place { to: place.from.clone(), ..place };
+    assert_eq!(itself.convert("forward", &[]).status.code(), Some(2));
+    done(&itself.convert("forward", &["--overwrite"]));
+    assert_eq!(fs::read(&itself.from).unwrap(), two_held().image(0));
+    let output = itself.convert("forward", &["--overwrite"]);
+    assert_eq!((output.status.code(), fs::read(&itself.from).unwrap()), (Some(1), two_held().image(0)));
+}
+
+/// A device or a folder is not replaced, whatever is asked for; of a link the file that it leads to is.
+#[test]
+fn what_is_no_file_is_not_replaced() {
+    let place = Place::with(&earlier().image(0));
+    for there in [PathBuf::from("/dev/null"), place.to.parent().unwrap().to_path_buf()] {
+        for options in [&[][..], &["--overwrite"]] {
+            let place = Place { to: there.clone(), ..Place::with(&earlier().image(0)) };
+            let output = place.convert("forward", options);
+            assert_eq!((output.status.code(), stdout(&output).as_str()), (Some(2), ""), "{there:?}");
+            assert!(!there.is_file());
+        }
+    }
+    fs::write(&place.to, b"dear").unwrap();
+    let link = place.to.with_extension("link");
+    std::os::unix::fs::symlink(&place.to, &link).unwrap();
+    let linked = Place { to: link.clone(), from: place.from.clone(), ..Place::with(b"") };
+    done(&linked.convert("forward", &["--overwrite"]));
+    assert!(link.is_symlink() && fs::read(&place.to).unwrap() == two_held().image(0));
+}
+
+#[test]
+fn standard_input_and_files_that_are_not_there() {
+    let place = Place::with(b"");
+    let to = place.to.to_str().unwrap();
+    done(&run_on(&["convert", "back", "-", to], &two_held().image(0)));
+    assert_eq!(fs::read(&place.to).unwrap(), earlier().image(0));
+    let output = run_on(&["convert", "back", "/no/such/file", to], b"");
+    assert_eq!((output.status.code(), stdout(&output).as_str()), (Some(2), ""));
+    let output = run_on(&["convert", "back", "-", "/no/such/folder/file"], &two_held().image(0));
+    assert_eq!((output.status.code(), stdout(&output).as_str()), (Some(2), ""));
+}
