@@ -15,8 +15,10 @@ from refusals import HEADING, ROOT  # noqa: E402
 PAGE = ROOT / "docs" / "STRENGTH.md"
 # what an owner or a reader of captures builds on: at least two wrong answers are tried on each public function of these
 TWICE = {"ft_number", "pdu", "message", "label_list", "image", "connect", "init", "submit", "send", "timers", "receive", "ldp_ft"}
-# the calls of the C boundary share their helpers: there only a call's own count, and those of helpers that no other call reaches
-OWN = {"ldp_ft"}
+# the functions of the C boundary: each is a call of one of a crate below, whose promise and wrong answers are its own too
+BOUNDARY = "ldp_ft"
+# they share helpers: there only a function's own wrong answers count, and those of helpers that no other public function reaches
+OWN = {"message_numbers", "image_numbers", "call_numbers", BOUNDARY}
 HEAD = """# Strength of the promises
 
 Made by `tools/strength.py` from the sources and the must-fail edits; the gate checks that it is up to date. What an owner can trust is in
@@ -143,7 +145,21 @@ def counted(function, here, answers):
 
 def cell(answers, own):
     said = [f"`{label}`{'' if name == own else f' ({name})'}: {words}" for label, name, words in answers]
-    return "; ".join(said).replace("|", "\\|") or "none"
+    return "; ".join(said).replace("|", "\\|")
+
+
+def called_below(function):
+    """The function of a crate below that is all of the body of a function of the boundary; None where it does more."""
+    body = function.text[function.text.find("\n{") :]
+    only = re.fullmatch(r"\n\{\s*(\w+)::(\w+)\([^()]*\)\s*\}\s*(?:#\[no_mangle\]\s*)?", body)
+    return functions(ROOT / "crates" / only[1])[only[2]] if only and function.crate.name == BOUNDARY else None
+
+
+def counted_below(function):
+    """How many wrong answers count that are tried on a function, in its own crate."""
+    here = functions(function.crate)
+    own = here[function.name]
+    return len(counted(own, here, tried_on(own, here, wrong_answers(function.crate), False)))
 
 
 def callers(function, sources):
@@ -174,12 +190,14 @@ def function_table(here, tried, sources, faults):
     for function in public:
         answers = tried_on(function, here, tried, len(public) == 1)
         shown.update(answers)
-        name, crate = function.name, function.crate.name
-        count = len(counted(function, here, answers))
+        name, crate, below = function.name, function.crate.name, called_below(function)
+        count = len(counted(function, here, answers)) + (counted_below(below) if below else 0)
         if crate in TWICE and count < 2:
             faults.append(f"{crate}::{name}: {count} wrong answers tried, two wanted")
         stated = ", ".join(function.cites) or "-"
-        rows.append(f"| `{name}` | {function.promise} | {needs(function, sources)} | {stated} | {function.proof()} | {cell(answers, name)} |")
+        promise = f"`{below.crate.name}::{below.name}`" if below else function.promise
+        told = "; ".join(filter(None, [cell(answers, name), f"those of {promise}" if below else ""])) or "none"
+        rows.append(f"| `{name}` | {promise} | {needs(function, sources)} | {stated} | {function.proof()} | {told} |")
     head = ["| function | promise | requires | stated | proved | wrong answers tried |", "|---|---|---|---|---|---|"]
     return [*head, *rows, ""] if rows else [], shown
 

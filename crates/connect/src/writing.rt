@@ -109,11 +109,7 @@ pub fn open_session(
     let millis = ft_number::milliseconds(timeout);
     let ack = kept_ack(image::header_of(image));
     let written = message_writer::write_init(out, id, parameters, timeout, ack);
-    answer_written(
-        written,
-        phase,
-        Phase::InitWait(Waiting { timeout: millis }),
-    )
+    answer_written(written, phase, Phase::InitWait(Waiting { timeout: millis }))
 }
 
 // Writes a KeepAlive.

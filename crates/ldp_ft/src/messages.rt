@@ -1,76 +1,64 @@
-// PDUs and messages, read.
-ghost use Prim.Native.Nat.{_≤_};
+// PDUs, messages, FT numbers and timeouts.
 ghost use mathlib.Core.Path.{_≡_};
+ghost use Rattle.ft_number.specs.Circle.{next};
+ghost use Rattle.ft_number.specs.Distance.{distanceOf};
+ghost use Rattle.ft_number.specs.Timeout.{lesserOf};
+ghost use Rattle.ft_number.specs.Turn.{numberTurn};
 ghost use Rattle.pdu.specs.Pdu.{messagePlace, openedOf};
 ghost use Rattle.message.specs.Reading.{readingOf};
-ghost use Rattle.ldp_ft.specs.Reading.{pduNumbers, partOf, partNumbers, messageNumbers};
-use crate::MessageNumbers;
-use crate::PartNumbers;
-use crate::PduNumbers;
-use crate::message_numbers::no_message;
-use crate::message_numbers::whole_message;
-use pdu::Opened;
-use pdu::Place;
-use tlv::walk::Walk;
+ghost use Rattle.message_numbers.specs.Numbers.{distanceNumbers, nextNumbers};
+ghost use Rattle.message_numbers.specs.Reading.{pduNumbers, partNumbers, messageNumbers};
+use message_numbers::DistanceNumbers;
+use message_numbers::MessageNumbers;
+use message_numbers::NextNumbers;
+use message_numbers::PartNumbers;
+use message_numbers::PduNumbers;
 
-// A whole PDU, judged: 0 and the count of its messages, or 4 and 0.
 #[no_mangle]
 pub extern "C" fn ldp_ft_pdu_open(pdu: &[u8]) -> PduNumbers
     ensures { λ r. ⌜ r ≡ pduNumbers (openedOf (now (pdu .entry))) ⌝ }
 {
-    match pdu::open_pdu(pdu) {
-        Opened::Whole(count) => PduNumbers {
-            answer: 0,
-            count: count,
-        },
-        Opened::Malformed => PduNumbers {
-            answer: 4,
-            count: 0,
-        },
-    }
+    message_numbers::pdu_open(pdu)
 }
 
-// A place that 32 bits can name.
-fn part_numbers(start: usize, end: usize) -> PartNumbers
-    requires { ⌜ start ≤ end ⌝ }
-    ensures { λ r. ⌜ r ≡ partOf start end ⌝ }
-{
-    if 4294967295 < end {
-        return PartNumbers {
-            answer: 4,
-            start: 0,
-            end: 0,
-        };
-    }
-    PartNumbers {
-        answer: 0,
-        start: start as u32,
-        end: end as u32,
-    }
-}
-
-// Where the message lies that starts at `at`: 0 and its place, or 4 and zeros; 4 too where 32 bits do not name its end.
 #[no_mangle]
 pub extern "C" fn ldp_ft_pdu_message(pdu: &[u8], at: usize) -> PartNumbers
     ensures { λ r. ⌜ r ≡ partNumbers (messagePlace (now (pdu .entry)) at) ⌝ }
 {
-    match pdu::message_at(pdu, at) {
-        Place::Message(start, end) => part_numbers(start, end),
-        Place::None => PartNumbers {
-            answer: 4,
-            start: 0,
-            end: 0,
-        },
-    }
+    message_numbers::pdu_message(pdu, at)
 }
 
-// A message, read: each field, 0 where it is not borne; 22 and zeros where malformed.
 #[no_mangle]
 pub extern "C" fn ldp_ft_message_read(msg: &[u8]) -> MessageNumbers
     ensures { λ r. ⌜ r ≡ messageNumbers (readingOf (now (msg .entry))) ⌝ }
 {
-    match message::places_in(msg) {
-        Walk::Malformed => no_message(),
-        Walk::Whole(found) => whole_message(msg, found),
-    }
+    message_numbers::message_read(msg)
+}
+
+#[no_mangle]
+pub extern "C" fn ldp_ft_distance(from: u32, to: u32) -> DistanceNumbers
+    ensures { λ r. ⌜ r ≡ distanceNumbers (distanceOf from to) ⌝ }
+{
+    message_numbers::distance(from, to)
+}
+
+#[no_mangle]
+pub extern "C" fn ldp_ft_successor(number: u32) -> u32
+    ensures { λ r. ⌜ r ≡ next number ⌝ }
+{
+    message_numbers::successor(number)
+}
+
+#[no_mangle]
+pub extern "C" fn ldp_ft_next_number(secured: u32, number: u32, resumed: bool) -> NextNumbers
+    ensures { λ r. ⌜ r ≡ nextNumbers (numberTurn resumed secured number) ⌝ }
+{
+    message_numbers::next_number(secured, number, resumed)
+}
+
+#[no_mangle]
+pub extern "C" fn ldp_ft_lesser_timeout(a: u32, b: u32) -> u32
+    ensures { λ r. ⌜ r ≡ lesserOf a b ⌝ }
+{
+    message_numbers::lesser_timeout(a, b)
 }

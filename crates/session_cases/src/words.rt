@@ -48,9 +48,7 @@ pub fn deed_of(word: &[u8], n: Numbers) -> Deed {
         13 => Deed::Copy,
         14 => Deed::Spoil,
         15 => Deed::Put(Phase::Idle),
-        16 => Deed::Put(Phase::InitWait(Waiting {
-            timeout: n.second,
-        })),
+        16 => Deed::Put(Phase::InitWait(Waiting { timeout: n.second })),
         17 => Deed::Put(Phase::UpFT(Progress {
             sent: n.second,
             resumed: n.third == 1,

@@ -1,0 +1,5 @@
+pub mod LabelWord
+pub mod Requests
+pub mod Extending
+pub mod Moved
+pub mod Holdings
