@@ -10,6 +10,7 @@ mod message;
 mod names;
 mod usage;
 mod watch;
+mod whole_file;
 
 use dump::Trouble;
 use std::ffi::{OsStr, OsString};
