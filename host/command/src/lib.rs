@@ -6,6 +6,7 @@ pub mod dump;
 mod holdings;
 pub mod image;
 mod json;
+pub mod malformed;
 mod message;
 mod names;
 mod usage;
@@ -91,7 +92,8 @@ fn read_image(file: &OsStr) -> Result<Vec<u8>, String> {
 
 fn dump_command(options: &Options) -> Ended {
     let file = &options.files[0];
-    let sound = dump::dump(&mut open(file)?, &mut io::stdout().lock(), options.is_given("json"));
+    let name = file.to_string_lossy();
+    let sound = dump::dump(&name, &mut open(file)?, &mut io::stdout().lock(), options.is_given("json"));
     match sound {
         Ok(true) => Ok(status::DONE),
         Ok(false) => Ok(status::REFUSED),
