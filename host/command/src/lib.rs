@@ -1,4 +1,5 @@
-//! The tool for people: `ldp-ft image`, `ldp-ft convert`, `ldp-ft dump` and `ldp-ft watch`, on the library's C boundary.
+//! The tool for people: `ldp-ft image`, `ldp-ft convert`, `ldp-ft dump` and `ldp-ft watch`, on the library's C
+//! boundary.
 
 mod addresses;
 mod convert;
@@ -10,6 +11,7 @@ pub mod malformed;
 mod message;
 mod names;
 mod usage;
+mod version;
 mod watch;
 mod whole_file;
 
@@ -69,6 +71,7 @@ fn obey(name: &str, rest: &[OsString]) -> Ended {
         "watch" => watch::run(&options(&watch::KNOWN)?),
         watch::CABINET => watch::run_cabinet(&options(&watch::KNOWN_CABINET)?),
         "--help" | "-h" | "help" => print(usage::TOOL),
+        "--version" | "-V" => print(&version::in_words()),
         "" => Err(format!("it needs a command\n{}", usage::TOOL.trim_end())),
         _ => Err(format!("there is no command {name:?}\n{}", usage::TOOL.trim_end())),
     }
