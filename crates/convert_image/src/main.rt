@@ -32,7 +32,10 @@ fn write_usage(fd: i32) {
 // The line that tells that all went well; its end is written last.
 fn tell_done(size: usize) {
     let fd = libc::STDOUT_FILENO;
-    if io::write_all(fd, b"converted ") && io::print_decimal(fd, size as u64) && io::write_all(fd, b" bytes\n") {
+    if io::write_all(fd, b"converted ")
+        && io::print_decimal(fd, size as u64)
+        && io::write_all(fd, b" bytes\n")
+    {
         return;
     }
     os::fail(b"standard output");
