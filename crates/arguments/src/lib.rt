@@ -71,6 +71,7 @@ pub fn input(usage: &[u8]) -> i32 {
 
 // Whether what is left of `fd` cannot be read; then standard error says so of `name`. Asked where reading has ended: to `io::read_full` a read that
 // fails is the input's end. Only what has a position is read once more: a pipe has no reads that fail, and it or a terminal might have to be waited for.
+// Proved safe and ending; what the system reads and writes is tested.
 pub fn read_fails(fd: i32, name: &[u8]) -> bool {
     let mut next = [0u8; 1];
     let at = libc::lseek(fd, 0, libc::SEEK_CUR);
