@@ -196,7 +196,8 @@ fn a_new_file_has_the_mode_of_what_was_read() {
 fn a_file_that_is_replaced_keeps_its_mode() {
     let place = Place::with(&earlier().image(0));
     fs::write(&place.to, b"").unwrap();
-    (allow(&place.from, 0o600), allow(&place.to, 0o640));
+    allow(&place.from, 0o600);
+    allow(&place.to, 0o640);
     done(&place.convert("forward", &["--overwrite"]));
     assert_eq!((mode(&place.from), mode(&place.to)), (0o600, 0o640));
     let itself = Place { to: place.from.clone(), ..place };
