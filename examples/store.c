@@ -10,6 +10,7 @@
 #include <stdio.h>
 #include <stdlib.h>
 #include <string.h>
+#include <sys/file.h>
 #include <unistd.h>
 
 /* A cabinet that cannot store must not speak. */
@@ -34,15 +35,24 @@ void store_outcome(store *s, ldp_ft_outcome o) {
     if (o.block0 != 0) write_block(s, 0);
 }
 
-/* The file gets its name when all of it is there: a power cut leaves no half image. */
+/* Two cabinets with one store would each speak of what the other has not stored. The lock is the file's, under whatever name, and goes with the process. */
+static void lock(const store *s, const char *path) {
+    if (flock(s->file, LOCK_EX | LOCK_NB) == 0) return;
+    give_up(path, errno == EWOULDBLOCK ? "another cabinet is at work with this store" : strerror(errno));
+}
+
+/* The file gets its name when all of it is there: a power cut leaves no half image. Who has the lock of the new file and sees none of that name is the only
+   one to make it. */
 static void create(store *s, const char *path) {
     char new_path[4096], folder[4096];
     check(snprintf(new_path, sizeof new_path, "%s.new", path) < (int)sizeof new_path, "path of the store");
     snprintf(folder, sizeof folder, "%s", path);
     ldp_ft_format(s->image, sizeof s->image);
-    s->file = open(new_path, O_RDWR | O_CREAT | O_TRUNC, 0600);
+    s->file = open(new_path, O_RDWR | O_CREAT, 0600);
     check(s->file >= 0, new_path);
-    check(write(s->file, s->image, sizeof s->image) == (ssize_t)sizeof s->image, new_path);
+    lock(s, path);
+    if (access(path, F_OK) == 0) give_up(path, "another cabinet has just made this store");
+    check(ftruncate(s->file, 0) == 0 && write(s->file, s->image, sizeof s->image) == (ssize_t)sizeof s->image, new_path);
     check(fsync(s->file) == 0 && rename(new_path, path) == 0, path);
     int directory = open(dirname(folder), O_RDONLY);
     check(directory >= 0 && fsync(directory) == 0, folder);
@@ -92,6 +102,7 @@ ldp_ft_session store_begin(store *s, const char *path) {
     s->file = open(path, O_RDWR);
     if (s->file < 0 && errno == ENOENT) create(s, path);
     check(s->file >= 0, path);
+    lock(s, path);
     size_t length = read_file(s->file, s->image);
     if (length < sizeof s->image) length = extend(s, length);
     if (length == sizeof s->image && store_is_version_1(s->image)) convert(s, path);

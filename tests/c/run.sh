@@ -1,6 +1,6 @@
 #!/usr/bin/env bash
 # The headers as C99, C11 and C++17, with what the archive exports; the trials with the archive and with the shared object (tools/build-library.sh makes both); the stack that a call uses; no division;
-# the example cabinet with a peer of another maker, and, with the library installed, with another of its own.
+# the example cabinet: how it is called, with a peer of another maker, beside strangers, with signatures, and, with the library installed, with another of its own.
 set -euo pipefail
 cd "$(dirname "$0")/../.."
 library=target/staticlib
@@ -26,5 +26,7 @@ done
 tests/c/stack.py
 tests/c/no_divide.sh
 make --silent -C examples BUILD="$work/examples"
-timeout 120 tests/c/peer.py "$work/examples/cabinet"
+for test in words peer strangers signed; do
+    timeout 300 "tests/c/$test.py" "$work/examples/cabinet"
+done
 tests/c/installed.sh
