@@ -66,9 +66,11 @@ static void expect_held(uint32_t place, const uint8_t *msg, size_t length) {
     expect(memcmp(ours.image + p.start, msg, length) == 0, 1, "bytes of a held message");
 }
 
-/* The oldest first, as submitted; the first Mapping is acknowledged and gone. */
+/* The oldest first, as submitted; the first Mapping is acknowledged and gone. The oldest was sent last, with the number that follows `released`. */
 static void held(void) {
     static const uint32_t empty_places[] = {2, LDP_FT_SLOTS - 1, LDP_FT_SLOTS, 0xFFFFFFFF};
+    uint32_t released = ldp_ft_summarize(ours.image, sizeof ours.image).released;
+    expect(ldp_ft_message_read(out, sizeof mapping_51 + 16).number, ldp_ft_successor(released), "the number of the oldest held");
     expect_held(0, mapping_51, sizeof mapping_51);
     expect_held(1, address, sizeof address);
     for (size_t i = 0; i < sizeof empty_places / sizeof empty_places[0]; i++) {
