@@ -2,6 +2,8 @@
 """signed.py CABINET: two example cabinets with TCP MD5 signatures (RFC 2385), on loopback addresses: with a wrong key, or with a key at one end alone, no connection comes to stand;
 with the right one the session is up. Where the kernel does not sign, the cabinet refuses to begin with a key, and a line says that no more was tried.
 """
+import socket
+import struct
 import subprocess
 import sys
 import tempfile
@@ -11,6 +13,7 @@ sys.dont_write_bytecode = True
 from cabinets import Cabinet
 
 OURS, PEERS = "127.0.0.1", "127.0.0.2"
+TCP_MD5SIG = 14
 
 
 def listening(program, store, key):
@@ -35,12 +38,22 @@ def comes_up(program, folder, key):
         a.wait_stored("label 100 given")
 
 
-def kernel_signs(program, folder, key):
-    """The cabinet begins with a key, or says why it does not."""
+def kernel_signs():
+    """Asked of the kernel itself, so that a cabinet that asks wrongly is not taken for a kernel that does not sign."""
+    key = b"key"
+    address = struct.pack("=H2x4s", socket.AF_INET, socket.inet_aton(PEERS)).ljust(128, b"\0")
+    with socket.socket() as s:
+        try:
+            s.setsockopt(socket.IPPROTO_TCP, TCP_MD5SIG, address + struct.pack("=BBHi", 0, 0, len(key), 0) + key.ljust(80, b"\0"))
+        except OSError:
+            return False
+    return True
+
+
+def refuses(program, folder, key):
     words = [program, "--md5", key, folder / "a", "10.255.0.1", "10.255.0.2", "connect", OURS, PEERS, "1"]
     begun = subprocess.run(words, input="quit\n", capture_output=True, text=True, timeout=30)
-    assert begun.returncode == 0 or "this kernel does not sign" in begun.stderr, begun.stderr
-    return begun.returncode == 0
+    assert begun.returncode == 2 and "this kernel does not sign" in begun.stderr, begun
 
 
 def main():
@@ -50,7 +63,8 @@ def main():
         right, wrong = folder / "right", folder / "wrong"
         right.write_text("a key of the lifts\n")
         wrong.write_text("a key of the lift\n")
-        if not kernel_signs(program, folder, right):
+        if not kernel_signs():
+            refuses(program, folder, right)
             print("signed.py: NOT TRIED: this kernel does not sign TCP segments (RFC 2385); the cabinet refuses to begin with a key")
             return
         for keys in ((right, wrong), (right, None), (None, right)):

@@ -141,6 +141,7 @@ def waits_no_longer(program, folder):
 # ---- discovery ----
 
 TRANSPORT, COMMON_HELLO, HELLO = 0x0401, 0x0400, 0x0100
+IP_MULTICAST_ALL = 49
 
 
 class Link:
@@ -170,14 +171,18 @@ class Link:
         cabinet.wait(why, seen + 2)
 
 
-def may_bind():
-    """Port 646 is a privileged one."""
+def hindrance():
+    """Why discovery cannot be tried here: port 646 is a privileged one, and not every kernel has groups on the loopback interface. None where it can."""
     try:
-        with socket.socket() as s:
-            s.bind((Link().cabinets, 646))
-        return True
-    except PermissionError:
-        return False
+        with socket.socket() as tcp, socket.socket(socket.AF_INET, socket.SOCK_DGRAM) as udp:
+            tcp.bind((Link().cabinets, 646))
+            udp.setsockopt(socket.SOL_SOCKET, socket.SO_REUSEADDR, 1)
+            udp.bind(("224.0.0.2", 646))
+            udp.setsockopt(socket.IPPROTO_IP, IP_MULTICAST_ALL, 0)
+            udp.setsockopt(socket.IPPROTO_IP, socket.IP_ADD_MEMBERSHIP, socket.inet_aton("224.0.0.2") + socket.inet_aton("127.0.0.1"))
+    except OSError as error:
+        return error
+    return None
 
 
 def with_discovery(program, folder):
@@ -221,11 +226,10 @@ def main():
         count = beside_a_pair(program, folder)
         comes_back(program, folder)
         waits_no_longer(program, folder)
-        if may_bind():
+        why_not = hindrance()
+        if why_not is None:
             with_discovery(program, folder)
-            discovery = "no connection is taken without an adjacency"
-        else:
-            discovery = "NOT TRIED: discovery, which needs the privileged port 646"
+        discovery = "no connection is taken without an adjacency" if why_not is None else f"NOT TRIED: discovery on port 646: {why_not}"
     print(f"strangers.py: {count} connections of strangers turned away beside a pair that stayed up; the peer itself comes back; {discovery}")
 
 
