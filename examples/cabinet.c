@@ -27,12 +27,11 @@ void say(const char *format, ...) {
 }
 
 uint32_t cabinet_new_id(cabinet *c) {
-    return c->next_id++;
+    return ids_next(&c->ids);
 }
 
-/* The ID to begin with: behind those of the Requests that are open and of the messages held, so that what names one of these means it. IDs that were used
-   before and are gone from the image are used again: a cabinet that wants none to be stores its count too, some steps ahead. */
-static uint32_t first_id(const uint8_t *image) {
+/* The ID behind those of the Requests that are open and of the messages held: where a store has come without its count, what names one of these means it. */
+static uint32_t id_behind(const uint8_t *image) {
     uint32_t last = 0;
     for (uint32_t place = 0; place < LDP_FT_LABEL_WORDS; place++) {
         ldp_ft_request r = ldp_ft_request_at(image, LDP_FT_IMAGE_SIZE, place);
@@ -92,7 +91,7 @@ static int settle(cabinet *c, ldp_ft_outcome o, const char *call) {
 void cabinet_begin(cabinet *c, const char *path, cabinet_settings settings) {
     c->settings = settings;
     c->session = store_begin(&c->store, path);
-    c->next_id = first_id(c->store.image);
+    ids_begin(&c->ids, path, id_behind(c->store.image));
     c->link.fd = -1;
     close_connection(c);
     c->retry_at = now();

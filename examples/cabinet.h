@@ -3,6 +3,7 @@
 #define CABINET_H
 
 #include "connection.h"
+#include "ids.h"
 #include "store.h"
 #include "wire.h"
 
@@ -52,7 +53,7 @@ typedef struct {
     store store;
     ldp_ft_session session;
     connection link;
-    uint32_t next_id;
+    ids ids;
     uint8_t init[LDP_FT_INIT_ROOM]; /* ours, until it has left */
     size_t init_length;
     int unacknowledged;   /* a numbered message was taken since our last acknowledgement */

@@ -35,6 +35,14 @@ void store_outcome(store *s, ldp_ft_outcome o) {
     if (o.block0 != 0) write_block(s, 0);
 }
 
+void store_sync_folder(const char *path) {
+    char folder[4096];
+    check(snprintf(folder, sizeof folder, "%s", path) < (int)sizeof folder, "path of the store");
+    int directory = open(dirname(folder), O_RDONLY);
+    check(directory >= 0 && fsync(directory) == 0, folder);
+    close(directory);
+}
+
 /* Two cabinets with one store would each speak of what the other has not stored. The lock is the file's, under whatever name, and goes with the process. */
 static void lock(const store *s, const char *path) {
     if (flock(s->file, LOCK_EX | LOCK_NB) == 0) return;
@@ -44,9 +52,8 @@ static void lock(const store *s, const char *path) {
 /* The file gets its name when all of it is there: a power cut leaves no half image. Who has the lock of the new file and sees none of that name is the only
    one to make it. */
 static void create(store *s, const char *path) {
-    char new_path[4096], folder[4096];
+    char new_path[4096];
     check(snprintf(new_path, sizeof new_path, "%s.new", path) < (int)sizeof new_path, "path of the store");
-    snprintf(folder, sizeof folder, "%s", path);
     ldp_ft_format(s->image, sizeof s->image);
     s->file = open(new_path, O_RDWR | O_CREAT, 0600);
     check(s->file >= 0, new_path);
@@ -54,9 +61,7 @@ static void create(store *s, const char *path) {
     if (access(path, F_OK) == 0) give_up(path, "another cabinet has just made this store");
     check(ftruncate(s->file, 0) == 0 && write(s->file, s->image, sizeof s->image) == (ssize_t)sizeof s->image, new_path);
     check(fsync(s->file) == 0 && rename(new_path, path) == 0, path);
-    int directory = open(dirname(folder), O_RDONLY);
-    check(directory >= 0 && fsync(directory) == 0, folder);
-    close(directory);
+    store_sync_folder(path);
 }
 
 static size_t read_file(int file, uint8_t image[LDP_FT_IMAGE_SIZE]) {

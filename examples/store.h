@@ -17,6 +17,9 @@ ldp_ft_session store_begin(store *s, const char *path);
 /* Stores what an outcome tells, each block on the medium before the next is written. Output may leave when it returns. */
 void store_outcome(store *s, ldp_ft_outcome o);
 
+/* A file that was made beside the store is on the medium under its name. */
+void store_sync_folder(const char *path);
+
 /* True where an image of an earlier release is of version 1. */
 int store_is_version_1(const uint8_t image[LDP_FT_IMAGE_SIZE]);
 

@@ -154,7 +154,7 @@ def ask(c, ident, turn):
 
 
 def requests(cabinet, store):
-    """Requests of the peer's: one answered, one aborted, one of them never made; and one of the cabinet's, open over a power cut and then answered."""
+    """Requests of the peer's: one answered, one aborted, one of them never made; and of the cabinet's: one open over a power cut and then answered, one aborted before another."""
     words = ["10.255.0.1", "10.255.0.2", "listen", "127.0.0.1", "127.0.0.1", 0, 60, 30]
     with Cabinet(cabinet, store, *words) as process:
         c = Connection(process.port())
@@ -184,6 +184,7 @@ def requests(cabinet, store):
     for wanted in ("give: no Request 900 of the peer's asks for 10.9.9.0/24", "received Label Request 902: 10.9.8.0/24", "received Label Abort Request for Request 901: 10.9.8.0/24",
                    "give: no Request 901 of the peer's asks for 10.9.8.0/24", "\nRequest 902 of the peer's, 10.9.8.0/24\n"):
         assert wanted in said, f"{wanted} is not in the log:\n{said}"
+    Path(store + ".ids").unlink()  # the image alone says which IDs are open or held
     with Cabinet(cabinet, store, *words) as process:
         c = Connection(process.port())
         c.send(init(ft_session(1), number(FT_ACK, 3)))
@@ -192,7 +193,18 @@ def requests(cabinet, store):
         process.tell("ask 10.7.0.0/16")
         c.expect(INIT)
         c.pass_keepalives()
-        assert value(c.expect(REQUEST, FT_PROTECTION=word(4))) > asked
+        again = value(c.expect(REQUEST, FT_PROTECTION=word(4)))
+        process.tell(f"abort {again}")
+        c.expect(ABORT, REQUEST_ID=word(again), FT_PROTECTION=word(5))
+        c.send(message(KEEPALIVE, number(FT_ACK, 5)))
+        process.wait_stored("label 41 given", "label 600 using")
+    with Cabinet(cabinet, store, *words) as process:
+        c = Connection(process.port())
+        c.send(init(ft_session(1), number(FT_ACK, 5)))
+        c.expect(INIT)
+        process.tell("ask 10.7.0.0/16")
+        c.pass_keepalives()
+        assert asked < again < value(c.expect(REQUEST, FT_PROTECTION=word(6))), "an ID that was aborted before the power cut is used again"
 
 
 def main():
