@@ -35,12 +35,13 @@ static int new_socket(void) {
     return prepared(socket(AF_INET, SOCK_STREAM, 0));
 }
 
-int connection_listen(uint32_t address, uint16_t *port) {
+int connection_listen(uint32_t address, uint16_t *port, uint32_t peer, const md5_key *key) {
     struct sockaddr_in at = socket_place(address, *port);
     socklen_t length = sizeof at;
     int fd = new_socket();
     if (fd < 0) return -1;
-    if (bind(fd, (struct sockaddr *)&at, sizeof at) != 0 || listen(fd, 4) != 0 || getsockname(fd, (struct sockaddr *)&at, &length) != 0) {
+    if (bind(fd, (struct sockaddr *)&at, sizeof at) != 0 || !md5_set(fd, peer, key) || listen(fd, 4) != 0 ||
+        getsockname(fd, (struct sockaddr *)&at, &length) != 0) {
         close(fd);
         return -1;
     }

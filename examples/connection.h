@@ -23,8 +23,9 @@ typedef enum { PDU_INCOMPLETE, PDU_WHOLE, PDU_BAD } pdu_state;
 
 struct sockaddr_in socket_place(uint32_t address, uint16_t port);
 
-/* A socket that listens there; *port 0 is any that is free, and the one taken is given back. -1 where it failed. */
-int connection_listen(uint32_t address, uint16_t *port);
+/* A socket that listens there, from its start signed for the peer if there is a key; *port 0 is any that is free, and the one taken is given back. -1 where
+   it failed. */
+int connection_listen(uint32_t address, uint16_t *port, uint32_t peer, const md5_key *key);
 /* The socket of a connection that was asked for, and the address that it comes from; -1 where there is none. */
 int connection_accept(int listening, uint32_t *from);
 /* A connection begins that stands on this socket; or is asked for, signed if there is a key, and then fd is -1 where that failed. */

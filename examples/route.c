@@ -2,15 +2,16 @@
 
 #include <unistd.h>
 
+/* With discovery the key is set when an adjacency says for which address. */
 const char *route_begin(route *r) {
+    static const md5_key none;
     newcomer_begin(&r->newcomer);
     hello_none(&r->hello);
     r->listening = -1;
     if (r->role == CONNECTS) return NULL;
     if (r->role == DISCOVERS && !hello_begin(&r->hello, r->interface)) return "discovery on that interface";
-    r->listening = connection_listen(r->ours, &r->port);
-    if (r->listening < 0) return "a socket that listens there";
-    return r->role == DISCOVERS || md5_set(r->listening, r->peers, &r->key) ? NULL : "a key for the peer's address";
+    r->listening = connection_listen(r->ours, &r->port, r->peers, r->role == DISCOVERS ? &none : &r->key);
+    return r->listening < 0 ? "a socket that listens there" : NULL;
 }
 
 /* With discovery only an adjacency says where the peer is (RFC 3036, 2.5.3). */

@@ -117,10 +117,17 @@ ldp_ft_session store_begin(store *s, const char *path) {
     return o.session;
 }
 
+/* A cabinet may be storing meanwhile: what is read twice alike stood there. It waits for its medium after each block, so that comes soon. */
 size_t store_read(const char *path, uint8_t image[LDP_FT_IMAGE_SIZE]) {
+    static uint8_t again[LDP_FT_IMAGE_SIZE];
+    size_t length = 0, before = 1;
     int file = open(path, O_RDONLY);
     if (file < 0) return 0;
-    size_t length = read_file(file, image);
+    while (length != before || memcmp(again, image, length) != 0) {
+        memcpy(again, image, sizeof again);
+        before = length;
+        length = read_file(file, image);
+    }
     close(file);
     return length;
 }

@@ -301,7 +301,7 @@ extern "C" {
 #define LDP_FT_LABEL_LAST 1048575 /* the greatest that there is */
 #define LDP_FT_NONE 0xFFFFFFFFu   /* ldp_ft_label, ldp_ft_block_check: there is no such word, there is no check */
 
-/* Bytes of stack that no call exceeds. Most is used by ldp_ft_receive: 3,320, as counted by tests/c/stack.py along the
+/* Bytes of stack that no call exceeds. Most is used by ldp_ft_receive: 3,192, as counted by tests/c/stack.py along the
    calls in the disassembly. */
 #define LDP_FT_STACK 4096
 

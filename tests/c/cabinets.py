@@ -33,7 +33,7 @@ class Cabinet:
             return log.read()
 
     def wait(self, wanted, count=1):
-        deadline = time.monotonic() + 30
+        deadline = time.monotonic() + 100
         while self.said().count(wanted) < count:
             assert self.process.poll() is None, f"the cabinet ended, and {wanted!r} is wanted {count} times:\n{self.said()}"
             assert time.monotonic() < deadline, f"{wanted!r} is wanted {count} times:\n{self.said()}"
@@ -49,7 +49,7 @@ class Cabinet:
 
     def wait_stored(self, *wanted):
         """Until its store lists exactly these lines behind the numbers."""
-        deadline = time.monotonic() + 30
+        deadline = time.monotonic() + 100
         while sorted(self.stored()[1:]) != sorted(wanted):
             assert time.monotonic() < deadline, f"{wanted} is wanted: {self.stored()}\n{self.said()}"
             time.sleep(0.02)
@@ -57,7 +57,7 @@ class Cabinet:
     def end(self):
         """It is told to end, and does."""
         self.tell("quit")
-        assert self.process.wait(timeout=30) == 0, self.said()
+        assert self.process.wait(timeout=100) == 0, self.said()
         return self.said()
 
 

@@ -54,10 +54,10 @@ def pdu(*messages, version=1, sender=OURS + bytes(2)):
 
 
 class Connection:
-    """Every wait ends within half a minute; what is waited for comes at once unless there is a fault."""
+    """Every wait ends within two minutes; what is waited for comes at once unless there is a fault."""
 
     def __init__(self, port, source="127.0.0.1", address="127.0.0.1", cabinet=CABINETS):
-        self.socket = socket.create_connection((address, port), timeout=30, source_address=(source, 0))
+        self.socket = socket.create_connection((address, port), timeout=100, source_address=(source, 0))
         self.cabinet = cabinet
         self.messages = []
 

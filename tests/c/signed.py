@@ -52,7 +52,7 @@ def kernel_signs():
 
 def refuses(program, folder, key):
     words = [program, "--md5", key, folder / "a", "10.255.0.1", "10.255.0.2", "connect", OURS, PEERS, "1"]
-    begun = subprocess.run(words, input="quit\n", capture_output=True, text=True, timeout=30)
+    begun = subprocess.run(words, input="quit\n", capture_output=True, text=True, timeout=100)
     assert begun.returncode == 2 and "this kernel does not sign" in begun.stderr, begun
 
 

@@ -56,7 +56,7 @@ def closed_by_cabinet(s):
 
 def visit(port, source, data, address="127.0.0.1"):
     """Connects, sends all of it and no more, and waits until the cabinet has closed."""
-    with socket.create_connection((address, port), timeout=30, source_address=(source, 0)) as s:
+    with socket.create_connection((address, port), timeout=100, source_address=(source, 0)) as s:
         try:
             s.sendall(data)
             s.shutdown(socket.SHUT_WR)
@@ -74,7 +74,7 @@ def visits(port):
         visit(port, STRANGER, data)
     for data in (plain, resuming, plain + pdu(FATAL)):
         visit(port, STRANGER, data)
-    silent = [socket.create_connection(("127.0.0.1", port), timeout=30, source_address=(PEER, 0)) for _ in range(8)]
+    silent = [socket.create_connection(("127.0.0.1", port), timeout=100, source_address=(PEER, 0)) for _ in range(8)]
     for s in silent[:-1]:  # each gives way to the next, and the last waits beside the session
         closed_by_cabinet(s)
         s.close()
@@ -133,7 +133,7 @@ def comes_back(program, folder):
 def waits_no_longer(program, folder):
     """A connection on which no Init comes is closed after the KeepAlive time, here a second."""
     with Cabinet(program, folder / "d", "10.255.0.1", "10.255.0.2", "listen", "127.0.0.1", PEER, 0, 1, 30) as cabinet:
-        with socket.create_connection(("127.0.0.1", cabinet.port()), timeout=30, source_address=(PEER, 0)) as s:
+        with socket.create_connection(("127.0.0.1", cabinet.port()), timeout=100, source_address=(PEER, 0)) as s:
             closed_by_cabinet(s)
         cabinet.wait("no Init came for the KeepAlive time")
 

@@ -36,7 +36,7 @@ WRONG_KEYS = [(b"", "a key is the first line"), (b"\n", "a key has 1 to 80 bytes
 
 def ends(*words, status):
     """One line on standard error, and the status."""
-    ended = subprocess.run([str(w) for w in words], capture_output=True, text=True, stdin=subprocess.DEVNULL, timeout=30)
+    ended = subprocess.run([str(w) for w in words], capture_output=True, text=True, stdin=subprocess.DEVNULL, timeout=100)
     assert ended.returncode == status and ended.stderr.count("\n") == 1 and not ended.stdout, (words, ended)
     return ended.stderr
 
@@ -69,7 +69,7 @@ def one_at_a_time(program, folder):
 
 def settled(cabinet):
     """1 where it listens, 0 where it has ended, with status 3 and a line that says why."""
-    deadline = time.monotonic() + 30
+    deadline = time.monotonic() + 100
     while "listening " not in cabinet.said():
         if cabinet.process.poll() is not None:
             assert cabinet.process.returncode == 3 and "another cabinet" in cabinet.said(), cabinet.said()
