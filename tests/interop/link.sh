@@ -97,6 +97,7 @@ start_cabinet() {
     fi
     rm -f "$work/console"
     mkfifo "$work/console"
+    : >"$3"
     ip netns exec "$ours" "$work/examples/cabinet" "${signed[@]}" "$work/image" "$1" "$2" hello 10.0.12.1 15 "$timeout" "$form" <"$work/console" >"$3" 2>&1 &
     pids+=($!)
     exec 7>"$work/console"
