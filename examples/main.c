@@ -138,6 +138,7 @@ static void run(cabinet *c, route *r) {
 
 int main(int argc, char **argv) {
     static setup s;
+    if (ldp_ft_version() / 65536 != LDP_FT_VERSION_MAJOR) refuse("the library", "it is of another version than this program");
     if (argc == 2 && strcmp(argv[1], "--help") == 0) return fputs(usage, stdout) < 0;
     if (argc == 3 && strcmp(argv[1], "show") == 0) return show(argv[2]);
     int signs = argc > 2 && strcmp(argv[1], "--md5") == 0 ? 2 : 0;

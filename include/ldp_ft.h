@@ -2,6 +2,10 @@
  * ldp_ft.h: the fault-tolerant LDP session of a cabinet (RFC 3036 with draft-ietf-mpls-ldp-ft-02 or RFC 3479), one
  * session with one peer. ldp_ft_text.h has the numbers below in words; examples/ has a cabinet that uses all of this.
  *
+ * WHAT CHANGED IN 4.0.0
+ *   - ldp_ft_summary has `marks` at its end: whether Requests are stopped, by the peer or by us. It is returned by
+ *     value, so a program that was compiled with another major number of this header must be compiled again.
+ *   - ldp_ft_version tells the version of the library that runs.
  * WHAT CHANGED IN 3.0.0
  *   - ALL TIMEOUTS ARE MILLISECONDS. `elapsed` of ldp_ft_time_passed has the type that it had: a caller that still
  *     gives seconds COMPILES, and keeps the state a thousand times too long. So are the value of INIT_WAIT and
@@ -199,10 +203,10 @@
  *   - a Notification whose Status names its ID, E clear, is received: the peer turns the Request down
  *   - the state is released, or begins anew.
  * Section 2 says which ID the next Request may have. The peer stops Requests with 'No Label Resources' and lets them go
- * on with 'Label Resources Available'; both ends remember over a break which of the two was said last. Meanwhile
- * ldp_ft_submit answers 14 to a Request; those that are held already still go out. The other way round, the owner
- * submits these two as kinds 9 and 6. A Request of the peer's does not come again once block 0 is stored: an owner who
- * is to answer it after a power cut stores it himself, before block 0.
+ * on with 'Label Resources Available'; both ends remember over a break which of the two was said last (`marks` of
+ * ldp_ft_summarize). Meanwhile ldp_ft_submit answers 14 to a Request; those that are held already still go out. The
+ * other way round, the owner submits these two as kinds 9 and 6. A Request of the peer's does not come again once block
+ * 0 is stored: an owner who is to answer it after a power cut stores it himself, before block 0.
  * Requests and offers go together: nothing depends on `on_demand`, which only tells the peer what we want.
  *
  * 9 MESSAGES THAT ARE LEFT OUT
@@ -274,9 +278,16 @@ extern "C" {
 
 /* The version of this header and of the library that it belongs to. A shared object of another major number is not
    compatible. */
-#define LDP_FT_VERSION_MAJOR 3
+#define LDP_FT_VERSION_MAJOR 4
 #define LDP_FT_VERSION_MINOR 0
 #define LDP_FT_VERSION_PATCH 0
+
+/*
+ * The version of the library that runs: major * 65,536 + minor * 256 + patch. The line for a program's start, before
+ * any other call; with another major number the structs below have other sizes than the library writes:
+ *     if (ldp_ft_version() / 65536 != LDP_FT_VERSION_MAJOR) return 1;
+ */
+uint32_t ldp_ft_version(void);
 
 /* The image. */
 #define LDP_FT_BLOCK_SIZE 512
@@ -645,7 +656,12 @@ typedef struct ldp_ft_summary {
     uint32_t labels;        /* label words in use, open Requests among them */
     uint32_t timeout;       /* the agreed timeout in MILLISECONDS, 0 for ever; before 3.0.0 seconds */
     uint32_t keepalive_time, max_pdu_length; /* the peer's, as its Init said */
+    uint32_t marks;         /* whether Requests are stopped (8), by the bits below; 0 where nothing is kept */
 } ldp_ft_summary;
+
+/* The bits of `marks`. */
+#define LDP_FT_MARK_STOPPED 2  /* the peer has said 'No Label Resources': ldp_ft_submit answers 14 to a Request */
+#define LDP_FT_MARK_STOPPING 4 /* we have said it: from when ldp_ft_submit takes kind 9 until it takes kind 6 */
 
 /* What an image holds, in numbers. Answers 0, 12, 10, 11. */
 ldp_ft_summary ldp_ft_summarize(const uint8_t *image, size_t image_len);

@@ -63,13 +63,22 @@ static void ask_and_get(void) {
     expect(ldp_ft_label(ours.image, sizeof ours.image, 0), word(17, LDP_FT_CODE_USING), "label in the Request's word");
 }
 
-/* One is turned down, and Requests are stopped; one is aborted. */
+static void expect_marks(uint32_t here, uint32_t there, const char *what) {
+    expect(ldp_ft_summarize(ours.image, sizeof ours.image).marks, here, what);
+    expect(ldp_ft_summarize(peer.image, sizeof peer.image).marks, there, what);
+}
+
+/* One is turned down, and Requests are stopped, at both ends and in the store; one is aborted. */
 static void ask_in_vain(void) {
     ask(request_22, LDP_FT_DONE, "second Request");
+    expect_marks(0, 0, "Requests are not stopped");
     peer_tells(no_resources, sizeof no_resources);
+    expect_marks(LDP_FT_MARK_STOPPED, LDP_FT_MARK_STOPPING, "Requests are stopped");
+    expect(ldp_ft_summarize(ours.store, sizeof ours.store).marks, LDP_FT_MARK_STOPPED, "it is stored");
     expect_request(1, 0, 0, "Request turned down");
     ask(request_23, LDP_FT_REQUESTS_STOPPED, "Request while stopped");
     peer_tells(available, sizeof available);
+    expect_marks(0, 0, "Requests go on");
 
     ask(request_23, LDP_FT_DONE, "third Request");
     expect_request(1, 1, 23, "third Request open");
