@@ -106,9 +106,6 @@ python3 tests/images/conversions.py "$room/cases"
 for given in "$room"/cases/*.in; do
     case=${given%.in}
     input=$given
-    if [ -e "$case.out" ]; then
-        echo "converted $(stat --format=%s "$case.out") bytes" >"$case.line"
-    fi
     expect "$case.line" "$room/nothing" convert_image "$(cat "$case.args")" "$case.made"
     if [ -e "$case.out" ]; then
         cmp "$case.made" "$case.out"
