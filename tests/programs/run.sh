@@ -47,11 +47,17 @@ done
 # failing BYTES PROGRAM ARGUMENT..
 failing() {
     python3 - "$room" "$@" <<'END'
-import os, subprocess, sys
+import ctypes, mmap, os, subprocess, sys
 room, length, *command = sys.argv[1:]
-[end] = [int(line.split("-")[1].split()[0], 16) for line in open("/proc/self/maps") if "[stack]" in line]
+# a page with nothing behind it; a PDU of 260 bytes begins so far before its end
+place, read_write, private_anonymous_fixed = 1 << 40, 0x3, 0x100022
+end, begun = place + mmap.PAGESIZE, bytes([0, 1, 1, 0]).ljust(100, b"\0")[: int(length)]
+of_c = ctypes.CDLL(None).mmap
+of_c.restype, of_c.argtypes = ctypes.c_void_p, [ctypes.c_void_p, ctypes.c_size_t, *[ctypes.c_int] * 3, ctypes.c_long]
+assert of_c(place, mmap.PAGESIZE, read_write, private_anonymous_fixed, -1, 0) == place
+ctypes.memmove(end - len(begun), begun, len(begun))
 memory = os.open("/proc/self/mem", os.O_RDONLY)
-os.lseek(memory, end - int(length), os.SEEK_SET)
+os.lseek(memory, end - len(begun), os.SEEK_SET)
 with open(room + "/out", "wb") as out, open(room + "/err", "wb") as err:
     subprocess.run(command, stdin=memory, stdout=out, stderr=err, check=True)
 END
