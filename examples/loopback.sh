@@ -24,12 +24,12 @@ fail() {
     exit 1
 }
 
-# until WHAT COMMAND..: the command succeeds within 20 seconds
+# until WHAT COMMAND..: the command succeeds within two minutes
 until_so() {
-    local what=$1 deadline=$((SECONDS + 20))
+    local what=$1 deadline=$((SECONDS + 120))
     shift
     until "$@"; do
-        [ "$SECONDS" -lt "$deadline" ] || fail "$what: not within 20 seconds"
+        [ "$SECONDS" -lt "$deadline" ] || fail "$what: not within two minutes"
         sleep 0.05
     done
 }
@@ -42,9 +42,9 @@ start() {
     exec {console}>"$work/$name.console"
     printf -v "console_$name" '%s' "$console"
 }
-# a proposes 30 seconds, b 20,500 milliseconds: both keep the lesser
-start_a() { start a 10.255.0.1 10.255.0.2 listen 127.0.0.1 127.0.0.2 30 draft; }
-start_b() { start b 10.255.0.2 10.255.0.1 connect 127.0.0.2 127.0.0.1 20500 published; }
+# a proposes 300 seconds, b 200,500 milliseconds: both keep the lesser, and no busy machine outlasts it
+start_a() { start a 10.255.0.1 10.255.0.2 listen 127.0.0.1 127.0.0.2 300 draft; }
+start_b() { start b 10.255.0.2 10.255.0.1 connect 127.0.0.2 127.0.0.1 200500 published; }
 
 tell() { local console="console_$1"; echo "$2" >&"${!console}"; }
 give() { local label; for label in $(seq "$2" "$3"); do tell "$1" "give $label 10.$((label / 256)).$((label % 256)).0/24"; done; }
@@ -99,7 +99,7 @@ until_so "labels of b at the end" holds b "$(labels 103 134 using; labels 200 22
 said a "FT Session has the published form" 4 || fail "a was not always sent the published form"
 said b "FT Session has the draft's form" 4 || fail "b was not always sent the draft's form"
 for name in a b; do
-    [[ $(stored "$name") == *" timeout 20500 ms"* ]] || fail "$name keeps its state for another time: $(stored "$name" | head -n 1)"
+    [[ $(stored "$name") == *" timeout 200500 ms"* ]] || fail "$name keeps its state for another time: $(stored "$name" | head -n 1)"
     tell "$name" quit
     wait "${pid[$name]}" || fail "$name did not end well"
     unset "pid[$name]"

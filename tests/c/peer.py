@@ -86,10 +86,10 @@ def timed_out(cabinet, store, port):
     c.expect(ADDRESS, FT_PROTECTION=word(1))
     assert stored(cabinet, store)[0].startswith("kept 1,"), stored(cabinet, store)
     assert stored(cabinet, store)[0].endswith(" timeout 1000 ms"), stored(cabinet, store)
-    c.socket.close()
     begun = time.monotonic()
+    c.socket.close()
     while stored(cabinet, store)[0].startswith("kept 1,"):
-        assert time.monotonic() < begun + 30, "the state is kept after the timeout"
+        assert time.monotonic() < begun + 100, "the state is kept after the timeout"
         time.sleep(0.05)
     assert time.monotonic() > begun + 0.9, "the state is released before the timeout"
 

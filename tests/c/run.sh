@@ -27,6 +27,6 @@ tests/c/stack.py
 tests/c/no_divide.sh
 make --silent -C examples BUILD="$work/examples"
 for test in words peer strangers signed; do
-    timeout 300 "tests/c/$test.py" "$work/examples/cabinet"
+    timeout 600 "tests/c/$test.py" "$work/examples/cabinet"
 done
 tests/c/installed.sh

@@ -210,7 +210,7 @@ def moves(link, cabinet):
     """Hellos that name another transport address are not the adjacency's, which runs out after its hold time, 15 seconds; then they are the peer's."""
     begun = time.monotonic()
     while cabinet.said().count("a Hello of the peer's has come") < 2:
-        assert time.monotonic() < begun + 60, cabinet.said()
+        assert time.monotonic() < begun + 100, cabinet.said()
         link.hello(link.strangers)
         time.sleep(0.1)
     assert "connection closed: no Hello of the peer's came" in cabinet.said(), cabinet.said()
