@@ -27,7 +27,23 @@ void say(const char *format, ...) {
 }
 
 uint32_t cabinet_new_id(cabinet *c) {
-    return c->next_id++;
+    return ids_next(&c->ids);
+}
+
+/* The ID behind those of the Requests that are open and of the messages held: where a store has come without its count, what names one of these means it. */
+static uint32_t id_behind(const uint8_t *image) {
+    uint32_t last = 0;
+    for (uint32_t place = 0; place < LDP_FT_LABEL_WORDS; place++) {
+        ldp_ft_request r = ldp_ft_request_at(image, LDP_FT_IMAGE_SIZE, place);
+        if (r.id > last) last = r.id;
+    }
+    uint32_t held = ldp_ft_summarize(image, LDP_FT_IMAGE_SIZE).held;
+    for (uint32_t place = 0; place < held; place++) {
+        ldp_ft_part part = ldp_ft_held(image, LDP_FT_IMAGE_SIZE, place);
+        ldp_ft_message m = ldp_ft_message_read(image + part.start, part.end - part.start);
+        if (m.message_id > last) last = m.message_id;
+    }
+    return last + 1;
 }
 
 /* The connection is closed; another is asked for later, and later each time. */
@@ -75,7 +91,7 @@ static int settle(cabinet *c, ldp_ft_outcome o, const char *call) {
 void cabinet_begin(cabinet *c, const char *path, cabinet_settings settings) {
     c->settings = settings;
     c->session = store_begin(&c->store, path);
-    c->next_id = 1;
+    ids_begin(&c->ids, path, id_behind(c->store.image));
     c->link.fd = -1;
     close_connection(c);
     c->retry_at = now();
@@ -158,12 +174,16 @@ void cabinet_connected(cabinet *c) {
     send_init(c);
 }
 
-/* What the library leaves to its owner: the version of the protocol, a KeepAlive time, and that we are meant. The parameters are an Init's first
-   TLV. What is no Init, or malformed, is the library's to refuse. */
-static int init_suits(const cabinet *c, ldp_ft_message m, const uint8_t *msg) {
-    if (m.answer != LDP_FT_DONE || m.type != LDP_FT_TYPE_INITIALIZATION || (m.has & LDP_FT_HAS_PARAMETERS) == 0) return 1;
+int cabinet_is_peers(const cabinet_settings *s, const uint8_t *pdu) {
+    return wire_get32(pdu + 4) == s->peer_lsr && wire_get16(pdu + 8) == 0;
+}
+
+/* The parameters are an Init's first TLV, and have 14 bytes. */
+int cabinet_init_suits(const cabinet_settings *s, ldp_ft_message m, const uint8_t *msg) {
+    if (m.answer != LDP_FT_DONE || m.type != LDP_FT_TYPE_INITIALIZATION || (m.has & LDP_FT_HAS_PARAMETERS) == 0) return 0;
     const uint8_t *parameters = msg + 12;
-    return wire_get16(parameters) == 1 && m.keepalive_time != 0 && wire_get32(parameters + 8) == c->settings.our_lsr && wire_get16(parameters + 12) == 0;
+    return wire_is_parameters(msg + 8) && wire_get16(parameters) == 1 && m.keepalive_time != 0 && wire_get32(parameters + 8) == s->our_lsr &&
+           wire_get16(parameters + 12) == 0;
 }
 
 /* Both ends begin anew: the peer is told our address, and then all labels that we want to give. */
@@ -171,6 +191,7 @@ static void begin_anew(cabinet *c) {
     uint8_t msg[LDP_FT_MESSAGE_MAX];
     size_t length = wire_address_message(msg, cabinet_new_id(c), c->settings.our_lsr);
     labels_begin_anew(c);
+    requests_begin_anew(c);
     if (c->session.phase == LDP_FT_UP_FT) cabinet_submit(c, msg, length);
     else cabinet_send_message(c, msg, length);
 }
@@ -190,9 +211,10 @@ static void come_up(cabinet *c, ldp_ft_message m) {
     remember_timeout(c);
 }
 
+/* What the library judges is left to it: that this is an Init, well formed and with parameters. */
 static void take_init(cabinet *c, const uint8_t *msg, size_t length) {
     ldp_ft_message m = ldp_ft_message_read(msg, length);
-    if (!init_suits(c, m, msg)) {
+    if ((m.has & LDP_FT_HAS_PARAMETERS) != 0 && m.type == LDP_FT_TYPE_INITIALIZATION && !cabinet_init_suits(&c->settings, m, msg)) {
         cabinet_lost(c, "the peer's parameters do not suit us");
         return;
     }
@@ -214,6 +236,7 @@ static void take_message(cabinet *c, const uint8_t *msg, size_t length) {
     if (!settle(c, o, "receive")) return;
     if (o.left_out > 0) say("the peer left out %u before number %u", (unsigned)o.left_out, (unsigned)m.number);
     if ((m.has & LDP_FT_HAS_FT_PROTECTION) != 0) c->unacknowledged = 1;
+    requests_act(c, m, msg);
     labels_act(c, m, msg);
 }
 
@@ -221,7 +244,7 @@ static void take_message(cabinet *c, const uint8_t *msg, size_t length) {
 static void take_pdu(cabinet *c, size_t length) {
     const uint8_t *pdu = c->link.in;
     ldp_ft_pdu judged = ldp_ft_pdu_open(pdu, length);
-    if (judged.answer != LDP_FT_DONE || wire_get32(pdu + 4) != c->settings.peer_lsr || wire_get16(pdu + 8) != 0) {
+    if (judged.answer != LDP_FT_DONE || !cabinet_is_peers(&c->settings, pdu)) {
         cabinet_lost(c, "a malformed PDU, or another LSR's");
         return;
     }
@@ -234,12 +257,9 @@ static void take_pdu(cabinet *c, size_t length) {
     if (c->link.fd >= 0) connection_drop(&c->link, length);
 }
 
-void cabinet_read(cabinet *c) {
+/* What has come is acted on, and answered. */
+static void take_pdus(cabinet *c) {
     size_t length = 0;
-    if (!connection_read(&c->link)) {
-        cabinet_lost(c, "the peer closed it");
-        return;
-    }
     while (c->link.fd >= 0) {
         pdu_state state = connection_pdu(&c->link, &length);
         if (state == PDU_INCOMPLETE) break;
@@ -249,6 +269,18 @@ void cabinet_read(cabinet *c) {
     labels_reconcile(c);
     cabinet_send_held(c);
     if (c->link.fd >= 0 && c->unacknowledged) send_keepalive(c);
+}
+
+void cabinet_read(cabinet *c) {
+    if (connection_read(&c->link)) take_pdus(c);
+    else cabinet_lost(c, "the peer closed it");
+}
+
+void cabinet_admit(cabinet *c, const connection *link) {
+    if (c->link.fd >= 0) cabinet_lost(c, "the peer has connected anew");
+    c->link = *link;
+    cabinet_await(c);
+    take_pdus(c);
 }
 
 /* ---- timers ---- */
@@ -261,6 +293,7 @@ static void release_in_time(cabinet *c) {
     if (!settle(c, ldp_ft_time_passed(c->store.image, sizeof c->store.image, c->session, milliseconds), "time passed")) return;
     say("the agreed timeout is over: all labels are given up");
     labels_begin_anew(c);
+    requests_begin_anew(c);
 }
 
 void cabinet_tick(cabinet *c) {

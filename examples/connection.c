@@ -35,12 +35,13 @@ static int new_socket(void) {
     return prepared(socket(AF_INET, SOCK_STREAM, 0));
 }
 
-int connection_listen(uint32_t address, uint16_t *port) {
+int connection_listen(uint32_t address, uint16_t *port, uint32_t peer, const md5_key *key) {
     struct sockaddr_in at = socket_place(address, *port);
     socklen_t length = sizeof at;
     int fd = new_socket();
     if (fd < 0) return -1;
-    if (bind(fd, (struct sockaddr *)&at, sizeof at) != 0 || listen(fd, 4) != 0 || getsockname(fd, (struct sockaddr *)&at, &length) != 0) {
+    if (bind(fd, (struct sockaddr *)&at, sizeof at) != 0 || !md5_set(fd, peer, key) || listen(fd, 4) != 0 ||
+        getsockname(fd, (struct sockaddr *)&at, &length) != 0) {
         close(fd);
         return -1;
     }
@@ -48,8 +49,12 @@ int connection_listen(uint32_t address, uint16_t *port) {
     return fd;
 }
 
-int connection_accept(int listening) {
-    return prepared(accept(listening, NULL, NULL));
+int connection_accept(int listening, uint32_t *from) {
+    struct sockaddr_in at = socket_place(0, 0);
+    socklen_t length = sizeof at;
+    int fd = prepared(accept(listening, (struct sockaddr *)&at, &length));
+    *from = ntohl(at.sin_addr.s_addr);
+    return fd;
 }
 
 void connection_begin(connection *c, int fd) {
@@ -59,12 +64,12 @@ void connection_begin(connection *c, int fd) {
     c->out_length = 0;
 }
 
-void connection_ask(connection *c, uint32_t from, uint32_t to, uint16_t port) {
+void connection_ask(connection *c, uint32_t from, uint32_t to, uint16_t port, const md5_key *key) {
     struct sockaddr_in ours = socket_place(from, 0), peers = socket_place(to, port);
     connection_begin(c, new_socket());
     if (c->fd < 0) return;
     c->connecting = 1;
-    if (bind(c->fd, (struct sockaddr *)&ours, sizeof ours) == 0) {
+    if (md5_set(c->fd, to, key) && bind(c->fd, (struct sockaddr *)&ours, sizeof ours) == 0) {
         if (connect(c->fd, (struct sockaddr *)&peers, sizeof peers) == 0 || errno == EINPROGRESS) return;
     }
     connection_close(c);

@@ -3,6 +3,7 @@
 #define CONNECTION_H
 
 #include "ldp_ft.h"
+#include "md5.h"
 
 #include <netinet/in.h>
 
@@ -22,13 +23,14 @@ typedef enum { PDU_INCOMPLETE, PDU_WHOLE, PDU_BAD } pdu_state;
 
 struct sockaddr_in socket_place(uint32_t address, uint16_t port);
 
-/* A socket that listens there; *port 0 is any that is free, and the one taken is given back. -1 where it failed. */
-int connection_listen(uint32_t address, uint16_t *port);
-/* The socket of a connection that the peer asked for; -1 where there is none. */
-int connection_accept(int listening);
-/* A connection begins that stands on this socket; or is asked for, and then fd is -1 where that failed. */
+/* A socket that listens there, from its start signed for the peer if there is a key; *port 0 is any that is free, and the one taken is given back. -1 where
+   it failed. */
+int connection_listen(uint32_t address, uint16_t *port, uint32_t peer, const md5_key *key);
+/* The socket of a connection that was asked for, and the address that it comes from; -1 where there is none. */
+int connection_accept(int listening, uint32_t *from);
+/* A connection begins that stands on this socket; or is asked for, signed if there is a key, and then fd is -1 where that failed. */
 void connection_begin(connection *c, int fd);
-void connection_ask(connection *c, uint32_t from, uint32_t to, uint16_t port);
+void connection_ask(connection *c, uint32_t from, uint32_t to, uint16_t port, const md5_key *key);
 void connection_close(connection *c);
 
 /* The events that poll is to wait for. */

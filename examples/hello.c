@@ -12,10 +12,22 @@
 #define TRANSPORT_TLV 0x0401
 #define HOLD_TIME 15 /* seconds */
 
+void hello_none(hello *h) {
+    h->fd = -1;
+    h->send_at = NEVER;
+    h->lost_at = NEVER;
+}
+
+void hello_forget(hello *h) {
+    h->lost_at = NEVER;
+}
+
+/* Bound to the group, and to what comes for it on this interface: a Hello that was sent to us alone may come from beyond the link, and is not taken (RFC
+   3036, 5.1). */
 int hello_begin(hello *h, uint32_t interface_address) {
-    const int on = 1;
+    const int on = 1, every_interface = 0;
     const unsigned char ttl = 1, off = 0;
-    struct sockaddr_in any = socket_place(INADDR_ANY, LDP_PORT);
+    struct sockaddr_in all_routers = socket_place(ALL_ROUTERS, LDP_PORT);
     struct in_addr ours;
     struct ip_mreq group;
     ours.s_addr = htonl(interface_address);
@@ -26,7 +38,8 @@ int hello_begin(hello *h, uint32_t interface_address) {
     h->fd = socket(AF_INET, SOCK_DGRAM, 0);
     if (h->fd < 0) return 0;
     fcntl(h->fd, F_SETFL, O_NONBLOCK);
-    return setsockopt(h->fd, SOL_SOCKET, SO_REUSEADDR, &on, sizeof on) == 0 && bind(h->fd, (struct sockaddr *)&any, sizeof any) == 0 &&
+    return setsockopt(h->fd, SOL_SOCKET, SO_REUSEADDR, &on, sizeof on) == 0 && bind(h->fd, (struct sockaddr *)&all_routers, sizeof all_routers) == 0 &&
+           setsockopt(h->fd, IPPROTO_IP, IP_MULTICAST_ALL, &every_interface, sizeof every_interface) == 0 &&
            setsockopt(h->fd, IPPROTO_IP, IP_ADD_MEMBERSHIP, &group, sizeof group) == 0 &&
            setsockopt(h->fd, IPPROTO_IP, IP_MULTICAST_IF, &ours, sizeof ours) == 0 &&
            setsockopt(h->fd, IPPROTO_IP, IP_MULTICAST_TTL, &ttl, sizeof ttl) == 0 &&
@@ -62,11 +75,13 @@ void hello_read(hello *h, uint32_t peer_lsr) {
     struct sockaddr_in from;
     socklen_t from_length = sizeof from;
     ssize_t n = recvfrom(h->fd, pdu, sizeof pdu, 0, (struct sockaddr *)&from, &from_length);
-    if (n < 0 || ldp_ft_pdu_open(pdu, (size_t)n).answer != LDP_FT_DONE || wire_get32(pdu + 4) != peer_lsr) return;
+    if (n < 0 || ldp_ft_pdu_open(pdu, (size_t)n).answer != LDP_FT_DONE || wire_get32(pdu + 4) != peer_lsr || wire_get16(pdu + 8) != 0) return;
     ldp_ft_part part = ldp_ft_pdu_message(pdu, (size_t)n, LDP_FT_PDU_HEADER);
     ldp_ft_message m = ldp_ft_message_read(pdu + part.start, part.end - part.start);
     if (part.answer != LDP_FT_DONE || m.answer != LDP_FT_DONE || m.type != LDP_FT_TYPE_HELLO) return;
+    uint32_t transport = transport_of(pdu + part.start, part.end - part.start, ntohl(from.sin_addr.s_addr));
+    if (h->lost_at != NEVER && transport != h->transport) return; /* all Hellos of a label space name one address (RFC 3036, 2.5.2) */
     if (h->lost_at == NEVER) say("a Hello of the peer's has come");
-    h->transport = transport_of(pdu + part.start, part.end - part.start, ntohl(from.sin_addr.s_addr));
+    h->transport = transport;
     h->lost_at = now() + HOLD_TIME * 1000;
 }

@@ -13,11 +13,15 @@ typedef struct {
     uint32_t transport; /* the peer's transport address */
 } hello;
 
+/* No discovery. */
+void hello_none(hello *h);
 /* Opens the socket on the interface with that address; 0 where that failed. */
 int hello_begin(hello *h, uint32_t interface_address);
 /* Sends our Hello; our transport address is our LSR identifier. */
 void hello_send(hello *h, uint32_t our_lsr);
 /* Takes what came. */
 void hello_read(hello *h, uint32_t peer_lsr);
+/* There is no adjacency any more. */
+void hello_forget(hello *h);
 
 #endif

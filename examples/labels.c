@@ -4,6 +4,7 @@
 #include "cabinet.h"
 
 #include "ldp_ft_text.h"
+#include "show.h"
 
 #include <string.h>
 
@@ -29,8 +30,9 @@ static offer *find(cabinet *c, uint32_t label) {
     return NULL;
 }
 
-/* A Mapping or a Withdraw. */
+/* A Mapping, which may answer a Request, or a Withdraw. */
 static size_t write_offer(cabinet *c, uint8_t *msg, uint32_t type, const offer *o) {
+    if (type == LDP_FT_TYPE_MAPPING && o->answers) return wire_answer_message(msg, cabinet_new_id(c), o->fec, o->fec_len, o->label, o->request_id);
     return wire_label_message(msg, type, cabinet_new_id(c), o->fec, o->fec_len, o->label);
 }
 
@@ -104,31 +106,56 @@ static void act_plain(cabinet *c, ldp_ft_message m, const uint8_t *msg, const ch
 
 /* ---- both ---- */
 
-/* A label that was taken back and is free may be given again: it is forgotten. */
-static void forget_free(cabinet *c) {
-    size_t left = 0;
-    for (size_t i = 0; i < c->offer_count; i++) {
-        offer o = c->offers[i];
-        if (!o.taken_back || o.free_at > now()) c->offers[left++] = o;
-    }
-    c->offer_count = left;
-}
-
 void labels_reconcile(cabinet *c) {
     if (c->session.phase == LDP_FT_UP_FT || c->session.phase == LDP_FT_FAILED) reconcile_kept(c);
     if (c->session.phase == LDP_FT_UP_PLAIN) reconcile_plain(c);
 }
 
-void labels_give(cabinet *c, uint32_t label, wire_prefix prefix) {
-    offer o = {.label = label, .free_at = NEVER};
-    o.fec_len = wire_fec(o.fec, prefix);
-    forget_free(c);
-    if (label < LDP_FT_LABEL_FIRST || label > LDP_FT_LABEL_LAST || find(c, label) != NULL || c->offer_count == LDP_FT_LABEL_WORDS) {
-        say("give: label %u is none that can be given now", (unsigned)label);
-        return;
+/* A label that was taken back and is free may be given again: it is forgotten. So is the one that is to be given, if the peer has released it. */
+static void forget_free(cabinet *c, uint32_t label) {
+    size_t left = 0;
+    for (size_t i = 0; i < c->offer_count; i++) {
+        offer o = c->offers[i];
+        int given_up = o.taken_back || (o.released && o.label == label);
+        if (!given_up || o.free_at > now()) c->offers[left++] = o;
+    }
+    c->offer_count = left;
+}
+
+/* 1 where it can be given: then it is, as soon as the session allows. */
+static int offer_label(cabinet *c, offer o) {
+    forget_free(c, o.label);
+    if (o.label < LDP_FT_LABEL_FIRST || o.label > LDP_FT_LABEL_LAST || find(c, o.label) != NULL || c->offer_count == LDP_FT_LABEL_WORDS) {
+        say("give: label %u is none that can be given now", (unsigned)o.label);
+        return 0;
     }
     c->offers[c->offer_count++] = o;
     labels_reconcile(c);
+    return 1;
+}
+
+static offer offer_of(uint32_t label, wire_prefix prefix) {
+    offer o = {.label = label, .free_at = NEVER};
+    o.fec_len = wire_fec(o.fec, prefix);
+    return o;
+}
+
+void labels_give(cabinet *c, uint32_t label, wire_prefix prefix) {
+    offer_label(c, offer_of(label, prefix));
+}
+
+void labels_answer(cabinet *c, uint32_t label, wire_prefix prefix, uint32_t request_id) {
+    char fec[WIRE_PREFIX_TEXT];
+    offer o = offer_of(label, prefix);
+    const peer_request *q = requests_find(c, request_id);
+    wire_fec_text(o.fec, o.fec_len, fec);
+    if (q == NULL || strcmp(q->fec, fec) != 0) {
+        say("give: no Request %u of the peer's asks for %s", (unsigned)request_id, fec);
+        return;
+    }
+    o.answers = 1;
+    o.request_id = request_id;
+    if (offer_label(c, o)) requests_answered(c, request_id);
 }
 
 /* A label that was given before this program began: its FEC is not known. */
@@ -151,12 +178,21 @@ void labels_take_back(cabinet *c, uint32_t label) {
     labels_reconcile(c);
 }
 
+/* A Request is known by its ID: its own, and that which an Abort or an answer names. */
+static void say_received(ldp_ft_message m, const char *fec) {
+    const char *type = ldp_ft_type_text(m.type), *before_fec = fec[0] == 0 ? "" : ": ";
+    if (m.type == LDP_FT_TYPE_KEEPALIVE) return;
+    if (m.kind == LDP_FT_KIND_REQUEST) say("received %s %u%s%s", type, (unsigned)m.message_id, before_fec, fec);
+    else if (m.kind == LDP_FT_KIND_ABORT) say("received %s for Request %u%s%s", type, (unsigned)m.request_id, before_fec, fec);
+    else if ((m.has & LDP_FT_HAS_LABEL) == 0) say("received %s%s%s", type, before_fec, fec);
+    else if ((m.has & LDP_FT_HAS_REQUEST_ID) != 0) say("received %s: label %u, %s, for Request %u", type, (unsigned)m.label, fec, (unsigned)m.request_id);
+    else say("received %s: label %u, %s", type, (unsigned)m.label, fec);
+}
+
 void labels_act(cabinet *c, ldp_ft_message m, const uint8_t *msg) {
     char fec[WIRE_PREFIX_TEXT] = "";
     if ((m.has & LDP_FT_HAS_FEC) != 0) wire_fec_text(msg + m.fec_start, m.fec_end - m.fec_start, fec);
-    if (m.type == LDP_FT_TYPE_KEEPALIVE) return;
-    if ((m.has & LDP_FT_HAS_LABEL) != 0) say("received %s: label %u, %s", ldp_ft_type_text(m.type), (unsigned)m.label, fec);
-    else say("received %s%s%s", ldp_ft_type_text(m.type), fec[0] == 0 ? "" : ": ", fec);
+    say_received(m, fec);
     offer *o = m.kind == LDP_FT_KIND_RELEASE ? find(c, m.label) : NULL;
     if (o != NULL) {
         o->released = 1;
@@ -171,6 +207,7 @@ void labels_begin_anew(cabinet *c) {
         offer *o = &c->offers[i];
         o->released = 0;
         o->sent = 0;
+        o->answers = 0;
         if (o->taken_back && o->free_at == NEVER && c->timeout != 0) o->free_at = now() + c->timeout;
     }
 }
@@ -180,10 +217,8 @@ static void print_bindings(const cabinet *c) {
 }
 
 void labels_print(const cabinet *c) {
-    for (uint32_t i = 0; i < LDP_FT_LABEL_WORDS; i++) {
-        uint32_t word = ldp_ft_label(c->store.image, sizeof c->store.image, i);
-        if (word != 0) say("label %u %s", (unsigned)LDP_FT_WORD_LABEL(word), ldp_ft_code_text(LDP_FT_WORD_CODE(word)));
-    }
+    show_labels(c->store.image);
     print_bindings(c);
+    requests_print(c);
     say("labels end");
 }

@@ -1,7 +1,11 @@
 #!/usr/bin/env bash
-# loopback.sh CABINET: two cabinets in two processes on 127.0.0.1, one with the draft's form of FT Session and one with the published form, exchange labels while the
+# loopback.sh CABINET: two cabinets in two processes on 127.0.0.1 and 127.0.0.2, one with the draft's form of FT Session and one with the published form, exchange labels while the
 # connection is cut and each of them is killed and begins again from its store; both label lists are then as they must be. Ends by itself in seconds.
 set -euo pipefail
+if [ $# -ne 1 ] || [ ! -x "$1" ]; then
+    echo "usage: examples/loopback.sh CABINET: the program that make -C examples builds, target/examples/cabinet" >&2
+    exit 2
+fi
 cabinet=$1
 work=$(mktemp -d)
 declare -A pid
@@ -20,27 +24,27 @@ fail() {
     exit 1
 }
 
-# until WHAT COMMAND..: the command succeeds within 20 seconds
+# until WHAT COMMAND..: the command succeeds within two minutes
 until_so() {
-    local what=$1 deadline=$((SECONDS + 20))
+    local what=$1 deadline=$((SECONDS + 120))
     shift
     until "$@"; do
-        [ "$SECONDS" -lt "$deadline" ] || fail "$what: not within 20 seconds"
+        [ "$SECONDS" -lt "$deadline" ] || fail "$what: not within two minutes"
         sleep 0.05
     done
 }
 
-# start NAME OUR-LSR PEER-LSR HOW TIMEOUT FORM: with its console at a descriptor of this script; KeepAlive time 3 s
+# start NAME OUR-LSR PEER-LSR HOW OUR-ADDRESS PEER-ADDRESS TIMEOUT FORM: with its console at a descriptor of this script; KeepAlive time 3 s
 start() {
     local name=$1 console
-    "$cabinet" "$work/$name.image" "$2" "$3" "$4" 127.0.0.1 "$port" 3 "$5" "$6" <"$work/$name.console" >>"$work/$name.log" 2>&1 &
+    "$cabinet" "$work/$name.image" "$2" "$3" "$4" "$5" "$6" "$port" 3 "$7" "$8" <"$work/$name.console" >>"$work/$name.log" 2>&1 &
     pid[$name]=$!
     exec {console}>"$work/$name.console"
     printf -v "console_$name" '%s' "$console"
 }
-# a proposes 30 seconds, b 20,500 milliseconds: both keep the lesser
-start_a() { start a 10.255.0.1 10.255.0.2 listen 30 draft; }
-start_b() { start b 10.255.0.2 10.255.0.1 connect 20500 published; }
+# a proposes 300 seconds, b 200,500 milliseconds: both keep the lesser, and no busy machine outlasts it
+start_a() { start a 10.255.0.1 10.255.0.2 listen 127.0.0.1 127.0.0.2 300 draft; }
+start_b() { start b 10.255.0.2 10.255.0.1 connect 127.0.0.2 127.0.0.1 200500 published; }
 
 tell() { local console="console_$1"; echo "$2" >&"${!console}"; }
 give() { local label; for label in $(seq "$2" "$3"); do tell "$1" "give $label 10.$((label / 256)).$((label % 256)).0/24"; done; }
@@ -95,7 +99,7 @@ until_so "labels of b at the end" holds b "$(labels 103 134 using; labels 200 22
 said a "FT Session has the published form" 4 || fail "a was not always sent the published form"
 said b "FT Session has the draft's form" 4 || fail "b was not always sent the draft's form"
 for name in a b; do
-    [[ $(stored "$name") == *" timeout 20500 ms"* ]] || fail "$name keeps its state for another time: $(stored "$name" | head -n 1)"
+    [[ $(stored "$name") == *" timeout 200500 ms"* ]] || fail "$name keeps its state for another time: $(stored "$name" | head -n 1)"
     tell "$name" quit
     wait "${pid[$name]}" || fail "$name did not end well"
     unset "pid[$name]"

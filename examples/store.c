@@ -10,6 +10,7 @@
 #include <stdio.h>
 #include <stdlib.h>
 #include <string.h>
+#include <sys/file.h>
 #include <unistd.h>
 
 /* A cabinet that cannot store must not speak. */
@@ -34,19 +35,33 @@ void store_outcome(store *s, ldp_ft_outcome o) {
     if (o.block0 != 0) write_block(s, 0);
 }
 
-/* The file gets its name when all of it is there: a power cut leaves no half image. */
-static void create(store *s, const char *path) {
-    char new_path[4096], folder[4096];
-    check(snprintf(new_path, sizeof new_path, "%s.new", path) < (int)sizeof new_path, "path of the store");
-    snprintf(folder, sizeof folder, "%s", path);
-    ldp_ft_format(s->image, sizeof s->image);
-    s->file = open(new_path, O_RDWR | O_CREAT | O_TRUNC, 0600);
-    check(s->file >= 0, new_path);
-    check(write(s->file, s->image, sizeof s->image) == (ssize_t)sizeof s->image, new_path);
-    check(fsync(s->file) == 0 && rename(new_path, path) == 0, path);
+void store_sync_folder(const char *path) {
+    char folder[4096];
+    check(snprintf(folder, sizeof folder, "%s", path) < (int)sizeof folder, "path of the store");
     int directory = open(dirname(folder), O_RDONLY);
     check(directory >= 0 && fsync(directory) == 0, folder);
     close(directory);
+}
+
+/* Two cabinets with one store would each speak of what the other has not stored. The lock is the file's, under whatever name, and goes with the process. */
+static void lock(const store *s, const char *path) {
+    if (flock(s->file, LOCK_EX | LOCK_NB) == 0) return;
+    give_up(path, errno == EWOULDBLOCK ? "another cabinet is at work with this store" : strerror(errno));
+}
+
+/* The file gets its name when all of it is there: a power cut leaves no half image. Who has the lock of the new file and sees none of that name is the only
+   one to make it. */
+static void create(store *s, const char *path) {
+    char new_path[4096];
+    check(snprintf(new_path, sizeof new_path, "%s.new", path) < (int)sizeof new_path, "path of the store");
+    ldp_ft_format(s->image, sizeof s->image);
+    s->file = open(new_path, O_RDWR | O_CREAT, 0600);
+    check(s->file >= 0, new_path);
+    lock(s, path);
+    if (access(path, F_OK) == 0) give_up(path, "another cabinet has just made this store");
+    check(ftruncate(s->file, 0) == 0 && write(s->file, s->image, sizeof s->image) == (ssize_t)sizeof s->image, new_path);
+    check(fsync(s->file) == 0 && rename(new_path, path) == 0, path);
+    store_sync_folder(path);
 }
 
 static size_t read_file(int file, uint8_t image[LDP_FT_IMAGE_SIZE]) {
@@ -92,6 +107,7 @@ ldp_ft_session store_begin(store *s, const char *path) {
     s->file = open(path, O_RDWR);
     if (s->file < 0 && errno == ENOENT) create(s, path);
     check(s->file >= 0, path);
+    lock(s, path);
     size_t length = read_file(s->file, s->image);
     if (length < sizeof s->image) length = extend(s, length);
     if (length == sizeof s->image && store_is_version_1(s->image)) convert(s, path);
@@ -101,10 +117,17 @@ ldp_ft_session store_begin(store *s, const char *path) {
     return o.session;
 }
 
+/* A cabinet may be storing meanwhile: what is read twice alike stood there. It waits for its medium after each block, so that comes soon. */
 size_t store_read(const char *path, uint8_t image[LDP_FT_IMAGE_SIZE]) {
+    static uint8_t again[LDP_FT_IMAGE_SIZE];
+    size_t length = 0, before = 1;
     int file = open(path, O_RDONLY);
     if (file < 0) return 0;
-    size_t length = read_file(file, image);
+    while (length != before || memcmp(again, image, length) != 0) {
+        memcpy(again, image, sizeof again);
+        before = length;
+        length = read_file(file, image);
+    }
     close(file);
     return length;
 }

@@ -8,6 +8,8 @@
 #define FEC_TLV 0x0100
 #define ADDRESS_LIST_TLV 0x0101
 #define GENERIC_LABEL_TLV 0x0200
+#define STATUS_TLV 0x0300
+#define PARAMETERS_TLV 0x0500
 #define REQUEST_ID_TLV 0x0600
 #define WILDCARD_ELEMENT 1
 #define PREFIX_ELEMENT 2
@@ -81,6 +83,20 @@ size_t wire_label_message(uint8_t *msg, uint32_t type, uint32_t id, const uint8_
     return put_last_number(msg, put_fec_message(msg, type, id, fec, fec_len, 8), GENERIC_LABEL_TLV, label);
 }
 
+size_t wire_answer_message(uint8_t *msg, uint32_t id, const uint8_t *fec, size_t fec_len, uint32_t label, uint32_t request_id) {
+    uint8_t *at = wire_put_tlv(put_fec_message(msg, LDP_FT_TYPE_MAPPING, id, fec, fec_len, 8 + 8), GENERIC_LABEL_TLV, 4);
+    wire_put32(at, label);
+    return put_last_number(msg, at + 4, REQUEST_ID_TLV, request_id);
+}
+
+size_t wire_request_notification(uint8_t *msg, uint32_t id, uint32_t status, uint32_t about_id, uint32_t about_type, uint32_t request_id) {
+    uint8_t *at = wire_put_tlv(wire_put_message(msg, LDP_FT_TYPE_NOTIFICATION, 14 + 8, id), STATUS_TLV, 10);
+    wire_put32(at, status);
+    wire_put32(at + 4, about_id);
+    wire_put16(at + 8, about_type);
+    return put_last_number(msg, at + 10, REQUEST_ID_TLV, request_id);
+}
+
 size_t wire_request_message(uint8_t *msg, uint32_t id, const uint8_t *fec, size_t fec_len) {
     return (size_t)(put_fec_message(msg, LDP_FT_TYPE_REQUEST, id, fec, fec_len, 0) - msg);
 }
@@ -95,6 +111,14 @@ size_t wire_address_message(uint8_t *msg, uint32_t id, uint32_t address) {
     wire_put16(at, IPV4_FAMILY);
     wire_put32(at + 2, address);
     return (size_t)(at + 6 - msg);
+}
+
+int wire_is_parameters(const uint8_t *tlv) {
+    return (wire_get16(tlv) & 0x3FFF) == PARAMETERS_TLV;
+}
+
+void wire_address_text(uint32_t address, char text[WIRE_ADDRESS_TEXT]) {
+    snprintf(text, WIRE_ADDRESS_TEXT, "%u.%u.%u.%u", address >> 24, address >> 16 & 255, address >> 8 & 255, address & 255);
 }
 
 int wire_read_address(const char *text, uint32_t *address) {

@@ -1,8 +1,19 @@
 #!/usr/bin/env bash
-# install.sh PREFIX: the headers, the archive, the shared object with its soname's names, and a file for pkg-config, below PREFIX (below $DESTDIR/PREFIX if that is set).
+# install.sh PREFIX: the headers, the archive, the shared object with its soname's names, and a file for pkg-config, below
+# PREFIX (below $DESTDIR/PREFIX if that is set).
 set -euo pipefail
-if [ $# -ne 1 ] || [ -z "$1" ]; then
-    echo "usage: tools/install.sh PREFIX" >&2
+usage() {
+    echo "usage: tools/install.sh PREFIX   installs the headers, the libraries and a file for pkg-config below PREFIX"
+    echo "                                 (below \$DESTDIR/PREFIX if DESTDIR is set); tools/build-library.sh comes first"
+}
+if [ $# -eq 1 ] && { [ "$1" = --help ] || [ "$1" = -h ]; }; then
+    usage
+    exit 0
+fi
+# what begins with - is an option that is not known, never a folder; ./- is one
+case ${1:-} in '' | -*) known=no ;; *) known=yes ;; esac
+if [ $# -ne 1 ] || [ $known = no ]; then
+    usage >&2
     exit 2
 fi
 case $1 in /*) prefix=$1 ;; *) prefix=$PWD/$1 ;; esac
@@ -34,3 +45,7 @@ Cflags: -I\${includedir}
 Libs: -L\${libdir} -lldp_ft
 END
 echo "ldp_ft $version in $below: include/, lib/, lib/pkgconfig/ldp_ft.pc"
+case :${PKG_CONFIG_PATH:-}: in
+*:"$prefix/lib/pkgconfig":*) ;;
+*) echo "pkg-config finds it with PKG_CONFIG_PATH=$prefix/lib/pkgconfig, programs that use the shared object with LD_LIBRARY_PATH=$prefix/lib" ;;
+esac

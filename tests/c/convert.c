@@ -170,10 +170,49 @@ static void refusals(void) {
     expect(later[3], 1, "version 1");
 }
 
+/* So many words of the converted image are open Requests. */
+static void expect_requests(uint32_t wanted, const char *what) {
+    uint32_t words[LDP_FT_LABEL_WORDS], found = 0;
+    expect(ldp_ft_labels(later, sizeof later, words, LDP_FT_LABEL_WORDS).answer, LDP_FT_DONE, what);
+    for (size_t i = 0; i < LDP_FT_LABEL_WORDS; i++) found += LDP_FT_WORD_CODE(words[i]) == LDP_FT_CODE_REQUEST ? 1 : 0;
+    expect(found, wanted, what);
+}
+
+/* Behind 65 blocks of version 1 the medium holds anything: block 65 is refused, then made, and no Request is open. */
+static void read_65_as_66(uint8_t filling) {
+    make_base(0);
+    memset(base + LDP_FT_EARLIER_IMAGE_SIZE, filling, LDP_FT_BLOCK_SIZE);
+    forward(LDP_FT_BAD_BLOCK, LDP_FT_REQUEST_BLOCK, "what no release stored in block 65");
+    extend();
+    forward(LDP_FT_DONE, 0, "65 blocks extended");
+    expect_requests(0, "no Request in the first release");
+}
+
+/* A medium without a length (10): 65 blocks; 66 with a damaged block 65; 65 before IDs that an older image left. */
+static void without_length(void) {
+    read_65_as_66(0xFF);
+    read_65_as_66(0x00);
+    put(base + 40, word(0, LDP_FT_CODE_REQUEST), 4);
+    seal(base, 0);
+    base[LDP_FT_EARLIER_IMAGE_SIZE] ^= 1;
+    forward(LDP_FT_BAD_BLOCK, LDP_FT_REQUEST_BLOCK, "a damaged block 65");
+    extend();
+    forward(LDP_FT_DONE, 0, "block 65 made anew");
+    expect_requests(1, "a Request whose ID is lost");
+    make_base(0);
+    extend();
+    put(base + LDP_FT_EARLIER_IMAGE_SIZE, 7, 4);
+    put(base + LDP_FT_EARLIER_IMAGE_SIZE + 4, 7, 4);
+    seal(base, LDP_FT_REQUEST_BLOCK);
+    forward(LDP_FT_DONE, 0, "IDs that an older image left");
+    expect_requests(0, "which count for nothing");
+}
+
 void convert_trial(void) {
     upgrade();
     nothing_is_lost();
     back_and_forth();
     no_way_back();
     refusals();
+    without_length();
 }

@@ -33,6 +33,7 @@ static void summarize(void) {
     expect(s.timeout, 5000, "timeout in milliseconds");
     expect(s.keepalive_time, 30, "KeepAlive time");
     expect(s.max_pdu_length, 4096, "maximum PDU length");
+    expect(s.marks, 0, "Requests are not stopped");
 }
 
 /* All words, and no word after them. */
@@ -66,9 +67,11 @@ static void expect_held(uint32_t place, const uint8_t *msg, size_t length) {
     expect(memcmp(ours.image + p.start, msg, length) == 0, 1, "bytes of a held message");
 }
 
-/* The oldest first, as submitted; the first Mapping is acknowledged and gone. */
+/* The oldest first, as submitted; the first Mapping is acknowledged and gone. The oldest was sent last, with the number that follows `released`. */
 static void held(void) {
     static const uint32_t empty_places[] = {2, LDP_FT_SLOTS - 1, LDP_FT_SLOTS, 0xFFFFFFFF};
+    uint32_t released = ldp_ft_summarize(ours.image, sizeof ours.image).released;
+    expect(ldp_ft_message_read(out, sizeof mapping_51 + 16).number, ldp_ft_successor(released), "the number of the oldest held");
     expect_held(0, mapping_51, sizeof mapping_51);
     expect_held(1, address, sizeof address);
     for (size_t i = 0; i < sizeof empty_places / sizeof empty_places[0]; i++) {
@@ -84,7 +87,7 @@ static void expect_refused(const uint8_t *image, size_t length, uint32_t answer,
     ldp_ft_summary s = ldp_ft_summarize(image, length);
     expect(s.answer, answer, "summary refused");
     expect(s.block, block, "summary's block");
-    expect(s.kept + s.released + s.issued + s.secured + s.held + s.pended + s.labels + s.timeout + s.keepalive_time + s.max_pdu_length, 0, "all else 0");
+    expect(s.kept + s.released + s.issued + s.secured + s.held + s.pended + s.labels + s.timeout + s.keepalive_time + s.max_pdu_length + s.marks, 0, "all else 0");
     ldp_ft_words w = ldp_ft_labels(image, length, words, 0);
     expect(w.answer, answer, "labels refused, before their room is looked at");
     expect(w.block, block, "labels' block");
@@ -123,7 +126,13 @@ static void empty(void) {
     expect(ldp_ft_held(ours.image, sizeof ours.image, 0).answer, LDP_FT_NOTHING_UNSENT, "nothing held in a new image");
 }
 
+/* The archive and the shared object are those that the header belongs to. */
+static void version(void) {
+    expect(ldp_ft_version(), LDP_FT_VERSION_MAJOR * 65536 + LDP_FT_VERSION_MINOR * 256 + LDP_FT_VERSION_PATCH, "the library's version");
+}
+
 void image_trial(void) {
+    version();
     fill();
     summarize();
     labels();

@@ -26,4 +26,4 @@ soname=$(objdump --private-headers "$prefix/lib/libldp_ft.so" | awk '$1 == "SONA
 make --silent -C examples BUILD="$work" LDP_FT_CFLAGS="$(flags --cflags)" LDP_FT_LIBS="$(flags --libs)"
 export LD_LIBRARY_PATH=$prefix/lib
 objdump --private-headers "$work/cabinet" | grep --quiet "NEEDED *$soname" || { echo "installed.sh: the example does not need $soname"; exit 1; }
-timeout 120 examples/loopback.sh "$work/cabinet"
+timeout 600 examples/loopback.sh "$work/cabinet"

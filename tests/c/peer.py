@@ -3,125 +3,17 @@
 
 What the cabinet must do of each class of answer is looked at from outside: what it sends, whether it closes the connection, and what its store holds then. The cabinet is played to
 in the draft's form of FT Session and in the published one; the peer writes the one and the other by turns. On the way the cabinet's store is made that of the first release,
-65 blocks of version 1, and the cabinet begins again with it.
+65 blocks of version 1, and the cabinet begins again with it. Then both ask for labels, and answer.
 """
-import itertools
-import socket
 import struct
-import subprocess
 import sys
 import tempfile
 import time
 from pathlib import Path
 
-OURS, CABINETS = bytes([10, 255, 0, 2]), bytes([10, 255, 0, 1])
-NOTIFICATION, INIT, KEEPALIVE, ADDRESS, MAPPING, REQUEST, WITHDRAW, RELEASE, ABORT = 0x0001, 0x0200, 0x0201, 0x0300, 0x0400, 0x0401, 0x0402, 0x0403, 0x0404
-FEC, ADDRESSES, LABEL, STATUS, PARAMETERS, FT_SESSION, FT_PROTECTION, FT_ACK = 0x0100, 0x0101, 0x0200, 0x0300, 0x0500, 0x0503, 0x0203, 0x0504
-REQUEST_ID = 0x0600
-PREFIX = bytes([2, 0, 1, 24, 10, 9, 8])
-
-
-def tlv(kind, value):
-    return struct.pack(">HH", kind, len(value)) + value
-
-
-def number(kind, value):
-    return tlv(kind, struct.pack(">I", value))
-
-
-def message(kind, *tlvs):
-    body = b"".join(tlvs)
-    return struct.pack(">HHI", kind, len(body) + 4, 77) + body
-
-
-def of_label(kind, label, *more):
-    return message(kind, tlv(FEC, PREFIX), number(LABEL, label), *more)
-
-
-def init(*more):
-    return message(INIT, tlv(PARAMETERS, struct.pack(">HHBBH", 1, 9, 0, 0, 0) + CABINETS + bytes(2)), *more)
-
-
-def draft_session(reconnect, seconds):
-    return struct.pack(">HH", reconnect << 15, seconds)
-
-
-def published_session(reconnect, seconds):
-    """Of the new flags S alone; recovery time 0."""
-    return struct.pack(">HHII", reconnect << 15 | 8, 0, 1000 * seconds, 0)
-
-
-FORMS = {"draft": draft_session, "published": published_session}
-by_turns = itertools.cycle(FORMS.values())
-
-
-def ft_session(reconnect, seconds=30):
-    return tlv(FT_SESSION, next(by_turns)(reconnect, seconds))
-
-
-def pdu(*messages, version=1):
-    body = b"".join(messages)
-    return struct.pack(">HH", version, len(body) + 6) + OURS + bytes(2) + body
-
-
-class Connection:
-    def __init__(self, port):
-        self.socket = socket.create_connection(("127.0.0.1", port), timeout=10)
-        self.messages = []
-
-    def send(self, *messages, **version):
-        self.socket.sendall(pdu(*messages, **version))
-
-    def read(self, length):
-        got = b""
-        while len(got) < length:
-            part = self.socket.recv(length - len(got))
-            if not part:
-                return None
-            got += part
-        return got
-
-    def next(self):
-        """The next message's type, TLVs and ID; None where the cabinet has closed."""
-        while not self.messages:
-            head = self.read(4)
-            if head is None:
-                return None
-            body = self.read(struct.unpack(">HH", head)[1])
-            assert body[:6] == CABINETS + bytes(2), body[:6]
-            self.messages = list(split(body[6:]))
-        return self.messages.pop(0)
-
-    def expect(self, kind, **values):
-        found = self.next()
-        assert found is not None, f"closed, and {kind:#06x} is wanted"
-        assert found[0] == kind, f"{found[0]:#06x}, and {kind:#06x} is wanted"
-        for name, wanted in values.items():
-            value = found[1].get(globals()[name])
-            assert value == wanted, f"{name} of {kind:#06x}: {value}, and {wanted} is wanted"
-        return found[2]
-
-    def expect_closed(self):
-        while (found := self.next()) is not None:
-            assert found[0] == KEEPALIVE, f"{found[0]:#06x}, and the end is wanted"
-
-
-def split(body):
-    while body:
-        kind, length = struct.unpack(">HH", body[:4])
-        yield kind & 0x7FFF, dict(read_tlvs(body[8 : 4 + length])), body[4:8]
-        body = body[4 + length :]
-
-
-def read_tlvs(rest):
-    while rest:
-        kind, length = struct.unpack(">HH", rest[:4])
-        yield kind & 0x3FFF, rest[4 : 4 + length]
-        rest = rest[4 + length :]
-
-
-def word(value):
-    return struct.pack(">I", value)
+sys.dont_write_bytecode = True
+from cabinets import Cabinet, stored
+from other_end import *
 
 
 def plain_peer(port):
@@ -175,10 +67,10 @@ def leave_out(port, form, process):
     c = resume(port, form, 2, 1)
     c.send(of_label(MAPPING, 502, number(FT_PROTECTION, 5)))
     c.expect(KEEPALIVE, FT_ACK=word(5))
-    process.stdin.write("ask 10.7.0.0/16\n")
+    process.tell("ask 10.7.0.0/16")
     asked = c.expect(REQUEST, FEC=bytes([2, 0, 1, 16, 10, 7]), FT_PROTECTION=word(3))
     c.socket.close()
-    process.stdin.write(f"abort {struct.unpack('>I', asked)[0]}\n")
+    process.tell(f"abort {value(asked)}")
     c = resume(port, form, 2, 5)
     c.expect(ABORT, FEC=bytes([2, 0, 1, 16, 10, 7]), REQUEST_ID=asked, FT_PROTECTION=word(4))
     c.send(message(KEEPALIVE, number(FT_ACK, 4)))
@@ -194,16 +86,12 @@ def timed_out(cabinet, store, port):
     c.expect(ADDRESS, FT_PROTECTION=word(1))
     assert stored(cabinet, store)[0].startswith("kept 1,"), stored(cabinet, store)
     assert stored(cabinet, store)[0].endswith(" timeout 1000 ms"), stored(cabinet, store)
-    c.socket.close()
     begun = time.monotonic()
+    c.socket.close()
     while stored(cabinet, store)[0].startswith("kept 1,"):
-        assert time.monotonic() < begun + 10, "the state is kept after the timeout"
+        assert time.monotonic() < begun + 100, "the state is kept after the timeout"
         time.sleep(0.05)
     assert time.monotonic() > begun + 0.9, "the state is released before the timeout"
-
-
-def stored(cabinet, store):
-    return subprocess.run([cabinet, "show", store], check=True, capture_output=True, text=True).stdout.splitlines()
 
 
 def check(block):
@@ -224,28 +112,9 @@ def make_earlier(store):
     Path(store).write_bytes(block + check(block) + image[512:33280])
 
 
-def begun(command):
-    """A cabinet's process, its log so far, and the port where it listens."""
-    process = subprocess.Popen(command, stdin=subprocess.PIPE, stdout=subprocess.PIPE, text=True, bufsize=1)
-    log = []
-    while not (log and log[-1].startswith("listening ")):
-        line = process.stdout.readline()
-        assert line, "the cabinet ended:\n" + "".join(log)
-        log.append(line)
-    return process, log, int(log[-1].split()[1])
-
-
-def ended(process):
-    """What a process said since, once it is told to end."""
-    process.stdin.write("quit\n")
-    said = process.stdout.read()
-    assert process.wait(timeout=10) == 0
-    return said
-
-
 def break_the_protocol(cabinet, store, process, port, form):
     """Up to a state with labels both ways, the last message of the peer's with number 6, and all of the cabinet's acknowledged."""
-    process.stdin.write("give 40 10.9.8.0/24\n")
+    process.tell("give 40 10.9.8.0/24")
     plain_peer(port)
     ft_peer(port, form)
     c = leave_out(port, form, process)
@@ -258,40 +127,94 @@ LISTED = ["label 40 given", "label 500 using", "label 502 using", "label 501 usi
 
 
 def play(cabinet, store, form):
-    command = [cabinet, store, "10.255.0.1", "10.255.0.2", "listen", "127.0.0.1", "0", "9", "30" if form == "draft" else "30000", form]
-    process, _, port = begun(command)
-    with process:
-        try:
-            break_the_protocol(cabinet, store, process, port, form)
-            said = ended(process)
-        finally:
-            process.kill()
+    words = ["10.255.0.1", "10.255.0.2", "listen", "127.0.0.1", "127.0.0.1", 0, 60, 30 if form == "draft" else 30000, form]
+    with Cabinet(cabinet, store, *words) as process:
+        break_the_protocol(cabinet, store, process, process.port(), form)
+        said = process.end()
     make_earlier(store)
-    process, log, port = begun(command)
-    with process:
-        try:
-            assert log[0] == f"converted {store} from version 1 to version 2\n" and log[1] == "begin Failed\n", log
-            assert stored(cabinet, store)[1:] == LISTED, stored(cabinet, store)
-            c = resume(port, form, 4, 6)
-            c.send(of_label(MAPPING, 503, number(FT_PROTECTION, 0)))
-            c.expect_closed()
-            assert stored(cabinet, store)[0].startswith("kept 0,"), stored(cabinet, store)
-            process.stdin.write("give 40 10.9.8.0/24\n")
-            timed_out(cabinet, store, port)
-            said += ended(process)
-        finally:
-            process.kill()
+    with Cabinet(cabinet, store, *words) as process:
+        port = process.port()
+        assert process.said().startswith(f"converted {store} from version 1 to version 2\nbegin Failed\n"), process.said()
+        assert stored(cabinet, store)[1:] == LISTED, stored(cabinet, store)
+        c = resume(port, form, 4, 6)
+        c.send(of_label(MAPPING, 503, number(FT_PROTECTION, 0)))
+        c.expect_closed()
+        assert stored(cabinet, store)[0].startswith("kept 0,"), stored(cabinet, store)
+        process.tell("give 40 10.9.8.0/24")
+        timed_out(cabinet, store, port)
+        said += process.end()
     for wanted in ("answer 36", "answer 20", "no PDU", "the peer left out 3 before number 5", "left out 1 of ours", "answer 30", "the agreed timeout is over"):
         assert wanted in said, f"{wanted} is not in the log:\n{said}"
     for wanted in ("the peer's FT Session has the draft's form", "the peer's FT Session has the published form", "up UpFT, resumed"):
         assert wanted in said, f"{wanted} is not in the log:\n{said}"
 
 
+def ask(c, ident, turn):
+    c.send(message(REQUEST, tlv(FEC, PREFIX), number(FT_PROTECTION, turn), ident=ident))
+
+
+def requests(cabinet, store):
+    """Requests of the peer's: one answered, one aborted, one of them never made; and of the cabinet's: one open over a power cut and then answered, one aborted before another."""
+    words = ["10.255.0.1", "10.255.0.2", "listen", "127.0.0.1", "127.0.0.1", 0, 60, 30]
+    with Cabinet(cabinet, store, *words) as process:
+        c = Connection(process.port())
+        c.send(init(ft_session(0)))
+        c.expect(INIT, FT_ACK=None)
+        c.expect(KEEPALIVE, FT_ACK=word(0))
+        c.expect(ADDRESS, FT_PROTECTION=word(1))
+        ask(c, 900, 1)
+        c.expect(KEEPALIVE, FT_ACK=word(1))
+        process.tell("give 41 10.9.9.0/24 for 900")
+        process.tell("give 41 10.9.8.0/24 for 900")
+        c.expect(MAPPING, LABEL=word(41), REQUEST_ID=word(900), FT_PROTECTION=word(2))
+        ask(c, 901, 2)
+        ask(c, 902, 3)
+        c.send(message(ABORT, tlv(FEC, PREFIX), number(REQUEST_ID, 901), number(FT_PROTECTION, 4), ident=903))
+        c.send(message(ABORT, tlv(FEC, PREFIX), number(REQUEST_ID, 899), number(FT_PROTECTION, 5), ident=904))
+        c.pass_keepalives()
+        c.expect(NOTIFICATION, STATUS=struct.pack(">IIH", 0x15, 903, ABORT), REQUEST_ID=word(901), FT_PROTECTION=None)
+        process.tell("give 42 10.9.8.0/24 for 901")
+        process.tell("labels")
+        process.wait("labels end")
+        process.tell("ask 10.7.0.0/16")
+        c.pass_keepalives()
+        asked = value(c.expect(REQUEST, FEC=bytes([2, 0, 1, 16, 10, 7]), FT_PROTECTION=word(3)))
+        said = process.said()
+        process.wait_stored("label 41 given", f"Request {asked} open", "held Address, number 1", "held Label Mapping of label 41, number 2", f"held Label Request {asked}, number 3")
+    for wanted in ("give: no Request 900 of the peer's asks for 10.9.9.0/24", "received Label Request 902: 10.9.8.0/24", "received Label Abort Request for Request 901: 10.9.8.0/24",
+                   "give: no Request 901 of the peer's asks for 10.9.8.0/24", "\nRequest 902 of the peer's, 10.9.8.0/24\n"):
+        assert wanted in said, f"{wanted} is not in the log:\n{said}"
+    Path(store + ".ids").unlink()  # the image alone says which IDs are open or held
+    with Cabinet(cabinet, store, *words) as process:
+        c = Connection(process.port())
+        c.send(init(ft_session(1), number(FT_ACK, 3)))
+        c.send(of_label(MAPPING, 600, number(REQUEST_ID, asked), number(FT_PROTECTION, 6)))
+        process.wait_stored("label 41 given", "label 600 using")
+        process.tell("ask 10.7.0.0/16")
+        c.expect(INIT)
+        c.pass_keepalives()
+        again = value(c.expect(REQUEST, FT_PROTECTION=word(4)))
+        process.tell(f"abort {again}")
+        c.expect(ABORT, REQUEST_ID=word(again), FT_PROTECTION=word(5))
+        c.send(message(KEEPALIVE, number(FT_ACK, 5)))
+        process.wait_stored("label 41 given", "label 600 using")
+    with Cabinet(cabinet, store, *words) as process:
+        c = Connection(process.port())
+        c.send(init(ft_session(1), number(FT_ACK, 5)))
+        c.expect(INIT)
+        process.tell("ask 10.7.0.0/16")
+        c.pass_keepalives()
+        assert asked < again < value(c.expect(REQUEST, FT_PROTECTION=word(6))), "an ID that was aborted before the power cut is used again"
+
+
 def main():
     for form in FORMS:
         with tempfile.TemporaryDirectory() as folder:
             play(sys.argv[1], str(Path(folder) / "image"), form)
-    print("peer.py: in both forms: a plain peer served, answers 20, 30, 36, a bad PDU, messages left out on both sides, a store of the first release taken over and a timeout from the example cabinet as they must be")
+    with tempfile.TemporaryDirectory() as folder:
+        requests(sys.argv[1], str(Path(folder) / "image"))
+    print("peer.py: in both forms: a plain peer served, answers 20, 30, 36, a bad PDU, messages left out on both sides, a store of the first release taken over and a timeout "
+          "from the example cabinet as they must be; Requests answered, aborted and open over a power cut")
 
 
 main()

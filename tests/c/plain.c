@@ -82,14 +82,27 @@ static void parameters(void) {
     expect(ldp_ft_label(ours.image, sizeof ours.image, 0), 0, "all given up with 35");
 }
 
-/* A plain Init over kept state: it is given up. */
-static void plain_after_ft(void) {
+static uint32_t agreed(void) {
+    return ldp_ft_summarize(ours.image, sizeof ours.image).timeout;
+}
+
+/* An Init without FT Session, or with R clear, over kept state: it is given up, and its timeout with it, for which the labels have to wait. */
+static void state_given_up(const uint8_t *init, size_t length, uint32_t phase, uint32_t timeout) {
     begin_both();
     submit(&ours, mapping, sizeof mapping, LDP_FT_DONE, "submit");
     connection_fails(&ours);
     open_only(&ours);
-    greet(plain_init, sizeof plain_init, LDP_FT_DONE, LDP_FT_UP_PLAIN);
-    expect(ldp_ft_label(ours.image, sizeof ours.image, 0), 0, "all given up with a plain Init");
+    expect(agreed(), 5000, "the timeout before the call");
+    greet(init, length, LDP_FT_DONE, phase);
+    expect(ldp_ft_label(ours.image, sizeof ours.image, 0), 0, "all given up");
+    expect(agreed(), timeout, "the timeout after the call");
+}
+
+static void anew_after_ft(void) {
+    uint8_t init_of_2_seconds[34] = FRESH_INIT;
+    init_of_2_seconds[33] = 2;
+    state_given_up(plain_init, sizeof plain_init, LDP_FT_UP_PLAIN, 0);
+    state_given_up(init_of_2_seconds, sizeof init_of_2_seconds, LDP_FT_UP_FT, 2000);
 }
 
 void plain_trial(void) {
@@ -97,5 +110,5 @@ void plain_trial(void) {
     plain_faults();
     inits();
     parameters();
-    plain_after_ft();
+    anew_after_ft();
 }

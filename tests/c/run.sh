@@ -1,6 +1,6 @@
 #!/usr/bin/env bash
 # The headers as C99, C11 and C++17, with what the archive exports; the trials with the archive and with the shared object (tools/build-library.sh makes both); the stack that a call uses; no division;
-# the example cabinet with a peer of another maker, and, with the library installed, with another of its own.
+# the example cabinet: how it is called, with a peer of another maker, beside strangers, with signatures, and, with the library installed, with another of its own.
 set -euo pipefail
 cd "$(dirname "$0")/../.."
 library=target/staticlib
@@ -15,7 +15,7 @@ declared=$(sed -n 's/^[a-z0-9_]* \(ldp_ft_[a-z0-9_]*\)(.*/\1/p' include/ldp_ft.h
 exported=$(nm --defined-only --extern-only "$library/libldp_ft.a" | awk '$2 == "T" { print $3 }' | sort)
 diff <(echo "$declared") <(echo "$exported") || { echo "run.sh: the header declares others than the archive exports"; exit 1; }
 trials=()
-for source in trial session requests left_out labels plain images published convert readings text; do
+for source in trial session requests left_out labels plain images format published convert readings text; do
     "${CC:-cc}" -std=c99 "${flags[@]}" -c "tests/c/$source.c" -o "$work/$source.o"
     trials+=("$work/$source.o")
 done
@@ -26,5 +26,7 @@ done
 tests/c/stack.py
 tests/c/no_divide.sh
 make --silent -C examples BUILD="$work/examples"
-timeout 120 tests/c/peer.py "$work/examples/cabinet"
+for test in words peer strangers signed; do
+    timeout 600 "tests/c/$test.py" "$work/examples/cabinet"
+done
 tests/c/installed.sh

@@ -136,10 +136,11 @@ int main(void) {
     label_trial();
     plain_trial();
     image_trial();
+    format_trial();
     published_trial();
     convert_trial();
     reading_trial();
     text_trial();
-    puts("ldp_ft: a session, Requests, messages left out, labels, a plain peer, images, both forms, the converter, readers and texts from C, ok");
+    puts("ldp_ft: a session, Requests, messages left out, labels, a plain peer, images, a new one stored, both forms, the converter, readers and texts from C, ok");
     return 0;
 }

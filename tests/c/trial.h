@@ -85,6 +85,7 @@ void left_out_trial(void);
 void label_trial(void);
 void plain_trial(void);
 void image_trial(void);
+void format_trial(void);
 void published_trial(void);
 void convert_trial(void);
 void reading_trial(void);

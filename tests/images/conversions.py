@@ -1,8 +1,8 @@
 #!/usr/bin/env python3
 """Images for the converter, and what it must make of each: tests/programs/run.sh runs convert_image on them.
 
-    tests/images/conversions.py FOLDER    writes, for each case, NAME.in (the image given), NAME.args (the direction), NAME.line (what is to be printed: nothing, or the
-                                          refusal) and, where it is moved, NAME.out (the image that is to be written)
+    tests/images/conversions.py FOLDER    writes, for each case, NAME.in (the image given), NAME.args (the direction), NAME.line (what is to be printed: `converted N bytes`, or
+                                          the refusal) and, where it is moved, NAME.out (the image that is to be written)
 
 Each case states its answer; the converter of tests/paper must say the same. What is moved is a case of the other direction too, with the image given as its output.
 """
@@ -78,7 +78,8 @@ def main():
     for way, name, data in MOVED:
         out, again = converted(data, VERSION[way]), FORWARD if way == BACK else BACK
         assert isinstance(out, bytes) and converted(out, VERSION[again]) == data and out[BLOCK:] == data[BLOCK:], name
-        made += [(way, name, data, out, []), (again, f"{name}_again", out, data, [])]
+        line = [f"converted {len(data)} bytes"]
+        made += [(way, name, data, out, line), (again, f"{name}_again", out, data, line)]
     for way, name, data, answer, block in REFUSED:
         assert converted(data, VERSION[way]) == (answer, block), (name, converted(data, VERSION[way]))
         made.append((way, f"{way}_{name}", data, None, refused(answer, block)))

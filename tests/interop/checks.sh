@@ -50,6 +50,41 @@ one_role() {
     echo "run.sh: $role: up $(grep -c '^up UpPlain' "$log") times, $(grep -c '^received' "$log") messages read beside KeepAlives, answer 36 $(grep -c 'answer 36' "$log") time"
 }
 
+# signed_role NAME OUR-LSR FRR-LSR: TCP MD5 signatures with FRR's `neighbor .. password`: with a wrong key the session does not come up, with FRR's it does
+signed_role() {
+    role=signed-$1
+    make_link "$2" "$3"
+    start_frr "$2" "$3" "right-key"
+    for key in wrong right; do
+        log=$out/$role-$key.txt
+        rm -f "$work/image" "$out/$role-frr.txt"
+        start_cabinet "$2" "$3" "$log" "$key-key"
+        tell "give 100 10.7.0.0/16"
+        until_so 40 "a Hello" said "^a Hello of the peer's has come"
+        if [ "$key" = wrong ]; then stays_down; else comes_up_signed; fi
+        tell quit
+        wait "${pids[-1]}" || fail "the cabinet did not end well"
+        unset "pids[-1]"
+    done
+    stop_all
+    remove_link
+    echo "run.sh: $role: down with a wrong key, up with FRR's"
+}
+
+# For two KeepAlive times
+stays_down() {
+    sleep 30
+    if said '^up '; then fail "up with a wrong key"; fi
+    if operational; then fail "FRR says so with a wrong key"; fi
+}
+
+comes_up_signed() {
+    until_so 60 "the session is up" said '^up UpPlain'
+    until_so 20 "FRR says so" operational
+    until_so 20 "our label at FRR" lists '10\.7\.0\.0/16 .* 100 '
+    keep 'show mpls ldp neighbor'
+}
+
 # Every packet in a line; then the first Inits and the Notification whole
 read_capture() {
     tshark -r "$work/$role.pcap" -Y ldp -t r 2>/dev/null

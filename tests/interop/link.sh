@@ -44,15 +44,17 @@ remove_link() {
     ip netns delete "$theirs"
 }
 
-# start_frr OUR-LSR FRR-LSR: zebra, staticd and ldpd, each with its files in a folder of this run
+# start_frr OUR-LSR FRR-LSR [PASSWORD]: zebra, staticd and ldpd, each with its files in a folder of this run
 start_frr() {
     local folder=$work/frr daemon
+    rm -rf "$folder"
     mkdir -p "$folder"
     echo "hostname frr" >"$folder/zebra.conf"
     printf 'ip route %s/32 10.0.12.1\nip route 10.7.0.0/16 10.0.12.1\nip route 10.8.0.0/16 10.0.12.1\n' "$1" >"$folder/staticd.conf"
     cat >"$folder/ldpd.conf" <<END
 mpls ldp
  router-id $2
+${3:+ neighbor $1 password $3}
  address-family ipv4
   discovery transport-address $2
   session holdtime 15
@@ -85,13 +87,18 @@ start_capture() {
     pids+=($!)
 }
 
-# start_cabinet OUR-LSR FRR-LSR LOG: KeepAlive time 15 s, timeout 30 s in the unit of the form; its console is descriptor 7
+# start_cabinet OUR-LSR FRR-LSR LOG [PASSWORD]: KeepAlive time 15 s, timeout 30 s in the unit of the form; its console is descriptor 7
 start_cabinet() {
-    local timeout=30
+    local timeout=30 signed=()
     if [ "$form" = published ]; then timeout=30000; fi
+    if [ -n "${4:-}" ]; then
+        echo "$4" >"$work/key"
+        signed=(--md5 "$work/key")
+    fi
     rm -f "$work/console"
     mkfifo "$work/console"
-    ip netns exec "$ours" "$work/examples/cabinet" "$work/image" "$1" "$2" hello 10.0.12.1 15 "$timeout" "$form" <"$work/console" >"$3" 2>&1 &
+    : >"$3"
+    ip netns exec "$ours" "$work/examples/cabinet" "${signed[@]}" "$work/image" "$1" "$2" hello 10.0.12.1 15 "$timeout" "$form" <"$work/console" >"$3" 2>&1 &
     pids+=($!)
     exec 7>"$work/console"
 }

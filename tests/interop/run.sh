@@ -1,5 +1,5 @@
 #!/usr/bin/env bash
-# run.sh: the example cabinet on a live link with FRR's ldpd, in two network namespaces that this script makes and removes, in both TCP roles. Takes three minutes.
+# run.sh: the example cabinet on a live link with FRR's ldpd, in two network namespaces that this script makes and removes, in both TCP roles, and again with TCP MD5 signatures. Takes five minutes.
 # What came out is written to the folder named as its argument (a new one below /tmp if there is none). FORM=published has our Inits in RFC 3479's form; else they are in the draft's. docs/INTEROP.md has a run.
 set -euo pipefail
 here=$(cd "$(dirname "$0")" && pwd)
@@ -23,4 +23,6 @@ make --silent -C "$top/examples" BUILD="$work/examples"
 # The greater identifier connects.
 one_role connects 10.255.0.2 10.255.0.1
 one_role listens 10.255.0.1 10.255.0.2
-echo "run.sh: both roles as they must be; what came out is in $out"
+signed_role connects 10.255.0.2 10.255.0.1
+signed_role listens 10.255.0.1 10.255.0.2
+echo "run.sh: both roles as they must be, signed and not; what came out is in $out"

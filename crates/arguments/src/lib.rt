@@ -68,3 +68,29 @@ pub fn input(usage: &[u8]) -> i32 {
     }
     input_named(usage)
 }
+
+// Whether what is left of `fd` cannot be read; then standard error says so of `name`. Asked where reading has ended: to `io::read_full` a read that
+// fails is the input's end. Only what has a position is read once more: a pipe has no reads that fail, and it or a terminal might have to be waited for.
+// Proved safe and ending; what the system reads and writes is tested.
+pub fn read_fails(fd: i32, name: &[u8]) -> bool {
+    let mut next = [0u8; 1];
+    let at = libc::lseek(fd, 0, libc::SEEK_CUR);
+    if at < 0 && os::errno() == libc::ESPIPE {
+        return false;
+    }
+    if at >= 0 && libc::read(fd, &mut next) >= 0 {
+        return false;
+    }
+    os::fail(name);
+    true
+}
+
+// The same of the descriptor that `input` answered: it is named as the argument names it.
+pub fn input_fails(fd: i32) -> bool {
+    if os::arg_count() < 2 {
+        return read_fails(fd, b"standard input");
+    }
+    let mut name = io::buffer();
+    let length = os::arg(1, &mut name);
+    read_fails(fd, &name[..length])
+}

@@ -1,5 +1,6 @@
-// Moves the stored image on standard input from version 1 to version 2 (forward), or from 2 to 1 (back), into a file that it makes; or prints the one line of
-// its refusal, as print_image does, and makes no file. Proved safe and ending; what the system reads and writes is tested.
+// Moves the stored image on standard input from version 1 to version 2 (forward), or from 2 to 1 (back), into a file that it makes, and then prints how many
+// bytes it has; or prints the one line of its refusal, as print_image does, and makes no file. A program has no exit status: that line is what tells that
+// the file is there whole. Proved safe and ending; what the system reads and writes is tested.
 use arguments::Asked;
 use convert::Conversion;
 use image_report::Report;
@@ -24,8 +25,28 @@ fn direction_of(argument: &[u8]) -> Direction {
 fn write_usage(fd: i32) {
     io::write_all(
         fd,
-        b"usage: convert_image forward|back FILE   moves the stored image on standard input from version 1 to 2, or back, into FILE, which it makes; or prints why it is refused\n",
+        b"usage: convert_image forward|back FILE   moves the stored image on standard input from version 1 to 2, or back, into FILE, which it makes, and prints `converted N bytes` when it is there; or prints why it is refused\n",
     );
+}
+
+// The line that tells that all went well; its end is written last.
+fn tell_done(size: usize) {
+    let fd = libc::STDOUT_FILENO;
+    if io::write_all(fd, b"converted ")
+        && io::print_decimal(fd, size as u64)
+        && io::write_all(fd, b" bytes\n")
+    {
+        return;
+    }
+    os::fail(b"standard output");
+}
+
+// Whether all of the image is in the file, the file on its medium, and closed. Where one of these fails errno says why, and the program's end closes it.
+fn written(fd: i32, image: &[u8]) -> bool {
+    if io::write_all(fd, image) && libc::fsync(fd) == 0 {
+        return libc::close(fd) == 0;
+    }
+    false
 }
 
 // The file, made; one that is there already is left as it is. Where the image does not get there whole, standard error says why and no file is left.
@@ -35,10 +56,8 @@ fn store(path: &[u8], image: &[u8]) {
         os::fail(path);
         return;
     }
-    let whole = io::write_all(fd, image);
-    let synced = libc::fsync(fd);
-    libc::close(fd);
-    if whole && synced == 0 {
+    if written(fd, image) {
+        tell_done(image.len());
         return;
     }
     os::fail(path);
@@ -67,10 +86,13 @@ fn move_image(forward: bool, image: &[u8], out: &mut [u8]) -> Conversion {
     convert::back(image, out)
 }
 
-// Reads the image; a byte more than it may have shows that it is too long.
+// Reads the image; a byte more than it may have shows that it is too long. What cannot be read is told, and not judged.
 fn move_input(forward: bool, path: &[u8]) {
     let mut image = [0u8; image::IMAGE_SIZE + 1];
     let size = io::read_full(libc::STDIN_FILENO, &mut image);
+    if size < image.len() && arguments::read_fails(libc::STDIN_FILENO, b"standard input") {
+        return;
+    }
     let mut out = [0u8; image::IMAGE_SIZE];
     let answer = move_image(forward, &image[..size], &mut out);
     settle(answer, path, &out);

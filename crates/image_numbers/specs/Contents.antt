@@ -38,9 +38,11 @@ refusedSummary answer block = record {
   timeout = 0;
   keepalive = 0;
   maxpdu = 0;
+  marks = 0;
 }
 
--- the counts "as the image printer says"; "the agreed timeout, 0 for ever", in milliseconds, and "the peer's, as stored"
+-- the counts "as the image printer says"; "the agreed timeout, 0 for ever", in milliseconds, and "the peer's, as stored"; "byte 23 of block 0", which
+-- restore's checks want zero where nothing is kept
 unfoldable pub wholeSummary : Header → Counts → SummaryNumbers
 wholeSummary h c = record {
   answer = answerNumber Answer.Done;
@@ -55,6 +57,7 @@ wholeSummary h c = record {
   timeout = h .timeout;
   keepalive = h .keepalive;
   maxpdu = h .maxpdu;
+  marks = h .marks;
 }
 
 abbrev pub summaryBy : Verdict → Contents → SummaryNumbers

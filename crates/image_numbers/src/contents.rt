@@ -27,6 +27,7 @@ fn refused_summary(answer: u32, block: u32) -> SummaryNumbers
         timeout: 0,
         keepalive: 0,
         maxpdu: 0,
+        marks: 0,
     }
 }
 
@@ -48,11 +49,12 @@ fn whole_summary(h: Header, counts: Counts) -> SummaryNumbers
         timeout: h.timeout,
         keepalive: h.keepalive as u32,
         maxpdu: h.maxpdu as u32,
+        marks: h.marks as u32,
     }
 }
 
-// The counts of an image as the image printer says them, with kept, the agreed timeout in milliseconds and the peer's parameters; 12, 10, 11 with the block, and all else 0, where
-// restore's checks refuse.
+// The counts of an image as the image printer says them, with kept, the agreed timeout in milliseconds, the peer's parameters and the marks of
+// byte 23; 12, 10, 11 with the block, and all else 0, where restore's checks refuse.
 pub fn summarize(image: &[u8]) -> SummaryNumbers
     ensures { λ r. ⌜ r ≡ summaryOf (now (image .entry)) ⌝ }
 {

@@ -20,7 +20,8 @@ pub struct RequestNumbers {
     pub id: u32,
 }
 
-// What an image holds: 0, its counts as the image printer says them, the agreed timeout in milliseconds and the peer's parameters; or the answer, the block that it names, and all else 0.
+// What an image holds: 0, its counts as the image printer says them, the agreed timeout in milliseconds, the peer's parameters and the marks;
+// or the answer, the block that it names, and all else 0.
 #[repr(C)]
 pub struct SummaryNumbers {
     pub answer: u32,
@@ -35,6 +36,7 @@ pub struct SummaryNumbers {
     pub timeout: u32,
     pub keepalive: u32,
     pub maxpdu: u32,
+    pub marks: u32,
 }
 
 // The label words of an image: 0 and how many are not zero; or the answer and the block that it names.

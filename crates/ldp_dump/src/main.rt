@@ -1,4 +1,5 @@
-// Prints the messages of a stream of LDP PDUs, on standard input or in the file that is named, a line for each (docs/LDP_DUMP.md).
+// Prints the messages of a stream of LDP PDUs, on standard input or in the file that is named, a line for each (docs/LDP_DUMP.md). Where what is left of it
+// cannot be read, standard error says so after the lines.
 fn main() {
     let fd = arguments::input(
         b"usage: ldp_dump [FILE]   prints the messages of a stream of LDP PDUs, a line each; without FILE it reads standard input\n",
@@ -7,4 +8,5 @@ fn main() {
         return;
     }
     dump::stream::dump_stream(fd);
+    arguments::input_fails(fd);
 }

@@ -184,6 +184,8 @@ pub struct Summary {
     pub timeout: u32,
     pub keepalive_time: u32,
     pub max_pdu_length: u32,
+    /// Whether Requests are stopped, by the bits of [`marks`].
+    pub marks: u32,
 }
 
 /// All label words written, and how many of them are not free; or a refusal, and no word written.

@@ -1,13 +1,15 @@
-//! `ldp-ft convert forward|back IN OUT`: a stored image in another version, in a file of its own.
+//! `ldp-ft convert forward|back IN OUT`: a stored image in another version, in a file of its own or on standard output.
 
 use crate::image::{failed_check, version};
-use crate::{of_file, print, read_image, status, Ended};
+use crate::{complain, of_file, of_output, print, read_image, status, whole_file, Ended};
 use cabinet::{Cabinet, Converted, IMAGE_SIZE, IMAGE_SIZE_WITHOUT_REQUESTS};
 use ldp_ft::Library;
 use std::ffi::OsStr;
-use std::fs::{self, OpenOptions};
-use std::io::{self, Write};
-use std::path::{Path, PathBuf};
+use std::fs::{self, File, Metadata};
+use std::io::{self, ErrorKind, Write};
+use std::os::fd::{AsFd, BorrowedFd};
+use std::os::unix::fs::MetadataExt;
+use std::path::Path;
 use support::options::{Known, Options};
 
 /// What `convert` takes: a direction and two files.
@@ -64,24 +66,54 @@ pub fn run(options: &Options) -> Ended {
     let [way, from, to] = options.files.as_slice() else {
         return Err("it needs a direction and two files".to_string());
     };
-    let way = Way::of(way)?;
+    let (way, to) = (Way::of(way)?, Target::of(to));
     let mut image = read_image(from)?;
     let extended = extend(way, &mut image);
     let mut converted = vec![0; IMAGE_SIZE];
     let result = way.convert(&image, &mut converted);
     if result.answer != 0 {
         let reason = way.reason(&image, &result);
-        print(&format!("refused {} block {}: {reason}\n", result.answer, result.block))?;
+        to.tell(&format!("refused {} block {}: {reason}", result.answer, result.block))?;
         return Ok(status::REFUSED);
     }
-    write(to, &converted, options.is_given("overwrite"))?;
+    match to {
+        Target::Output => write_output(&converted)?,
+        Target::File(file) => write(file, &converted, mode_of(from), options.is_given("overwrite"))?,
+    }
     let (before, after) = way.versions();
     let size = if extended {
         format!(", which had {IMAGE_SIZE_WITHOUT_REQUESTS} bytes and was extended,")
     } else {
         String::new()
     };
-    print(&format!("version {before}{size} converted to version {after}\n"))
+    to.tell(&format!("version {before}{size} converted to version {after}"))
+}
+
+/// Where the image goes.
+#[derive(Clone, Copy)]
+enum Target<'a> {
+    /// Standard output, which then has the image and nothing else.
+    Output,
+    File(&'a OsStr),
+}
+
+impl<'a> Target<'a> {
+    fn of(file: &'a OsStr) -> Self {
+        if file == "-" {
+            Target::Output
+        } else {
+            Target::File(file)
+        }
+    }
+
+    /// A line on what was done, where the image is not.
+    fn tell(self, line: &str) -> Ended {
+        match self {
+            Target::Output => complain(line),
+            Target::File(_) => return print(&format!("{line}\n")),
+        }
+        Ok(status::DONE)
+    }
 }
 
 /// An image of the base lacks its last block, which is made first. Version 1 is the only one that had so few.
@@ -94,34 +126,43 @@ fn extend(way: Way, image: &mut Vec<u8>) -> bool {
     is_of_the_base
 }
 
-/// Writes a file that was not there; or, where that is asked for, puts it in the place of one that was. Where that fails nothing is
-/// left of it.
-fn write(file: &OsStr, bytes: &[u8], overwrite: bool) -> Result<(), String> {
-    let failed = |error: io::Error| match error.kind() {
-        io::ErrorKind::AlreadyExists => {
-            format!("{}: is there already; --overwrite replaces it", file.to_string_lossy())
-        }
-        _ => of_file(file, error),
-    };
-    if !overwrite {
-        return write_new(Path::new(file), bytes).map_err(failed);
-    }
-    let target = fs::canonicalize(file).unwrap_or_else(|_| PathBuf::from(file));
-    if target.exists() && !target.is_file() {
-        return Err(format!("{}: is no file that can be replaced", file.to_string_lossy()));
-    }
-    let mut beside = target.clone().into_os_string();
-    beside.push(format!(".{}", std::process::id()));
-    let beside = PathBuf::from(beside);
-    write_new(&beside, bytes).and_then(|()| fs::rename(&beside, &target)).map_err(failed)
+/// The mode of the file that was read, also where it is standard input; none of a pipe.
+fn mode_of(file: &OsStr) -> Option<u32> {
+    let read = if file == "-" { of_descriptor(io::stdin().as_fd()) } else { fs::metadata(file) };
+    read.ok().filter(Metadata::is_file).map(|file| file.mode())
 }
 
-/// A file that was not there is on the medium when it returns, or gone again.
-fn write_new(path: &Path, bytes: &[u8]) -> io::Result<()> {
-    let mut file = OpenOptions::new().write(true).create_new(true).open(path)?;
-    let written = file.write_all(bytes).and_then(|()| file.sync_all());
-    written.inspect_err(|_| {
-        // What hindered the writing is told; that it cannot be removed either adds nothing.
-        let _ = fs::remove_file(path);
-    })
+fn of_descriptor(descriptor: BorrowedFd) -> io::Result<Metadata> {
+    File::from(descriptor.try_clone_to_owned()?).metadata()
+}
+
+/// Every byte, or it fails: that nobody reads on is a fault here. A file is on the medium when it returns.
+fn write_output(bytes: &[u8]) -> Result<(), String> {
+    let mut output = io::stdout().lock();
+    let written = output.write_all(bytes).and_then(|()| output.flush()).and_then(|()| {
+        let file = File::from(output.as_fd().try_clone_to_owned()?);
+        if file.metadata()?.is_file() {
+            file.sync_all()?;
+        }
+        Ok(())
+    });
+    written.map_err(of_output)
+}
+
+/// Makes a file, with the mode of the one that was read; or, where that is asked for, puts the image in the place of
+/// one that is there.
+fn write(file: &OsStr, bytes: &[u8], mode: Option<u32>, overwrite: bool) -> Result<(), String> {
+    let failed = |error: io::Error| match error.kind() {
+        ErrorKind::AlreadyExists => format!("{}: is there already; --overwrite replaces it", file.to_string_lossy()),
+        _ => of_file(file, error),
+    };
+    let path = Path::new(file);
+    if fs::metadata(path).is_ok_and(|there| !there.is_file()) {
+        return Err(format!("{}: is no file that can be replaced", file.to_string_lossy()));
+    }
+    if !overwrite || fs::symlink_metadata(path).is_err_and(|error| error.kind() == ErrorKind::NotFound) {
+        return whole_file::make(path, bytes, mode).map_err(failed);
+    }
+    let target = fs::canonicalize(path).map_err(failed)?;
+    fs::metadata(&target).and_then(|old| whole_file::replace(&target, bytes, &old)).map_err(failed)
 }

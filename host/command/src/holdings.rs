@@ -9,7 +9,7 @@ const LABEL_MASK: u32 = (1 << CODE_SHIFT) - 1;
 const REQUEST: u32 = 7;
 
 /// A label with its code.
-#[derive(Clone, Copy, Debug, PartialEq, Eq)]
+#[derive(Clone, Copy, Debug, PartialEq, Eq, PartialOrd, Ord)]
 pub struct Listed {
     pub label: u32,
     pub code: u32,
@@ -56,25 +56,26 @@ impl Holdings {
 
     /// The labels of a code, in order.
     pub fn labels_of(&self, code: u32) -> Vec<u32> {
-        let mut labels: Vec<u32> =
-            self.labels.iter().filter(|listed| listed.code == code).map(|listed| listed.label).collect();
-        labels.sort_unstable();
-        labels
+        self.labels.iter().filter(|listed| listed.code == code).map(|listed| listed.label).collect()
     }
 }
 
-/// The labels that are listed, in the order of their places.
+/// The labels that are listed, in their own order.
 pub fn labels(image: &[u8]) -> Vec<Listed> {
     let mut words = [0; PLACES];
     Library.labels(image, &mut words);
     let listed = words.iter().map(|word| Listed { label: word & LABEL_MASK, code: word >> CODE_SHIFT });
-    listed.filter(|listed| listed.code != 0 && listed.code != REQUEST).collect()
+    let mut labels: Vec<Listed> = listed.filter(|listed| listed.code != 0 && listed.code != REQUEST).collect();
+    labels.sort_unstable();
+    labels
 }
 
-/// The IDs of the open Requests, in the order of their places.
+/// The IDs of the open Requests, in their own order.
 pub fn requests(image: &[u8]) -> Vec<u32> {
     let places = (0..PLACES as u32).map(|place| Library.request_at(image, place));
-    places.filter(|request| request.open == 1).map(|request| request.id).collect()
+    let mut requests: Vec<u32> = places.filter(|request| request.open == 1).map(|request| request.id).collect();
+    requests.sort_unstable();
+    requests
 }
 
 /// The messages held, the oldest first.

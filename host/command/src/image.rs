@@ -25,26 +25,41 @@ pub fn report(image: &[u8], json: bool) -> Report {
             Report { text, refused: false }
         }
         Err(summary) => {
-            let reason = reason(image, summary.answer, summary.block);
+            let (answer, block) = (summary.answer, summary.block);
+            let (reason, advice) = (reason(image, answer, block), advice(image, answer, block));
             let text = if json {
-                format!("{}\n", refusal(&summary, reason))
+                format!("{}\n", refusal(&summary, reason, advice))
             } else {
-                format!("refused {} block {}: {reason}\n", summary.answer, summary.block)
+                format!("refused {answer} block {block}: {reason}\nwhat to do: {advice}\n")
             };
             Report { text, refused: true }
         }
     }
 }
 
-/// Which check an image fails, and where; of an image of the earlier version that there is a converter.
+/// Which check an image fails, and where; of an image of the earlier version that it is one.
 fn reason(image: &[u8], answer: u32, block: u32) -> String {
-    if (answer, block, version(image)) == (11, 0, Some(EARLIER)) {
-        return format!(
-            "block 0 has version {EARLIER}, as an earlier release stores it: `ldp-ft convert forward` or \
-             ldp_ft_convert_forward makes it one of version 2"
-        );
+    match (answer, block, version(image)) {
+        (11, 0, Some(EARLIER)) => format!("block 0 has version {EARLIER}, as an earlier release stores it"),
+        _ => failed_check(image, answer, block),
     }
-    failed_check(image, answer, block)
+}
+
+/// What to do with an image that is refused.
+fn advice(image: &[u8], answer: u32, block: u32) -> String {
+    let convert =
+        "`ldp-ft convert forward` makes it one of version 2 (in a cabinet ldp_ft_extend, if it is shorter, and \
+                   ldp_ft_convert_forward)";
+    match (answer, block) {
+        (11, 0) if version(image) == Some(EARLIER) => convert.to_string(),
+        (12, _) if image.len() == IMAGE_SIZE_WITHOUT_REQUESTS => convert.to_string(),
+        (12, _) => "see whether this is the right file, and whether it was copied whole".to_string(),
+        _ => {
+            "keep this file, and read the store again: it may pass. If no copy passes, all that is left is a new image \
+              (ldp_ft_format): its session begins fresh, and every label is lost and has to be given anew"
+                .to_string()
+        }
+    }
 }
 
 /// The version of images that the converter takes forward.
@@ -82,31 +97,41 @@ fn block_in_words(number: u32) -> String {
 
 fn size_in_words(length: usize) -> String {
     match length {
-        IMAGE_SIZE_WITHOUT_REQUESTS => format!(
-            "an image of {length} bytes is one of an earlier release, without its block of Requests: \
-             `ldp-ft convert forward`, or ldp_ft_extend and then ldp_ft_convert_forward, makes it one of {IMAGE_SIZE}"
-        ),
+        IMAGE_SIZE_WITHOUT_REQUESTS => {
+            format!("an image of {length} bytes is one of an earlier release, without its block of Requests")
+        }
         _ if length > IMAGE_SIZE => format!("it has more than the {IMAGE_SIZE} bytes of an image"),
         _ => format!("it has {length} bytes, and an image has {IMAGE_SIZE}"),
     }
 }
 
-/// The numbers as the image printer shows them, then the rest line by line.
+/// The numbers as the image printer shows them, each with what it counts.
+fn counts(summary: &Summary) -> String {
+    let Summary { released, issued, secured, held, pended, labels, .. } = summary;
+    format!(
+        "released {released}: the peer has acknowledged our messages through this number\n\
+         issued {issued}: the last number that one of our messages was given\n\
+         secured {secured}: the peer's messages through this number are taken and stored here\n\
+         held {held}: our messages that the peer has not acknowledged\n\
+         pended {pended}: those of them that have no number yet, for they were never sent\n\
+         labels {labels}: places of the label list in use, one for each open Request among them\n"
+    )
+}
+
+/// The counts, then the rest line by line.
 fn words(holdings: &Holdings) -> String {
-    let Summary { kept, released, issued, secured, held, pended, labels, .. } = holdings.summary;
-    let mut text = format!(
-        "released {released}\nissued {issued}\nsecured {secured}\nheld {held}\npended {pended}\nlabels {labels}\n"
-    );
-    if kept == 0 {
+    let mut text = counts(&holdings.summary);
+    if holdings.summary.kept == 0 {
         return text + "no state is kept\n";
     }
     text += &agreed(holdings);
     // Writing to a String cannot fail.
     for Listed { label, code } in &holdings.labels {
-        let _ = writeln!(text, "label {label}: {} (code {code})", names::label_code(*code));
+        let waits = names::waits_for(*code).map_or(String::new(), |what| format!(": waits for {what}"));
+        let _ = writeln!(text, "label {label}: {} (code {code}){waits}", names::label_code(*code));
     }
     for id in &holdings.requests {
-        let _ = writeln!(text, "Request {id} is open");
+        let _ = writeln!(text, "Request {id} is open: waits for a Mapping or a Notification that names it");
     }
     for Held { number, message } in &holdings.held {
         let number = number.map_or("pended".to_string(), |number| format!("number {number}"));
@@ -132,8 +157,13 @@ fn agreed(holdings: &Holdings) -> String {
     )
 }
 
-fn refusal(summary: &Summary, reason: String) -> Value {
-    Value::Record(vec![("answer", summary.answer.into()), ("block", summary.block.into()), ("refused", reason.into())])
+fn refusal(summary: &Summary, reason: String, advice: String) -> Value {
+    Value::Record(vec![
+        ("answer", summary.answer.into()),
+        ("block", summary.block.into()),
+        ("refused", reason.into()),
+        ("what_to_do", advice.into()),
+    ])
 }
 
 fn record(holdings: Holdings) -> Value {
@@ -144,6 +174,7 @@ fn record(holdings: Holdings) -> Value {
             ("label", (*label).into()),
             ("code", (*code).into()),
             ("meaning", names::label_code(*code).into()),
+            ("waits_for", names::waits_for(*code).into()),
         ])
     };
     let message = |held: &Held| {

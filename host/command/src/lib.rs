@@ -1,4 +1,5 @@
-//! The tool for people: `ldp-ft image`, `ldp-ft convert`, `ldp-ft dump` and `ldp-ft watch`, on the library's C boundary.
+//! The tool for people: `ldp-ft image`, `ldp-ft convert`, `ldp-ft dump` and `ldp-ft watch`, on the library's C
+//! boundary.
 
 mod addresses;
 mod convert;
@@ -6,10 +7,13 @@ pub mod dump;
 mod holdings;
 pub mod image;
 mod json;
+pub mod malformed;
 mod message;
 mod names;
 mod usage;
+mod version;
 mod watch;
+mod whole_file;
 
 use dump::Trouble;
 use std::ffi::{OsStr, OsString};
@@ -67,6 +71,7 @@ fn obey(name: &str, rest: &[OsString]) -> Ended {
         "watch" => watch::run(&options(&watch::KNOWN)?),
         watch::CABINET => watch::run_cabinet(&options(&watch::KNOWN_CABINET)?),
         "--help" | "-h" | "help" => print(usage::TOOL),
+        "--version" | "-V" => print(&version::in_words()),
         "" => Err(format!("it needs a command\n{}", usage::TOOL.trim_end())),
         _ => Err(format!("there is no command {name:?}\n{}", usage::TOOL.trim_end())),
     }
@@ -90,7 +95,8 @@ fn read_image(file: &OsStr) -> Result<Vec<u8>, String> {
 
 fn dump_command(options: &Options) -> Ended {
     let file = &options.files[0];
-    let sound = dump::dump(&mut open(file)?, &mut io::stdout().lock(), options.is_given("json"));
+    let name = file.to_string_lossy();
+    let sound = dump::dump(&name, &mut open(file)?, &mut io::stdout().lock(), options.is_given("json"));
     match sound {
         Ok(true) => Ok(status::DONE),
         Ok(false) => Ok(status::REFUSED),

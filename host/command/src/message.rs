@@ -2,6 +2,7 @@
 
 use crate::addresses;
 use crate::json::Value;
+use crate::malformed;
 use crate::names;
 use cabinet::{has, Cabinet, Message};
 use ldp_ft::Library;
@@ -32,8 +33,13 @@ fn field(key: &'static str, value: impl Into<Value>, text: String) -> Field {
 pub struct Described {
     pub message_type: u32,
     pub id: u32,
-    /// What its TLVs say; none of a malformed message.
-    pub fields: Option<Vec<Field>>,
+    /// What its TLVs say; of a malformed message why it is.
+    pub fields: Result<Vec<Field>, String>,
+}
+
+/// The library's judgement stands, also where no reason is found for it.
+fn why_malformed(msg: &[u8]) -> String {
+    malformed::reason(msg).unwrap_or("for a reason that this tool does not know".to_string())
 }
 
 impl Described {
@@ -43,12 +49,12 @@ impl Described {
         Described {
             message_type: u32::from(wire::message_type(msg) & 0x7FFF),
             id: wire::message_id(msg),
-            fields: (read.answer == 0).then(|| fields(&read, msg)),
+            fields: if read.answer == 0 { Ok(fields(&read, msg)) } else { Err(why_malformed(msg)) },
         }
     }
 
     pub fn is_malformed(&self) -> bool {
-        self.fields.is_none()
+        self.fields.is_err()
     }
 
     pub fn json(self) -> Vec<(&'static str, Value)> {
@@ -56,9 +62,12 @@ impl Described {
             ("type", self.message_type.into()),
             ("name", names::message_type(self.message_type).into()),
             ("id", self.id.into()),
-            ("malformed", self.fields.is_none().into()),
+            ("malformed", self.fields.is_err().into()),
         ];
-        record.extend(self.fields.into_iter().flatten().map(|field| (field.key, field.value)));
+        match self.fields {
+            Ok(fields) => record.extend(fields.into_iter().map(|field| (field.key, field.value))),
+            Err(why) => record.push(("why", why.into())),
+        }
         record
     }
 }
@@ -66,7 +75,10 @@ impl Described {
 impl Display for Described {
     fn fmt(&self, f: &mut Formatter) -> fmt::Result {
         write!(f, "{} 0x{:04x} ID {}", names::message_type(self.message_type), self.message_type, self.id)?;
-        let Some(fields) = &self.fields else { return f.write_str(": malformed") };
+        let fields = match &self.fields {
+            Ok(fields) => fields,
+            Err(why) => return write!(f, ": malformed, {why}"),
+        };
         let texts: Vec<&str> = fields.iter().map(|field| field.text.as_str()).collect();
         if texts.is_empty() {
             return Ok(());

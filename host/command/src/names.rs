@@ -100,6 +100,15 @@ const LABEL_CODES: &[(u32, &str)] = &[
     (9, "ours, withdrawn and released"),
 ];
 
+/// What has to come before a label with a code is free or ours again, where it waits for something.
+const WAITS: &[(u32, &str)] = &[
+    (2, "the peer's acknowledgement of our Withdraw, and its Release"),
+    (4, "our Release"),
+    (5, "the peer's acknowledgement of our Release"),
+    (8, "the peer's Release"),
+    (9, "the peer's acknowledgement of our Withdraw"),
+];
+
 fn name_in(table: &[(u32, &'static str)], number: u32) -> Option<&'static str> {
     table.iter().find(|(known, _)| *known == number).map(|(_, name)| *name)
 }
@@ -122,4 +131,9 @@ pub fn status(code: u32) -> &'static str {
 /// A label word's code.
 pub fn label_code(code: u32) -> &'static str {
     name_in(LABEL_CODES, code).unwrap_or("unknown code")
+}
+
+/// What a label with a code waits for.
+pub fn waits_for(code: u32) -> Option<&'static str> {
+    name_in(WAITS, code)
 }

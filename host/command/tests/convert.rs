@@ -3,11 +3,12 @@
 mod tool;
 
 use cabinet::IMAGE_SIZE;
-use std::fs;
-use std::path::PathBuf;
-use std::process::Output;
+use std::fs::{self, OpenOptions, Permissions};
+use std::os::unix::fs::{chown, symlink, MetadataExt, PermissionsExt};
+use std::path::{Path, PathBuf};
+use std::process::{Command, Output, Stdio};
 use support::store::Directory;
-use tool::{run_on, stderr, stdout, tool};
+use tool::{run_on, run_unread, stderr, stdout, tool};
 use trials::crafted::two_held;
 use trials::stored::{word, Stored, Version};
 
@@ -152,4 +153,120 @@ fn standard_input_and_files_that_are_not_there() {
     assert_eq!((output.status.code(), stdout(&output).as_str()), (Some(2), ""));
     let output = run_on(&["convert", "back", "-", "/no/such/folder/file"], &two_held().image(0));
     assert_eq!((output.status.code(), stdout(&output).as_str()), (Some(2), ""));
+}
+
+/// A link that leads nowhere is neither replaced nor followed.
+#[test]
+fn a_link_that_leads_nowhere() {
+    let place = Place::with(&earlier().image(0));
+    symlink("nowhere", &place.to).unwrap();
+    for options in [&[][..], &["--overwrite"]] {
+        let output = place.convert("forward", options);
+        assert_eq!((output.status.code(), stdout(&output).as_str()), (Some(2), ""));
+    }
+    assert!(place.to.is_symlink() && !place.to.exists());
+}
+
+fn allow(file: &Path, mode: u32) {
+    fs::set_permissions(file, Permissions::from_mode(mode)).unwrap();
+}
+
+fn mode(file: &Path) -> u32 {
+    fs::metadata(file).unwrap().mode() & 0o7777
+}
+
+#[test]
+fn a_new_file_has_the_mode_of_what_was_read() {
+    for wanted in [0o600, 0o640, 0o664] {
+        let place = Place::with(&earlier().image(0));
+        allow(&place.from, wanted);
+        done(&place.convert("forward", &[]));
+        assert_eq!(mode(&place.to), wanted);
+        let read = || Stdio::from(fs::File::open(&place.from).unwrap());
+        fs::remove_file(&place.to).unwrap();
+        done(&tool(&["convert", "forward", "--overwrite", "-"]).arg(&place.to).stdin(read()).output().unwrap());
+        assert_eq!(mode(&place.to), wanted, "standard input is that file");
+    }
+    let place = Place::with(b"");
+    done(&run_on(&["convert", "back", "-", place.to.to_str().unwrap()], &two_held().image(0)));
+    assert_eq!(mode(&place.to), mode(&place.from), "of a pipe: as every new file");
+}
+
+#[test]
+fn a_file_that_is_replaced_keeps_its_mode() {
+    let place = Place::with(&earlier().image(0));
+    fs::write(&place.to, b"").unwrap();
+    allow(&place.from, 0o600);
+    allow(&place.to, 0o640);
+    done(&place.convert("forward", &["--overwrite"]));
+    assert_eq!((mode(&place.from), mode(&place.to)), (0o600, 0o640));
+    let itself = Place { to: place.from.clone(), ..place };
+    done(&itself.convert("forward", &["--overwrite"]));
+    assert_eq!(mode(&itself.from), 0o600);
+}
+
+/// An owner can be another only where the test runs as root.
+#[test]
+fn a_file_that_is_replaced_keeps_its_owner() {
+    let (owner, group) = (65_534, 65_533);
+    let place = Place::with(&earlier().image(0));
+    if chown(&place.from, Some(owner), Some(group)).is_err() {
+        return assert_ne!(fs::metadata(&place.from).unwrap().uid(), 0, "root may give a file away");
+    }
+    allow(&place.from, 0o600);
+    let itself = Place { to: place.from.clone(), ..place };
+    done(&itself.convert("forward", &["--overwrite"]));
+    let replaced = fs::metadata(&itself.from).unwrap();
+    assert_eq!((replaced.uid(), replaced.gid(), mode(&itself.from)), (owner, group, 0o600));
+    assert_eq!(fs::read(&itself.from).unwrap(), two_held().image(0));
+}
+
+/// Runs the tool where no file may grow beyond a few blocks, as on a full disk.
+fn convert_without_room(place: &Place, options: &str) -> Output {
+    let line = format!("trap '' XFSZ; ulimit -f 8; exec \"$@\" {options} \"$FROM\" \"$TO\"");
+    let converts = tool(&["convert", "forward"]);
+    let mut shell = Command::new("sh");
+    shell.args(["-c", &line, "sh"]).arg(converts.get_program()).args(converts.get_args());
+    shell.env("FROM", &place.from).env("TO", &place.to).output().unwrap()
+}
+
+#[test]
+fn a_write_that_fails_leaves_what_was_there() {
+    for options in ["", "--overwrite"] {
+        let place = Place::with(&earlier().image(0));
+        let output = convert_without_room(&place, options);
+        assert_eq!((output.status.code(), stdout(&output).as_str()), (Some(2), ""), "{}", stderr(&output));
+        assert!(!place.to.exists());
+        fs::write(&place.to, b"dear").unwrap();
+        allow(&place.to, 0o640);
+        assert_eq!(convert_without_room(&place, options).status.code(), Some(2));
+        assert_eq!((fs::read(&place.to).unwrap(), mode(&place.to)), (b"dear".to_vec(), 0o640));
+        assert_eq!(fs::read_dir(place.to.parent().unwrap()).unwrap().count(), 2, "nothing is left beside it");
+    }
+}
+
+/// The image and nothing else; what was done, or why not, is told on standard error.
+#[test]
+fn standard_output() {
+    let output = run_on(&["convert", "forward", "-", "-"], &earlier().image(0xD1));
+    assert_eq!((output.status.code(), output.stdout), (Some(0), two_held().image(0xD1)));
+    assert_eq!(String::from_utf8(output.stderr).unwrap(), "ldp-ft: version 1 converted to version 2\n");
+    let output = run_on(&["convert", "forward", "-", "-"], &two_held().image(0));
+    assert_eq!((output.status.code(), stdout(&output).as_str()), (Some(1), ""));
+    assert_eq!(stderr(&output), "ldp-ft: refused 11 block 0: it has version 2 already\n");
+    assert!(!Path::new("-").exists());
+}
+
+/// Output that does not take the whole image is told, also where nobody reads it.
+#[cfg(target_os = "linux")]
+#[test]
+fn standard_output_that_is_lost() {
+    let place = Place::with(&earlier().image(0));
+    let full = OpenOptions::new().write(true).open("/dev/full").unwrap();
+    let output = tool(&["convert", "forward"]).arg(&place.from).arg("-").stdout(full).output().unwrap();
+    assert_eq!(output.status.code(), Some(2));
+    assert!(stderr(&output).starts_with("ldp-ft: standard output: "), "{}", stderr(&output));
+    let output = run_unread(&["convert", "forward", "-", "-"], &earlier().image(0));
+    assert_eq!(output.status.code(), Some(2));
+    assert!(stderr(&output).starts_with("ldp-ft: standard output: "), "{}", stderr(&output));
 }

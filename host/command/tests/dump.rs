@@ -2,11 +2,14 @@
 
 mod tool;
 
+use cabinet::Cabinet;
 use command::dump::dump;
+use ldp_ft::Library;
 use std::fs;
 use std::io::Cursor;
 use support::hex;
-use support::wire::{pdu, types, Message};
+use support::store::Directory;
+use support::wire::{pdu, tlvs, types, Message};
 use tool::{is_json, repository, run_on, run_unread, stderr, stdout};
 use trials::generate::{malformed, states};
 use trials::random::Random;
@@ -16,7 +19,7 @@ const CAPTURES: [&str; 4] = ["basic", "dual-stack", "three-routers", "typed-wild
 /// Dumps bytes, and tells whether all was sound.
 fn dumped(input: &[u8], json: bool) -> (String, bool) {
     let mut output = Vec::new();
-    let sound = dump(&mut Cursor::new(input), &mut output, json).unwrap();
+    let sound = dump("-", &mut Cursor::new(input), &mut output, json).unwrap();
     (String::from_utf8(output).unwrap(), sound)
 }
 
@@ -70,7 +73,8 @@ fn a_capture_in_words() {
     let (text, _) = dumped(pdus.join("\n").as_bytes(), false);
     for line in [
         "PDU 0 from 10.255.0.1:0, 42 bytes",
-        "  Hello 0x0100 ID 1: hold time 15 s, transport address 10.255.0.1, TLV 0x0402 Configuration Sequence Number (length 4)",
+        "  Hello 0x0100 ID 1: hold time 15 s, transport address 10.255.0.1, \
+         TLV 0x0402 Configuration Sequence Number (length 4)",
     ] {
         assert!(text.lines().any(|printed| printed == line), "{line}\n{text}");
     }
@@ -164,10 +168,65 @@ fn what_is_malformed_is_named_and_the_rest_shown() {
     assert_eq!(output.status.code(), Some(1));
     assert_eq!(
         stdout(&output),
-        "PDU 0 from 0.0.0.1:0, 31 bytes\n  Label Mapping 0x0400 ID 5: malformed\n  KeepAlive 0x0201 ID 1\n\
+        "PDU 0 from 0.0.0.1:0, 31 bytes\n  Label Mapping 0x0400 ID 5: malformed, it has no Generic Label\n  \
+         KeepAlive 0x0201 ID 1\n\
          PDU 1 from 0.0.0.1:0, 18 bytes: malformed, the lengths of its messages do not add up to its own\n\
          PDU 2 from 0.0.0.1:0, 18 bytes\n  KeepAlive 0x0201 ID 2\n"
     );
+}
+
+/// Each reason in words, and for scripts.
+#[test]
+fn why_a_message_is_malformed() {
+    let mapping = || Message::new(types::MAPPING, 5).fec(&[1]);
+    let mut cut_off = mapping().label(16).bytes();
+    cut_off[16] = 9;
+    let mut no_tlv = mapping().label(16).bytes();
+    no_tlv.extend([0, 0]);
+    no_tlv[3] += 2;
+    for (msg, why) in [
+        (mapping().bytes(), "it has no Generic Label"),
+        (Message::new(types::MAPPING, 5).label(16).bytes(), "it has no FEC"),
+        (Message::new(types::ABORT, 5).fec(&[1]).bytes(), "it has no Label Request Message ID"),
+        (mapping().label(1_048_576).bytes(), "its label 1048576 is above 1048575"),
+        (mapping().label(16).label(17).bytes(), "its Generic Label stands twice"),
+        (mapping().fec(&[1]).label(16).bytes(), "its FEC stands twice"),
+        (mapping().tlv(tlvs::LABEL, &[0; 5]).bytes(), "its Generic Label has length 5, not 4"),
+        (mapping().label(16).tlv(tlvs::FT_SESSION, &[0; 5]).bytes(), "its FT Session has length 5, not 4 or 12"),
+        (cut_off, "its TLV 0x0200 Generic Label has length 9, and 4 bytes are left"),
+        (no_tlv, "2 bytes behind its TLVs are no TLV"),
+    ] {
+        let stream = pdu(1, &[msg]);
+        let (text, sound) = dumped(&stream, false);
+        assert!(!sound && text.ends_with(&format!(": malformed, {why}\n")), "{why}: {text}");
+        let (json, _) = dumped(&stream, true);
+        assert!(json.contains(&format!("\"malformed\":true,\"why\":\"{why}\"")), "{why}: {json}");
+    }
+}
+
+/// A reason is found where the library finds a message malformed, and only there.
+#[test]
+fn a_reason_where_the_library_has_one() {
+    let mut random = Random::new(0x1_D9F8);
+    let mut malformed = 0;
+    for _ in 0..50_000 {
+        let stored = states::state(&mut random);
+        let pdu = malformed::pdu(&mut random, &stored);
+        let mut msg = pdu.get(10..).unwrap_or_default().to_vec();
+        for _ in 0..random.below(3) {
+            if let Some(last) = msg.len().checked_sub(1) {
+                msg[random.between(0, last)] = random.u8();
+            }
+        }
+        if msg.len() >= 8 && random.percent(90) {
+            let length = (msg.len() - 4) as u16;
+            msg[2..4].copy_from_slice(&length.to_be_bytes());
+        }
+        let is_malformed = Library.message_read(&msg).answer != 0;
+        assert_eq!(command::malformed::reason(&msg).is_some(), is_malformed, "{}", hex::digits(&msg));
+        malformed += usize::from(is_malformed);
+    }
+    assert!((5_000..45_000).contains(&malformed), "{malformed}");
 }
 
 #[test]
@@ -200,6 +259,51 @@ fn input_that_ends_early_or_is_neither() {
     }
     let endless = vec![b'0'; 3 << 20];
     assert_eq!(dumped(&endless, false), ("line 1 is no hexadecimal\n".to_string(), false));
+}
+
+/// Captures are known by their first bytes, and the command that makes a stream of one is said, with its name.
+#[test]
+fn a_capture_is_no_stream() {
+    let directory = Directory::create("test-capture").unwrap();
+    let magics: [&[u8]; 5] =
+        [b"\xD4\xC3\xB2\xA1", b"\xA1\xB2\xC3\xD4", b"\x4D\x3C\xB2\xA1", b"\xA1\xB2\x3C\x4D", b"\x0A\x0D\x0D\x0A"];
+    for magic in magics {
+        let file = directory.file("it's.pcap");
+        fs::write(&file, [magic, &[2, 0, 4, 0]].concat()).unwrap();
+        let output = run_on(&["dump", file.to_str().unwrap()], b"");
+        assert_eq!((output.status.code(), stderr(&output).as_str()), (Some(1), ""));
+        let quoted = file.to_str().unwrap().replace('\'', "'\\''");
+        let command = format!("`tshark -r '{quoted}' -q -z follow,tcp,raw,0 | ldp-ft dump -`");
+        assert!(stdout(&output).contains(&command) && stdout(&output).lines().count() == 1, "{}", stdout(&output));
+        let output = run_on(&["dump", "--json", "-"], magic);
+        assert!(is_json(&stdout(&output)) && stdout(&output).contains("tshark -r FILE -q"), "{}", stdout(&output));
+    }
+    assert_eq!(dumped(b"\n\n\n", false), (String::new(), true), "blank lines are no capture");
+    assert!(!dumped(b"\xD4\xC3\xB2", false).1);
+}
+
+/// What tshark 4.0 writes of a connection of which two segments are not in the capture: the first hides where the next
+/// PDU starts, so that a line is passed over; the second is within a PDU.
+#[test]
+fn bytes_that_are_missing_in_a_capture() {
+    let keepalive = |id: u32| hex::digits(&pdu(0x0A00_0001, &[Message::new(types::KEEPALIVE, id).bytes()]));
+    let marker = "5b3130206279746573206d697373696e6720696e20636170747572652066696c655d00";
+    let [first, second, third, fourth] = [1, 2, 3, 4].map(keepalive);
+    let (begin, end) = (&second[..12], &second[32..]);
+    let text = format!("{first}\n{marker}\n{end}{first}\n{second}\n{begin}\n{marker}\n{end}{third}\n\t{fourth}\n");
+    let (told, sound) = dumped(text.as_bytes(), false);
+    assert_eq!(
+        told,
+        "PDU 0 from 10.0.0.1:0, 18 bytes\n  KeepAlive 0x0201 ID 1\n\
+         10 bytes are missing in the capture: what follows is passed over up to a line with a PDU\n\
+         PDU 1 from 10.0.0.1:0, 18 bytes\n  KeepAlive 0x0201 ID 2\n\
+         10 bytes of PDU 2 are missing in the capture\n\
+         PDU 3 from 10.0.0.1:0, 18 bytes\n  KeepAlive 0x0201 ID 3\n\
+         PDU 4 from 10.0.0.1:0, 18 bytes\n  KeepAlive 0x0201 ID 4\n"
+    );
+    assert!(!sound);
+    let (json, _) = dumped(text.as_bytes(), true);
+    assert!(json.contains("{\"refused\":\"10 bytes of PDU 2 are missing in the capture\"}\n"), "{json}");
 }
 
 #[test]

@@ -25,12 +25,25 @@ fn refusal(image: &[u8]) -> String {
     stdout(&output)
 }
 
+/// The six lines of counts, with what each of them says.
+fn counts(numbers: [u32; 6]) -> String {
+    let [released, issued, secured, held, pended, labels] = numbers;
+    format!(
+        "released {released}: the peer has acknowledged our messages through this number\n\
+         issued {issued}: the last number that one of our messages was given\n\
+         secured {secured}: the peer's messages through this number are taken and stored here\n\
+         held {held}: our messages that the peer has not acknowledged\n\
+         pended {pended}: those of them that have no number yet, for they were never sent\n\
+         labels {labels}: places of the label list in use, one for each open Request among them\n"
+    )
+}
+
 #[test]
 fn labels_messages_and_what_was_agreed() {
     assert_eq!(
         words(&two_held()),
-        "released 4294967294\nissued 4294967295\nsecured 7\nheld 2\npended 1\nlabels 2\n\
-         state is kept over a break for 5 seconds\n\
+        counts([4_294_967_294, 4_294_967_295, 7, 2, 1, 2])
+            + "state is kept over a break for 5 seconds\n\
          the peer's KeepAlive time is 30 s, its maximum PDU length 4096\n\
          Requests are not stopped\n\
          label 16: ours, given (code 1)\n\
@@ -45,12 +58,15 @@ fn labels_messages_and_what_was_agreed() {
 fn requests_and_both_marks() {
     assert_eq!(
         words(&asking()),
-        "released 0\nissued 0\nsecured 0\nheld 2\npended 2\nlabels 5\n\
-         state is kept over a break for ever\n\
+        counts([0, 0, 0, 2, 2, 5])
+            + "state is kept over a break for ever\n\
          the peer's KeepAlive time is 0 s, its maximum PDU length 0\n\
          Requests are stopped both ways: neither end has label resources\n\
          label 16: ours, given (code 1)\n\
-         Request 5 is open\nRequest 0 is open\nRequest 4294967295 is open\nRequest 6 is open\n\
+         Request 0 is open: waits for a Mapping or a Notification that names it\n\
+         Request 5 is open: waits for a Mapping or a Notification that names it\n\
+         Request 6 is open: waits for a Mapping or a Notification that names it\n\
+         Request 4294967295 is open: waits for a Mapping or a Notification that names it\n\
          holds pended: Label Abort Request 0x0404 ID 8: FEC 10.0.0.1/32, for Request 4\n\
          holds pended: Notification 0x0001 ID 9: status 0x0000000e No Label Resources (about message 77)\n"
     );
@@ -69,17 +85,30 @@ fn every_label_code_and_a_second() {
     let text = words(&stored);
     for line in [
         "label 101: ours, given (code 1)",
-        "label 102: ours, withdrawing (code 2)",
+        "label 102: ours, withdrawing (code 2): waits for the peer's acknowledgement of our Withdraw, and its Release",
         "label 103: the peer's, using (code 3)",
-        "label 104: the peer's, asked back (code 4)",
-        "label 105: the peer's, releasing (code 5)",
+        "label 104: the peer's, asked back (code 4): waits for our Release",
+        "label 105: the peer's, releasing (code 5): waits for the peer's acknowledgement of our Release",
         "label 106: the peer's, using without protection (code 6)",
-        "label 108: ours, withdrawn and acknowledged (code 8)",
-        "label 109: ours, withdrawn and released (code 9)",
+        "label 108: ours, withdrawn and acknowledged (code 8): waits for the peer's Release",
+        "label 109: ours, withdrawn and released (code 9): waits for the peer's acknowledgement of our Withdraw",
         "state is kept over a break for 1 second",
     ] {
         assert!(text.lines().any(|printed| printed == line), "{line}\n{text}");
     }
+}
+
+/// In the order of their numbers, wherever they stand; one that is ours and the peer's stands twice.
+#[test]
+fn labels_are_sorted() {
+    let mut stored = two_held();
+    for (place, label, code) in [(2, 900, 3), (9, 16, 3), (40, 21, 3), (118, 17, 1)] {
+        stored.labels[place] = trials::stored::word(label, code);
+    }
+    let text = words(&stored);
+    let label = |line: &str| line.strip_prefix("label ")?.split(':').next()?.parse().ok();
+    let labels: Vec<u32> = text.lines().filter_map(label).collect();
+    assert_eq!(labels, [16, 16, 17, 17, 21, 900]);
 }
 
 /// Whole seconds as seconds, others with three places.
@@ -100,9 +129,17 @@ fn the_timeout_in_words() {
 
 #[test]
 fn nothing_kept() {
-    let text = words(&Stored::idle());
-    assert_eq!(text, "released 0\nissued 0\nsecured 0\nheld 0\npended 0\nlabels 0\nno state is kept\n");
+    assert_eq!(words(&Stored::idle()), counts([0; 6]) + "no state is kept\n");
 }
+
+/// What to do about damage, which the library cannot mend.
+const DAMAGED: &str = "\
+what to do: keep this file, and read the store again: it may pass. If no copy passes, all that is left is a new image \
+(ldp_ft_format): its session begins fresh, and every label is lost and has to be given anew\n";
+const CONVERT: &str = "\
+what to do: `ldp-ft convert forward` makes it one of version 2 (in a cabinet ldp_ft_extend, if it is shorter, and \
+ldp_ft_convert_forward)\n";
+const OTHER_SIZE: &str = "what to do: see whether this is the right file, and whether it was copied whole\n";
 
 #[test]
 fn refusals_in_words() {
@@ -111,6 +148,7 @@ fn refusals_in_words() {
     bad_check[64 * 512 + 20] ^= 1;
     let text = refusal(&bad_check);
     assert!(text.starts_with("refused 10 block 64: the check of block 64 (a message held) is wrong: 0x"), "{text}");
+    assert!(text.ends_with(DAMAGED), "{text}");
     let mut bad_field = sound.clone();
     bad_field[22] = 2;
     seal(&mut bad_field, 0);
@@ -118,20 +156,23 @@ fn refusals_in_words() {
         refusal(&bad_field),
         "refused 11 block 0: a field of block 0 (the session's numbers and its label list) is out of its range; \
          its check is right\n"
+            .to_string()
+            + DAMAGED
     );
     let mut bad_ids = sound.clone();
     bad_ids[REQUEST_BLOCK * 512 + 500] = 1;
     seal(&mut bad_ids, REQUEST_BLOCK);
     assert!(refusal(&bad_ids).contains("a field of block 65 (the message IDs of open Requests)"));
-    assert_eq!(refusal(&sound[..100]), "refused 12 block 0: it has 100 bytes, and an image has 33792\n");
-    assert_eq!(refusal(&[]), "refused 12 block 0: it has 0 bytes, and an image has 33792\n");
+    for length in [100, 0] {
+        let told = format!("refused 12 block 0: it has {length} bytes, and an image has {IMAGE_SIZE}\n{OTHER_SIZE}");
+        assert_eq!(refusal(&sound[..length]), told);
+    }
     assert!(refusal(&sound[..33_280]).contains("earlier release"));
-    assert!(refusal(&sound[..33_280]).contains("`ldp-ft convert forward`"));
+    assert!(refusal(&sound[..33_280]).ends_with(CONVERT));
     for stored in [two_held(), Stored::idle()] {
         assert_eq!(
             refusal(&stored.moved(Version::One).unwrap().image(0xD1)),
-            "refused 11 block 0: block 0 has version 1, as an earlier release stores it: `ldp-ft convert forward` or \
-             ldp_ft_convert_forward makes it one of version 2\n"
+            format!("refused 11 block 0: block 0 has version 1, as an earlier release stores it\n{CONVERT}")
         );
     }
     assert!(refusal(&[sound, vec![0; 5]].concat()).contains("more than the 33792 bytes"));
@@ -159,8 +200,11 @@ fn it_says_what_the_image_printer_says() {
     for (name, printed) in printers_cases() {
         let image = fs::read(repository("crates/print_image_cases/data").join(&name)).unwrap();
         let report = report(&image, false);
-        let begins = printed.trim_end();
-        assert!(report.text.starts_with(begins), "{name}: {begins}\n{}", report.text);
+        for (line, begins) in report.text.lines().zip(printed.lines()) {
+            let words = line.strip_prefix(begins).and_then(|rest| rest.strip_prefix(": "));
+            assert!(words.is_some_and(|words| !words.is_empty()), "{name}: {begins}\n{}", report.text);
+        }
+        assert!(report.text.lines().count() > printed.lines().count());
         assert_eq!(report.refused, printed.starts_with("refused"), "{name}");
     }
 }
@@ -173,8 +217,9 @@ fn for_scripts() {
         "{\"answer\":0,\"kept\":true,\"released\":4294967294,\"issued\":4294967295,\"secured\":7,\"held\":2,\
          \"pended\":1,\"labels\":2,\"timeout_milliseconds\":5000,\"keepalive_time\":30,\"max_pdu_length\":4096,\
          \"stopped_by_peer\":false,\"stopped_by_us\":false,\"label_words\":[\
-         {\"label\":16,\"code\":1,\"meaning\":\"ours, given\"},\
-         {\"label\":17,\"code\":6,\"meaning\":\"the peer's, using without protection\"}],\"open_requests\":[],\
+         {\"label\":16,\"code\":1,\"meaning\":\"ours, given\",\"waits_for\":null},\
+         {\"label\":17,\"code\":6,\"meaning\":\"the peer's, using without protection\",\"waits_for\":null}],\
+         \"open_requests\":[],\
          \"messages\":[{\"number\":4294967295,\"type\":1024,\"name\":\"Label Mapping\",\"id\":1,\"malformed\":false,\
          \"fec\":[\"10.0.0.1/32\"],\"label\":16,\
          \"other_tlvs\":[{\"type\":15873,\"name\":\"unknown TLV\",\"length\":4}]},\
@@ -182,7 +227,11 @@ fn for_scripts() {
     );
     let output = run_on(&["image", "--json", "-"], b"abc");
     assert_eq!(output.status.code(), Some(1));
-    assert_eq!(stdout(&output), "{\"answer\":12,\"block\":0,\"refused\":\"it has 3 bytes, and an image has 33792\"}\n");
+    let refused = format!(
+        "{{\"answer\":12,\"block\":0,\"refused\":\"it has 3 bytes, and an image has {IMAGE_SIZE}\",\
+         \"what_to_do\":\"see whether this is the right file, and whether it was copied whole\"}}\n"
+    );
+    assert_eq!(stdout(&output), refused);
 }
 
 #[test]

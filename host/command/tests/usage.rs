@@ -55,6 +55,9 @@ fn wrong_usage_is_refused_in_a_line() {
         &["watch", "--ondemand"],
         &["watch", "--form"],
         &["watch", "--form", "rfc"],
+        &["watch", "--all", "--json"],
+        &["watch", "--keep"],
+        &["watch", "--keep", "/no/such/directory/stores"],
         &["cabinet", "--name", "west", "."],
     ] {
         let output = run_on(arguments, b"");
@@ -87,13 +90,15 @@ fn a_file_that_cannot_be_read() {
 #[cfg(target_os = "linux")]
 #[test]
 fn output_that_takes_nothing() {
-    for arguments in [&["image", "-"][..], &["dump", "-"], &["--help"]] {
+    for arguments in [&["image", "-"][..], &["dump", "-"], &["--help"], &["--version"], &["watch"], &["watch", "--all"]]
+    {
         let full = std::fs::OpenOptions::new().write(true).open("/dev/full").unwrap();
         let output = tool(arguments).stdin(Stdio::null()).stdout(full).stderr(Stdio::piped()).output().unwrap();
         let nothing_to_print = arguments[0] == "dump";
-        let expected = if nothing_to_print { (0, "") } else { (2, "ldp-ft: standard output: ") };
+        let expected = if nothing_to_print { (0, "", 0) } else { (2, "ldp-ft: standard output: ", 1) };
         assert_eq!(output.status.code(), Some(expected.0), "{arguments:?}");
-        assert!(stderr(&output).starts_with(expected.1));
+        let complaint = stderr(&output);
+        assert!(complaint.starts_with(expected.1) && complaint.lines().count() == expected.2, "{complaint}");
     }
 }
 
@@ -115,4 +120,20 @@ fn arguments_that_are_no_text() {
 fn help_that_nobody_reads() {
     let output = run_unread(&["--help"], b"");
     assert_eq!((output.status.code(), stderr(&output).as_str()), (Some(0), ""));
+}
+
+#[test]
+fn its_version_and_the_librarys() {
+    let header = std::fs::read_to_string(tool::repository("include/ldp_ft.h")).unwrap();
+    let number = |part: &str| {
+        let name = format!("#define LDP_FT_VERSION_{part} ");
+        header.lines().find_map(|line| line.strip_prefix(&name)).unwrap().to_string()
+    };
+    let library = [number("MAJOR"), number("MINOR"), number("PATCH")].join(".");
+    for argument in ["--version", "-V"] {
+        let output = run_on(&[argument], b"");
+        assert_eq!((output.status.code(), stderr(&output).as_str()), (Some(0), ""));
+        let expected = format!("ldp-ft {} with ldp_ft {library}\n", env!("CARGO_PKG_VERSION"));
+        assert_eq!(stdout(&output), expected);
+    }
 }

@@ -99,6 +99,7 @@ pub struct ldp_ft_summary {
     pub timeout: u32,
     pub keepalive_time: u32,
     pub max_pdu_length: u32,
+    pub marks: u32,
 }
 
 /// All label words written.
@@ -124,6 +125,7 @@ pub struct ldp_ft_distance_result {
 }
 
 extern "C" {
+    pub fn ldp_ft_version() -> u32;
     pub fn ldp_ft_format(image: *mut u8, image_len: usize) -> ldp_ft_outcome;
     pub fn ldp_ft_restore(image: *mut u8, image_len: usize) -> ldp_ft_outcome;
     pub fn ldp_ft_open(

@@ -31,7 +31,8 @@ same_fields!(Converted, ldp_ft_converted: answer, block, length);
 same_fields!(Words, ldp_ft_words: answer, block, count);
 same_fields!(
     Summary, ldp_ft_summary:
-    answer, block, kept, released, issued, secured, held, pended, labels, timeout, keepalive_time, max_pdu_length
+    answer, block, kept, released, issued, secured, held, pended, labels, timeout, keepalive_time, max_pdu_length,
+    marks
 );
 
 impl From<ldp_ft_outcome> for Outcome {

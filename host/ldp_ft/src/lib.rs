@@ -34,6 +34,14 @@ fn start_mut<T>(slice: &mut [T]) -> *mut T {
     }
 }
 
+impl Library {
+    /// The version of the library that runs: major * 65,536 + minor * 256 + patch.
+    pub fn version(&self) -> u32 {
+        // SAFETY: a number only.
+        unsafe { ldp_ft_version() }
+    }
+}
+
 impl Cabinet for Library {
     fn format(&self, image: &mut [u8]) -> Outcome {
         // SAFETY: the image is a whole slice, lent for the call.

@@ -2,6 +2,7 @@
 
 use crate::image::{self, Refusal};
 use crate::labels;
+use crate::layout::at;
 use cabinet::{Part, Request, Summary, Words, BLOCK_SIZE, PLACES};
 
 /// The bytes of the label list of an image that passes the checks.
@@ -38,6 +39,7 @@ pub fn summarize(image: &[u8]) -> Summary {
             timeout: head.timeout,
             keepalive_time: u32::from(head.keepalive_time),
             max_pdu_length: u32::from(head.max_pdu_length),
+            marks: u32::from(image[at::MARKS]),
         },
         Err(Refusal { answer, block }) => Summary { answer, block, ..Summary::default() },
     }

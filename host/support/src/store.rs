@@ -75,15 +75,16 @@ impl Store {
 pub struct Directory(PathBuf);
 
 impl Directory {
-    /// Makes a directory that was not there before, and is nobody else's.
+    /// Makes a directory that was not there before, and is nobody else's. An error names it.
     pub fn create(name: &str) -> io::Result<Self> {
         static MADE: AtomicU32 = AtomicU32::new(0);
         loop {
             let made = MADE.fetch_add(1, Ordering::Relaxed);
             let path = std::env::temp_dir().join(format!("ldp-ft-{name}-{}-{made}", std::process::id()));
             match fs::create_dir(&path) {
+                Ok(()) => return Ok(Directory(path)),
                 Err(error) if error.kind() == io::ErrorKind::AlreadyExists => {}
-                result => return result.map(|()| Directory(path)),
+                Err(error) => return Err(io::Error::new(error.kind(), format!("{}: {error}", path.display()))),
             }
         }
     }

@@ -178,11 +178,15 @@ impl Arrived {
 
     /// The next PDU by its own length, if all of it has arrived.
     pub fn next_pdu(&mut self) -> Option<&[u8]> {
-        let rest = &self.bytes[self.start..];
-        let length = PDU_HEAD + usize::from(u16::from_be_bytes([*rest.get(2)?, *rest.get(3)?]));
-        let pdu = rest.get(..length)?;
+        let length = length_of(self.rest())?;
+        let pdu = self.bytes[self.start..].get(..length)?;
         self.start += length;
         Some(pdu)
+    }
+
+    /// How many bytes a PDU lacks of which version and length have arrived, and not all.
+    pub fn lacks(&self) -> Option<usize> {
+        length_of(self.rest())?.checked_sub(self.rest().len())
     }
 
     /// What has arrived of a PDU that is not whole yet.
@@ -194,6 +198,11 @@ impl Arrived {
     pub fn drop_rest(&mut self) {
         self.start = self.bytes.len();
     }
+}
+
+/// The length of the whole PDU that bytes begin with, where they tell.
+fn length_of(bytes: &[u8]) -> Option<usize> {
+    Some(PDU_HEAD + usize::from(u16::from_be_bytes([*bytes.get(2)?, *bytes.get(3)?])))
 }
 
 /// The TLVs of a message in which lengths add up, each whole, with its type.

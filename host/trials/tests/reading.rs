@@ -49,6 +49,7 @@ fn the_summary_says_what_the_record_holds() {
             timeout: stored.timeout,
             keepalive_time: u32::from(stored.keepalive_time),
             max_pdu_length: u32::from(stored.max_pdu_length),
+            marks: u32::from(stored.marks),
         };
         assert_eq!(seen.returned, Returned::Summary(expected));
     }

@@ -7,6 +7,8 @@ use support::hex;
 pub enum Line {
     /// Bytes, of side 1 where a tab stands first, else of side 0.
     Bytes { side: usize, bytes: Vec<u8> },
+    /// tshark's note that a side's bytes are not in the capture.
+    Missing { side: usize, bytes: usize },
     /// A blank line, or one of those with which tshark begins and ends.
     Nothing,
     /// Anything else.
@@ -22,12 +24,26 @@ pub fn read(line: &[u8]) -> Line {
         return Line::Nothing;
     }
     let side = usize::from(line.first() == Some(&b'\t'));
+    if let Some(bytes) = missing(line.trim_ascii()) {
+        return Line::Missing { side, bytes };
+    }
     let digits: Vec<u8> = line.iter().copied().filter(|byte| !byte.is_ascii_whitespace() && *byte != b':').collect();
     match hex::bytes(&digits) {
         Some(bytes) if bytes.is_empty() => Line::Nothing,
-        Some(bytes) => Line::Bytes { side, bytes },
+        Some(bytes) => match missing(&bytes) {
+            Some(bytes) => Line::Missing { side, bytes },
+            None => Line::Bytes { side, bytes },
+        },
         None => Line::Other,
     }
+}
+
+/// How many bytes tshark says are missing: `[10 bytes missing in capture file]` in characters, with a 0 behind them
+/// where they stand as hexadecimal among the bytes.
+fn missing(text: &[u8]) -> Option<usize> {
+    let text = text.strip_suffix(b"\0").unwrap_or(text);
+    let number = text.strip_prefix(b"[")?.strip_suffix(b" bytes missing in capture file]")?;
+    std::str::from_utf8(number).ok()?.parse().ok()
 }
 
 #[cfg(test)]
@@ -46,6 +62,16 @@ mod tests {
             assert_eq!(read(line), Line::Nothing);
         }
         assert_eq!(read(b"Node 0: 10.0.0.1:646\n"), Line::Nothing);
+    }
+
+    /// As tshark 4.0 writes it, and as its own characters.
+    #[test]
+    fn bytes_that_are_missing() {
+        let marker = b"5b3130206279746573206d697373696e6720696e20636170747572652066696c655d00\n";
+        assert_eq!(read(marker), Line::Missing { side: 0, bytes: 10 });
+        assert_eq!(read(&[b"\t", &marker[..]].concat()), Line::Missing { side: 1, bytes: 10 });
+        assert_eq!(read(b"\t[7 bytes missing in capture file]\n"), Line::Missing { side: 1, bytes: 7 });
+        assert_eq!(read(b"[some bytes missing in capture file]\n"), Line::Other);
     }
 
     #[test]

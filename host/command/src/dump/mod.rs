@@ -1,10 +1,13 @@
 //! `ldp-ft dump FILE`: PDUs in words, a line for each message; the file is a stream of PDUs, or lines of hexadecimal.
 
+mod capture;
 mod hex_lines;
 mod pdu;
+mod side;
 
 use hex_lines::Line;
-use std::io::{self, BufRead, ErrorKind, Read, Write};
+use side::Side;
+use std::io::{self, BufRead, Cursor, ErrorKind, Read, Write};
 use support::wire::Arrived;
 
 /// A stream is read in pieces of this size.
@@ -19,14 +22,17 @@ pub enum Trouble {
     Output(io::Error),
 }
 
-/// Prints what is read until nothing is left, or nobody reads what is printed. True where all of it, so far, was PDUs
-/// with sound messages.
-pub fn dump(input: &mut dyn BufRead, output: &mut dyn Write, json: bool) -> Result<bool, Trouble> {
+/// Prints what is read from a file until nothing is left, or nobody reads what is printed. True where all of it, so
+/// far, was PDUs with sound messages.
+pub fn dump(file: &str, input: &mut dyn BufRead, output: &mut dyn Write, json: bool) -> Result<bool, Trouble> {
     let mut dump = Dump { output, json, count: 0, sound: true };
-    let first = input.fill_buf().map_err(Trouble::Input)?.first().copied();
-    let result = match first {
-        Some(byte) if is_text(byte) => dump.lines(input),
-        _ => dump.stream(input),
+    let mut first = Vec::new();
+    input.take(capture::MAGIC).read_to_end(&mut first).map_err(Trouble::Input)?;
+    let mut whole = Cursor::new(&first).chain(input);
+    let result = match first.first() {
+        _ if capture::is_capture(&first) => dump.refuse(&capture::advice(file)),
+        Some(byte) if is_text(*byte) => dump.lines(&mut whole),
+        _ => dump.stream(&mut whole),
     };
     match result {
         Err(Trouble::Output(error)) if error.kind() == ErrorKind::BrokenPipe => Ok(dump.sound),
@@ -74,7 +80,7 @@ impl Dump<'_> {
 
     /// Lines of hexadecimal, of one side or both. After bytes that are no PDU the rest of their line is passed over.
     fn lines(&mut self, input: &mut dyn BufRead) -> Result<(), Trouble> {
-        let mut sides = [Arrived::default(), Arrived::default()];
+        let mut sides = [Side::default(), Side::default()];
         for number in 1u64.. {
             let line = next_line(input)?;
             if line.is_empty() {
@@ -84,14 +90,26 @@ impl Dump<'_> {
                 Line::Nothing => {}
                 Line::Bytes { side, bytes } if (line.len() as u64) < LONGEST_LINE => {
                     sides[side].add(&bytes);
-                    if !self.pdus(&mut sides[side])? {
+                    if !self.pdus(&mut sides[side].arrived)? {
                         sides[side].drop_rest();
                     }
                 }
+                Line::Missing { side, bytes } => self.miss(&mut sides[side], bytes)?,
                 _ => return self.refuse(&format!("line {number} is no hexadecimal")),
             }
         }
-        sides.iter().try_for_each(|side| self.end(side))
+        sides.iter().try_for_each(|side| self.end(&side.arrived))
+    }
+
+    /// Bytes of one side are not in the capture.
+    fn miss(&mut self, side: &mut Side, bytes: usize) -> Result<(), Trouble> {
+        if side.miss(bytes) {
+            self.count += 1;
+            return self.refuse(&format!("{bytes} bytes of PDU {} are missing in the capture", self.count - 1));
+        }
+        self.refuse(&format!(
+            "{bytes} bytes are missing in the capture: what follows is passed over up to a line with a PDU"
+        ))
     }
 
     /// Prints the PDUs that have arrived whole; false where it is not known where the next one starts.

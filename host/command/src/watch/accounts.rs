@@ -4,6 +4,7 @@ use super::journal::{self, Entry};
 use super::verdict::Delivery;
 use super::{left_out, Setting, NAMES};
 use crate::holdings::Holdings;
+use crate::json::Value;
 use std::collections::BTreeSet;
 use support::store::Store;
 use support::wire::{self, types};
@@ -60,32 +61,103 @@ fn is_of(message_type: u16, entry: &Entry) -> bool {
     wire::message_type(&entry.message) == message_type
 }
 
-/// The accounts as they are printed, and whether they are in order.
+/// One direction: from whom to whom, and the clauses of the demand, each with whether it holds.
+struct Direction {
+    names: [&'static str; 2],
+    clauses: Vec<(String, bool)>,
+}
+
+/// The accounts of both cabinets.
 pub struct Accounts {
-    pub text: String,
-    pub right: bool,
+    /// What each gives and uses, in order.
+    labels: [[Vec<u32>; 2]; 2],
+    directions: [Direction; 2],
+    delivery: Delivery,
+    lists_agree: bool,
 }
 
 /// Closes the accounts of both cabinets.
 pub fn close(setting: &Setting) -> Result<Accounts, String> {
     let [north, south] = [Left::read(setting, NAMES[0])?, Left::read(setting, NAMES[1])?];
-    let mut text = String::new();
-    for (name, left) in NAMES.iter().zip([&north, &south]) {
-        text += &format!("{name} gives {:?}\n", left.holdings.labels_of(GIVEN));
-        text += &format!("{name} uses  {:?}\n", left.holdings.labels_of(USING));
+    let labels = [&north, &south].map(|left| [GIVEN, USING].map(|code| left.holdings.labels_of(code)));
+    let direction = |names, sender, receiver| Direction { names, clauses: clauses(sender, receiver) };
+    Ok(Accounts {
+        labels,
+        directions: [direction(NAMES, &north, &south), direction([NAMES[1], NAMES[0]], &south, &north)],
+        delivery: delivery(&north, &south).and(delivery(&south, &north)),
+        lists_agree: lists_agree(&north, &south) && lists_agree(&south, &north),
+    })
+}
+
+impl Accounts {
+    fn clauses_hold(&self) -> bool {
+        self.directions.iter().flat_map(|direction| &direction.clauses).all(|(_, holds)| *holds)
     }
-    let mut clauses_hold = true;
-    for (names, sender, receiver) in [(NAMES, &north, &south), ([NAMES[1], NAMES[0]], &south, &north)] {
-        text += &format!("\nfrom {} to {}\n", names[0], names[1]);
-        for (clause, holds) in clauses(sender, receiver) {
-            text += &format!("  {} {clause}\n", if holds { "yes" } else { "NO " });
-            clauses_hold &= holds;
+
+    pub fn are_right(&self) -> bool {
+        self.delivery.is_right() && self.lists_agree && self.clauses_hold()
+    }
+
+    /// Both label lists, every clause, and the verdict as the last line.
+    pub fn in_full(&self) -> String {
+        let mut text = String::new();
+        for (name, [given, used]) in NAMES.iter().zip(&self.labels) {
+            text += &format!("{name} gives {given:?}\n{name} uses  {used:?}\n");
         }
+        for Direction { names: [from, to], clauses } in &self.directions {
+            text += &format!("\nfrom {from} to {to}\n");
+            text.extend(clauses.iter().map(|(clause, holds)| clause_line(clause, *holds)));
+        }
+        text + &format!("\n{}\n", self.verdict())
     }
-    let lists_agree = lists_agree(&north, &south) && lists_agree(&south, &north);
-    let delivery = delivery(&north, &south).and(delivery(&south, &north));
-    text += &format!("\n{}\n", delivery.in_words(lists_agree, clauses_hold));
-    Ok(Accounts { text, right: delivery.is_right() && lists_agree && clauses_hold })
+
+    /// How many labels there are, the clauses that do not hold, and the verdict as the last line.
+    pub fn in_short(&self) -> String {
+        let mut text = String::new();
+        for (from, [given, _]) in self.labels.iter().enumerate() {
+            let (gives, uses) = (NAMES[from], NAMES[1 - from]);
+            text += &format!("{gives} gives {} labels, {uses} uses {}\n", given.len(), self.labels[1 - from][1].len());
+        }
+        for Direction { names: [from, to], clauses } in &self.directions {
+            let failing = clauses.iter().filter(|(_, holds)| !holds);
+            text.extend(failing.map(|(clause, _)| format!("from {from} to {to}: {}", clause_line(clause, false))));
+        }
+        text + &format!("{}\n", self.verdict())
+    }
+
+    fn verdict(&self) -> String {
+        self.delivery.in_words(self.lists_agree, self.clauses_hold())
+    }
+
+    pub fn json(&self) -> Vec<(&'static str, Value)> {
+        let Delivery { accepted, left_out, secured, lost, twice, unknown, out_of_order, waiting } = self.delivery;
+        let [[north_gives, north_uses], [south_gives, south_uses]] = self.labels.clone().map(|of| of.map(list));
+        vec![
+            ("accepted", accepted.into()),
+            ("secured", secured.into()),
+            ("left_out", left_out.into()),
+            ("lost", lost.into()),
+            ("twice", twice.into()),
+            ("out_of_order", out_of_order.into()),
+            ("never_accepted", unknown.into()),
+            ("still_held", waiting.into()),
+            ("lists_agree", self.lists_agree.into()),
+            ("accounts_add_up", self.clauses_hold().into()),
+            ("north_gives", north_gives),
+            ("north_uses", north_uses),
+            ("south_gives", south_gives),
+            ("south_uses", south_uses),
+            ("verdict", self.verdict().into()),
+        ]
+    }
+}
+
+fn list(labels: Vec<u32>) -> Value {
+    labels.into_iter().collect()
+}
+
+fn clause_line(clause: &str, holds: bool) -> String {
+    format!("  {} {clause}\n", if holds { "yes" } else { "NO " })
 }
 
 fn delivery(sender: &Left, receiver: &Left) -> Delivery {
@@ -174,12 +246,13 @@ mod tests {
             }
         }
         let accounts = close(&setting).unwrap();
-        (accounts.text.lines().last().unwrap().to_string(), accounts.right)
+        assert_eq!(accounts.in_full().lines().last(), accounts.in_short().lines().last());
+        (accounts.verdict(), accounts.are_right())
     }
 
     #[test]
     fn accounts_in_order() {
-        let verdict = "4 messages accepted, 4 secured, none lost, none twice; both lists agree";
+        let verdict = "4 messages: 4 secured, none lost, none twice; both lists agree";
         assert_eq!(closed(&in_order()), (verdict.to_string(), true));
     }
 
@@ -191,10 +264,10 @@ mod tests {
             closed(&scene)
         };
         for (digits, told) in [
-            (&["aa"][..], "4 messages accepted, 3 secured, 1 lost, none twice;"),
-            (&["aa", "aa", "ab"], "4 messages accepted, 5 secured, none lost, 1 twice;"),
-            (&["ab", "aa"], "4 messages accepted, 4 secured, none lost, none twice, 1 out of order;"),
-            (&["aa", "ab", "cc"], "4 messages accepted, 5 secured, none lost, none twice, 1 never accepted;"),
+            (&["aa"][..], "4 messages: 3 secured, 1 lost, none twice;"),
+            (&["aa", "aa", "ab"], "4 messages: 5 secured, none lost, 1 twice;"),
+            (&["ab", "aa"], "4 messages: 4 secured, none lost, none twice, 1 out of order;"),
+            (&["aa", "ab", "cc"], "4 messages: 5 secured, none lost, none twice, 1 never accepted;"),
         ] {
             let (verdict, right) = tampered(5, &records(digits));
             assert!(verdict.starts_with(told) && !right, "{verdict}");
@@ -221,13 +294,13 @@ mod tests {
 
     #[test]
     fn what_is_left_out_is_no_loss() {
-        let verdict = "5 messages accepted, 4 secured, 1 left out, none lost, none twice; both lists agree";
+        let verdict = "5 messages: 4 secured, 1 left out, none lost, none twice; both lists agree";
         assert_eq!(closed(&with_left_out()), (verdict.to_string(), true));
         for (left_out, told) in [
-            ("", "5 messages accepted, 4 secured, 1 lost, none twice;"),
-            ("2\n", "5 messages accepted, 4 secured, 1 left out, 1 lost, none twice, 1 never accepted;"),
-            ("1\n3\n", "5 messages accepted, 4 secured, 2 left out, none lost, none twice, 1 never accepted;"),
-            ("1\n9\n", "5 messages accepted, 4 secured, 2 left out, none lost, none twice;"),
+            ("", "5 messages: 4 secured, 1 lost, none twice;"),
+            ("2\n", "5 messages: 4 secured, 1 left out, 1 lost, none twice, 1 never accepted;"),
+            ("1\n3\n", "5 messages: 4 secured, 2 left out, none lost, none twice, 1 never accepted;"),
+            ("1\n9\n", "5 messages: 4 secured, 2 left out, none lost, none twice;"),
         ] {
             let mut scene = with_left_out();
             scene.journals[1] = left_out.to_string();
@@ -246,7 +319,7 @@ mod tests {
         (scene.journals[1], scene.stores[1].secured) = ("1\n3\n".to_string(), 2);
         scene.journals[5] = scene.journals[5].split_inclusive('\n').take(1).collect();
         let (verdict, right) = closed(&scene);
-        let told = "5 messages accepted, 3 secured, 2 left out, none lost, none twice; both lists agree";
+        let told = "5 messages: 3 secured, 2 left out, none lost, none twice; both lists agree";
         assert_eq!((verdict, right), (format!("{told}; the accounts do not add up"), false));
     }
 

@@ -1,5 +1,5 @@
-//! What the owner of a cabinet sends where labels are asked for before they are offered. All of it follows from what was
-//! accepted and secured before, so that it goes on after a kill.
+//! What the owner of a cabinet sends where labels are asked for before they are offered. All of it follows from what
+//! was accepted and secured before, so that it goes on after a kill.
 
 use super::plan::{about, View};
 use support::wire::{self, prefix, types, Message, NO_RESOURCES, RESOURCES_AVAILABLE};
@@ -31,8 +31,8 @@ impl Asks {
         view.open.is_empty() && !view.is_stopping && self.next(&up).is_none()
     }
 
-    /// The answer to the oldest Request of the peer's that waits for one. The label in the middle of the plan is refused
-    /// once.
+    /// The answer to the oldest Request of the peer's that waits for one. The label in the middle of the plan is
+    /// refused once.
     fn answer(&self, view: &View) -> Option<Vec<u8>> {
         let is_over = |id: u32| is_answered(view.accepted, id) || is_aborted(view.secured, id);
         let waits = |request: &Vec<u8>| !self.is_given_up(request) && !is_over(wire::message_id(request));
@@ -84,8 +84,8 @@ impl Asks {
     }
 }
 
-/// The Abort of a Request that a break has caught on its way. If the Request did not arrive it is left out of what is sent
-/// again.
+/// The Abort of a Request that a break has caught on its way. If the Request did not arrive it is left out of what is
+/// sent again.
 fn give_up(view: &View) -> Option<Vec<u8>> {
     let caught = view.open.iter().find(|id| !view.is_up && view.sent.contains(id))?;
     abort(view, *caught)

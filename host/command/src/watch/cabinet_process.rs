@@ -2,11 +2,12 @@
 
 use super::ask::Asks;
 use super::clock::Clock;
+use super::event::{Event, Kind};
 use super::journal::Journal;
 use super::left_out::LeftOut;
 use super::link::{Link, Way};
 use super::plan::{self, Offers, Plan, View};
-use super::Setting;
+use super::{supervisor, Setting, NAMES};
 use crate::holdings;
 use cabinet::{marks, phase, Cabinet, Outcome, Session, Summary};
 use ldp_ft::Library;
@@ -17,13 +18,14 @@ use std::time::{Duration, Instant};
 use support::store::Store;
 use support::wire::{self, types};
 
-const LIFETIME: Duration = Duration::from_secs(50);
 /// The owner submits at this pace, so that there is something to see.
 const PACE: Duration = Duration::from_millis(30);
-/// After this time a cabinet that had no labels to give has some again.
-const RECOVERY: Duration = Duration::from_millis(400);
+/// A cabinet that had no labels to give has some again after so many KeepAlives of a peer that has nothing more to say:
+/// by then it has asked in vain.
+const RECOVERY: u32 = 5;
 /// The connection is cut when the next message is about to leave, or after this time.
 const CUT_LIMIT: Duration = Duration::from_millis(100);
+const REPORT: Duration = Duration::from_millis(20);
 /// Room for a message with its FT TLVs.
 pub const ROOM: usize = 500;
 
@@ -31,12 +33,14 @@ pub const ROOM: usize = 500;
 pub fn run(name: &str, setting: &Setting) -> Result<(), String> {
     let orders = orders();
     let mut process = Process::start(name, setting).map_err(|error| format!("{name}: {error}"))?;
-    let end = Instant::now() + LIFETIME;
+    let end = Instant::now() + supervisor::LIMIT;
     while Instant::now() < end {
         match orders.try_recv() {
             Ok(order) if order == "cut" => process.cut_by = Some(Instant::now() + CUT_LIMIT),
             Ok(_) => {
-                process.say("ends");
+                process.say(Kind::Ends, "ends");
+                // Its connection stays until the supervisor has heard both, so that neither finds it broken.
+                orders.iter().for_each(drop);
                 return Ok(());
             }
             Err(TryRecvError::Disconnected) => return Ok(()),
@@ -59,7 +63,7 @@ fn orders() -> Receiver<String> {
 
 /// A cabinet's process and all it works with.
 pub struct Process {
-    pub name: String,
+    pub end: usize,
     pub clock: Clock,
     pub lsr: u32,
     pub port_file: PathBuf,
@@ -75,8 +79,10 @@ pub struct Process {
     pub on_demand: bool,
     /// Its Init is in the published form.
     pub published: bool,
-    /// Since when this process knows that the peer is told of no labels.
-    pub stopping_since: Option<Instant>,
+    /// KeepAlives that acknowledged nothing new, of a peer that is told of no labels and has acknowledged all.
+    pub idle_keepalives: u32,
+    /// All that was on its way when the last connection broke is sent again or left out.
+    pub caught_up: bool,
     pub broken_at: Instant,
     pub next_try: Instant,
     pub next_submission: Instant,
@@ -85,6 +91,7 @@ pub struct Process {
     /// When the connection is to be cut, if nothing is sent before that.
     pub cut_by: Option<Instant>,
     pub reported: String,
+    pub next_report: Instant,
 }
 
 impl Process {
@@ -92,7 +99,7 @@ impl Process {
     fn start(name: &str, setting: &Setting) -> io::Result<Self> {
         let is_new = !setting.file(name, "store").exists();
         let (store, image, session) = stored_session(name, setting, is_new)?;
-        let port_file = setting.directory.join("port");
+        let port_file = setting.port_file();
         let summary = Library.summarize(&image);
         let now = Instant::now();
         let process = Process {
@@ -108,7 +115,8 @@ impl Process {
             plan: plan_of(name, setting),
             on_demand: setting.on_demand,
             published: setting.forms.is_published(name),
-            stopping_since: None,
+            idle_keepalives: 0,
+            caught_up: false,
             image,
             broken_at: now,
             next_try: now,
@@ -117,17 +125,18 @@ impl Process {
             acknowledges: false,
             cut_by: None,
             reported: String::new(),
+            next_report: now,
             clock: setting.clock,
-            name: name.to_string(),
+            end: usize::from(name == NAMES[1]),
         };
         let begins = if is_new { "starts with a new store" } else { "restored from its store" };
-        process.say(&format!("{begins}: {}", process.standing()));
+        process.say(Kind::Starts, &format!("{begins}: {}", process.standing()));
         Ok(process)
     }
 
     /// Tells what it does, with its own time.
-    pub fn say(&self, what: &str) {
-        print(&format!("{} {:<6} {what}", self.clock.now().as_micros(), self.name));
+    pub fn say(&self, kind: Kind, what: &str) {
+        print(&Event::new(self.clock.now(), kind, self.end, what).line());
     }
 
     /// How many messages it holds, and has secured.
@@ -157,7 +166,7 @@ impl Process {
                 sent: &self.requests_sent(),
                 is_up: self.session.phase == phase::UP_FT,
                 is_stopping: self.is_stopping(),
-                has_recovered: self.stopping_since.is_some_and(|since| since.elapsed() >= RECOVERY),
+                has_recovered: self.idle_keepalives >= RECOVERY,
             },
         )
     }
@@ -170,7 +179,7 @@ impl Process {
     }
 
     /// The peer was told that there are no labels.
-    fn is_stopping(&self) -> bool {
+    pub fn is_stopping(&self) -> bool {
         self.image[marks::AT] & marks::STOPPING != 0
     }
 
@@ -201,7 +210,7 @@ impl Process {
         if self.link.is_some() && self.exchange(now).is_err() {
             self.lose_connection()?;
         }
-        self.report();
+        self.report(now);
         Ok(())
     }
 
@@ -211,28 +220,28 @@ impl Process {
             return Ok(());
         }
         self.next_submission = now + PACE;
-        self.stopping_since = self.stopping_since.or(Some(now)).filter(|_| self.is_stopping());
         let Some(msg) = self.decide(Plan::next) else { return Ok(()) };
         let outcome = Library.submit(&mut self.image, self.session, &msg);
         if outcome.answer == 0 {
             self.keep(&outcome, Some((&msg, Record::Accepted)))?;
-            self.say(&format!("accepts {} ({} held)", plan::in_words(&msg), self.summary().held));
+            self.say(Kind::Works, &format!("accepts {} ({} held)", plan::in_words(&msg), self.summary().held));
         } else {
-            self.say(&format!("{} refused with {}", plan::in_words(&msg), outcome.answer));
+            self.say(Kind::Works, &format!("{} refused with {}", plan::in_words(&msg), outcome.answer));
         }
         Ok(())
     }
 
-    /// Tells the supervisor where things stand, whenever that changes.
-    fn report(&mut self) {
+    /// Tells the supervisor where things stand, whenever that changes, and often enough that it knows up to when it has
+    /// heard all.
+    fn report(&mut self, now: Instant) {
         let held = self.summary().held;
         let done = held == 0 && self.decide(Plan::is_done);
         let (accepted, secured) = (self.accepted.messages.len(), self.secured.messages.len());
         let left_out = self.left_out.numbers.len();
-        let report = format!("#{} {accepted} {left_out} {held} {secured} {}", self.name, u32::from(done));
-        if report != self.reported {
-            print(&report);
-            self.reported = report;
+        let report = format!("{accepted} {left_out} {held} {secured} {}", u32::from(done));
+        if report != self.reported || now >= self.next_report {
+            print(&format!("#{} {} {report}", self.end, self.clock.now().as_micros()));
+            (self.reported, self.next_report) = (report, now + REPORT);
         }
     }
 }

@@ -91,10 +91,16 @@ impl Cabinets {
         Ok(())
     }
 
-    /// Lets both processes end.
-    pub fn stop(&mut self) {
+    pub fn order_both(&mut self, order: &str) {
         for end in 0..NAMES.len() {
-            self.order(end, "stop");
+            self.order(end, order);
+        }
+    }
+
+    /// Ends both processes: without orders they end by themselves.
+    pub fn stop(&mut self) {
+        for running in self.running.iter_mut().flatten() {
+            drop(running.child.stdin.take());
         }
         let limit = Instant::now() + FAREWELL;
         while Instant::now() < limit && self.running.iter_mut().flatten().any(is_running) {

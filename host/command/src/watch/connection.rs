@@ -1,22 +1,24 @@
 //! How a cabinet's process comes to its connection and loses it.
 
 use super::cabinet_process::{Process, ROOM};
+use super::event::Kind;
 use cabinet::{phase, Cabinet, Opening};
 use ldp_ft::Library;
 use std::io;
 use std::time::{Duration, Instant};
 
 const RETRY: Duration = Duration::from_millis(30);
-/// For so long state is kept over a break.
-const TIMEOUT: Duration = Duration::from_secs(60);
+/// For so long state is kept over a break: longer than any that a busy machine makes.
+const TIMEOUT: Duration = Duration::from_secs(600);
 
 impl Process {
-    /// Cuts the connection. What is sent on it from now on does not leave.
+    /// Cuts the connection, which is told before the other end can notice. What is sent on it from now on does not
+    /// leave.
     pub fn cut(&mut self) {
         self.cut_by = None;
         if let Some(link) = &self.link {
+            self.say(Kind::Cuts, "cuts the connection");
             link.cut();
-            self.say("cuts the connection");
         }
     }
 
@@ -70,7 +72,7 @@ impl Process {
             self.keep(&outcome, None)?;
         }
         if phase == phase::UP_FT {
-            self.say(&format!("connection broken: {} held", self.summary().held));
+            self.say(Kind::Breaks, &format!("connection broken: {} held", self.summary().held));
         }
         Ok(())
     }

@@ -1,6 +1,7 @@
 //! What a cabinet's process says and hears on its connection: PDUs in, PDUs out, each call stored before output leaves.
 
 use super::cabinet_process::{Process, Record, ROOM};
+use super::event::Kind;
 use super::link::Link;
 use super::plan;
 use crate::message::timeout;
@@ -8,7 +9,7 @@ use cabinet::{phase, Cabinet};
 use ldp_ft::Library;
 use std::io;
 use std::time::{Duration, Instant};
-use support::wire::{protection_number, without_ft};
+use support::wire::{message_type, protection_number, types, without_ft};
 
 /// A KeepAlive goes out at least this often; without it the last message would stay unacknowledged.
 const KEEPALIVE: Duration = Duration::from_millis(60);
@@ -43,7 +44,7 @@ impl Process {
     fn take_pdu(&mut self, pdu: &[u8]) -> io::Result<()> {
         let opened = Library.pdu_open(pdu);
         if opened.answer != 0 {
-            self.say("drops a malformed PDU");
+            self.say(Kind::Works, "drops a malformed PDU");
             return Err(io::ErrorKind::InvalidData.into());
         }
         let mut at = 10;
@@ -65,7 +66,7 @@ impl Process {
         let plain = without_ft(msg);
         self.keep(&outcome, number.map(|number| (plain.as_slice(), Record::Secured(number))))?;
         if outcome.answer != 0 {
-            self.say(&format!("receive answered {}", outcome.answer));
+            self.say(Kind::Works, &format!("receive answered {}", outcome.answer));
             return Err(io::ErrorKind::InvalidData.into());
         }
         if let Some(number) = number {
@@ -75,27 +76,55 @@ impl Process {
                 0 => String::new(),
                 left_out => format!(", {left_out} left out before it"),
             };
-            self.say(&format!("secures {} as number {number}{after} (labels in use: {used})", plan::in_words(&plain)));
+            let message = plan::in_words(&plain);
+            self.say(Kind::Works, &format!("secures {message} as number {number}{after} (labels in use: {used})"));
         }
         let summary = self.summary();
         if summary.released != released {
-            self.say(&format!("lets go of all through number {} ({} held)", summary.released, summary.held));
+            let through = format!("lets go of all through number {} ({} held)", summary.released, summary.held);
+            self.say(Kind::Works, &through);
         }
+        self.note_idle(msg, summary.released == released && summary.held == 0);
         Ok(())
+    }
+
+    /// Counts the KeepAlives of a peer that has acknowledged everything, also that it is to ask for nothing.
+    fn note_idle(&mut self, msg: &[u8], is_idle: bool) {
+        if !self.is_stopping() {
+            self.idle_keepalives = 0;
+        } else if is_idle && message_type(msg) == types::KEEPALIVE {
+            self.idle_keepalives += 1;
+        }
     }
 
     fn take_init(&mut self, msg: &[u8]) -> io::Result<()> {
         let outcome = Library.init_received(&mut self.image, self.session, msg);
         self.keep(&outcome, None)?;
         if outcome.answer != 0 {
-            self.say(&format!("Init answered {}", outcome.answer));
+            self.say(Kind::Works, &format!("Init answered {}", outcome.answer));
             return Err(io::ErrorKind::InvalidData.into());
         }
-        let how = if self.session.is_resumed() { "resumes its session" } else { "begins a fresh session" };
+        let (kind, how) = if self.session.is_resumed() {
+            (Kind::Resumes, "resumes its session")
+        } else {
+            (Kind::Begins, "begins a fresh session")
+        };
         let [ours, theirs] = [self.published, Library.message_read(msg).published == 1].map(form);
         let kept = timeout(u64::from(self.summary().timeout));
-        self.say(&format!("{how}: {}; Inits: ours {ours}, the peer's {theirs}; state is kept {kept}", self.standing()));
+        let standing = self.standing();
+        self.say(kind, &format!("{how}: {standing}; Inits: ours {ours}, the peer's {theirs}; state is kept {kept}"));
+        self.caught_up = false;
+        self.note_caught_up();
         Ok(())
+    }
+
+    /// Tells, once on each connection, that every message with a number has been sent on it or left out.
+    fn note_caught_up(&mut self) {
+        let summary = self.summary();
+        if !self.caught_up && self.session.value >= summary.held - summary.pended {
+            self.caught_up = true;
+            self.say(Kind::CatchesUp, "has nothing more to send again");
+        }
     }
 
     /// Sends some of the messages that wait, in one PDU; each is stored before the PDU leaves.
@@ -115,6 +144,7 @@ impl Process {
             if outcome.block0 == 0 {
                 self.say_sent_again(msg);
             }
+            self.note_caught_up();
             messages.push(msg.to_vec());
         }
         if messages.is_empty() {
@@ -135,7 +165,7 @@ impl Process {
             let part = Library.held(&self.image, place);
             let request = plan::in_words(&self.image[part.start as usize..part.end as usize]);
             self.left_out.add(number)?;
-            self.say(&format!("leaves out {request}, number {number}: its Abort is held"));
+            self.say(Kind::LeavesOut, &format!("leaves out {request}, number {number}: its Abort is held"));
         }
         Ok(())
     }
@@ -143,7 +173,7 @@ impl Process {
     /// A message that had its number already was sent on an earlier connection.
     fn say_sent_again(&self, msg: &[u8]) {
         let number = protection_number(msg).unwrap_or(0);
-        self.say(&format!("re-sends {} as number {number}", plan::in_words(&without_ft(msg))));
+        self.say(Kind::SendsAgain, &format!("re-sends {} as number {number}", plan::in_words(&without_ft(msg))));
     }
 
     fn send_keepalive(&mut self, now: Instant) -> io::Result<()> {

@@ -2,7 +2,8 @@
 
 use std::fs;
 use std::io::{self, ErrorKind, Read, Write};
-use std::net::{Ipv4Addr, Shutdown, TcpListener, TcpStream};
+use std::net::{Ipv4Addr, Shutdown, SocketAddr, TcpListener, TcpStream};
+use std::os::unix::process::parent_id;
 use std::path::Path;
 use std::time::Duration;
 use support::wire::{self, Arrived};
@@ -63,10 +64,11 @@ pub enum Way {
 impl Way {
     /// Listens on a port that the system chooses, and writes it to a file for the other cabinet.
     pub fn listen(port_file: &Path) -> io::Result<Self> {
-        let listener = TcpListener::bind((Ipv4Addr::LOCALHOST, 0))?;
+        let listener =
+            TcpListener::bind((own_loopback(), 0)).or_else(|_| TcpListener::bind((Ipv4Addr::LOCALHOST, 0)))?;
         listener.set_nonblocking(true)?;
         let unfinished = port_file.with_extension("new");
-        fs::write(&unfinished, listener.local_addr()?.port().to_string())?;
+        fs::write(&unfinished, listener.local_addr()?.to_string())?;
         fs::rename(&unfinished, port_file)?;
         Ok(Way::Listen(listener))
     }
@@ -76,12 +78,19 @@ impl Way {
         let stream = match self {
             Way::Listen(listener) => latest(listener)?,
             Way::Connect => {
-                let port: u16 = fs::read_to_string(port_file).ok()?.parse().ok()?;
-                TcpStream::connect((Ipv4Addr::LOCALHOST, port)).ok()?
+                let address: SocketAddr = fs::read_to_string(port_file).ok()?.parse().ok()?;
+                TcpStream::connect(address).ok()?
             }
         };
         Link::new(stream).ok()
     }
+}
+
+/// A loopback address of this pair alone, by its supervisor: the port of a cabinet that was killed may soon be another
+/// pair's, and its peer tries it once more before it knows the new one.
+fn own_loopback() -> Ipv4Addr {
+    let [_, b, c, d] = parent_id().to_be_bytes();
+    Ipv4Addr::new(127, b, c, d)
 }
 
 /// The newest of the connections that wait; older ones have been given up by the other end.

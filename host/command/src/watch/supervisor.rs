@@ -1,25 +1,24 @@
-//! The supervisor: starts both cabinets, prints what they say, cuts and kills, and closes the accounts.
+//! The supervisor: starts both cabinets, tells what they do, cuts and kills, and closes the accounts.
 
+use super::accounts::{self, Accounts};
 use super::cabinets::Cabinets;
+use super::event::{Event, Kind};
 use super::log::Log;
-use super::{accounts, signals, Disturbances, Setting, NAMES};
+use super::telling::Teller;
+use super::{signals, Disturbances, Setting};
+use crate::json::Value;
 use crate::{complain, of_output, print, status, Ended};
 use std::io::{self, ErrorKind};
 use std::time::{Duration, Instant};
-use support::store::Directory;
 
-/// The whole run ends by itself long before this.
-const LIMIT: Duration = Duration::from_secs(45);
+/// A pair that makes no headway for so long does not come to its end; nor does one that goes on and on.
+const STALL: Duration = Duration::from_secs(60);
+pub const LIMIT: Duration = Duration::from_secs(600);
+/// So long both may take to say that they end.
+const FAREWELL: Duration = Duration::from_secs(10);
 const TICK: Duration = Duration::from_millis(50);
 const PROGRESS: Duration = Duration::from_millis(500);
 const RESTART_AFTER: Duration = Duration::from_millis(60);
-
-const GLOSSARY: &str = "\
-held: accepted for sending and stored until the peer acknowledges it; secured: taken by the peer and stored there; \
-let go: acknowledged, and held no more\n";
-const GLOSSARY_ON_DEMAND: &str = "\
-left out: a Request that was sent on an earlier connection and is not sent again, for its Abort is held behind it; it is \
-let go with the Abort\n";
 
 /// What ends a run before its end.
 enum Stop {
@@ -33,6 +32,12 @@ impl From<String> for Stop {
     }
 }
 
+impl From<io::Error> for Stop {
+    fn from(error: io::Error) -> Self {
+        Stop::Output(error)
+    }
+}
+
 /// What a cabinet last reported of itself.
 #[derive(Clone, Copy, Debug, Default)]
 struct Standing {
@@ -41,6 +46,7 @@ struct Standing {
     held: u64,
     secured: u64,
     done: bool,
+    ended: bool,
 }
 
 struct Supervisor {
@@ -48,34 +54,42 @@ struct Supervisor {
     disturbances: Disturbances,
     cabinets: Cabinets,
     log: Log,
+    teller: Teller,
     standings: [Standing; 2],
+    /// Up to when each cabinet has been heard; none of one that does not run.
+    heard: [Option<Duration>; 2],
     next_progress: Duration,
     /// How many messages had arrived when the pair was last disturbed.
     disturbed_at: u64,
+    /// How often a cut was ordered; one that comes as the run ends is not made.
+    cut_orders: usize,
     cuts: usize,
     kills: usize,
+    sent_again: usize,
 }
 
-/// Runs the pair to its end and prints the accounts. Its files go away with it, also where a signal ends it.
-pub fn run(mut setting: Setting, disturbances: Disturbances) -> Ended {
-    signals::take();
-    let directory = Directory::create("watch").map_err(|error| error.to_string())?;
-    setting.directory = directory.path().to_path_buf();
+/// Runs the pair to its end in its directory, and tells its result.
+pub fn run(setting: Setting, disturbances: Disturbances, teller: Teller) -> Ended {
     let mut supervisor = Supervisor {
         cabinets: Cabinets::new(setting.clone()),
         setting,
         disturbances,
         log: Log::default(),
+        teller,
         standings: Default::default(),
+        heard: [None; 2],
         next_progress: PROGRESS,
         disturbed_at: 0,
+        cut_orders: 0,
         cuts: 0,
         kills: 0,
+        sent_again: 0,
     };
     let result = supervisor.supervise();
     supervisor.cabinets.stop();
     let result = supervisor.finish_log().and(result);
     if let Some(number) = signals::received() {
+        complain(&format!("signal {number} ended the run before its end: there is no verdict"));
         return Ok(status::SIGNALLED + number);
     }
     match result {
@@ -83,57 +97,103 @@ pub fn run(mut setting: Setting, disturbances: Disturbances) -> Ended {
         Err(Stop::Output(error)) => Err(of_output(error)),
         Err(Stop::Fault(what)) => {
             complain(&what);
-            supervisor.close_accounts().map(|_| status::REFUSED)
+            supervisor.close_accounts(Some(what)).map(|_| status::REFUSED)
         }
-        Ok(()) => supervisor.close_accounts(),
+        Ok(()) => supervisor.close_accounts(None),
     }
 }
 
 impl Supervisor {
     fn supervise(&mut self) -> Result<(), Stop> {
-        print(GLOSSARY)?;
-        print(if self.setting.on_demand { GLOSSARY_ON_DEMAND } else { "" })?;
-        print("\n")?;
-        self.cabinets.start(0)?;
-        self.cabinets.start(1)?;
+        self.teller.introduce(self.setting.on_demand)?;
+        self.start(0)?;
+        self.start(1)?;
         let end = Instant::now() + LIMIT;
-        while Instant::now() < end && signals::received().is_none() {
-            match self.cabinets.next_line(TICK) {
-                Some(line) => self.take_line(&line),
-                None => self.cabinets.check_running()?,
-            }
+        let mut headway = (0, Instant::now());
+        while signals::received().is_none() {
+            self.hear()?;
             self.disturb()?;
             if self.is_finished() {
-                return Ok(());
+                return self.let_end();
             }
             self.note_progress();
-            self.log.print_due(self.setting.clock.now()).map_err(Stop::Output)?;
-        }
-        Err(Stop::Fault("the pair did not come to its end in time".to_string()))
-    }
-
-    fn say(&mut self, what: &str) {
-        self.log.add(self.setting.clock.now(), what);
-    }
-
-    /// Takes a report, or a line for the log with the time at which it was said.
-    fn take_line(&mut self, line: &str) {
-        match (line.strip_prefix('#'), line.split_once(' ')) {
-            (Some(report), _) => self.take_report(report),
-            (None, Some((micros, what))) => {
-                let at = micros.parse().map_or(self.setting.clock.now(), Duration::from_micros);
-                self.log.add(at, what);
+            self.tell_heard()?;
+            if self.work_done() > headway.0 {
+                headway = (self.work_done(), Instant::now());
             }
-            (None, None) => self.say(line),
+            if Instant::now() > end.min(headway.1 + STALL) {
+                return Err(Stop::Fault("the pair does not come to its end".to_string()));
+            }
+        }
+        Ok(())
+    }
+
+    fn start(&mut self, end: usize) -> Result<(), Stop> {
+        self.heard[end] = Some(self.setting.clock.now());
+        Ok(self.cabinets.start(end)?)
+    }
+
+    /// Tells what happened before the time up to which all that run have been heard, so that nothing comes too late.
+    fn tell_heard(&mut self) -> Result<(), Stop> {
+        let Some(time) = self.heard.iter().flatten().min() else { return Ok(()) };
+        let events = self.log.take_before(*time);
+        Ok(self.teller.tell(events)?)
+    }
+
+    /// Takes the next thing that a cabinet says; where nothing comes both are still to be there.
+    fn hear(&mut self) -> Result<(), Stop> {
+        match self.cabinets.next_line(TICK) {
+            Some(line) => self.take_line(&line),
+            None => self.cabinets.check_running()?,
+        }
+        Ok(())
+    }
+
+    /// What has been accepted and secured so far.
+    fn work_done(&self) -> u64 {
+        self.standings.iter().map(|standing| standing.accepted + standing.secured).sum()
+    }
+
+    /// Tells both to end, and hears them out before either closes its connection.
+    fn let_end(&mut self) -> Result<(), Stop> {
+        self.cabinets.order_both("stop");
+        let limit = Instant::now() + FAREWELL;
+        while Instant::now() < limit && !self.standings.iter().all(|standing| standing.ended) {
+            self.hear()?;
+        }
+        Ok(())
+    }
+
+    /// Takes a report, or an event.
+    fn take_line(&mut self, line: &str) {
+        if let Some(report) = line.strip_prefix('#') {
+            return self.take_report(report);
+        }
+        // The last line of a process that is killed may be cut off.
+        if let Some(event) = Event::read(line) {
+            self.take_event(event);
         }
     }
 
+    fn take_event(&mut self, event: Event) {
+        self.heard[event.end] = Some(event.at);
+        match event.kind {
+            Kind::Cuts => self.cuts += 1,
+            Kind::SendsAgain => self.sent_again += 1,
+            Kind::Ends => self.standings[event.end].ended = true,
+            _ => {}
+        }
+        self.log.add(event);
+    }
+
+    /// A report is the cabinet, its time, and where it stands; one that is cut off is none.
     fn take_report(&mut self, report: &str) {
-        let mut words = report.split(' ');
-        let end = usize::from(words.next() == Some(NAMES[1]));
-        let mut number = || words.next().and_then(|word| word.parse().ok()).unwrap_or(0);
-        let (accepted, left_out, held, secured) = (number(), number(), number(), number());
-        self.standings[end] = Standing { accepted, left_out, held, secured, done: number() == 1 };
+        let numbers: Result<Vec<u64>, _> = report.split(' ').map(str::parse).collect();
+        let Ok([end @ 0..=1, micros, accepted, left_out, held, secured, done]) = numbers.as_deref() else { return };
+        let (end, ended) = (*end as usize, self.standings[*end as usize].ended);
+        let (accepted, left_out, held, secured) = (*accepted, *left_out, *held, *secured);
+        self.heard[end] = Some(Duration::from_micros(*micros));
+        self.standings[end] = Standing { accepted, left_out, held, secured, done: *done == 1, ended };
     }
 
     /// After every so many messages that arrived the connection is cut, or a process killed and started again.
@@ -142,8 +202,8 @@ impl Supervisor {
         let before = std::mem::replace(&mut self.disturbed_at, arrived);
         let is_due = |every: u64| before.checked_div(every) < arrived.checked_div(every);
         if is_due(self.disturbances.cut_every) {
-            self.cabinets.order(self.cuts % 2, "cut");
-            self.cuts += 1;
+            self.cabinets.order(self.cut_orders % 2, "cut");
+            self.cut_orders += 1;
         }
         if is_due(self.disturbances.kill_every) {
             self.restart(self.kills % 2)?;
@@ -152,18 +212,21 @@ impl Supervisor {
         Ok(())
     }
 
-    /// Kills a process and starts it again. What it said comes before its end.
+    /// Kills a process and starts it again. Its end has the time from which on others may see it; what it said stands
+    /// before that.
     fn restart(&mut self, end: usize) -> Result<(), Stop> {
+        let killed = Event::new(self.setting.clock.now(), Kind::Killed, end, "is killed");
         self.cabinets.kill(end);
-        self.take_lines_so_far();
-        self.say(&format!("{:<6} is killed", NAMES[end]));
-        self.standings[end].done = false;
+        for line in self.cabinets.lines_so_far() {
+            match Event::read(&line).filter(|event| event.end == end) {
+                Some(event) => self.take_event(Event { at: event.at.min(killed.at), ..event }),
+                None => self.take_line(&line),
+            }
+        }
+        self.log.add(killed);
+        (self.heard[end], self.standings[end].done) = (None, false);
         std::thread::sleep(RESTART_AFTER);
-        Ok(self.cabinets.start(end)?)
-    }
-
-    fn take_lines_so_far(&mut self) {
-        self.cabinets.lines_so_far().iter().for_each(|line| self.take_line(line));
+        self.start(end)
     }
 
     fn is_finished(&self) -> bool {
@@ -173,39 +236,65 @@ impl Supervisor {
     }
 
     fn note_progress(&mut self) {
-        if self.setting.clock.now() < self.next_progress {
+        let now = self.setting.clock.now();
+        if now < self.next_progress {
             return;
         }
-        self.next_progress = self.setting.clock.now() + PROGRESS;
+        self.next_progress = now + PROGRESS;
         let of = |from: usize| {
             let (Standing { accepted, left_out, held, .. }, receiver) =
                 (self.standings[from], self.standings[1 - from]);
             let left_out = if left_out == 0 { String::new() } else { format!(", {left_out} left out") };
             format!("{} of {accepted} accepted are secured{left_out}, {held} held", receiver.secured)
         };
-        let progress = format!("progress: from north {}; from south {}", of(0), of(1));
-        self.say(&progress);
+        let text = format!("progress: from north {}; from south {}", of(0), of(1));
+        self.log.add(Event { at: now, kind: Kind::Works, end: 0, text });
     }
 
-    /// Prints what is left of the log, once both processes have ended.
+    /// Tells what is left of the log, once both processes have ended.
     fn finish_log(&mut self) -> Result<(), Stop> {
-        self.take_lines_so_far();
-        self.log.print_all().map_err(Stop::Output)
+        for line in self.cabinets.lines_so_far() {
+            self.take_line(&line);
+        }
+        let rest = self.log.take_all();
+        Ok(self.teller.tell(rest)?)
     }
 
     /// Prints the accounts; the last line is the verdict.
-    fn close_accounts(&self) -> Ended {
-        let Supervisor { cuts, kills, .. } = self;
-        let seconds = self.setting.clock.now().as_secs_f64();
-        match accounts::close(&self.setting) {
-            Ok(accounts) => {
-                print(&format!("\n{cuts} cuts, {kills} kills, {seconds:.1} s\n\n{}", accounts.text))?;
-                Ok(if accounts.right { status::DONE } else { status::REFUSED })
-            }
+    fn close_accounts(&self, fault: Option<String>) -> Ended {
+        let accounts = match accounts::close(&self.setting) {
+            Ok(accounts) => accounts,
             Err(what) => {
                 complain(&what);
-                Ok(status::REFUSED)
+                print(&self.teller.without_accounts(fault.unwrap_or(what)))?;
+                return Ok(status::REFUSED);
             }
-        }
+        };
+        let text = match self.teller {
+            Teller::Story(_) => format!("\n{}{}", self.sums(), accounts.in_short()),
+            Teller::All => format!("\n{}\n{}", self.sums(), accounts.in_full()),
+            Teller::Json => format!("{}\n", self.json(&accounts, fault)),
+        };
+        print(&text)?;
+        Ok(if accounts.are_right() { status::DONE } else { status::REFUSED })
+    }
+
+    fn sums(&self) -> String {
+        let Supervisor { cuts, kills, sent_again, .. } = self;
+        let seconds = self.setting.clock.now().as_secs_f64();
+        format!("{cuts} cuts, {kills} kills, {sent_again} sent again, {seconds:.1} s\n")
+    }
+
+    fn json(&self, accounts: &Accounts, fault: Option<String>) -> Value {
+        let mut record = vec![
+            ("right", (accounts.are_right() && fault.is_none()).into()),
+            ("fault", fault.into()),
+            ("cuts", self.cuts.into()),
+            ("kills", self.kills.into()),
+            ("sent_again", self.sent_again.into()),
+            ("milliseconds", Value::Number(self.setting.clock.now().as_millis() as u64)),
+        ];
+        record.extend(accounts.json());
+        Value::Record(record)
     }
 }

@@ -68,7 +68,7 @@ impl Delivery {
         let number = |count: usize| if count == 0 { "none".to_string() } else { count.to_string() };
         let where_any = |count: usize, what: &str| if count == 0 { String::new() } else { format!(", {count} {what}") };
         format!(
-            "{} messages accepted, {} secured{}, {} lost, {} twice{}{}{}; {}{}",
+            "{} messages: {} secured{}, {} lost, {} twice{}{}{}; {}{}",
             self.accepted,
             self.secured,
             where_any(self.left_out, "left out"),
@@ -120,35 +120,22 @@ mod tests {
 
     #[test]
     fn all_is_well() {
-        assert_eq!(
-            verdict("abca", "abca", ""),
-            "4 messages accepted, 4 secured, none lost, none twice; both lists agree"
-        );
-        assert_eq!(verdict("", "", ""), "0 messages accepted, 0 secured, none lost, none twice; both lists agree");
+        assert_eq!(verdict("abca", "abca", ""), "4 messages: 4 secured, none lost, none twice; both lists agree");
+        assert_eq!(verdict("", "", ""), "0 messages: 0 secured, none lost, none twice; both lists agree");
     }
 
     #[test]
     fn what_is_wrong_is_counted() {
         for (accepted, secured, held, expected) in [
-            ("abc", "ac", "", "3 messages accepted, 2 secured, 1 lost, none twice; both lists agree"),
-            ("abc", "ab", "c", "3 messages accepted, 2 secured, none lost, none twice, 1 still held; both lists agree"),
-            ("abc", "", "c", "3 messages accepted, 0 secured, 2 lost, none twice, 1 still held; both lists agree"),
-            ("abc", "abbc", "", "3 messages accepted, 4 secured, none lost, 1 twice; both lists agree"),
-            (
-                "abc",
-                "acb",
-                "",
-                "3 messages accepted, 3 secured, none lost, none twice, 1 out of order; both lists agree",
-            ),
-            (
-                "abc",
-                "abxc",
-                "",
-                "3 messages accepted, 4 secured, none lost, none twice, 1 never accepted; both lists agree",
-            ),
-            ("aab", "ab", "", "3 messages accepted, 2 secured, 1 lost, none twice; both lists agree"),
-            ("ab", "ba", "", "2 messages accepted, 2 secured, none lost, none twice, 1 out of order; both lists agree"),
-            ("ab", "xx", "", "2 messages accepted, 2 secured, 2 lost, none twice, 2 never accepted; both lists agree"),
+            ("abc", "ac", "", "3 messages: 2 secured, 1 lost, none twice; both lists agree"),
+            ("abc", "ab", "c", "3 messages: 2 secured, none lost, none twice, 1 still held; both lists agree"),
+            ("abc", "", "c", "3 messages: 0 secured, 2 lost, none twice, 1 still held; both lists agree"),
+            ("abc", "abbc", "", "3 messages: 4 secured, none lost, 1 twice; both lists agree"),
+            ("abc", "acb", "", "3 messages: 3 secured, none lost, none twice, 1 out of order; both lists agree"),
+            ("abc", "abxc", "", "3 messages: 4 secured, none lost, none twice, 1 never accepted; both lists agree"),
+            ("aab", "ab", "", "3 messages: 2 secured, 1 lost, none twice; both lists agree"),
+            ("ab", "ba", "", "2 messages: 2 secured, none lost, none twice, 1 out of order; both lists agree"),
+            ("ab", "xx", "", "2 messages: 2 secured, 2 lost, none twice, 2 never accepted; both lists agree"),
         ] {
             assert_eq!(verdict(accepted, secured, held), expected, "{accepted} {secured} {held}");
         }
@@ -158,7 +145,7 @@ mod tests {
     fn what_is_left_out_is_named_where_there_is_any() {
         let left_out = Delivery { accepted: 3, left_out: 1, ..Delivery::of(&messages("ac"), &messages("ac"), &[]) };
         assert!(left_out.is_right());
-        let words = "3 messages accepted, 2 secured, 1 left out, none lost, none twice; both lists agree";
+        let words = "3 messages: 2 secured, 1 left out, none lost, none twice; both lists agree";
         assert_eq!(left_out.in_words(true, true), words);
         assert_eq!(left_out.and(left_out).left_out, 2);
         assert!(!Delivery { accepted: 4, ..left_out }.is_right());

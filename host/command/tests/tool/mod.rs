@@ -26,7 +26,8 @@ pub fn run_on(arguments: &[&str], input: &[u8]) -> Output {
     fed(started(arguments), input)
 }
 
-/// Runs the tool on bytes where nobody reads what it prints: it waits for its input, and its output is closed before that.
+/// Runs the tool on bytes where nobody reads what it prints: it waits for its input, and its output is closed before
+/// that.
 pub fn run_unread(arguments: &[&str], input: &[u8]) -> Output {
     let mut child = started(arguments);
     drop(child.stdout.take());

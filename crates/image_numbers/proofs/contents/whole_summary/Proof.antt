@@ -16,5 +16,6 @@ whole-summary-spec =
     (λ c. search needs)
     (λ c. omega (arith, c .struct-known5))
     (λ c. omega (arith, c .struct-known6))
+    (λ c. search needs)
     (λ c. refl) in
     tie.close answers

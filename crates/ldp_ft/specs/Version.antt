@@ -1,0 +1,10 @@
+-- The version of the library as one number.
+use Prim.Native.Nat.{ℕ, _+_, _*_}
+
+-- "major * 65,536 + minor * 256 + patch, as the header's three numbers"
+abbrev pub packedVersion : ℕ → ℕ → ℕ → ℕ
+packedVersion major minor patch = major * 65536 + minor * 256 + patch
+
+-- 4.0.0: the summary has one number more than in 3.0.0
+abbrev pub libraryVersion : ℕ
+libraryVersion = packedVersion 4 0 0
