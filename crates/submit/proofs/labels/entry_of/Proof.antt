@@ -1,16 +1,10 @@
 use borrow.Author.Needs.{needs}
-use Rattle.submit.proofs.storing.store_ids.Statement.{statement}
-use Rattle.submit.proofs.storing.store_ids.Tie as tie
+use Rattle.submit.proofs.labels.entry_of.Statement.{statement}
+use Rattle.submit.proofs.labels.entry_of.Tie as tie
 
-pub store-ids-spec : {M : Type 1} → statement M
-store-ids-spec =
+pub entry-of-spec : {M : Type 1} → statement M
+entry-of-spec =
     let answers = tie.spec
-    (λ c. search needs)
-    (λ c. search needs)
-    (λ c. search needs)
-    (λ c. search needs)
-    (λ c. search needs)
-    (λ c. search needs)
     (λ c. search needs)
     (λ c κs. search needs)
     (λ c. search needs)
@@ -22,8 +16,13 @@ store-ids-spec =
     (λ c. search needs)
     (λ c. search needs)
     (λ c. search needs)
+    (λ c. rw (c .before .enum-told .given .1) (c .entry-in .ensures))
     (λ c. search needs)
-    (λ c. rw (c .before .before .before .before .before .kind .given .1) (c .before .before .store-request .ensures))
+    (λ c. search needs)
+    (λ c. search needs)
+    (λ c. search needs)
+    (λ c. search needs)
+    (λ c. search needs)
     (λ c. search needs)
     (λ c. search needs)
     (λ c. search needs) in

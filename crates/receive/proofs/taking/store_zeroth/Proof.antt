@@ -1,11 +1,11 @@
 use mathlib.Core.Path.{sym, _∙_}
 use borrow.Author.Needs.{needs}
 use Rattle.receive.proofs.Taken.{put, put-stays}
-use Rattle.receive.proofs.taking.store_taken.Statement.{statement}
-use Rattle.receive.proofs.taking.store_taken.Tie as tie
+use Rattle.receive.proofs.taking.store_zeroth.Statement.{statement}
+use Rattle.receive.proofs.taking.store_zeroth.Tie as tie
 
-pub store-taken-spec : {M : Type 1} → statement M
-store-taken-spec =
+pub store-zeroth-spec : {M : Type 1} → statement M
+store-zeroth-spec =
     let answers = tie.spec
     (λ c κs. rw (c .before .before .pre .2, c .before .before .pre .1) (c .before .before .pre .0 .within))
     (λ c κs. (c .before .before .before .before .pre .0 .sound, rw (c .before .before .before .before .pre .2) (c .before .before .before .before .pre .0 .within)))
