@@ -15,12 +15,17 @@ static int is_ours(uint32_t code) {
     return code == LDP_FT_CODE_GIVEN || code == LDP_FT_CODE_WITHDRAWING || code == LDP_FT_CODE_WITHDRAWN_ACKED || code == LDP_FT_CODE_WITHDRAWN_RELEASED;
 }
 
+/* The place of a label of ours; LDP_FT_LABEL_WORDS where it is not listed. */
+static uint32_t our_place(const uint32_t words[LDP_FT_LABEL_WORDS], uint32_t label) {
+    uint32_t place = 0;
+    while (place < LDP_FT_LABEL_WORDS && (!is_ours(LDP_FT_WORD_CODE(words[place])) || LDP_FT_WORD_LABEL(words[place]) != label)) place++;
+    return place;
+}
+
 /* The code of a label of ours; LDP_FT_CODE_FREE where it is not listed. */
 static uint32_t our_code(const uint32_t words[LDP_FT_LABEL_WORDS], uint32_t label) {
-    for (size_t i = 0; i < LDP_FT_LABEL_WORDS; i++) {
-        if (is_ours(LDP_FT_WORD_CODE(words[i])) && LDP_FT_WORD_LABEL(words[i]) == label) return LDP_FT_WORD_CODE(words[i]);
-    }
-    return LDP_FT_CODE_FREE;
+    uint32_t place = our_place(words, label);
+    return place < LDP_FT_LABEL_WORDS ? LDP_FT_WORD_CODE(words[place]) : LDP_FT_CODE_FREE;
 }
 
 static offer *find(cabinet *c, uint32_t label) {
@@ -158,13 +163,16 @@ void labels_answer(cabinet *c, uint32_t label, wire_prefix prefix, uint32_t requ
     if (offer_label(c, o)) requests_answered(c, request_id);
 }
 
-/* A label that was given before this program began: its FEC is not known. */
+/* A label that was given before this program began: of its FEC no more is known than its prefix, if it has one. */
 static offer *find_listed(cabinet *c, uint32_t label) {
     uint32_t words[LDP_FT_LABEL_WORDS] = {0};
     ldp_ft_labels(c->store.image, sizeof c->store.image, words, LDP_FT_LABEL_WORDS);
     if (our_code(words, label) != LDP_FT_CODE_GIVEN || c->offer_count == LDP_FT_LABEL_WORDS) return NULL;
-    c->offers[c->offer_count] = (offer){.label = label, .fec = {every_fec[0]}, .fec_len = sizeof every_fec, .free_at = NEVER};
-    return &c->offers[c->offer_count++];
+    ldp_ft_prefix p = ldp_ft_prefix_at(c->store.image, sizeof c->store.image, our_place(words, label));
+    offer *o = &c->offers[c->offer_count++];
+    if (p.indexed == 1) *o = offer_of(label, (wire_prefix){.address = p.prefix, .length = p.length});
+    else *o = (offer){.label = label, .fec = {every_fec[0]}, .fec_len = sizeof every_fec, .free_at = NEVER};
+    return o;
 }
 
 void labels_take_back(cabinet *c, uint32_t label) {
@@ -189,15 +197,29 @@ static void say_received(ldp_ft_message m, const char *fec) {
     else say("received %s: label %u, %s", type, (unsigned)m.label, fec);
 }
 
+/* A Release is of the label that it names; where it names none, of all that have its FEC, and of the wildcard FEC of every one. */
+static int is_of(const offer *o, ldp_ft_message m, const char *fec) {
+    char ours[WIRE_PREFIX_TEXT], every[WIRE_PREFIX_TEXT];
+    if ((m.has & LDP_FT_HAS_LABEL) != 0) return o->label == m.label;
+    wire_fec_text(o->fec, o->fec_len, ours);
+    wire_fec_text(every_fec, sizeof every_fec, every);
+    return strcmp(fec, ours) == 0 || strcmp(fec, every) == 0;
+}
+
+static void take_release(cabinet *c, ldp_ft_message m, const char *fec) {
+    for (size_t i = 0; i < c->offer_count; i++) {
+        offer *o = &c->offers[i];
+        if (!is_of(o, m, fec)) continue;
+        o->released = 1;
+        o->free_at = now();
+    }
+}
+
 void labels_act(cabinet *c, ldp_ft_message m, const uint8_t *msg) {
     char fec[WIRE_PREFIX_TEXT] = "";
     if ((m.has & LDP_FT_HAS_FEC) != 0) wire_fec_text(msg + m.fec_start, m.fec_end - m.fec_start, fec);
     say_received(m, fec);
-    offer *o = m.kind == LDP_FT_KIND_RELEASE ? find(c, m.label) : NULL;
-    if (o != NULL) {
-        o->released = 1;
-        o->free_at = now();
-    }
+    if (m.kind == LDP_FT_KIND_RELEASE) take_release(c, m, fec);
     if (c->session.phase == LDP_FT_UP_PLAIN) act_plain(c, m, msg, fec);
 }
 

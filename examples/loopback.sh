@@ -47,7 +47,8 @@ start_a() { start a 10.255.0.1 10.255.0.2 listen 127.0.0.1 127.0.0.2 300 draft; 
 start_b() { start b 10.255.0.2 10.255.0.1 connect 127.0.0.2 127.0.0.1 200500 published; }
 
 tell() { local console="console_$1"; echo "$2" >&"${!console}"; }
-give() { local label; for label in $(seq "$2" "$3"); do tell "$1" "give $label 10.$((label / 256)).$((label % 256)).0/24"; done; }
+prefix() { echo "10.$(($1 / 256)).$(($1 % 256)).0/24"; }
+give() { local label; for label in $(seq "$2" "$3"); do tell "$1" "give $label $(prefix "$label")"; done; }
 stored() { "$cabinet" show "$work/$1.image"; }
 said() { [ "$(grep -c -F -- "$2" "$work/$1.log")" -ge "$3" ]; }
 
@@ -60,7 +61,7 @@ power_cut() {
 
 # holds NAME TEXT: the labels in its store, and nothing held
 holds() { [ "$(stored "$1" | grep -E '^(label|held)' | sort)" = "$(sort <<<"$2")" ]; }
-labels() { local label; for label in $(seq "$1" "$2"); do echo "label $label $3"; done; }
+labels() { local label; for label in $(seq "$1" "$2"); do echo "label $label of $(prefix "$label") $3"; done; }
 
 mkfifo "$work/a.console" "$work/b.console"
 touch "$work/a.log" "$work/b.log"

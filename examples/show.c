@@ -3,15 +3,25 @@
 
 #include "ldp_ft_text.h"
 #include "store.h"
+#include "wire.h"
 
 #include <stdio.h>
+
+/* A label with its prefix, where it has one: people at the desk know the blocks by their prefixes. */
+static void show_label(uint32_t word, ldp_ft_prefix p) {
+    char address[WIRE_ADDRESS_TEXT];
+    wire_address_text(p.prefix, address);
+    printf("label %u", (unsigned)LDP_FT_WORD_LABEL(word));
+    if (p.indexed == 1) printf(" of %s/%u", address, (unsigned)p.length);
+    printf(" %s\n", ldp_ft_code_text(LDP_FT_WORD_CODE(word)));
+}
 
 void show_labels(const uint8_t *image) {
     for (uint32_t place = 0; place < LDP_FT_LABEL_WORDS; place++) {
         uint32_t word = ldp_ft_label(image, LDP_FT_IMAGE_SIZE, place);
         ldp_ft_request r = ldp_ft_request_at(image, LDP_FT_IMAGE_SIZE, place);
         if (r.open == 1) printf("Request %u open\n", (unsigned)r.id);
-        else if (word != 0) printf("label %u %s\n", (unsigned)LDP_FT_WORD_LABEL(word), ldp_ft_code_text(LDP_FT_WORD_CODE(word)));
+        else if (word != 0) show_label(word, ldp_ft_prefix_at(image, LDP_FT_IMAGE_SIZE, place));
     }
 }
 

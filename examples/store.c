@@ -29,9 +29,16 @@ static void write_block(store *s, uint32_t block) {
     check(fdatasync(s->file) == 0, "store");
 }
 
+/* The blocks behind the slots, one for each bit. */
+static void write_further(store *s, uint32_t further) {
+    for (uint32_t block = LDP_FT_REQUEST_BLOCK; further != 0; block++, further >>= 1) {
+        if ((further & 1) != 0) write_block(s, block);
+    }
+}
+
 void store_outcome(store *s, ldp_ft_outcome o) {
     if (o.slot != 0) write_block(s, o.slot);
-    if ((o.further & LDP_FT_FURTHER_REQUESTS) != 0) write_block(s, LDP_FT_REQUEST_BLOCK);
+    write_further(s, o.further);
     if (o.block0 != 0) write_block(s, 0);
 }
 
@@ -79,11 +86,11 @@ static void refuse_image(const char *path, uint32_t answer, uint32_t block) {
     give_up(path, ldp_ft_answer_text(answer));
 }
 
-/* The first release stored fewer blocks. */
+/* Earlier releases stored fewer blocks. */
 static size_t extend(store *s, size_t length) {
     ldp_ft_extended e = ldp_ft_extend(s->image, sizeof s->image, length);
     if (e.answer != LDP_FT_DONE) return length;
-    write_block(s, LDP_FT_REQUEST_BLOCK);
+    write_further(s, e.further);
     return sizeof s->image;
 }
 

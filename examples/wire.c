@@ -139,8 +139,14 @@ int wire_read_prefix(const char *text, wire_prefix *prefix) {
     return wire_read_address(address, &prefix->address);
 }
 
+/* The bits of an address that a prefix of that length has. */
+static uint32_t mask_of(uint32_t length) {
+    return length == 0 ? 0 : UINT32_MAX << (32 - length);
+}
+
 void wire_fec_text(const uint8_t *fec, size_t fec_len, char text[WIRE_PREFIX_TEXT]) {
     uint8_t address[4] = {0};
+    char masked[WIRE_ADDRESS_TEXT];
     size_t bytes = fec_len < 4 ? 0 : (fec[3] + 7u) / 8;
     if (fec_len == 1 && fec[0] == WILDCARD_ELEMENT) {
         snprintf(text, WIRE_PREFIX_TEXT, "every FEC");
@@ -151,5 +157,6 @@ void wire_fec_text(const uint8_t *fec, size_t fec_len, char text[WIRE_PREFIX_TEX
         return;
     }
     memcpy(address, fec + 4, bytes);
-    snprintf(text, WIRE_PREFIX_TEXT, "%u.%u.%u.%u/%u", address[0], address[1], address[2], address[3], fec[3]);
+    wire_address_text(wire_get32(address) & mask_of(fec[3]), masked);
+    snprintf(text, WIRE_PREFIX_TEXT, "%s/%u", masked, fec[3]);
 }

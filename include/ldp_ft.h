@@ -2,6 +2,13 @@
  * ldp_ft.h: the fault-tolerant LDP session of a cabinet (RFC 3036 with draft-ietf-mpls-ldp-ft-02 or RFC 3479), one
  * session with one peer. ldp_ft_text.h has the numbers below in words; examples/ has a cabinet that uses all of this.
  *
+ * WHAT CHANGED IN 5.0.0
+ *   - The image has 68 blocks, 34,816 bytes: blocks 66 and 67 are an index of the labels by their prefix. A STORED
+ *     IMAGE OF 66 BLOCKS IS ANSWERED WITH 12 until it is extended (10).
+ *   - `further` has three bits. ldp_ft_receive sets them too: an owner who stores block 65 alone stores too little.
+ *   - A Withdraw or a Release of a prefix, with no label, acts on the labels of that prefix (7).
+ *   - ldp_ft_prefix_at tells the prefix of a label that is listed.
+ *   - LDP_FT_STACK is 4,608, it was 4,096.
  * WHAT CHANGED IN 4.0.0
  *   - ldp_ft_summary has `marks` at its end: whether Requests are stopped, by the peer or by us. It is returned by
  *     value, so a program that was compiled with another major number of this header must be compiled again.
@@ -35,10 +42,10 @@
  * The archive and the shared object are for x86-64 with the System V calling convention; other processors have no build
  * yet. Of the C library they need memset, and memcpy where the compiler likes it, and nothing else. No call uses more
  * than LDP_FT_STACK bytes of stack, these two not counted. Every call on an image sums the blocks that it relies on:
- * block 0, block 65 and each slot that holds a message, at most 33 KB; docs/BENCHMARKS.md has the times.
+ * block 0, blocks 65 to 67 and each slot that holds a message, at most 34 KB; docs/BENCHMARKS.md has the times.
  *
  * 2 WHAT THE OWNER KEEPS
- *   image    LDP_FT_IMAGE_SIZE bytes: the whole state of the session but for the phase. Its blocks 0 to 65 have 512
+ *   image    LDP_FT_IMAGE_SIZE bytes: the whole state of the session but for the phase. Its blocks 0 to 67 have 512
  *            bytes each; block b lies at image + 512 * b. Kept in memory, and stored on the cabinet's medium as each
  *            call says.
  *   session  the phase with its value and its flags: what one call hands back is what the next is given. It is not
@@ -59,18 +66,18 @@
  * 3 WHAT TO STORE, AND WHEN OUTPUT MAY LEAVE
  * After each call, in this order:
  *   1. If `slot` is not 0, store that block (1 to 64), whole.
- *   2. Then, if bit 0 of `further` is set, store block 65, whole. Only ldp_ft_submit of a Label Request sets it, and
- *      ldp_ft_format.
+ *   2. Then store each block that `further` names, whole: block 65 + b where bit b is set, b from 0 to 2. Of the calls
+ *      only ldp_ft_submit and ldp_ft_receive set one of them, and never two; ldp_ft_format sets all three.
  *   3. Then, if `block0` is 1, store block 0, whole. The call has happened once this is stored.
  *   4. Only then may output leave the cabinet: the bytes that this call wrote, and those of every later call.
  * A block must be stored whole or not at all, and none of a later step before all of an earlier one is on the medium.
  * Where power is cut before 3 is done, ldp_ft_restore gives the state before the call, but that labels in use without
  * protection are freed. So an acknowledgement never leaves before what it acknowledges is stored, and a number never
  * leaves before the store knows that it was given.
- * After ldp_ft_format all 66 blocks are stored:
- *   - On a medium that holds no image blocks 1 to 65 in any order, and block 0 last. A cut before that leaves what
+ * After ldp_ft_format all 68 blocks are stored:
+ *   - On a medium that holds no image blocks 1 to 67 in any order, and block 0 last. A cut before that leaves what
  *     ldp_ft_restore refuses: format again.
- *   - Where an image is given up block 0 goes FIRST, by itself, and then blocks 1 to 65. A cut before it leaves the
+ *   - Where an image is given up block 0 goes FIRST, by itself, and then blocks 1 to 67. A cut before it leaves the
  *     image that was there, a cut after it one that keeps nothing; or, where the blocks that were there were damaged,
  *     one that ldp_ft_restore refuses: format again. With block 0 last a cut could leave the old labels, with an open
  *     Request under the ID 0.
@@ -183,23 +190,34 @@
  *   9  withdrawn and          -                            the Withdraw acknowledged: free. Release received: stays
  *      released
  *
- * A break leaves all codes but 6, a release frees all words. A Withdraw or Release that is received with no label: of
- * the wildcard FEC it acts on all labels of its side, of another FEC on none; which labels that FEC has is the owner's
- * to know. Ours are 1, 2, 8 and 9, the peer's 3 to 6. A label that is withdrawn is free at the second of two: the
- * acknowledgement of its Withdraw, and the peer's Release (the draft, 4.1.1.1). Codes 8 and 9 say which one has come.
- * Until both have, ldp_ft_submit answers 6 to a Mapping of it, over breaks and power cuts; at 8 it waits as long as the
- * peer keeps it. Two messages may still cross: a Mapping of a label that is given already (1), and a Release of one
- * that was not asked back (3). Then the peer may use a label that is not listed here. Where both owners keep from the
- * one, or both from the other, a label that is not listed among ours is not in use at the peer once all messages have
- * arrived. Labels 0 to 15 have their own meaning (3 is implicit null) and are never listed: received, they pass with
- * answer 0 and are the owner's to keep; submitted, they are answered with 6.
+ * A break leaves all codes but 6, a release frees all words. Ours are 1, 2, 8 and 9, the peer's 3 to 6.
+ *
+ * A label has the PREFIX of the Mapping that set it last (ldp_ft_prefix_at): that of its FEC where this is one IPv4
+ * prefix and nothing else, bits past its length passed over; of every other FEC it has none. A Withdraw or a Release
+ * that is received with no label acts, of the wildcard FEC on all labels of its side, of one IPv4 prefix on exactly
+ * those of that prefix, each as if it were named, and of another FEC on none. Without FT Protection it is 33 where one
+ * of them has another code than 6. One that names a label acts on that label, whatever its FEC.
+ * A Mapping received of a label that is listed with another prefix, to have none counting as one, moves it to a free
+ * word, with the code of the table; there it has the new prefix. Where no word is free it is 21. Free is here, and
+ * wherever a Mapping takes a word, one that was free before the call too; but for the word of the Request that the
+ * Mapping answers, which it takes first. Submitted, a Mapping of a label that is given (1) with another prefix is 6:
+ * withdraw it first.
+ *
+ * A label that is withdrawn is free at the second of two: the acknowledgement of its Withdraw, and the peer's Release
+ * (the draft, 4.1.1.1). Codes 8 and 9 say which one has come. Until both have, ldp_ft_submit answers 6 to a Mapping of
+ * it, over breaks and power cuts; at 8 it waits as long as the peer keeps it. Two messages may still cross: a Mapping
+ * of a label that is given already (1), and a Release of one that was not asked back (3). Then the peer may use a label
+ * that is not listed here. Where both owners keep from the one, or both from the other, a label that is not listed
+ * among ours is not in use at the peer once all messages have arrived. Labels 0 to 15 have their own meaning (3 is
+ * implicit null) and are never listed: received, they pass with answer 0 and are the owner's to keep; submitted, they
+ * are answered with 6.
  *
  * 8 ASKING FOR LABELS (downstream on demand)
  * A Label Request is submitted as other messages are, in UP_FT. It is then open: its message ID stands beside one of
  * the 119 label words (ldp_ft_request_at), over breaks and power cuts, until exactly one of these
  *   - the Label Abort Request that names its ID is submitted and answered with 0
  *   - a Label Mapping that names its ID (Label Request Message ID TLV) is received; the label takes the
- *     Request's word, unless it has one already or is below 16
+ *     Request's word, unless it stays in the one that it has (7) or is below 16
  *   - a Notification whose Status names its ID, E clear, is received: the peer turns the Request down
  *   - the state is released, or begins anew.
  * Section 2 says which ID the next Request may have. The peer stops Requests with 'No Label Resources' and lets them go
@@ -228,22 +246,25 @@
  *
  * 10 AN IMAGE OF AN EARLIER RELEASE
  * This release stores version 2: the agreed timeout in milliseconds, 119 label words. Releases before 3.0.0 stored
- * version 1: seconds, 120 words; the first of them 65 blocks, 33,280 bytes. After power-up with a stored image of
- * version 1 (its first four bytes are 0, 0, 0, 1), in this order:
- *   1. Only where 33,280 bytes are stored: read them to the start of a buffer of LDP_FT_IMAGE_SIZE bytes, call
- *      ldp_ft_extend with stored_len LDP_FT_EARLIER_IMAGE_SIZE, and store block 65.
- *   2. ldp_ft_convert_forward, into a second buffer of LDP_FT_IMAGE_SIZE bytes. With 0 that is the image from now on.
+ * version 1: seconds, 120 words. The first of them stored 65 blocks, 33,280 bytes, the others before 5.0.0 66 blocks,
+ * 33,792 bytes. After power-up with such an image, in this order:
+ *   1. Where 33,280 or 33,792 bytes are stored: read them to the start of a buffer of LDP_FT_IMAGE_SIZE bytes, call
+ *      ldp_ft_extend with so many as stored_len, and store the blocks that `further` names. Its labels have no prefix.
+ *   2. Only where it is of version 1 (its first four bytes are 0, 0, 0, 1; else go on with 4): ldp_ft_convert_forward,
+ *      into a second buffer of LDP_FT_IMAGE_SIZE bytes. With 0 that is the image from now on.
  *   3. Store its block 0, whole. No other block differs, so this is all; storing the whole image does as well, with
  *      block 0 last.
  *   4. ldp_ft_restore, and go on with ldp_ft_open: the session resumes with its peer. No label and no message held is
  *      lost.
  * A cut before 3 is done leaves the image of version 1: begin again with 1. After 3 it is of version 2: begin with 4.
  *
- * A medium that has no length, such as a flash, does not tell whether 65 or 66 blocks of version 1 are stored. Read 66,
- * and begin with 2. Where that is 10 or 11 in block 65, call ldp_ft_extend, convert again, and look at the words that
- * come out (ldp_ft_labels). If none has code 7, no Request was open: go on as from 65 blocks, and store block 65 before
- * block 0. If one has, 66 blocks were stored and block 65 is damaged: the image is not to be used. What an older image
- * left in block 65 does no harm: an ID there counts under code 7 alone, and the first release has no such word.
+ * A medium that has no length, such as a flash, does not tell how many blocks are stored. At the first start of this
+ * release read 68, and begin with 2, or with ldp_ft_restore. Where that is 10 or 11 in block 66 or 67, call
+ * ldp_ft_extend with 33,792 and begin again: the labels have no prefix then. Where it is 10 or 11 in block 65, call it
+ * with 33,280, begin again, and look at the words that come out (ldp_ft_labels). If none has code 7, no Request was
+ * open: go on as from 65 blocks, and store the further blocks before block 0. If one has, 66 blocks or more were stored
+ * and block 65 is damaged: the image is not to be used. What an older image left in block 65 does no harm: an ID there
+ * counts under code 7 alone, and the first release has no such word.
  *
  * Where ldp_ft_convert_forward answers 16 the last of the 120 label words is in use, and version 2 has no place for it.
  * The image stays as it is. Put the earlier release back in, and let that word become free: have its label released, or
@@ -251,9 +272,13 @@
  * another word is free, for the first free one is taken. Then upgrade. Or give the state up: ldp_ft_format, and both
  * ends begin anew.
  *
- * The way back, for a cabinet that gets an earlier release again: ldp_ft_convert_back, and store block 0. It answers 16
- * where the agreed timeout is not whole seconds up to 65,535: propose whole seconds, and the next Init that is taken
- * stores the lesser of both. An image that went back and forth, or forth and back, has the bytes that it had.
+ * The way back, for a cabinet that gets an earlier release again: for one before 3.0.0 ldp_ft_convert_back, and store
+ * block 0. It answers 16 where the agreed timeout is not whole seconds up to 65,535: propose whole seconds, and the
+ * next Init that is taken stores the lesser of both. An image that went back and forth, or forth and back, has the
+ * bytes that it had. Releases before 5.0.0 read the first 66 blocks alone, the first one 65: shorten what is stored to
+ * so many. ON A MEDIUM THAT HAS NO LENGTH fill blocks 66 and 67 with zeros, which are refused (10) and made anew at the
+ * next upgrade: what stood there would be taken for the prefixes of labels that the earlier release has listed
+ * meanwhile.
  *
  * 11 THE TWO FORMS OF FT SESSION
  * The draft's FT Session has 4 bytes and a timeout in seconds, that of RFC 3479 has 12 bytes and a reconnect timeout in
@@ -278,7 +303,7 @@ extern "C" {
 
 /* The version of this header and of the library that it belongs to. A shared object of another major number is not
    compatible. */
-#define LDP_FT_VERSION_MAJOR 4
+#define LDP_FT_VERSION_MAJOR 5
 #define LDP_FT_VERSION_MINOR 0
 #define LDP_FT_VERSION_PATCH 0
 
@@ -291,12 +316,15 @@ uint32_t ldp_ft_version(void);
 
 /* The image. */
 #define LDP_FT_BLOCK_SIZE 512
-#define LDP_FT_BLOCKS 66                /* block 0, 64 slots, and block 65 with the message IDs of open Requests */
+#define LDP_FT_BLOCKS 68                /* block 0, 64 slots, block 65 with the message IDs of open Requests, and blocks
+                                           66 and 67 with the prefixes of labels */
 #define LDP_FT_SLOTS 64                 /* so many messages are held at most; slot s is block s + 1 */
 #define LDP_FT_REQUEST_BLOCK 65
+#define LDP_FT_INDEX_BLOCK 66           /* and the one behind it */
 #define LDP_FT_LABEL_WORDS 119
-#define LDP_FT_IMAGE_SIZE 33792         /* 66 blocks */
+#define LDP_FT_IMAGE_SIZE 34816         /* 68 blocks, in both versions */
 #define LDP_FT_EARLIER_IMAGE_SIZE 33280 /* 65 blocks, of version 1 */
+#define LDP_FT_UNINDEXED_IMAGE_SIZE 33792 /* 66 blocks, of either version */
 
 /* Bytes of messages. */
 #define LDP_FT_MESSAGE_MIN 8       /* a message that is submitted has so many at least */
@@ -312,9 +340,9 @@ uint32_t ldp_ft_version(void);
 #define LDP_FT_LABEL_LAST 1048575 /* the greatest that there is */
 #define LDP_FT_NONE 0xFFFFFFFFu   /* ldp_ft_label, ldp_ft_block_check: there is no such word, there is no check */
 
-/* Bytes of stack that no call exceeds. Most is used by ldp_ft_receive: 3,192, as counted by tests/c/stack.py along the
+/* Bytes of stack that no call exceeds. Most is used by ldp_ft_receive: 4,104, as counted by tests/c/stack.py along the
    calls in the disassembly. */
-#define LDP_FT_STACK 4096
+#define LDP_FT_STACK 4608
 
 /* The phases. */
 #define LDP_FT_IDLE 0      /* no connection, no state kept */
@@ -336,9 +364,10 @@ uint32_t ldp_ft_version(void);
 #define LDP_FT_KIND_NOT_SENT 5          /* ldp_ft_submit: the message is of no kind, or bears an FT TLV, or lacks its
                                            label */
 #define LDP_FT_LABEL_NOT_ALLOWED 6      /* ldp_ft_submit: the label's code does not allow the message (7), or the label
-                                           is below 16; a Withdraw of a label whose Withdraw is still held, a Release of
-                                           one whose Release is (of a Mapping the code alone counts); a Request with the
-                                           message ID of an open one; an Abort that names no open Request */
+                                           is below 16; a Mapping of a label that is given with another prefix; a
+                                           Withdraw of a label whose Withdraw is still held, a Release of one whose
+                                           Release is (of a Mapping the code and the prefix alone count); a Request with
+                                           the message ID of an open one; an Abort that names no open Request */
 #define LDP_FT_STORE_FULL 7             /* ldp_ft_submit: 64 messages are held; submit it again when some are
                                            acknowledged */
 #define LDP_FT_NOTHING_UNSENT 8         /* ldp_ft_send_next: all that is held has been sent on this connection;
@@ -362,8 +391,9 @@ uint32_t ldp_ft_version(void);
 #define LDP_FT_FAILS_FROM 20
 #define LDP_FT_OUT_OF_TURN 20         /* a protected message bears neither the number that follows the last one taken
                                          nor, on a resumed connection, one of the 63 after it (9) */
-#define LDP_FT_NO_WORD_FOR_MAPPING 21 /* a Mapping of a new label was received that answers no open Request, and all 119
-                                         label words are in use */
+#define LDP_FT_NO_WORD_FOR_MAPPING 21 /* a Mapping was received of a new label, or of one listed with another prefix,
+                                         that answers no open Request, and none of the 119 label words is free that was
+                                         free before the call (7) */
 #define LDP_FT_MALFORMED_RECEIVED 22  /* a malformed message, or an Init on a session that is up, or no Init where one
                                          is awaited */
 #define LDP_FT_BAD_INIT 23            /* an Init without parameters, or one that asks to resume and bears no
@@ -447,28 +477,29 @@ typedef struct ldp_ft_outcome {
     uint32_t slot;          /* block of the slot that the call wrote (1 to 64), also where its bytes were the same:
                                store it first; 0 none */
     uint32_t block0;        /* 1: block 0's bytes changed, store it last, before output leaves; 0: they did not */
-    uint32_t further;       /* bit 0: block 65's bytes changed, store it after the slot and before block 0; all other
-                               bits are 0 */
+    uint32_t further;       /* bit b: the bytes of block 65 + b changed, b from 0 to 2; store it after the slot and
+                               before block 0. At most one bit is set, but for ldp_ft_format, which sets all */
     uint32_t left_out;      /* ldp_ft_receive: numbers that the peer left out before this one, 0 to 63;
                                ldp_ft_send_next: messages of ours that were passed over, 0 to 63; else 0 (9) */
 } ldp_ft_outcome;
 
-#define LDP_FT_FURTHER_REQUESTS 1 /* bit 0 of `further` */
+#define LDP_FT_FURTHER_REQUESTS 1 /* bit 0 of `further`: block 65 */
+#define LDP_FT_FURTHER_INDEX 6    /* bits 1 and 2: blocks 66 and 67 */
 
 /* ---- how a session begins ---- */
 
 /*
  * Makes a new image from any bytes: nothing kept. Answers 0 or 12. With 0 the session is Idle, slot is 0, block0 is 1
- * and further is 1, and ALL 66 blocks are to be stored, in the order of section 3. Not for a medium that holds an
+ * and further is 7, and ALL 68 blocks are to be stored, in the order of section 3. Not for a medium that holds an
  * image: all it holds is given up.
  */
 ldp_ft_outcome ldp_ft_format(uint8_t *image, size_t image_len);
 
 /*
  * Begins from a stored image of version 2, after power-up: checks its size (12), block 0 (10, 11), every slot in use
- * (10, 11, with the block) and block 65 (10, 11, whether or not state is kept), and frees the labels that were in use
- * without protection, as after a break. With 0 the session is Failed where state is kept, else Idle; store block 0 if
- * block0 is 1. Where refused the session is Idle, no byte has changed, and the image is not to be used.
+ * (10, 11, with the block) and blocks 65 to 67 (10, 11, whether or not state is kept), and frees the labels that were
+ * in use without protection, as after a break. With 0 the session is Failed where state is kept, else Idle; store block
+ * 0 if block0 is 1. Where refused the session is Idle, no byte has changed, and the image is not to be used.
  * Every other call on an image makes the same checks, and answers 12, 10 or 11 before anything else.
  */
 ldp_ft_outcome ldp_ft_restore(uint8_t *image, size_t image_len);
@@ -534,14 +565,14 @@ ldp_ft_outcome ldp_ft_time_passed(uint8_t *image, size_t image_len, ldp_ft_sessi
 /*
  * Queues a message of one of the kinds, without FT TLVs, 8 to 480 bytes, whose length field is that of its bytes. In
  * every phase where state is kept, so with no connection too, but for Requests. Answers 0, 12, 10, 11, 1, 3, 4, 5, 6,
- * 14, 15, 13, 7. With 0 the message is held: store the block `slot`, then block 65 if bit 0 of `further` is set, then
+ * 14, 15, 13, 7. With 0 the message is held: store the block `slot`, then the block that `further` names, then
  * block 0. From then on it reaches the peer once, in order, whatever breaks, as long as the state is kept; but for a
  * Request that its Abort undoes on the way (9). It gets its number when it is first sent.
- * What it does to its label (7): a Mapping lists it as given; a Withdraw marks it as being withdrawn, and it is free
- * when the peer has both acknowledged the Withdraw and released the label; a Release marks a label of the peer's as
- * being released, and it is free when the peer has acknowledged that, at once where the peer had asked for it back. A
- * Request takes a free label word until it ends, an Abort frees its Request's word at once: whether the peer has given
- * the label meanwhile is the peer's to say.
+ * What it does to its label (7): a Mapping lists it as given, with its prefix; a Withdraw marks it as being withdrawn,
+ * and it is free when the peer has both acknowledged the Withdraw and released the label; a Release marks a label of
+ * the peer's as being released, and it is free when the peer has acknowledged that, at once where the peer had asked
+ * for it back. A Request takes a free label word until it ends, an Abort frees its Request's word at once: whether the
+ * peer has given the label meanwhile is the peer's to say.
  */
 ldp_ft_outcome ldp_ft_submit(uint8_t *image, size_t image_len, ldp_ft_session s, const uint8_t *msg, size_t msg_len);
 
@@ -703,6 +734,18 @@ typedef struct ldp_ft_request {
  */
 ldp_ft_request ldp_ft_request_at(const uint8_t *image, size_t image_len, uint32_t place);
 
+typedef struct ldp_ft_prefix {
+    uint32_t indexed; /* 1 where the word at the place lists a label that has a prefix; else 0 */
+    uint32_t length;  /* of the prefix in bits, 0 to 32; 0 where indexed is 0 */
+    uint32_t prefix;  /* its first byte the highest, 0 past its length; 0 where indexed is 0 */
+} ldp_ft_prefix;
+
+/*
+ * The prefix (7) of the label at place 0 to 118 of an image that passes ldp_ft_restore's checks. 0, 0, 0 where the word
+ * lists no label or one without a prefix, where there is no such place, and where the image is refused.
+ */
+ldp_ft_prefix ldp_ft_prefix_at(const uint8_t *image, size_t image_len, uint32_t place);
+
 /* The check over the first 508 bytes of a block, A * 65536 + B, as its last 4 bytes spell it; LDP_FT_NONE where there
    are fewer than 508. */
 uint32_t ldp_ft_block_check(const uint8_t *block, size_t block_len);
@@ -745,8 +788,9 @@ typedef struct ldp_ft_extended {
 /*
  * Makes the blocks that a stored image of an earlier release lacks. Its stored_len bytes lie at the start of `image`, a
  * buffer of LDP_FT_IMAGE_SIZE bytes; what the buffer holds behind them does not matter. stored_len is
- * LDP_FT_EARLIER_IMAGE_SIZE (65 blocks: no block of Requests). With 0, store the blocks that `further` names, before
- * any other call's; then call ldp_ft_convert_forward: nothing has been looked at yet. 12: image_len is not
+ * LDP_FT_EARLIER_IMAGE_SIZE (65 blocks: no Requests, no prefixes) or LDP_FT_UNINDEXED_IMAGE_SIZE (66 blocks: no
+ * prefixes). With 0, store the blocks that `further` names, before any other call's; then call ldp_ft_convert_forward,
+ * or ldp_ft_restore: nothing has been looked at yet. 12: image_len is not
  * LDP_FT_IMAGE_SIZE, or stored_len is no earlier size; no byte has changed.
  */
 ldp_ft_extended ldp_ft_extend(uint8_t *image, size_t image_len, size_t stored_len);

@@ -66,6 +66,11 @@ static void live_as_base(void) {
     connection_fails(&peer);
 }
 
+/* The same bytes but for the prefixes of labels, which no earlier release stored. */
+static void expect_alike(const uint8_t *image, const uint8_t *other, const char *what) {
+    expect(memcmp(image, other, LDP_FT_UNINDEXED_IMAGE_SIZE) == 0, 1, what);
+}
+
 static void expect_converted(ldp_ft_converted c, uint32_t answer, uint32_t block, const char *what) {
     expect(c.answer, answer, what);
     expect(c.block, block, what);
@@ -82,11 +87,11 @@ static void extend(void) {
     expect(ldp_ft_extend(base, sizeof base, LDP_FT_EARLIER_IMAGE_SIZE - 1).answer, LDP_FT_WRONG_SIZE, "no earlier size");
     ldp_ft_extended e = ldp_ft_extend(base, sizeof base, LDP_FT_EARLIER_IMAGE_SIZE);
     expect(e.answer, LDP_FT_DONE, "extend");
-    expect(e.further, LDP_FT_FURTHER_REQUESTS, "block 65 is made");
+    expect(e.further, LDP_FT_FURTHER_REQUESTS | LDP_FT_FURTHER_INDEX, "blocks 65 to 67 are made");
 }
 
-/* The order of section 10. What comes out is, byte for byte, what this release has stored of the same history; with block 0 stored alone the medium
-   holds all of it. */
+/* The order of section 10. What comes out is, byte for byte, what this release has stored of the same history, but that its labels have no prefix; with
+   block 0 stored alone the medium holds all of it. */
 static void upgrade(void) {
     live_as_base();
     make_base(0);
@@ -94,7 +99,8 @@ static void upgrade(void) {
     extend();
     expect(ldp_ft_restore(base, sizeof base).answer, LDP_FT_BAD_FIELD, "restore takes no version 1");
     forward(LDP_FT_DONE, 0, "convert forward");
-    expect(memcmp(later, ours.store, sizeof later) == 0, 1, "the image that this release would have stored");
+    expect_alike(later, ours.store, "the image that this release would have stored");
+    expect(ldp_ft_prefix_at(later, sizeof later, 1).indexed, 0, "a label of the first release has no prefix");
     memcpy(base, later, LDP_FT_BLOCK_SIZE);
     expect(memcmp(base, later, sizeof base) == 0, 1, "block 0 alone differs");
 
@@ -124,10 +130,11 @@ static void back_and_forth(void) {
     expect_converted(ldp_ft_convert_back(ours.image, sizeof ours.image, later, sizeof later), LDP_FT_DONE, 0, "convert back");
     make_base(0);
     extend();
-    expect(memcmp(later, base, sizeof later) == 0, 1, "the image of version 1");
+    expect_alike(later, base, "the image of version 1");
     expect_converted(ldp_ft_convert_forward(later, sizeof later, again, sizeof again), LDP_FT_DONE, 0, "and forth");
-    expect(memcmp(again, ours.image, sizeof again) == 0, 1, "back and forth");
-    expect_converted(ldp_ft_convert_back(again, sizeof again, later, sizeof later), LDP_FT_DONE, 0, "and back again");
+    expect(memcmp(again, ours.image, sizeof again) == 0, 1, "back and forth, prefixes too");
+    expect_converted(ldp_ft_convert_forward(base, sizeof base, again, sizeof again), LDP_FT_DONE, 0, "convert forward");
+    expect_converted(ldp_ft_convert_back(again, sizeof again, later, sizeof later), LDP_FT_DONE, 0, "and back");
     expect(memcmp(later, base, sizeof later) == 0, 1, "forth and back");
 }
 
@@ -188,8 +195,22 @@ static void read_65_as_66(uint8_t filling) {
     expect_requests(0, "no Request in the first release");
 }
 
-/* A medium without a length (10): 65 blocks; 66 with a damaged block 65; 65 before IDs that an older image left. */
+/* Behind 66 blocks it does too: both blocks of prefixes are made. */
+static void read_66_as_68(uint8_t filling) {
+    make_base(0);
+    extend();
+    memset(base + LDP_FT_UNINDEXED_IMAGE_SIZE, filling, 2 * LDP_FT_BLOCK_SIZE);
+    forward(LDP_FT_BAD_BLOCK, LDP_FT_INDEX_BLOCK, "what no release stored in block 66");
+    ldp_ft_extended e = ldp_ft_extend(base, sizeof base, LDP_FT_UNINDEXED_IMAGE_SIZE);
+    expect(e.answer, LDP_FT_DONE, "extend 66 blocks");
+    expect(e.further, LDP_FT_FURTHER_INDEX, "blocks 66 and 67 are made");
+    forward(LDP_FT_DONE, 0, "66 blocks extended");
+}
+
+/* A medium without a length (10): 65 blocks; 66; 66 with a damaged block 65; 65 before IDs that an older image left. */
 static void without_length(void) {
+    read_66_as_68(0xFF);
+    read_66_as_68(0x00);
     read_65_as_66(0xFF);
     read_65_as_66(0x00);
     put(base + 40, word(0, LDP_FT_CODE_REQUEST), 4);

@@ -44,7 +44,7 @@ static void given_up(void) {
     }
 }
 
-/* Why not last: nothing is held, so no block that was overwritten is looked at but for block 65, and the Request has lost its ID. */
+/* Why not last: nothing is held, so of the blocks that were overwritten only those behind the slots are looked at, and the Request has lost its ID. */
 static void block_0_last(void) {
     begin_both();
     submit(&ours, request_21, sizeof request_21, LDP_FT_DONE, "Request");

@@ -96,11 +96,12 @@ static void expect_refused(const uint8_t *image, size_t length, uint32_t answer,
     ldp_ft_part p = ldp_ft_held(image, length, 0);
     expect(p.answer, answer, "held refused");
     expect(p.start + p.end, 0, "no place");
+    expect(ldp_ft_prefix_at(image, length, 0).indexed, 0, "no prefix");
 }
 
 /* A wrong size, a wrong check in each block that is looked at, a wrong field. Blocks 2 and 3 hold messages, block 1 no longer. */
 static void refusals(void) {
-    static const uint32_t looked_at[] = {0, 2, 3, LDP_FT_REQUEST_BLOCK};
+    static const uint32_t looked_at[] = {0, 2, 3, LDP_FT_REQUEST_BLOCK, LDP_FT_INDEX_BLOCK, LDP_FT_INDEX_BLOCK + 1};
     static uint8_t image[LDP_FT_IMAGE_SIZE];
     expect_refused(NULL, 0, LDP_FT_WRONG_SIZE, 0);
     expect_refused(ours.image, sizeof ours.image - 1, LDP_FT_WRONG_SIZE, 0);

@@ -165,13 +165,13 @@ static void below_16(void) {
     tell(SUBMITTED, MAPPING, 16, LDP_FT_DONE);
 }
 
-/* With no label: a Withdraw of the wildcard FEC acts on all of the peer's labels, of another FEC on none. */
+/* With no label: a Withdraw of the wildcard FEC acts on all of the peer's labels, of a FEC that is no prefix on none; prefixes.c has the prefixes. */
 static void without_label(void) {
-    const uint8_t of_fec[27] = {0x04, WITHDRAW, 0, 23, 0, 0, 0, 9, FEC, NUMBER(2)};
+    const uint8_t of_host[28] = {0x04, WITHDRAW, 0, 24, 0, 0, 0, 9, 0x01, 0x00, 0, 8, 3, 0, 1, 4, 10, 0, 0, 0, NUMBER(2)};
     const uint8_t of_all[21] = {0x04, WITHDRAW, 0, 17, 0, 0, 0, 9, 0x01, 0x00, 0, 1, 1, NUMBER(3)};
     label_at(LDP_FT_CODE_USING);
-    receive(&ours, of_fec, sizeof of_fec, LDP_FT_DONE, "Withdraw of a FEC");
-    expect_code(LDP_FT_CODE_USING, "Withdraw of a FEC changes no label");
+    receive(&ours, of_host, sizeof of_host, LDP_FT_DONE, "Withdraw of a host address");
+    expect_code(LDP_FT_CODE_USING, "Withdraw of a host address changes no label");
     receive(&ours, of_all, sizeof of_all, LDP_FT_DONE, "Withdraw of the wildcard");
     expect_code(LDP_FT_CODE_ASKED_BACK, "Withdraw of the wildcard");
 }

@@ -93,6 +93,13 @@ class Connection:
             assert borne == wanted, f"{name} of {kind:#06x}: {borne}, and {wanted} is wanted"
         return found[2]
 
+    def expect_ack(self, acknowledged):
+        """KeepAlives alone come, until one of them acknowledges this number."""
+        found = self.next()
+        while found is not None and found[0] == KEEPALIVE and found[1].get(FT_ACK) != word(acknowledged):
+            found = self.next()
+        assert found is not None and found[0] == KEEPALIVE, f"{found}, and a KeepAlive with the ACK of {acknowledged} is wanted"
+
     def pass_keepalives(self):
         """So many KeepAlives as come before the next message are read."""
         while (found := self.next()) is not None:
@@ -103,6 +110,16 @@ class Connection:
     def expect_closed(self):
         while (found := self.next()) is not None:
             assert found[0] == KEEPALIVE, f"{found[0]:#06x}, and the end is wanted"
+
+
+def up(port, source="127.0.0.1", seconds=30):
+    """A connection on which the session has come up afresh."""
+    c = Connection(port, source)
+    c.send(init(ft_session(0, seconds)))
+    c.expect(INIT, FT_ACK=None)
+    c.expect(KEEPALIVE, FT_ACK=word(0))
+    c.expect(ADDRESS, FT_PROTECTION=word(1))
+    return c
 
 
 def split(body):

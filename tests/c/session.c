@@ -35,7 +35,7 @@ static void submit_to_slot(const uint8_t *msg, size_t length, uint32_t slot) {
     ldp_ft_outcome o = submit(&ours, msg, length, LDP_FT_DONE, "submit");
     expect(o.slot, slot, "slot written");
     expect(o.block0, 1, "block 0 changed");
-    expect(o.further, 0, "block 65 is as it was");
+    expect(o.further & LDP_FT_FURTHER_REQUESTS, 0, "block 65 is as it was");
 }
 
 /* The word of label 16 is at the first place. */

@@ -34,8 +34,8 @@ def stays_down(program, folder, keys):
 def comes_up(program, folder, key):
     with listening(program, folder / "a", key) as a, connecting(program, folder / "b", a.port(), 60, key) as b:
         a.tell("give 100 10.1.0.0/24")
-        b.wait_stored("label 100 using")
-        a.wait_stored("label 100 given")
+        b.wait_stored("label 100 of 10.1.0.0/24 using")
+        a.wait_stored("label 100 of 10.1.0.0/24 given")
 
 
 def kernel_signs():

@@ -87,13 +87,13 @@ def beside_a_pair(program, folder):
         with Cabinet(program, folder / "b", "10.255.0.2", "10.255.0.1", "connect", PEER, "127.0.0.1", port, 60, 30) as b:
             a.tell("give 100 10.1.0.0/24")
             b.tell("give 200 10.2.0.0/24")
-            a.wait_stored("label 100 given", "label 200 using")
-            b.wait_stored("label 100 using", "label 200 given")
+            a.wait_stored("label 100 of 10.1.0.0/24 given", "label 200 of 10.2.0.0/24 using")
+            b.wait_stored("label 100 of 10.1.0.0/24 using", "label 200 of 10.2.0.0/24 given")
             count, silent = visits(port)
             a.wait("turned away a connection", count)
             a.tell("give 101 10.1.1.0/24")
-            a.wait_stored("label 100 given", "label 101 given", "label 200 using")
-            b.wait_stored("label 100 using", "label 101 using", "label 200 given")
+            a.wait_stored("label 100 of 10.1.0.0/24 given", "label 101 of 10.1.1.0/24 given", "label 200 of 10.2.0.0/24 using")
+            b.wait_stored("label 100 of 10.1.0.0/24 using", "label 101 of 10.1.1.0/24 using", "label 200 of 10.2.0.0/24 given")
             silent.close()
             said = b.end()
             a.wait("connection closed: the peer closed it")
@@ -101,16 +101,6 @@ def beside_a_pair(program, folder):
                 assert log.count("up UpFT") == 1, f"{name}:\n{log}"
             assert "closed" not in said and a.said().count("connection closed") == 1, f"{a.said()}\n{said}"
     return count
-
-
-def up(port, source):
-    """A connection on which the session is up, afresh."""
-    c = Connection(port, source)
-    c.send(init(ft_session(0)))
-    c.expect(INIT, FT_ACK=None)
-    c.expect(KEEPALIVE, FT_ACK=word(0))
-    c.expect(ADDRESS, FT_PROTECTION=word(1))
-    return c
 
 
 def comes_back(program, folder):

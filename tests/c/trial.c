@@ -29,7 +29,7 @@ void begin(cabinet *c) {
     ldp_ft_outcome o = ldp_ft_format(c->image, sizeof c->image);
     expect(o.answer, LDP_FT_DONE, "format");
     expect(o.block0, 1, "format stores block 0");
-    expect(o.further, LDP_FT_FURTHER_REQUESTS, "format stores block 65");
+    expect(o.further, LDP_FT_FURTHER_REQUESTS | LDP_FT_FURTHER_INDEX, "format stores blocks 65 to 67");
     c->session = o.session;
     c->published = false;
     memcpy(c->store, c->image, sizeof c->store);
@@ -43,7 +43,9 @@ size_t settle(cabinet *c, ldp_ft_outcome o, uint32_t answer, const char *what) {
     expect(o.answer, answer, what);
     c->session = o.session;
     if (o.slot != 0) store_block(c, o.slot);
-    if ((o.further & LDP_FT_FURTHER_REQUESTS) != 0) store_block(c, LDP_FT_REQUEST_BLOCK);
+    for (uint32_t b = 0; b < LDP_FT_BLOCKS - LDP_FT_REQUEST_BLOCK; b++) {
+        if ((o.further >> b & 1) != 0) store_block(c, LDP_FT_REQUEST_BLOCK + b);
+    }
     if (o.block0 != 0) store_block(c, 0);
     return o.length;
 }
@@ -134,6 +136,7 @@ int main(void) {
     request_trial();
     left_out_trial();
     label_trial();
+    prefix_trial();
     plain_trial();
     image_trial();
     format_trial();
@@ -141,6 +144,6 @@ int main(void) {
     convert_trial();
     reading_trial();
     text_trial();
-    puts("ldp_ft: a session, Requests, messages left out, labels, a plain peer, images, a new one stored, both forms, the converter, readers and texts from C, ok");
+    puts("ldp_ft: a session, Requests, messages left out, labels, prefixes, a plain peer, images, a new one stored, both forms, the converter, readers and texts from C, ok");
     return 0;
 }

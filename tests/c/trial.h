@@ -83,6 +83,7 @@ void session_trial(void);
 void request_trial(void);
 void left_out_trial(void);
 void label_trial(void);
+void prefix_trial(void);
 void plain_trial(void);
 void image_trial(void);
 void format_trial(void);

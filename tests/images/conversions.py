@@ -11,10 +11,11 @@ import sys
 
 sys.dont_write_bytecode = True
 sys.path.append(str(pathlib.Path(__file__).resolve().parents[1]))
-from images.make import ALL_ASKED, BLOCK, GIVEN16, ONE, PAPER, REQUESTS, SIZE, THREE, block0, damaged, earlier, full_ring, image, lines, mapping_slot, refused  # noqa: E402
+from images.make import ALL_ASKED, ALL_USED, BLOCK, EARLIER, EARLIEST, GIVEN16, NONE, ONE, PAPER, REQUESTS, SIZE, TEN, THREE  # noqa: E402
+from images.make import block0, damaged, earlier, full_ring, image, indexed, lines, mapping_slot, refused, with_byte  # noqa: E402
 from paper.convert import converted  # noqa: E402
-from paper.image import State, requests_block  # noqa: E402
-from paper.labels import COUNT, IDS, OPEN, word  # noqa: E402
+from paper.image import State, index_blocks, requests_block  # noqa: E402
+from paper.labels import COUNT, OPEN, PLACES, word  # noqa: E402
 from paper.numbers import LAST  # noqa: E402
 
 FORWARD, BACK = "forward", "back"
@@ -30,18 +31,27 @@ def slots(zeroth):
     return image(zeroth, THREE)
 
 
+def entries(zeroth, last=NONE):
+    """10.0.0.0/8 beside every place but the last, and what is given beside that one."""
+    return image(zeroth, index=index_blocks([bytes.fromhex(entry) for entry in [TEN] * COUNT + [last]]))
+
+
 MOVED = [
     (FORWARD, "paper", ONE),
     (FORWARD, "kept_0", image(State(layout=1).block())),
-    (FORWARD, "kept_0_with_ids", image(State(layout=1).block(), requests=requests_block([7] * IDS))),
+    (FORWARD, "kept_0_with_ids", image(State(layout=1).block(), requests=requests_block([7] * PLACES))),
     (FORWARD, "full_ring", full_ring(layout=1)),
     (FORWARD, "no_timeout", one(timeout=0)),
     (FORWARD, "longest_timeout", one(timeout=65535)),
     (FORWARD, "unprotected_and_marks", one([word(30, 6), OPEN], marks=6)),
     (FORWARD, "word_before_the_last", one(FREE[1:] + GIVEN16)),
-    (FORWARD, "first_release", earlier(True)),
+    (FORWARD, "first_release", earlier(ONE, EARLIEST, True)),
+    (FORWARD, "before_the_index", earlier(full_ring(layout=1), EARLIER, True)),
+    (FORWARD, "prefixes", entries(block0(ALL_USED, layout=1))),
+    (FORWARD, "kept_0_with_entries", entries(State(layout=1).block(), "ff" * 8)),
     (FORWARD, "dead_slots_damaged", image(block0(GIVEN16, layout=1, held=1), {0: mapping_slot()}, bytes(range(256)) * 2)),
     (BACK, "id_of_no_word", image(block0(ALL_ASKED), requests=requests_block([*range(COUNT), 0]))),
+    (BACK, "entry_of_no_word", entries(block0(ALL_USED), "ff" * 8)),
     (BACK, "one_second", image(block0(timeout=1000))),
 ]
 REFUSED = [
@@ -53,12 +63,18 @@ REFUSED = [
     (FORWARD, "empty", b"", 12, 0),
     (FORWARD, "byte_short", ONE[:-1], 12, 0),
     (FORWARD, "byte_long", ONE + b"\0", 12, 0),
-    (FORWARD, "first_release_not_extended", earlier(), 12, 0),
+    (FORWARD, "first_release_not_extended", earlier(ONE, EARLIEST), 12, 0),
+    (FORWARD, "before_the_index_not_extended", earlier(ONE, EARLIER), 12, 0),
     (FORWARD, "check_of_block_0", damaged(ONE, 100), 10, 0),
     (FORWARD, "check_of_block_3", damaged(slots(block0(layout=1, held=3)), 3 * BLOCK + 60), 10, 3),
     (FORWARD, "field_of_block_1", image(block0(layout=1, held=1), {0: mapping_slot(label=17)}), 11, 1),
     (FORWARD, "check_of_block_65", damaged(ONE, BLOCK * REQUESTS + 60), 10, 65),
-    (FORWARD, "block_65_before_16", image(block0([*FREE[1:], OPEN, OPEN], layout=1), requests=requests_block([0] * IDS)), 11, 65),
+    (FORWARD, "block_65_before_16", image(block0([*FREE[1:], OPEN, OPEN], layout=1), requests=requests_block([0] * PLACES)), 11, 65),
+    (FORWARD, "check_of_block_66", damaged(ONE, BLOCK * 66 + 60), 10, 66),
+    (FORWARD, "check_of_block_67", damaged(ONE, BLOCK * 67 + 60), 10, 67),
+    (FORWARD, "byte_behind_the_entries", ONE[: BLOCK * 67] + with_byte(block0(), 67, 480)[BLOCK * 67 :], 11, 67),
+    (FORWARD, "last_entry_before_16", entries(block0([*ALL_USED, *GIVEN16], layout=1), "ff" * 8), 11, 67),
+    (FORWARD, "last_entry_16", entries(block0([*ALL_USED, *GIVEN16], layout=1), TEN), 16, 0),
     (FORWARD, "word_of_label_15", one([word(15, 3)]), 11, 0),
     (FORWARD, "last_word_twice", one([*GIVEN16, *FREE[1:], *GIVEN16]), 11, 0),
     (BACK, "a_millisecond_more", image(block0(timeout=5001)), 16, 0),
@@ -69,7 +85,8 @@ REFUSED = [
     (BACK, "byte_21_set", image(block0(zero=1)), 11, 0),
     (BACK, "byte_long", PAPER + b"\0", 12, 0),
     (BACK, "check_of_block_0", damaged(PAPER, 100), 10, 0),
-    (BACK, "checks_before_16", damaged(image(block0(timeout=1)), SIZE - 1), 10, 65),
+    (BACK, "field_of_block_66", indexed([0, *GIVEN16], [NONE, "ff" * 8]), 11, 66),
+    (BACK, "checks_before_16", damaged(image(block0(timeout=1)), SIZE - 1), 10, 67),
 ]
 
 

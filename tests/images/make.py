@@ -12,8 +12,8 @@ import sys
 sys.dont_write_bytecode = True
 sys.path.append(str(pathlib.Path(__file__).resolve().parents[1]))
 from paper.calls import extend  # noqa: E402
-from paper.image import BLOCK, EARLIER_SIZE, REQUESTS, SIZE, SLOTS, State, counts, report, requests_block, sealed, slot_block  # noqa: E402
-from paper.labels import COUNT, IDS, OPEN, word  # noqa: E402
+from paper.image import BLOCK, EARLIER_SIZES, INDEX, REQUESTS, SIZE, SLOTS, State, counts, index_blocks, report, requests_block, sealed, slot_block  # noqa: E402
+from paper.labels import COUNT, OPEN, PLACES, entry_of, word  # noqa: E402
 from paper.numbers import LAST  # noqa: E402
 from paper.wire import ABORT, ADDRESS, ADDRESS_WITHDRAW, FEC, MAPPING, NO_RESOURCES, RELEASE, REQUEST, RESOURCES, STATUS_CODE, TYPE, WITHDRAW, ack_tlv  # noqa: E402
 from paper.wire import field, label_tlv, message, request_id_tlv, status_tlv, tlv  # noqa: E402
@@ -52,13 +52,29 @@ def block0(words=(), **fields):
     return State(words, **{"timeout": timeout, "kept": 1, "keepalive": 30, "maxpdu": 4096, **fields}).block()
 
 
-def image(zeroth, slots=None, dead=bytes(BLOCK), requests=requests_block()):
-    return zeroth + b"".join((slots or {}).get(k, dead) for k in range(SLOTS)) + requests
+def image(zeroth, slots=None, dead=bytes(BLOCK), requests=requests_block(), index=index_blocks()):
+    return zeroth + b"".join((slots or {}).get(k, dead) for k in range(SLOTS)) + requests + index
 
 
 def asking(words, ids):
     """An image of these words, and of these IDs beside them."""
     return image(block0(words), requests=requests_block(ids))
+
+
+def indexed(words, entries):
+    """An image of these words, and of these entries beside them; in hexadecimal."""
+    return image(block0(words), index=index_blocks([bytes.fromhex(entry) for entry in entries]))
+
+
+def with_entry(place, entry):
+    """An image of labels in all words, of which one has this entry."""
+    return indexed(ALL_USED, [NONE] * place + [entry])
+
+
+def with_byte(zeroth, k, at):
+    """An image with a byte behind the places of a further block, which is sealed again."""
+    data = image(zeroth)
+    return data[: BLOCK * k] + altered(data[BLOCK * k :][:BLOCK], at, b"\1") + data[BLOCK * (k + 1) :]
 
 
 def damaged(data, at):
@@ -81,15 +97,19 @@ def refused(answer, block):
 
 # ---- cases
 GIVEN16 = [word(16, 1)]
-PAPER = image(block0(GIVEN16, held=1), {0: mapping_slot()})
-ONE = image(block0(GIVEN16, layout=1, held=1), {0: mapping_slot()})
+OF_16 = index_blocks([bytes.fromhex("01180000 0a001000")])
+PAPER = image(block0(GIVEN16, held=1), {0: mapping_slot()}, index=OF_16)
+ONE = image(block0(GIVEN16, layout=1, held=1), {0: mapping_slot()}, index=OF_16)
 THREE = {k: slot_block(mapping(20 + k), MAPPING, 20 + k) for k in range(3)}
 
 
 # The layout by its bytes: R 5, I 6, S 9, first slot 63, 2 held, 5,000 milliseconds, stopped and stopping, the peer's parameters 30 and 4096; label 16 given, two Requests open,
 # and 17 used in the last word. The IDs of block 65: 7, which does not count, then those of the Requests, 7 and 0xFFFFFFFF; and the last, which does not count.
+# The entries of blocks 66 and 67: 10.0.0.0/8 of 16, beside the Requests what does not count; 192.168.4.0/22 of 17, and the last, which does not count.
 BYTES = by_bytes("00000002 00000005 00000006 00000009 003f 0002 0000 01 06 001e 1000 00001388 00100010 00700000 00700000", "00300011 2645 a1c2")
 ID_BYTES = by_bytes("00000007 00000007 ffffffff", "00000007" + "00" * 28 + "0016 0f2f")
+ENTRY_BYTES = by_bytes("01080000 0a000000 ffffffff ffffffff 00000000 00000001", "0b0a dfeb")
+LAST_ENTRY_BYTES = by_bytes("", "01160000 c0a80400 ffffffff ffffffff" + "00" * 28 + "c5bf 7211")
 MAPPING_BYTES = by_bytes("001b 01 00 00000010 0400 0017 00000007 0100 0007 02 0001 18 0a0000 0200 0004 00000010", "276b 1e1a")
 ADDRESS_BYTES = by_bytes("0008 04 00 ffffffff 0300 0004 00000007", "0714 f599")
 
@@ -118,10 +138,12 @@ def slot_of(i):
 
 
 def full_ring(**fields):
-    """64 held from slot 40 on, round the end of the ring and of the numbers, with every label code."""
+    """64 held from slot 40 on, round the end of the ring and of the numbers, with every label code and prefixes of every length."""
     words = [OPEN if i % 9 == 6 else word(1048575 - i, 1 + i % 9) for i in range(COUNT)]
     slots = {(40 + i) % SLOTS: slot_of(i) for i in range(SLOTS)}
-    return image(block0(words, released=LAST - 1, issued=2, secured=77, first=40, held=64, **fields), slots, requests=requests_block(range(IDS)))
+    prefixes = [entry_of(bytes([2, 0, 1, i % 33]) + bytes([10, 85, i, 255])[: (i % 33 + 7) // 8]) for i in range(PLACES)]
+    further = {"requests": requests_block(range(PLACES)), "index": index_blocks(prefixes)}
+    return image(block0(words, released=LAST - 1, issued=2, secured=77, first=40, held=64, **fields), slots, **further)
 
 
 def live(slots, **fields):
@@ -136,23 +158,26 @@ def noted(marks, **fields):
     return image(block0(marks=marks, **fields))
 
 
-def earlier(extended=False):
-    """The paper's image as a release before ticket 2 stored it; and with the block that is put behind it. The converter comes next."""
-    data = bytearray(ONE[:EARLIER_SIZE])
+def earlier(data, size, extended=False):
+    """An image as a release before stored it, at its size; and with the blocks that are put behind it."""
+    data = bytearray(data[:size])
     if extended:
-        data += b"\xaa" * (SIZE - EARLIER_SIZE)
-        assert extend(data, EARLIER_SIZE) == 0
+        data += b"\xaa" * (SIZE - size)
+        assert extend(data, size) == 0
     return bytes(data)
 
 
 RELEASED = State().block()
 ALL_ASKED = [OPEN] * COUNT
+ALL_USED = [word(16 + i, 3) for i in range(COUNT)]
+NONE, TEN = "00" * 8, "010800000a000000"
+EARLIEST, EARLIER = EARLIER_SIZES
 UNSEALED = bytes(BLOCK)
 ZERO_SUMS = next(b for b in (block0(secured=n) for n in range(1, 1 << 20)) if b[508:510] == b"\0\0")
 BARE = 8 + len(mapping(16))
 CASES = [
     ("new", image(RELEASED), counts(0, 0, 0, 0, 0, 0)),
-    ("layout_by_bytes", image(BYTES, {63: MAPPING_BYTES, 0: ADDRESS_BYTES}, requests=ID_BYTES), counts(5, 6, 9, 2, 1, 4)),
+    ("layout_by_bytes", image(BYTES, {63: MAPPING_BYTES, 0: ADDRESS_BYTES}, requests=ID_BYTES, index=ENTRY_BYTES + LAST_ENTRY_BYTES), counts(5, 6, 9, 2, 1, 4)),
     ("nothing_held", image(block0(released=9, issued=9, secured=4)), counts(9, 9, 4, 0, 0, 0)),
     ("full_ring_wraps", full_ring(), counts(LAST - 1, 2, 77, 64, 61, COUNT)),
     ("dead_slots_damaged", image(block0(GIVEN16, held=1), {0: mapping_slot()}, bytes(range(256)) * 2), counts(0, 0, 0, 1, 1, 1)),
@@ -228,16 +253,45 @@ CASES = [
     ("id_twice", asking([OPEN, 0, OPEN], [7, 0, 7]), refused(11, 65)),
     ("id_0_twice", asking([OPEN, 0, OPEN], []), refused(11, 65)),
     ("last_id_twice", asking(ALL_ASKED, [*range(COUNT - 1), 0]), refused(11, 65)),
-    ("byte_480_of_block_65", image(block0(), requests=altered(requests_block(), 480, b"\1")), refused(11, 65)),
-    ("byte_507_of_block_65", image(block0(), requests=altered(requests_block(), 507, b"\1")), refused(11, 65)),
-    ("byte_507_of_block_65_kept_0", image(RELEASED, requests=altered(requests_block(), 507, b"\1")), refused(11, 65)),
+    ("byte_480_of_block_65", with_byte(block0(), 65, 480), refused(11, 65)),
+    ("byte_507_of_block_65", with_byte(block0(), 65, 507), refused(11, 65)),
+    ("byte_507_of_block_65_kept_0", with_byte(RELEASED, 65, 507), refused(11, 65)),
     ("ids_kept_0", image(RELEASED, requests=requests_block([7] * COUNT)), counts(0, 0, 0, 0, 0, 0)),
     ("check_of_block_65", damaged(live(THREE), BLOCK * REQUESTS + 60), refused(10, 65)),
     ("check_of_block_65_kept_0", image(RELEASED, requests=UNSEALED), refused(10, 65)),
-    ("block_65_check_before_fields", damaged(asking([OPEN, OPEN], []), SIZE - 1), refused(10, 65)),
-    ("slots_before_block_65", live({0: mapping_slot(label=17)})[:-BLOCK] + UNSEALED, refused(11, 1)),
-    ("earlier_size", earlier(), refused(12, 0)),
-    ("earlier_size_extended", earlier(True), refused(11, 0)),
+    ("block_65_check_before_fields", damaged(asking([OPEN, OPEN], []), BLOCK * INDEX - 1), refused(10, 65)),
+    ("slots_before_block_65", image(block0(held=1), {0: mapping_slot(label=17)}, requests=UNSEALED), refused(11, 1)),
+    ("length_0_and_32", indexed(ALL_USED, ["01000000" + "00000000", "01200000" + "ffffffff"]), counts(0, 0, 0, 0, 0, COUNT)),
+    ("one_prefix_of_all", indexed(ALL_USED, [TEN] * COUNT), counts(0, 0, 0, 0, 0, COUNT)),
+    ("entries_that_do_not_count", indexed([0, OPEN, word(16, 9)], ["ff" * 8, "02" * 8, TEN]), counts(0, 0, 0, 0, 0, 2)),
+    ("entry_of_no_word", with_entry(COUNT, "ff" * 8), counts(0, 0, 0, 0, 0, COUNT)),
+    ("entries_kept_0", image(RELEASED, index=index_blocks([b"\xff" * 8] * PLACES)), counts(0, 0, 0, 0, 0, 0)),
+    ("entry_of_code_6_looked_at", indexed([word(16, 6)], ["ff" * 8]), refused(11, 66)),
+    ("entry_of_code_9_looked_at", indexed([0] * 60 + [word(16, 9)], [NONE] * 60 + ["ff" * 8]), refused(11, 67)),
+    ("entry_begins_with_2", with_entry(0, "0218000000000000"), refused(11, 66)),
+    ("entry_begins_with_0", with_entry(59, "0018000000000000"), refused(11, 66)),
+    ("entry_of_length_33", with_entry(60, "0121000000000000"), refused(11, 67)),
+    ("entry_of_length_255", with_entry(118, "01ff000000000000"), refused(11, 67)),
+    ("entry_third_byte", with_entry(3, "0118010000000000"), refused(11, 66)),
+    ("entry_fourth_byte", with_entry(63, "0118000100000000"), refused(11, 67)),
+    ("bit_past_the_length", with_entry(0, "0117000000000100"), refused(11, 66)),
+    ("bit_past_length_0", with_entry(60, "0100000080000000"), refused(11, 67)),
+    ("last_bit_past_length_31", with_entry(118, "011f000000000001"), refused(11, 67)),
+    ("byte_480_of_block_66", with_byte(block0(), 66, 480), refused(11, 66)),
+    ("byte_507_of_block_66_kept_0", with_byte(RELEASED, 66, 507), refused(11, 66)),
+    ("byte_480_of_block_67_kept_0", with_byte(RELEASED, 67, 480), refused(11, 67)),
+    ("byte_507_of_block_67", with_byte(block0(), 67, 507), refused(11, 67)),
+    ("check_of_block_66", damaged(live(THREE), BLOCK * 66 + 60), refused(10, 66)),
+    ("check_of_block_67", damaged(live(THREE), BLOCK * 67 + 60), refused(10, 67)),
+    ("check_of_block_66_kept_0", image(RELEASED, index=UNSEALED + sealed(b"")), refused(10, 66)),
+    ("check_of_block_67_kept_0", image(RELEASED, index=sealed(b"") + UNSEALED), refused(10, 67)),
+    ("block_66_check_before_fields", damaged(with_entry(0, "ff" * 8), BLOCK * 67 - 1), refused(10, 66)),
+    ("block_65_before_66", image(block0([OPEN, OPEN]), index=UNSEALED * 2), refused(11, 65)),
+    ("block_66_before_67", damaged(with_entry(59, "ff" * 8), SIZE - 1), refused(11, 66)),
+    ("first_size", earlier(ONE, EARLIEST), refused(12, 0)),
+    ("first_size_extended", earlier(ONE, EARLIEST, True), refused(11, 0)),
+    ("size_before_the_index", earlier(PAPER, EARLIER), refused(12, 0)),
+    ("size_before_the_index_extended", earlier(full_ring(), EARLIER, True), counts(LAST - 1, 2, 77, 64, 61, COUNT)),
 ]
 
 

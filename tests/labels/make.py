@@ -9,7 +9,7 @@ import sys
 
 sys.dont_write_bytecode = True
 sys.path.append(str(pathlib.Path(__file__).resolve().parents[1]))
-from paper.labels import COUNT, EVERY, OPEN, Labels, word  # noqa: E402
+from paper.labels import COUNT, EVERY, NO_ENTRY, OPEN, Labels, word  # noqa: E402
 from paper.wire import MAPPING, RELEASE, WITHDRAW  # noqa: E402
 from stored import settle  # noqa: E402
 
@@ -31,8 +31,13 @@ def row(name, event, full=False):
 
 
 def received(kind, label, protected, ident=None):
-    """`ident` is the ID that the message names."""
-    return lambda labels: labels.judge(kind, label, protected) or labels.take(kind, label, protected, labels.end(ident))
+    """`ident` is the ID that the message names. No ACK comes with it, and its FEC is no prefix, as all are in the list."""
+
+    def event(labels):
+        old = [*labels.words]
+        return labels.judge(kind, label, protected) or labels.take(kind, label, protected, labels.end(ident), old)
+
+    return event
 
 
 def asked(labels, ident=ID):
@@ -63,7 +68,7 @@ def rows_received(protected):
     yield row("receive naming other mapping", received(MAPPING, 16, protected, ID + 1))
     for name, kind in KINDS[1:]:
         yield row(f"receive every {name}", received(kind, EVERY, protected))
-        yield row(f"receive other {name}", received(kind, None, protected))
+        yield row(f"receive other {name}", received(kind, NO_ENTRY, protected))
 
 
 def rows():

@@ -1,9 +1,9 @@
-"""The ten calls, from the build paper's words "Events" and "What each answer does", and tickets 2, 3 and 5 of 02. Times are milliseconds. UpFT on a resumed connection is ("UpFT", count sent, RESUMED).
+"""The ten calls, from the build paper's words "Events" and "What each answer does", and tickets 2, 3, 5 and 6 of 02. Times are milliseconds. UpFT on a resumed connection is ("UpFT", count sent, RESUMED).
 
 Every call decodes the image, does what the paper says, and lays block 0 anew. What the paper says in a sentence is quoted."""
 
-from .image import BLOCK, EARLIER_SIZE, REQUESTS, SIZE, SLOTS, STOPPED, STOPPING, State, block_of, held_message, refusal, requests_block, slot_block, state_of
-from .labels import EVERY
+from .image import BLOCK, EARLIER_SIZES, FURTHER, REQUESTS, SIZE, SLOTS, STOPPED, STOPPING, State, block_of, further_blocks, held_message, refusal, slot_block, state_of
+from .labels import Labels
 from .message import Message, submission
 from .numbers import acknowledged, advance, lesser, milliseconds, next_number, proposed, steps
 from .wire import ABORT, ACK, ADDRESS, ADDRESS_WITHDRAW, INIT, KEEPALIVE, MAPPING, NO_RESOURCES, PARAMETERS, PROTECTION, RELEASE, REQUEST, REQUEST_ID, RESOURCES, SESSION, WITHDRAW
@@ -21,7 +21,8 @@ def allowed(st, phase):
 
 
 class Outcome:
-    """`further` is 1 where block 65's bytes have changed; `left_out` is of the peer's messages at Receive, of ours at Send."""
+    """`further` are the further blocks whose bytes have changed, a bit each: 1 for block 65, 2 for 66, 4 for 67; `left_out` is of the peer's messages at Receive,
+    of ours at Send."""
 
     def __init__(self, answer, phase, out=b"", slot=0, block=0, left_out=0):
         self.answer, self.phase, self.out, self.slot, self.block, self.left_out, self.further, self.block0 = answer, phase, out, slot, block, left_out, 0, False
@@ -37,7 +38,7 @@ def call(rule):
         bad = refusal(image)
         if bad:
             return Outcome(bad[0], phase, block=bad[1])
-        st, old, requests = state_of(image), block_of(image, 0), block_of(image, REQUESTS)
+        st, old, further = state_of(image), block_of(image, 0), [block_of(image, k) for k in FURTHER]
         o = Outcome(1, phase) if phase and not allowed(st, phase) else rule(image, st, phase, *rest)
         if 20 <= o.answer <= 23:
             st = state_of(old)
@@ -47,10 +48,20 @@ def call(rule):
             st, o.phase = State(), ("Idle",)
         if o.answer == 0 or o.answer >= 20:
             image[:BLOCK] = getattr(o, "state", st).block()
-        o.further, o.block0 = int(block_of(image, REQUESTS) != requests), block_of(image, 0) != old
+        o.further, o.block0 = named(k for k, before in zip(FURTHER, further) if block_of(image, k) != before), block_of(image, 0) != old
         return o
 
     return made
+
+
+def named(blocks):
+    """Further blocks by their bits."""
+    return sum(1 << FURTHER.index(k) for k in blocks)
+
+
+def store_further(image, labels):
+    """The IDs and entries as they are now: a block whose places have not changed keeps its bytes."""
+    image[BLOCK * REQUESTS :] = further_blocks(labels)
 
 
 def begun(st, phase, out=b""):
@@ -63,17 +74,17 @@ def begun(st, phase, out=b""):
 def format_image(image):
     if len(image) != SIZE:
         return Outcome(12, ("Idle",))
-    image[:] = State().block() + bytes(BLOCK * SLOTS) + requests_block()
+    image[:] = State().block() + bytes(BLOCK * SLOTS) + further_blocks(Labels())
     o = Outcome(0, ("Idle",))
-    o.further, o.block0 = 1, True
+    o.further, o.block0 = named(FURTHER), True
     return o
 
 
 def extend(image, stored):
-    """An image of an earlier release, its `stored` bytes at the start: the block behind it is made, nothing else is looked at."""
-    if len(image) != SIZE or stored != EARLIER_SIZE:
+    """An image of an earlier release, its `stored` bytes at the start: the blocks behind it are made, nothing else is looked at."""
+    if len(image) != SIZE or stored not in EARLIER_SIZES:
         return 12
-    image[stored:] = requests_block()
+    image[stored:] = further_blocks(Labels())[stored - SIZE :]
     return 0
 
 
@@ -144,8 +155,7 @@ def submit(image, st, phase, m):
         return Outcome(answer, phase)
     slot = (st.first + st.held) % SLOTS + 1
     image[BLOCK * slot : BLOCK * (slot + 1)] = slot_block(m, kind, label)
-    if kind == REQUEST:
-        image[BLOCK * REQUESTS :] = requests_block(st.labels.ids)
+    store_further(image, st.labels)
     st.held += 1
     st.marks = marked(st.marks, kind, STOPPING)
     return Outcome(0, phase, slot=slot)
@@ -165,7 +175,7 @@ def accept(image, st, phase, read, kind, label):
     if kind not in LABEL_KINDS:
         return 0
     held = [submission(held_message(image, st, i))[1:] for i in range(st.held)]
-    return 6 if kind != MAPPING and (kind, label) in held else st.labels.accept(kind, label)
+    return 6 if kind != MAPPING and (kind, label) in held else st.labels.accept(kind, label, read.entry())
 
 
 def accept_request(st, phase, ident):
@@ -262,23 +272,24 @@ def receive(image, st, phase, m):
     if count is None:
         return Outcome(34, phase)
     turn, left_out = next_number(st.secured, read.value(PROTECTION), RESUMED in phase) if protected else (0, 0)
-    answer = judge(st, read, protected, turn)
+    answer = judge(st, read, protected, turn, state_of(image).labels.words)
     if answer:
         return Outcome(answer, phase)
+    store_further(image, st.labels)
     if protected:
         st.secured = read.value(PROTECTION)
     return Outcome(0, ("UpFT", max(phase[1] - count, 0), *phase[2:]), left_out=left_out)
 
 
-def judge(st, read, protected, turn):
+def judge(st, read, protected, turn, old):
     """Protection missing (33) or wrong (32), the number not in turn (20), no word for the label (21): else the labels have changed, and a Request
-    that a Mapping or a Notification names has ended, "the Mapping taking its word if the label has none"."""
-    kind, label = read.kind(), EVERY if read.every() else read.label()
+    that a Mapping or a Notification names has ended, "the Mapping taking its word if the label has none". `old` are the words before the ACK."""
+    kind = read.kind()
     if kind in (ADDRESS, ADDRESS_WITHDRAW, RESOURCES) and not protected:
         return 33
-    answer = st.labels.judge(kind, label, protected) if kind in LABEL_KINDS else 0
+    answer = st.labels.judge(kind, read.touched(), protected) if kind in LABEL_KINDS else 0
     if answer or turn:
         return answer or turn
     st.marks = marked(st.marks, kind, STOPPED)
-    free = st.labels.end(read.answered())
-    return st.labels.take(kind, label, protected, free) if kind in LABEL_KINDS else 0
+    request = st.labels.end(read.answered())
+    return st.labels.take(kind, read.touched(), protected, request, old, read.entry()) if kind in LABEL_KINDS else 0

@@ -1,14 +1,17 @@
-"""The stored image, from the build paper's words "Stored image" and tickets 2 and 5 of 02: a bytearray of 66 blocks, of version 2; version 1 for the converter alone."""
+"""The stored image, from the build paper's words "Stored image" and tickets 2, 5 and 6 of 02: a bytearray of 68 blocks, of version 2; version 1 for the converter alone."""
 
-from .labels import COUNT, IDS, Labels
+from .labels import COUNT, OPEN, PLACES, Labels, entry_right, lists_label
 from .message import submission
 from .numbers import steps
 from .wire import field, number
 
 BLOCK, SLOTS = 512, 64
 REQUESTS = SLOTS + 1  # block 65: the IDs of the open Requests
-SIZE = BLOCK * (REQUESTS + 1)
-EARLIER_SIZE = BLOCK * REQUESTS
+INDEX = REQUESTS + 1  # blocks 66 and 67: the entries, "60 places in each of two further blocks"
+IN_BLOCK = 60
+FURTHER = (REQUESTS, INDEX, INDEX + 1)  # "stored before block 0 and checked last", in this order
+SIZE = BLOCK * (FURTHER[-1] + 1)
+EARLIER_SIZES = (BLOCK * REQUESTS, BLOCK * INDEX)  # before ticket 2, and before ticket 6
 # "milliseconds in bytes 28 to 31 (20 and 21 zero) and 119 labels from 32"; version 1 has seconds in bytes 20 and 21, and 120 label words from 28
 NUMBERS = (("version", 4), ("released", 4), ("issued", 4), ("secured", 4), ("first", 2), ("held", 2))
 PEERS = (("kept", 1), ("marks", 1), ("keepalive", 2), ("maxpdu", 2))
@@ -48,15 +51,24 @@ def requests_block(ids=()):
     return sealed(words_bytes(ids))
 
 
-class State:
-    """What block 0 says, by the layout of a version, and the IDs of block 65. A new one is that of "released": kept 0, and nothing else. The timeout is in
-    milliseconds, in version 1 in seconds."""
+def index_blocks(entries=()):
+    """Blocks 66 and 67: 60 entries in each, and "zeros .. after the places"."""
+    return sealed(b"".join(entries[:IN_BLOCK])) + sealed(b"".join(entries[IN_BLOCK:]))
 
-    def __init__(self, words=(), ids=(), layout=2, **fields):
+
+def further_blocks(labels):
+    return requests_block(labels.ids) + index_blocks(labels.entries)
+
+
+class State:
+    """What block 0 says, by the layout of a version, and the IDs and entries of the further blocks. A new one is that of "released": kept 0, and nothing else. The
+    timeout is in milliseconds, in version 1 in seconds."""
+
+    def __init__(self, words=(), ids=(), layout=2, entries=(), **fields):
         self.layout = layout
         for name, _ in FIELDS[layout]:
             setattr(self, name, fields.get(name, layout if name == "version" else 0))
-        self.labels = Labels(words, ids, WORDS[layout])
+        self.labels = Labels(words, ids, WORDS[layout], entries)
 
     def block(self):
         body = b"".join(field(getattr(self, name), width) for name, width in FIELDS[self.layout])
@@ -89,7 +101,12 @@ def state_of(image, layout=2):
     for name, width in FIELDS[layout]:
         fields[name] = number(block[at : at + width])
         at += width
-    return State(words_of(block[at:], WORDS[layout]), words_of(block_of(image, REQUESTS), IDS), layout, **fields)
+    ids = words_of(block_of(image, REQUESTS), PLACES)
+    return State(words_of(block[at:], WORDS[layout]), ids, layout, entries_of(image), **fields)
+
+
+def entries_of(image):
+    return [block_of(image, INDEX + i // IN_BLOCK)[8 * (i % IN_BLOCK) :][:8] for i in range(PLACES)]
 
 
 def slot_block(m, kind, label):
@@ -110,14 +127,19 @@ def held_message(image, st, i):
     return block[8 : 8 + number(block[:2])]
 
 
-def requests_valid(image, st):
-    """An ID "counts only under code 7, where it stands once"; behind the IDs there are zeros."""
-    ids = st.labels.open_ids()
-    return len(set(ids)) == len(ids) and block_of(image, REQUESTS) == requests_block(st.labels.ids)
+def further_valid(image, st, k):
+    """Behind the places there are zeros. An ID "counts only under code 7, where it stands once"; an entry "is looked at only where the word lists a label"."""
+    labels, end = st.labels, block_of(image, k)[480:508]
+    if k == REQUESTS:
+        ids = [ident for w, ident in zip(labels.words, labels.ids) if w == OPEN]
+        return end == bytes(28) and len(set(ids)) == len(ids)
+    at = IN_BLOCK * (k - INDEX)
+    beside = zip(labels.words[at : at + IN_BLOCK], labels.entries[at:])
+    return end == bytes(28) and all(entry_right(entry) for w, entry in beside if lists_label(w))
 
 
 def refusal(image, layout=2):
-    """Restore's checks of a version: size, block 0, its fields, then live slots in ring order: check, then fields; then block 65, "checked after the slots"."""
+    """Restore's checks of a version: size, block 0, its fields, then live slots in ring order: check, then fields; then blocks 65, 66 and 67, "checked last"."""
     if len(image) != SIZE:
         return 12, 0
     if not is_sealed(block_of(image, 0)):
@@ -125,14 +147,12 @@ def refusal(image, layout=2):
     st = state_of(image, layout)
     if not st.valid():
         return 11, 0
-    for k in st.live():
+    for k in (*st.live(), *FURTHER):
         if not is_sealed(block_of(image, k)):
             return 10, k
-        if not slot_valid(block_of(image, k)):
+        if not (further_valid(image, st, k) if k in FURTHER else slot_valid(block_of(image, k))):
             return 11, k
-    if not is_sealed(block_of(image, REQUESTS)):
-        return 10, REQUESTS
-    return None if requests_valid(image, st) else (11, REQUESTS)
+    return None
 
 
 def report(image):

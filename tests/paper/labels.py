@@ -1,15 +1,16 @@
-"""The label list, from the build paper's words "Label list" and "What each answer does", with the open Requests of ticket 2 of 02 and the end of a
-withdrawal of ticket 4."""
+"""The label list, from the build paper's words "Label list" and "What each answer does", with the open Requests of ticket 2 of 02, the end of a
+withdrawal of ticket 4 and the index of prefixes of ticket 6."""
 
 from .wire import MAPPING, RELEASE, WITHDRAW
 
 COUNT = 119  # ticket 5: "119 labels"
-IDS = 120  # the last has no word beside it
+PLACES = 120  # of IDs and of entries; the last has no word beside it
 # "A label stands once among codes 1-2 and once among 3-6"; ticket 4: the rules "now cover" 8 and 9, of a label that we gave too
 GIVEN, USED = (1, 2, 8, 9), (3, 4, 5, 6)
 SENT_SIDE = {MAPPING: GIVEN, WITHDRAW: GIVEN, RELEASE: USED}
 RECEIVED_SIDE = {MAPPING: USED, WITHDRAW: USED, RELEASE: GIVEN}
-EVERY = "every"  # in the place of a label: all of a side
+EVERY = "every"  # in the place of a label: all of a side; an entry stands there for those of its prefix
+NO_ENTRY = bytes(8)  # "zeros for other FECs"
 
 # "Accepted for sending: Mapping, absent or 1, becomes 1; Withdraw, 1 becomes 2; Release, 3 becomes 5, 4 becomes free."
 ACCEPTED = {MAPPING: {0: 1, 1: 1}, WITHDRAW: {1: 2}, RELEASE: {3: 5, 4: 0}}
@@ -31,21 +32,45 @@ def word(label, code):
 OPEN = word(0, 7)
 
 
-class Labels:
-    """The words: each is label + 1,048,576 x code, and 0 is a free word. Beside each an ID, which counts only where the word is OPEN."""
+def lists_label(w):
+    """ "An entry is looked at only where the word lists a label": neither a free word nor an open Request's does."""
+    return w >> 20 in GIVEN + USED
 
-    def __init__(self, words=(), ids=(), count=COUNT):
+
+def masked(length, prefix):
+    """ "prefix with zeros past its length" """
+    past = (1 << 32 - length) - 1
+    return (int.from_bytes(prefix, "big") & ~past).to_bytes(4, "big")
+
+
+def entry_of(fec):
+    """ "1, length, two zeros, prefix with zeros past its length; zeros for other FECs". "Only a FEC of one well-formed IPv4 prefix element is indexed" (RFC 3036:
+    02, family 00 01, the length in bits, as many bytes as it needs)."""
+    if fec[:3] != b"\2\0\1" or len(fec) < 4 or fec[3] > 32 or len(fec) != 4 + (fec[3] + 7) // 8:
+        return NO_ENTRY
+    return bytes([1, fec[3], 0, 0]) + masked(fec[3], fec[4:].ljust(4, b"\0"))
+
+
+def entry_right(entry):
+    if entry == NO_ENTRY:
+        return True
+    return entry[0] == 1 and entry[1] <= 32 and entry[2:4] == bytes(2) and entry[4:] == masked(entry[1], entry[4:])
+
+
+class Labels:
+    """The words: each is label + 1,048,576 x code, and 0 is a free word. Beside each an ID, which counts only where the word is OPEN, and an entry of the
+    index, which counts only where the word lists a label."""
+
+    def __init__(self, words=(), ids=(), count=COUNT, entries=()):
         self.words = [*words, *[0] * (count - len(words))]
-        self.ids = [*ids, *[0] * (IDS - len(ids))]
+        self.ids = [*ids, *[0] * (PLACES - len(ids))]
+        self.entries = [*entries, *[NO_ENTRY] * (PLACES - len(entries))]
 
     def listed(self):
         return [(w & 0xFFFFF, w >> 20) for w in self.words if w]
 
     def place(self, side, label):
         return next((i for i, w in enumerate(self.words) if w and w >> 20 in side and w & 0xFFFFF == label), None)
-
-    def open_ids(self):
-        return [ident for w, ident in zip(self.words, self.ids) if w == OPEN]
 
     def asked(self, ident):
         """The place of the open Request with that ID; no ID, no place."""
@@ -70,50 +95,79 @@ class Labels:
         i = self.place(side, label)
         return 0 if i is None else self.words[i] >> 20
 
-    def put(self, side, label, code, free=None):
-        """The label's code becomes `code`; a label without a word takes the word `free`, or else the first free one. False where there is none."""
+    def recode(self, side, label, become):
+        """The label's code becomes what `become` says of it; other codes stay. A label that becomes free leaves its entry where it is."""
         i = self.place(side, label)
-        if i is None and code:
-            if 0 not in self.words:
-                return False
-            i = self.words.index(0) if free is None else free
         if i is not None:
+            code = become.get(self.words[i] >> 20, self.words[i] >> 20)
             self.words[i] = word(label, code) if code else 0
+
+    def spare(self, old):
+        """The first word "that is free in the old block 0 too"; None where there is none."""
+        return next((i for i, words in enumerate(zip(old, self.words)) if words == (0, 0)), None)
+
+    def put(self, room, label, code, entry):
+        """The label takes the word at `room`, and the entry of its FEC the place beside it. False where there is no room."""
+        if room is None:
+            return False
+        self.words[room], self.entries[room] = word(label, code), entry
         return True
 
-    def accept(self, kind, label):
-        """A message of ours: 6 where the label's code does not allow it, 13 where no word is free."""
+    def accept(self, kind, label, entry=NO_ENTRY):
+        """A message of ours: 6 where the label's code does not allow it, or a Mapping would change its entry; 13 where no word is free."""
         side = SENT_SIDE[kind]
-        become = ACCEPTED[kind].get(self.code(side, label))
-        if label < 16 or become is None:
+        place, become = self.place(side, label), ACCEPTED[kind]
+        if label < 16 or self.code(side, label) not in become:
             return 6
-        return 0 if self.put(side, label, become) else 13
+        if place is None:
+            return 0 if self.put(self.spare(self.words), label, become[0], entry) else 13
+        if kind == MAPPING and self.entries[place] != entry:
+            return 6
+        self.recode(side, label, become)
+        return 0
 
     def acknowledge(self, kind, label):
-        side = SENT_SIDE[kind]
-        code = self.code(side, label)
-        self.put(side, label, ACKED[kind].get(code, code))
+        self.recode(SENT_SIDE[kind], label, ACKED[kind])
         return 0
 
     def touched(self, kind, label):
-        """The labels that a message received touches on its own side; `label`: a label, EVERY, or None."""
+        """The labels that a message received touches on its own side; `label`: a label, EVERY, or an entry. Other FECs than a prefix "stay as in 01"."""
+        side = RECEIVED_SIDE[kind]
+        beside = [(w & 0xFFFFF, entry) for w, entry in zip(self.words, self.entries) if w >> 20 in side]
         if label is EVERY:
-            return [listed for listed, code in self.listed() if code in RECEIVED_SIDE[kind]]
-        return [label] if label is not None and label >= 16 else []
+            return [listed for listed, _ in beside]
+        if isinstance(label, bytes):
+            return [listed for listed, entry in beside if entry == label != NO_ENTRY]
+        return [label] if label >= 16 else []
 
     def judge(self, kind, label, protected):
         """Protection is missing (33) or wrong (32)."""
         codes = [self.code(RECEIVED_SIDE[kind], touched) for touched in self.touched(kind, label)]
         if not protected:
             return 33 if any(code in NEEDS_PROTECTION for code in codes) else 0
-        return 32 if label is not EVERY and kind in (MAPPING, WITHDRAW) and 6 in codes else 0
+        return 32 if isinstance(label, int) and kind in (MAPPING, WITHDRAW) and 6 in codes else 0
 
-    def take(self, kind, label, protected, free=None):
-        """A message of the peer's; `free` is the word of the Request that it has ended: 21 where no word is free."""
-        side, become = RECEIVED_SIDE[kind], RECEIVED[kind]
-        become = become[protected] if kind == MAPPING else become
-        fits = (self.put(side, touched, become.get(self.code(side, touched), self.code(side, touched)), free) for touched in self.touched(kind, label))
-        return 0 if all(fits) else 21
+    def take(self, kind, label, protected, request, old, entry=NO_ENTRY):
+        """A message of the peer's; `request` is the word of the Request that it has ended, `old` are the words before the call. 21 where no word is free."""
+        if kind == MAPPING:
+            return self.take_mapping(label, RECEIVED[kind][protected], self.spare(old) if request is None else request, entry)
+        for touched in self.touched(kind, label):
+            self.recode(RECEIVED_SIDE[kind], touched, RECEIVED[kind])
+        return 0
+
+    def take_mapping(self, label, become, room, entry):
+        """A label that is absent takes the word at `room`; one "that would change a listed label's entry moves it, with 01's code, to a new word"."""
+        if label < 16:
+            return 0
+        place, code = self.place(USED, label), self.code(USED, label)
+        if place is not None and self.entries[place] == entry:
+            self.recode(USED, label, become)
+            return 0
+        if not self.put(room, label, become.get(code, code), entry):
+            return 21
+        if place is not None:
+            self.words[place] = 0
+        return 0
 
     def lose_connection(self):
         """ "Connection failed: code 6 words are freed" """

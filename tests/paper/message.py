@@ -1,5 +1,6 @@
-"""A message read and judged, from the build paper's words "Wire forms" and "Submit", and tickets 2 and 5 of 02."""
+"""A message read and judged, from the build paper's words "Wire forms" and "Submit", and tickets 2, 5 and 6 of 02."""
 
+from .labels import EVERY, entry_of
 from .numbers import LAST, milliseconds
 from .wire import ABORT, ACK, FEC, LABEL, MAPPING, NOTIFICATION, PARAMETERS, PROTECTION, RELEASE, REQUEST, REQUEST_ID, SESSION, STATUS
 from .wire import STATUS_CODE, TYPE, WITHDRAW, number
@@ -84,9 +85,15 @@ class Message:
             return number(self.tlvs[STATUS][4:8])
         return self.value(REQUEST_ID) if self.type == TYPE[MAPPING] and self.has(REQUEST_ID) else None
 
-    def every(self):
-        """Withdraw or Release of the wildcard FEC without a label acts on every label."""
-        return not self.has(LABEL) and self.tlvs.get(FEC) == b"\x01"
+    def entry(self):
+        """What the index has for the FEC."""
+        return entry_of(self.tlvs[FEC])
+
+    def touched(self):
+        """The label that a message names; without one EVERY for the wildcard FEC (one element of type 1), else the entry of its FEC."""
+        if self.has(LABEL):
+            return self.label()
+        return EVERY if self.tlvs[FEC] == b"\x01" else self.entry()
 
 
 def submission(m):

@@ -1,7 +1,8 @@
 """Messages that are given to P1, each on a copy of the same image, with the answer that the build paper gives to it.
 
-P1 has R 1, I 2 and S 1; it has given label 101 (code 1), and uses 201 (3) and, without protection, 1000 (6)."""
+P1 has R 1, I 2 and S 1; it has given label 101 (code 1), and uses 201 (3) and, without protection, 1000 (6), all of 10.0.0.1/32."""
 
+from pair import label_message
 from paper.wire import ABORT, ADDRESS, FEC, INIT, KEEPALIVE, MAPPING, NOTIFICATION, RELEASE, REQUEST, TYPE, WITHDRAW, ack_tlv
 from paper.wire import label_tlv, message, parameters_tlv, protection_tlv, request_id_tlv, session_tlv, status_tlv, tlv
 
@@ -104,7 +105,9 @@ SUBMITTED = (
     (4, bare_address(tlv(0x0600, bytes(3)))),
     (4, bare_address(request_id_tlv(1), request_id_tlv(1))),
     (0, bare_address(request_id_tlv(1))),
-    (0, with_label(MAPPING, 101)),
+    (0, label_message(MAPPING, 101)),
+    # Ticket 6: it would change the label's entry.
+    (6, with_label(MAPPING, 101)),
     (6, with_label(MAPPING, 15)),
     (6, with_label(WITHDRAW, 102)),
     (6, with_label(RELEASE, 1000)),

@@ -11,18 +11,19 @@ sys.dont_write_bytecode = True
 sys.path.append(str(pathlib.Path(__file__).resolve().parents[1]))
 import forms  # noqa: E402
 import left_out  # noqa: E402
+import prefixes  # noqa: E402
 import requests  # noqa: E402
 import withdrawals  # noqa: E402
 from answers import INITS, PLAIN, RECEIVED, RECEIVED_BY_BYTES, SUBMITTED, SUBMITTED_BY_BYTES, TWO_FAULTS, init, own, with_label  # noqa: E402
 from pair import AN_ADDRESS, COPY, KEPT, P1, P2, SHORT, Pair, label_message, request_message  # noqa: E402
-from paper.image import BLOCK, REQUESTS, SIZE, state_of  # noqa: E402
+from paper.image import BLOCK, INDEX, REQUESTS, SIZE, block_of, sealed, state_of  # noqa: E402
 from paper.labels import COUNT, word  # noqa: E402
-from paper.wire import ABORT, ADDRESS, MAPPING, REQUEST, TYPE, WITHDRAW, ack_tlv, message, protection_tlv, session_tlv, tlv  # noqa: E402
+from paper.wire import ABORT, ADDRESS, FEC, MAPPING, RELEASE, REQUEST, TYPE, WITHDRAW, ack_tlv, message, protection_tlv, session_tlv, tlv  # noqa: E402
 from player import LINES, SCRIPT  # noqa: E402
 from stored import settle  # noqa: E402
 
 # How many bytes of a script session_cases reads.
-ROOM = 163840
+ROOM = 180224
 
 
 def before(p):
@@ -220,7 +221,7 @@ def on_copies(p, word, step, rows):
 
 
 def full_labels(p):
-    """The Mapping of a label that has code 1 needs no word."""
+    """The Mapping of a label that has code 1 needs no word. One received that moves its label needs one (ticket 6)."""
     p.title("the full label list")
     p.fresh()
     p.mapping(P1, 100)
@@ -230,6 +231,7 @@ def full_labels(p):
     p.mapping(P1, 100)
     p.both()
     on_copies(p, "receive", p.receive, ((21, label_message(MAPPING, 1123)), (20, with_label(MAPPING, 1123, protection_tlv(2)))))
+    on_copies(p, "receive", p.receive, ((21, with_label(MAPPING, 1001)), (0, label_message(MAPPING, 1001))))
 
 
 def full_store(p):
@@ -317,6 +319,12 @@ def in_phases(p, title, *phases):
         every_call(p, f"{title}, {' '.join(map(str, phase))}")
 
 
+def altered(image, k, at, data):
+    """A block of an image with other bytes at a place, and a check that fits them."""
+    block = block_of(image, k)
+    return sealed(block[:at] + data + block[at + len(data) : 508])
+
+
 def refused_images(p):
     p.format(KEPT, "format")
     in_phases(p, "a new image", ("Idle",), ("Failed",), ("UpFT", 0), ("UpPlain",))
@@ -350,6 +358,26 @@ def refused_images(p):
     p.restore(KEPT, "restore")
 
 
+def refused_index(p):
+    """The entry of a label in use begins with 2, and a byte behind the entries of block 67, each with the check that fits it."""
+    p.copy(KEPT, P1)
+    p.lay(KEPT, INDEX, altered(p.image[KEPT], INDEX, 0, b"\2"))
+    every_call(p, "block 66 with a bad entry")
+    p.spoil(KEPT, BLOCK * INDEX + 100, 0xAA)
+    p.restore(KEPT, "restore, block 66 spoiled")
+    p.answered(10)
+    for kept in (True, False):
+        p.copy(KEPT, P1)
+        if not kept:
+            p.format(KEPT, "format")
+        p.lay(KEPT, INDEX + 1, altered(p.image[KEPT], INDEX + 1, 507, b"\1"))
+        p.restore(KEPT, "restore, block 67 with a byte behind the entries")
+        p.answered(11)
+        p.spoil(KEPT, BLOCK * (INDEX + 1) + 100, 0xAA)
+        p.restore(KEPT, "restore, block 67 spoiled")
+        p.answered(10)
+
+
 def beginnings(p):
     p.title("Inits received")
     p.lose(P1)
@@ -367,23 +395,31 @@ def plain_session(p):
 
 
 # Block 0 of a kept session: R and I 5, S 9, first slot 62, none held, stopped, timeout 3,001 milliseconds, the peer's parameters 15 and 1500; label 16 given, a Request open,
-# and 17 used in the last word. Block 65: the Request's ID is 0x01020304; those beside it do not count.
+# and 17 used in the last word. Block 65: the Request's ID is 0x01020304; those beside it do not count. Blocks 66 and 67: the entry of 16 is 10.0.0.0/8, that of 17
+# 192.168.4.0/22; those beside the Request and behind the last word do not count.
 BLOCK_0 = bytes.fromhex("00000002 00000005 00000005 00000009 003e 0000 0000 01 02 000f 05dc 00000bb9 00100010 00700000") + bytes(464) + bytes.fromhex("00300011 13cb 4f59")
 BLOCK_65 = bytes.fromhex("01020304 01020304 01020304") + bytes(496) + bytes.fromhex("0c13 d9b5")
+BLOCK_66 = bytes.fromhex("01080000 0a000000 ffffffff ffffffff") + bytes(492) + bytes.fromhex("0b09 def8")
+BLOCK_67 = bytes(464) + bytes.fromhex("01160000 c0a80400 ffffffff ffffffff") + bytes(28) + bytes.fromhex("c5bf 7211")
+
+
+# Withdraws and Releases of prefixes without a label: protection is missing where one of these has a label on the receiver's side.
+BY_BYTES = ((33, WITHDRAW, "02 0001 16 c0a807"), (0, WITHDRAW, "02 0001 08 0a"), (33, RELEASE, "02 0001 08 0a"), (0, RELEASE, "02 0001 16 c0a804"))
 
 
 def block_0(p):
     """Each field is read where the paper puts it."""
-    p.title("blocks 0 and 65 by their bytes")
+    p.title("block 0 and the further blocks by their bytes")
     p.format(KEPT, "format")
-    p.lay(KEPT, 0, BLOCK_0)
-    p.lay(KEPT, REQUESTS, BLOCK_65)
+    for k, block in ((0, BLOCK_0), (REQUESTS, BLOCK_65), (INDEX, BLOCK_66), (INDEX + 1, BLOCK_67)):
+        p.lay(KEPT, k, block)
     p.restore(KEPT, "restore")
     p.answered(0, "Failed")
     p.counts(KEPT, "kept")
     for i in range(3):
         p.request_at(KEPT, "kept", i)
     p.holds(KEPT, (16, 1), (0x01020304,), *[0] * 116, (17, 3))
+    p.indexed(KEPT, "10.0.0.0/8", *[None] * 117, "192.168.4.0/22")
     for elapsed, phase in ((3_000, "Failed"), (3_001, "Idle")):
         p.copy(COPY, KEPT)
         p.time(COPY, f"time passed {elapsed}", elapsed)
@@ -396,16 +432,23 @@ def block_0(p):
     p.answered(14)
     p.submit(KEPT, "submit", AN_ADDRESS)
     assert p.last.slot == 63
+    for answer, kind, fec in BY_BYTES:
+        p.copy(COPY, KEPT)
+        p.receive(COPY, f"receive {fec}", message(TYPE[kind], 9, tlv(FEC, bytes.fromhex(fec))))
+        p.answered(answer)
     p.receive(KEPT, "receive Mapping 17", label_message(MAPPING, 17))
     p.answered(33, "Idle")
 
 
-PARTS = (before, example, recovery, restart, net_zero, timeouts, lengths, full_labels, full_store, still_held, messages, refused_images, beginnings, plain_session, block_0)
+PARTS = (
+    *(before, example, recovery, restart, net_zero, timeouts, lengths, full_labels, full_store, still_held),
+    *(messages, refused_images, refused_index, beginnings, plain_session, block_0),
+)
 
 
 def main():
     p = Pair()
-    for part in (*PARTS, *requests.PARTS, *left_out.PARTS, *withdrawals.PARTS, *forms.PARTS):
+    for part in (*PARTS, *requests.PARTS, *left_out.PARTS, *withdrawals.PARTS, *forms.PARTS, *prefixes.PARTS):
         part(p)
     size = sum(len(line) + 1 for line in SCRIPT)
     assert size <= ROOM, size

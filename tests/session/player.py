@@ -3,7 +3,7 @@ lines of the script, LINES what is printed. A message is bytes, or the place who
 
 from paper import calls as c
 from paper import image as im
-from paper.labels import OPEN
+from paper.labels import OPEN, lists_label
 from paper.message import Message
 from paper.wire import ACK, PROTECTION, TYPE
 
@@ -16,7 +16,7 @@ P1_OWN, P2_OWN = (30, 4096, 0x0A000002, 0), (15, 1500, 0x0A000001, 0)
 def show(name, o, image):
     block = f" block {o.block}" if o.answer in (10, 11) else ""
     slot = f" {im.block_of(image, o.slot)[508:].hex()}" if o.slot else ""
-    further = f" {im.block_of(image, im.REQUESTS)[508:].hex()}" if o.further else ""
+    further = "".join(f" {im.block_of(image, k)[508:].hex()}" for k in further_blocks(o))
     block0 = f"true {bytes(image[508:512]).hex()}" if o.block0 else "false"
     left_out = f", left out {o.left_out}" if o.left_out else ""
     phase = " ".join(map(str, o.phase))
@@ -25,8 +25,18 @@ def show(name, o, image):
         LINES.append(f"  {o.out.hex()}")
 
 
+def further_blocks(o):
+    """The further blocks that an outcome names, in their order."""
+    return [k for bit, k in enumerate(im.FURTHER) if o.further >> bit & 1]
+
+
 def step(name, word, *numbers, message=""):
     SCRIPT.append(f"{name}: {word} {' '.join(map(str, numbers))}" + (f": {message}" if message else ""))
+
+
+def dotted(entry):
+    """The prefix of an entry as people write it; None for zeros."""
+    return f"{'.'.join(map(str, entry[4:]))}/{entry[1]}" if entry[0] else None
 
 
 class Player:
@@ -113,13 +123,19 @@ class Player:
     def stored(self, *blocks):
         """The blocks that the last call has the owner store, in their order."""
         o = self.last
-        assert blocks == (*[o.slot] * (o.slot > 0), *[im.REQUESTS] * o.further, *[0] * o.block0), SCRIPT[-1]
+        assert blocks == (*[o.slot] * (o.slot > 0), *further_blocks(o), *[0] * o.block0), SCRIPT[-1]
 
     def holds(self, place, *words):
         """The words of an image up to the last in use: 0 for a free word, a label and its code, or the ID of an open Request alone."""
         labels = im.state_of(self.image[place]).labels
         shown = [((ident,) if w == OPEN else (w & 0xFFFFF, w >> 20)) if w else 0 for w, ident in zip(labels.words, labels.ids)]
         assert shown == [*words, *[0] * (len(shown) - len(words))], (SCRIPT[-1], shown)
+
+    def indexed(self, place, *prefixes):
+        """The prefixes of the labels, by their words, up to the last that has one: in dotted form, or None."""
+        labels = im.state_of(self.image[place]).labels
+        beside = [dotted(entry) if lists_label(w) else None for w, entry in zip(labels.words, labels.entries)]
+        assert beside == [*prefixes, *[None] * (len(beside) - len(prefixes))], (SCRIPT[-1], beside)
 
     def marked(self, place, marks):
         assert im.state_of(self.image[place]).marks == marks, SCRIPT[-1]

@@ -2,7 +2,7 @@
 
 from answers import bare_address, keepalive, status, with_label, without_label
 from pair import COPY, KEPT, P1, P2, abort_message, label_message, notification, request_message
-from paper.image import REQUESTS, STOPPED, STOPPING
+from paper.image import INDEX, REQUESTS, STOPPED, STOPPING
 from paper.labels import COUNT
 from paper.wire import ABORT, FEC, MAPPING, NO_RESOURCES, NOTIFICATION, RELEASE, REQUEST, RESOURCES, TYPE, WITHDRAW
 from paper.wire import ack_tlv, message, protection_tlv, request_id_tlv, status_tlv, tlv
@@ -117,6 +117,20 @@ def full_of_requests(p):
         p.receive(COPY, f"P1 receive {m.hex()}", m)
         p.answered(answer)
         p.request_at(COPY, f"P1 word {COUNT - 1}", COUNT - 1)
+    # The word of the last Request is beside block 67: cut behind it, the Request is still open.
+    p.stored(INDEX + 1, 0)
+    p.copy(KEPT, P1)
+    p.block(KEPT, INDEX + 1, COPY, INDEX + 1)
+    p.restore(KEPT, "P1 restore, cut behind block 67")
+    p.request_at(KEPT, f"P1 word {COUNT - 1}", COUNT - 1)
+    p.indexed(KEPT)
+    # 300 has that word now; a Mapping of another FEC moves it to the word of the Request that it names, and without one there is no room.
+    for named, answer in (((), 21), ((request_id_tlv(0),), 0)):
+        p.copy(KEPT, COPY)
+        p.receive(KEPT, f"P1 receive Mapping 300 of another FEC, {answer}", with_label(MAPPING, 300, protection_tlv(2), *named))
+        p.answered(answer)
+    p.stored(0)
+    p.holds(KEPT, (300, 3), *((i,) for i in range(1, COUNT - 1)))
 
 
 # Submit's answer to a Request and to an Abort: the first of the reasons that apply, "6, 14, 15, 13, 7".
@@ -168,7 +182,7 @@ KEPT_OPEN = ((300, 3), 0, 0, OPEN_2, OPEN_0)
 
 
 def mapping(label, ident, *tlvs):
-    return with_label(MAPPING, label, request_id_tlv(ident), *tlvs)
+    return label_message(MAPPING, label, request_id_tlv(ident), *tlvs)
 
 
 ANSWERS = (

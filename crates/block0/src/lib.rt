@@ -63,7 +63,7 @@ fn version_number(version: Version) -> u32
 }
 
 // Where the label words start. They end where the check begins.
-fn labels_at(version: Version) -> usize
+pub fn labels_at(version: Version) -> usize
     ensures { λ r. ⌜ (r ≡ labelsAt version) × (r + places version * 4 ≡ checkAt) ⌝ }
 {
     match version {

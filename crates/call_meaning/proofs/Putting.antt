@@ -3,42 +3,51 @@ use Prim.Native.Nat.{ℕ, _+_, _-_, _<_, _≤_}
 use mathlib.Core.Bool.{Bool, true, false, false≢true}
 use mathlib.Core.List.{List, [], _∷_, _++_}
 use mathlib.Core.Logic.{⊎-elim}
-use mathlib.Core.Path.{_≡_, refl, sym, ap, _∙_}
+use mathlib.Core.Path.{_≡_, refl, sym, ap, _∙_, ap₂}
 use native.Mathlib.Nat.{eq-or-lt-of-le}
 use native.Mathlib.Omega.{arith}
 use lib.Dec.{eqb}
-use lib.ListN.{length, drop, set, length-append, length-drop, replicate}
+use lib.ListN.{length, drop, set, length-append, length-drop, replicate, getD}
 use borrow.Author.Tests.{eq-eqb, le-leb, leb-true}
 use Rattle.octets.specs.Pick.{pick}
 use Rattle.block.specs.Run.{Words}
 use Rattle.ft_number.specs.declared.Steps.{Steps}
 use Rattle.ft_number.specs.declared.Steps.the-variants.{Count, Unreachable}
 use Rattle.ft_number.specs.Circle.{stepsOf}
+use Rattle.label_list.specs.Counting.{counting}
 use Rattle.label_list.specs.Find.{any}
 use Rattle.label_list.specs.Requests.{onceOf, openIds}
-use Rattle.label_list.specs.Word.{isRequest, wordCount}
-use Rattle.label_list.proofs.Counting.{counting-twice}
+use Rattle.label_list.specs.Word.{isRequest, wordCount, listsLabel}
+use Rattle.label_list.proofs.Counting.{counting-twice, counting-length}
 use Rattle.label_list.proofs.OpenIds.{once-counting}
+use Rattle.word_block.specs.Layout.{blockWords}
 use Rattle.block0.specs.declared.Header.{Header}
 use Rattle.block0.specs.Fields.{Fits, Valid, atMost}
 use Rattle.block0.specs.Layout.{noLabels, releasedHeader, slotCount}
+use Rattle.fec_index.specs.Entries.{entriesOf, entryOk}
 use Rattle.message.specs.Storable.{Storable}
-use Rattle.request_ids.specs.Layout.{idCount}
+use Rattle.slot.specs.Layout.{slotMessage}
 use Rattle.image.specs.Ring.{ring}
-use Rattle.image.specs.Sizes.{slotAt}
-use Rattle.image.specs.State.{InRange, decode, storedIds}
-use Rattle.image.specs.Verdict.{IsSound}
+use Rattle.image.specs.Sizes.{slotAt, block, blockOf, imageSize, indexBlock, requestBlock}
+use Rattle.image.specs.State.{InRange, decode, storedIds, Contents, slotsOf, store0, storeSlot, storedIndex}
+use Rattle.image.specs.Verdict.{IsSound, SlotGood}
+use Rattle.image.proofs.Changes.{none-indexed}
+use Rattle.image.proofs.Entered.{sound-wide}
+use Rattle.image.proofs.Entries.{ids-storeEntry, listed-storeEntry}
+use Rattle.image.proofs.Indexed.{Right}
 use Rattle.image.proofs.Queue.{queue-length, queue-storable}
 use Rattle.image.proofs.Ranges.{labels-count, stored-count, valid-words}
 use Rattle.image.proofs.Requests.{no-ids, once-stored}
-use Rattle.image.proofs.Sound.{sound-accept, sound-ask, sound-ids, sound-keep, sound-once, sound-release, sound-store0, sound-valid}
-use Rattle.image.proofs.Stored.{asked-count, decode-accept, decode-ask, decode-keep, decode-release, decode-store0, state-eq}
+use Rattle.image.proofs.Sound.{sound-ids, sound-keep, sound-once, sound-release, sound-store0, sound-valid, parts-sound, sound-parts, sound-queued, slot-good}
+use Rattle.image.proofs.Stored.{decode-keep, decode-release, decode-store0, state-eq, decode-queued, index-storeId, open-storeId, slots-other, slots-put}
 use Rattle.protocol.specs.Lawful.{Lawful, Window}
 use Rattle.protocol.specs.State.{State, held, releasedState}
 use Rattle.calls.specs.State.{stateOf}
-use Rattle.calls.specs.Storing.{Ids, same, put, Slots, stay, empty, one-more, fewer, firstAfter, headerFor, stored}
+use Rattle.calls.specs.Storing.{same, Slots, stay, empty, one-more, fewer, firstAfter, headerFor, stored, Further, put-id, put-entry, furtherStored, nextSlot, slotStored}
 use Rattle.calls.proofs.Marking.{marks-low, marks-ok, marks-read}
-use Rattle.calls.proofs.Slots.{IdsFit}
+use Rattle.calls.proofs.Slots.{FurtherFits, HasPlace, SlotFits, fits-place, further-high, further-other, slot-length, slot-low, slot-others}
+use Rattle.call_meaning.specs.Medium.{Same}
+use Rattle.call_meaning.proofs.Slots.{both-same}
 
 -- ---- the state that a sound image stands for
 window-of : (n : ℕ) (x : Steps) → atMost n x ≡ true → record { steps : ℕ; reaches : x ≡ Count steps; within : steps ≤ n }
@@ -54,6 +63,11 @@ image-window im s =
 pub state-ids : (im : List ℕ) → openIds (stateOf im .table .words) (storedIds im) ≡ stateOf im .table .ids
 unfolding decode
 state-ids im = refl
+
+-- and its entries those of blocks 66 and 67
+pub state-index : (im : List ℕ) → counting 0 listsLabel (stateOf im .table .words) (storedIndex im) ≡ stateOf im .table .index
+unfolding decode
+state-index im = refl
 
 module _ (im : List ℕ) (s : IsSound im) (r : InRange (decode im)) where
   -- kept is 0 or 1
@@ -77,6 +91,19 @@ module _ (im : List ℕ) (s : IsSound im) (r : InRange (decode im)) where
   unfolding decode any
   idle-ids e = ap (λ (ls : List ℕ). openIds ls (storedIds im)) e ∙ no-ids noLabels refl wordCount refl (storedIds im)
 
+  -- the entries that count are those under the words
+  index-length : length (decode im .index) ≡ wordCount
+  unfolding decode
+  index-length = counting-length 0 listsLabel (decode im .labels) (storedIndex im) ∙ labels-count im
+
+  index-counted : counting 0 listsLabel (decode im .labels) (decode im .index) ≡ decode im .index
+  unfolding decode
+  index-counted = counting-twice 0 listsLabel (decode im .labels) (storedIndex im)
+
+  idle-index : decode im .labels ≡ noLabels → decode im .index ≡ replicate wordCount 0
+  unfolding decode
+  idle-index e = ap (λ (ls : List ℕ). counting 0 listsLabel ls (storedIndex im)) e ∙ none-indexed (storedIndex im)
+
   -- the state of a sound image in range is lawful
   pub lawful-image : Lawful (stateOf im)
   lawful-image =
@@ -94,6 +121,9 @@ module _ (im : List ℕ) (s : IsSound im) (r : InRange (decode im)) where
         width = r .ids .each;
         counted = ids-counted;
         once = ids-once;
+        index = index-length;
+        indexed = index-counted;
+        entries = sound-wide im s;
         storable = λ i l. queue-storable im s i (rw (queue-length im) at l);
         idle = λ f. idle-image (v .idle (not-kept f));
       }
@@ -106,36 +136,43 @@ module _ (im : List ℕ) (s : IsSound im) (r : InRange (decode im)) where
           by (m ∷ ms) e = absurd (omega arith)
 
       idle-image : (decode im .header ≡ releasedHeader) × (decode im .labels ≡ releasedState .table .words) → stateOf im ≡ releasedState
-      idle-image e = rw (e .0, idle-ids (e .1), e .1, none-held (ap (λ (h : Header). h .held) (e .0)))
+      idle-image e = rw (e .0, idle-ids (e .1), idle-index (e .1), e .1, none-held (ap (λ (h : Header). h .held) (e .0)))
 
--- ---- what becomes of the IDs with block 65
-abbrev idsWith : List ℕ → Ids → List ℕ
-idsWith xs same = xs
-idsWith xs (put place id) = set xs place (id .0)
+-- ---- what becomes of the IDs and of the entries with the further blocks
+abbrev pub idsAfter : List ℕ → Further → List ℕ
+idsAfter im same = storedIds im
+idsAfter im (put-id place id) = set (storedIds im) place (id .0)
+idsAfter im (put-entry place entry) = storedIds im
 
-abbrev pub idsAfter : List ℕ → Slots → List ℕ
-idsAfter im stay = storedIds im
-idsAfter im empty = storedIds im
-idsAfter im (one-more m ids) = idsWith (storedIds im) ids
-idsAfter im (fewer k) = storedIds im
-
--- where one is put none counts yet; those that count have their width
-abbrev pub IdsPut : List ℕ → Ids → Type 0
-IdsPut im same = Unit {0}
-IdsPut im (put place id) = IdsFit im (put place id) × Words wordCount (decode im .ids)
+abbrev pub indexAfter : List ℕ → Further → List ℕ
+indexAfter im same = storedIndex im
+indexAfter im (put-id place id) = storedIndex im
+indexAfter im (put-entry place entry) = set (storedIndex im) place entry
 
 -- ---- what becomes of the queue with the ring of slots
 abbrev pub QueueAfter : List ℕ → Slots → List (List ℕ) → Type 0
 QueueAfter im stay q = q ≡ decode im .queue
 QueueAfter im empty q = q ≡ []
-QueueAfter im (one-more m ids) q = (q ≡ decode im .queue ++ (m ∷ [])) × Storable m × (decode im .header .held < slotCount) × IdsPut im ids
+QueueAfter im (one-more m) q = (q ≡ decode im .queue ++ (m ∷ [])) × Storable m × (decode im .header .held < slotCount)
 QueueAfter im (fewer k) q = (q ≡ drop k (decode im .queue)) × (k ≤ decode im .header .held)
 
--- a state that this ring of slots and these IDs can hold
-pub record Puts (im : List ℕ) (slots : Slots) (s : State) : Type 0 where
+queue-fits : (im : List ℕ) (slots : Slots) (q : List (List ℕ)) → QueueAfter im slots q → SlotFits im slots
+queue-fits im stay q e = tt
+queue-fits im empty q e = tt
+queue-fits im (one-more m) q e = (e .1, e .2)
+queue-fits im (fewer k) q e = tt
+
+-- a state that this ring of slots and these further blocks can hold
+pub record Puts (im : List ℕ) (slots : Slots) (f : Further) (s : State) : Type 0 where
   pub lawful : Lawful s
   pub queue : QueueAfter im slots (s .queue)
-  pub ids : openIds (s .table .words) (idsAfter im slots) ≡ s .table .ids
+  -- where an ID or an entry is put none counts yet; the IDs that count have their width
+  pub fits : FurtherFits im f
+  pub widths : Words wordCount (decode im .ids)
+  pub ids : openIds (s .table .words) (idsAfter im f) ≡ s .table .ids
+  pub index : counting 0 listsLabel (s .table .words) (indexAfter im f) ≡ s .table .index
+  -- each entry is one: zeros, or a prefix with its length
+  pub right : (i : ℕ) → entryOk (getD (s .table .index) i 0) ≡ true
   -- "With kept 0, bytes 4 to 507 are zero."
   pub first : s .kept ≡ false → firstAfter (decode im .header) slots ≡ 0
 
@@ -152,7 +189,7 @@ kept-none true e = absurd (omega arith)
 kept-none false e = refl
 
 -- ---- stored
-module _ (im : List ℕ) (sound : IsSound im) (slots : Slots) (s : State) (p : Puts im slots s) where
+module _ (im : List ℕ) (sound : IsSound im) (slots : Slots) (f : Further) (s : State) (p : Puts im slots f s) where
   first : ℕ
   first = firstAfter (decode im .header) slots
 
@@ -166,7 +203,7 @@ module _ (im : List ℕ) (sound : IsSound im) (slots : Slots) (s : State) (p : P
       by : (x : Slots) → firstAfter (decode im .header) x < slotCount
       by stay = sound-valid im sound .first
       by empty = omega arith
-      by (one-more m ids) = sound-valid im sound .first
+      by (one-more m) = sound-valid im sound .first
       by (fewer k) = omega arith
 
   numbers-fit : Fits h
@@ -184,17 +221,16 @@ module _ (im : List ℕ) (sound : IsSound im) (slots : Slots) (s : State) (p : P
     maxpdu = p .lawful .terms .maxpdu;
   }
 
-  words-fit : Words wordCount (s .table .words)
-  words-fit = valid-words (s .table .words) (p .lawful .words) (p .lawful .labels)
+  abbrev words : List ℕ
+  words = s .table .words
+
+  words-fit : Words wordCount words
+  words-fit = valid-words words (p .lawful .words) (p .lawful .labels)
 
   ids-fit : Words wordCount (s .table .ids)
   ids-fit = record { count = p .lawful .ids; each = p .lawful .width }
 
-  -- no ID that counts under the new words stands twice
-  once-after : (xs : List ℕ) → length xs ≡ idCount → openIds (s .table .words) xs ≡ s .table .ids → onceOf (s .table .words) xs ≡ true
-  once-after xs n e = sym (once-counting (s .table .words) xs (omega (arith, p .lawful .words))) ∙ ap (onceOf (s .table .words)) e ∙ p .lawful .once
-
-  numbers-valid : Valid h (s .table .words)
+  numbers-valid : Valid h words
   unfolding h first
   numbers-valid = record {
     first = first-low;
@@ -208,59 +244,144 @@ module _ (im : List ℕ) (sound : IsSound im) (slots : Slots) (s : State) (p : P
         (rw (p .first f, p .lawful .idle f), rw (p .lawful .idle f));
   }
 
+  -- ---- the image with the slot and the further block stored
+  abbrev slotted : List ℕ
+  slotted = slotStored im slots
+
+  abbrev before : List ℕ
+  before = furtherStored slotted f
+
+  slot-fits : SlotFits im slots
+  slot-fits = queue-fits im slots (s .queue) (p .queue)
+
+  place : HasPlace f
+  place = fits-place im f (p .fits)
+
+  long : length slotted ≡ imageSize
+  long = slot-length im (sound .size) slots slot-fits
+
+  before-same : Same im before
+  before-same = both-same im sound (p .widths) slots f slot-fits (p .fits)
+
+  before-sound : IsSound before
+  before-sound = sound-parts before (before-same .checks ∙ parts-sound im sound)
+
+  before-decodes : decode before ≡ decode im
+  before-decodes = before-same .state
+
+  slot-ids : storedIds slotted ≡ storedIds im
+  unfolding storedIds
+  slot-ids = ap blockWords (slot-others im (sound .size) slots slot-fits requestBlock (omega (arith, slot-low im (sound .size) slots)))
+
+  slot-index : storedIndex slotted ≡ storedIndex im
+  unfolding storedIndex
+  slot-index =
+      let low = slot-low im (sound .size) slots in
+      ap₂ (λ (x y : List ℕ). entriesOf x ++ entriesOf y)
+      (slot-others im (sound .size) slots slot-fits indexBlock (omega (arith, low))) (slot-others im (sound .size) slots slot-fits (indexBlock + 1) (omega (arith, low)))
+
+  -- the IDs that count under the new words, and the entries
+  ids-after : openIds words (storedIds before) ≡ s .table .ids
+  ids-after = by f (p .ids) place
+    where
+      by : (x : Further) → openIds words (idsAfter im x) ≡ s .table .ids → HasPlace x → openIds words (storedIds (furtherStored slotted x)) ≡ s .table .ids
+      by same e l = ap (openIds words) slot-ids ∙ e
+      by (put-id place id) e l =
+          open-storeId slotted long place id words (rw (slot-ids, e) ids-fit) ∙ ap (λ (xs : List ℕ). openIds words (set xs place (id .0))) slot-ids ∙ e
+      by (put-entry place entry) e l = ap (openIds words) (ids-storeEntry slotted long place (omega arith) entry ∙ slot-ids) ∙ e
+
+  index-after : counting 0 listsLabel words (storedIndex before) ≡ s .table .index
+  index-after = by f (p .index) place
+    where
+      by : (x : Further) → counting 0 listsLabel words (indexAfter im x) ≡ s .table .index → HasPlace x → counting 0 listsLabel words (storedIndex (furtherStored slotted x)) ≡ s .table .index
+      by same e l = ap (counting 0 listsLabel words) slot-index ∙ e
+      by (put-id place id) e l = ap (counting 0 listsLabel words) (index-storeId slotted long place id ∙ slot-index) ∙ e
+      by (put-entry place entry) e l =
+          listed-storeEntry slotted long place (omega arith) entry words (omega (arith, p .lawful .words)) (rw (slot-index, e) (p .lawful .entries))
+          ∙ ap (λ (xs : List ℕ). counting 0 listsLabel words (set xs place entry)) slot-index ∙ e
+
+  -- no ID that counts stands twice, and each entry that counts is right
+  once-after : onceOf words (storedIds before) ≡ true
+  once-after =
+      sym (once-counting words (storedIds before) (omega (arith, p .lawful .words, stored-count before))) ∙ ap (onceOf words) ids-after ∙ p .lawful .once
+
+  right-after : Right words before
+  right-after i = rw index-after (p .right i)
+
   one-held : (m : List ℕ) → s .queue ≡ decode im .queue ++ (m ∷ []) → held s ≡ decode im .header .held + 1
   one-held m q = ap length q ∙ length-append (decode im .queue) (m ∷ []) ∙ ap (λ (k : ℕ). k + 1) (queue-length im)
 
-  -- the image says this state, and is sound
-  pub put-decodes : decode (stored im slots s) ≡ record { header = headerFor (firstAfter (decode im .header) slots) s; labels = s .table .words; ids = s .table .ids; queue = s .queue }
-  unfolding h first ring
-  put-decodes = by slots (p .queue) (p .ids) numbers-fit
-    where
-      by : (x : Slots) → QueueAfter im x (s .queue) → openIds (s .table .words) (idsAfter im x) ≡ s .table .ids → Fits (headerFor (firstAfter (decode im .header) x) s)
-          → decode (stored im x s) ≡ record { header = headerFor (firstAfter (decode im .header) x) s; labels = s .table .words; ids = s .table .ids; queue = s .queue }
-      by stay q e f =
-          let n : held s ≡ decode im .header .held = ap length q ∙ queue-length im in
-          decode-keep im (headerFor (decode im .header .first) s) (s .table .words) (sound .size) f words-fit refl n ∙ state-eq refl refl e (sym q)
-      by empty q e f =
-          let n : held s ≡ 0 = ap length q in
-          decode-store0 im (sound .size) (headerFor 0 s) (s .table .words) f words-fit ∙ state-eq refl refl e (rw (n, q))
-      by (one-more m same) q e f =
-          decode-accept im (headerFor (decode im .header .first) s) (s .table .words) m (sound .size) f words-fit (q .1) refl (one-held m (q .0)) (q .2) ∙ state-eq refl refl e (sym (q .0))
-      by (one-more m (put place id)) q e f =
-          decode-ask im (headerFor (decode im .header .first) s) (s .table .words) m place id (sound .size) f words-fit (q .1) (rw e ids-fit) refl (one-held m (q .0)) (q .2)
-          ∙ state-eq refl refl e (sym (q .0))
-      by (fewer k) q e f =
-          let n : held s ≡ decode im .header .held - k = ap length (q .0) ∙ length-drop k (decode im .queue) ∙ ap (λ (j : ℕ). j - k) (queue-length im) in
-          decode-release im (headerFor (slotAt (decode im .header .first) k) s) (s .table .words) k (sound .size) f words-fit (q .1) refl n ∙ state-eq refl refl e (sym (q .0))
+  fewer-held : (k : ℕ) → s .queue ≡ drop k (decode im .queue) → held s ≡ decode before .header .held - k
+  fewer-held k q =
+      ap length q ∙ length-drop k (decode im .queue) ∙ ap (λ (j : ℕ). j - k) (queue-length im) ∙ ap (λ (c : Contents). c .header .held - k) (sym before-decodes)
 
-  -- a lawful state whose queue and whose IDs are what becomes of the ring and of block 65, stored: the image is sound
-  pub put-sound : IsSound (stored im slots s)
-  unfolding h first
-  put-sound = by slots (p .queue) (p .ids) numbers-fit numbers-valid
+  -- the slots behind block 0, with the further block stored
+  slot-block : (j : ℕ) → j < slotCount → block before (blockOf j) ≡ block slotted (blockOf j)
+  slot-block j l = further-other slotted long f place (blockOf j) (omega (arith, further-high f))
+
+  slot-message : (j : ℕ) → j < slotCount → slotsOf before j ≡ slotsOf slotted j
+  unfolding slotsOf
+  slot-message j l = ap slotMessage (slot-block j l)
+
+  -- the image says this state, and is sound
+  pub put-decodes : decode (stored im slots f s) ≡ record { header = headerFor (firstAfter (decode im .header) slots) s; labels = s .table .words; ids = s .table .ids; index = s .table .index; queue = s .queue }
+  unfolding h first ring
+  put-decodes = by slots refl (p .queue) numbers-fit
     where
-      by : (x : Slots) → QueueAfter im x (s .queue) → openIds (s .table .words) (idsAfter im x) ≡ s .table .ids → Fits (headerFor (firstAfter (decode im .header) x) s)
-          → Valid (headerFor (firstAfter (decode im .header) x) s) (s .table .words) → IsSound (stored im x s)
-      by stay q e f v =
-          let n : held s ≡ decode im .header .held = ap length q ∙ queue-length im in
-          sound-keep im (headerFor (decode im .header .first) s) (s .table .words) sound f words-fit v refl n (once-after (storedIds im) (stored-count im) e)
-      by empty q e f v =
+      by : (x : Slots) → slots ≡ x → QueueAfter im x (s .queue) → Fits (headerFor (firstAfter (decode im .header) x) s)
+          → decode (store0 before (headerFor (firstAfter (decode im .header) x) s) words)
+          ≡ record { header = headerFor (firstAfter (decode im .header) x) s; labels = words; ids = s .table .ids; index = s .table .index; queue = s .queue }
+      by stay is q g =
+          let n : held s ≡ decode before .header .held = ap length q ∙ queue-length im ∙ ap (λ (c : Contents). c .header .held) (sym before-decodes) in
+          decode-keep before (headerFor (decode im .header .first) s) words (before-sound .size) g words-fit (ap (λ (c : Contents). c .header .first) (sym before-decodes)) n
+          ∙ state-eq refl refl ids-after index-after (ap (λ (c : Contents). c .queue) before-decodes ∙ sym q)
+      by empty is q g =
           let n : held s ≡ 0 = ap length q in
-          sound-store0 im (headerFor 0 s) (s .table .words) (sound .size) f words-fit v (λ i l. absurd (omega (arith, n)))
-          (sound-ids im (s .table .words) sound (once-after (storedIds im) (stored-count im) e))
-      by (one-more m same) q e f v =
-          sound-accept im (headerFor (decode im .header .first) s) (s .table .words) m sound f words-fit v (q .1) refl (one-held m (q .0)) (q .2) (once-after (storedIds im) (stored-count im) e)
-      by (one-more m (put place id)) q e f v =
-          sound-ask im (headerFor (decode im .header .first) s) (s .table .words) m place id sound f words-fit v (q .1) (q .3 .1) (q .3 .0) (rw e ids-fit) refl (one-held m (q .0)) (q .2)
-          (once-after (set (storedIds im) place (id .0)) (asked-count im (sound .size) place id) e)
-      by (fewer k) q e f v =
-          let n : held s ≡ decode im .header .held - k = ap length (q .0) ∙ length-drop k (decode im .queue) ∙ ap (λ (j : ℕ). j - k) (queue-length im) in
-          sound-release im (headerFor (slotAt (decode im .header .first) k) s) (s .table .words) k sound f words-fit v (q .1) refl n (once-after (storedIds im) (stored-count im) e)
+          decode-store0 before (before-sound .size) (headerFor 0 s) words g words-fit ∙ state-eq refl refl ids-after index-after (rw (n, q))
+      by (one-more m) is q g =
+          let k : ℕ = nextSlot (decode im .header) in
+          let low : k < slotCount = omega arith in
+          let at : slotted ≡ storeSlot im k m = ap (slotStored im) is in
+          decode-queued im before (headerFor (decode im .header .first) s) words m (before-sound .size) g words-fit refl (one-held m (q .0)) (q .2)
+          (slot-message k low ∙ ap (λ (t : List ℕ). slotsOf t k) at ∙ slots-put im (sound .size) k low m (q .1))
+          (λ j l apart. slot-message j l ∙ ap (λ (t : List ℕ). slotsOf t j) at ∙ slots-other im (sound .size) k low m (q .1) j apart)
+          ∙ state-eq refl refl ids-after index-after (sym (q .0))
+      by (fewer k) is q g =
+          let held-before : k ≤ decode before .header .held = rw before-decodes (q .1) in
+          decode-release before (headerFor (slotAt (decode im .header .first) k) s) words k (before-sound .size) g words-fit held-before
+          (ap (λ (c : Contents). slotAt (c .header .first) k) (sym before-decodes)) (fewer-held k (q .0))
+          ∙ state-eq refl refl ids-after index-after (ap (λ (c : Contents). drop k (c .queue)) before-decodes ∙ sym (q .0))
+
+  -- a lawful state whose queue, IDs and index are what becomes of the ring and of the further blocks, stored: the image is sound
+  pub put-sound : IsSound (stored im slots f s)
+  unfolding h first
+  put-sound = by slots refl (p .queue) numbers-fit numbers-valid
+    where
+      by : (x : Slots) → slots ≡ x → QueueAfter im x (s .queue) → Fits (headerFor (firstAfter (decode im .header) x) s)
+          → Valid (headerFor (firstAfter (decode im .header) x) s) words → IsSound (store0 before (headerFor (firstAfter (decode im .header) x) s) words)
+      by stay is q g v =
+          let n : held s ≡ decode before .header .held = ap length q ∙ queue-length im ∙ ap (λ (c : Contents). c .header .held) (sym before-decodes) in
+          sound-keep before (headerFor (decode im .header .first) s) words before-sound g words-fit v (ap (λ (c : Contents). c .header .first) (sym before-decodes)) n once-after right-after
+      by empty is q g v =
+          let n : held s ≡ 0 = ap length q in
+          sound-store0 before (headerFor 0 s) words (before-sound .size) g words-fit v (λ i l. absurd (omega (arith, n))) (sound-ids before words before-sound once-after right-after)
+      by (one-more m) is q g v =
+          let k : ℕ = nextSlot (decode im .header) in
+          let low : k < slotCount = omega arith in
+          let at : slotted ≡ storeSlot im k m = ap (slotStored im) is in
+          let good : SlotGood (block before (blockOf k)) = rw (slot-block k low, at) (slot-good im k m (sound .size) low (q .1)) in
+          sound-queued im before (headerFor (decode im .header .first) s) words before-sound g words-fit v refl (one-held m (q .0))
+          (ap (λ (c : Contents). c .header) before-decodes) good once-after right-after
+      by (fewer k) is q g v =
+          let held-before : k ≤ decode before .header .held = rw before-decodes (q .1) in
+          sound-release before (headerFor (slotAt (decode im .header .first) k) s) words k before-sound g words-fit v held-before
+          (ap (λ (c : Contents). slotAt (c .header .first) k) (sym before-decodes)) (fewer-held k (q .0)) once-after right-after
 
   -- the image stands for exactly that state
-  pub put-state : stateOf (stored im slots s) ≡ s
+  pub put-state : stateOf (stored im slots f s) ≡ s
   put-state = rw (put-decodes, kept-read (s .kept), marks-read (s .marks))
 
   -- and is in range
-  pub put-range : InRange (decode (stored im slots s))
+  pub put-range : InRange (decode (stored im slots f s))
   unfolding h first
   put-range = rw put-decodes (record { header = numbers-fit; labels = words-fit; ids = ids-fit })

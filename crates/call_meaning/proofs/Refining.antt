@@ -20,7 +20,7 @@ use Rattle.protocol.proofs.Effects.{act-done}
 use Rattle.protocol.proofs.Settling.{settle-does}
 use Rattle.calls.specs.Outcomes.{callOf, checked, failedOn, leftBy, releasedOn, settleOf, stepStored, untouched}
 use Rattle.calls.specs.State.{stateOf}
-use Rattle.calls.specs.Storing.{Slots}
+use Rattle.calls.specs.Storing.{Further, Slots}
 use Rattle.calls.proofs.Called.{call-settles}
 use Rattle.calls.proofs.Ends.{settle-other}
 use Rattle.calls.proofs.Putting.{break-puts, release-puts}
@@ -31,21 +31,21 @@ use Rattle.call_meaning.proofs.Refusals as byte
 use Rattle.call_meaning.proofs.Stands.{puts-stands, settled-stands}
 
 -- what a call needs to be told of what it does where it is done
-pub record Kept (im : List ℕ) (slots : Slots) (d : Step) : Type 0 where
-  pub puts : Puts im slots (d .state)
+pub record Kept (im : List ℕ) (slots : Slots) (f : Further) (d : Step) : Type 0 where
+  pub puts : Puts im slots f (d .state)
   pub fits : phaseFits (d .phase) (d .state) ≡ true
 
-module _ (im : List ℕ) (ph : Phase) (st : Standing im ph) (o : List ℕ) (slots : Slots) (a : Answer) (d : Step) (e : d .answer ≡ Answer.Done)
-    (k : isDone a ≡ true → Kept im slots d) where
+module _ (im : List ℕ) (ph : Phase) (st : Standing im ph) (o : List ℕ) (slots : Slots) (f : Further) (a : Answer) (d : Step) (e : d .answer ≡ Answer.Done)
+    (k : isDone a ≡ true → Kept im slots f d) where
   -- the checks are passed
-  settles : callOf im ph o slots (settle a (stateOf im) ph d) ≡ settleOf a ph im o (stepStored im slots d o)
+  settles : callOf im ph o slots f (settle a (stateOf im) ph d) ≡ settleOf a ph im o (stepStored im slots f d o)
   settles =
-      call-settles im ph o slots a (stateOf im) d e
-      ∙ ap (λ (v : Verdict). settleOf (checked v a) ph im o (stepStored im slots d o)) (parts-sound im (st .sound))
+      call-settles im ph o slots f a (stateOf im) d e
+      ∙ ap (λ (v : Verdict). settleOf (checked v a) ph im o (stepStored im slots f d o)) (parts-sound im (st .sound))
 
   -- and what it leaves stands
-  pub call-stands : Stands (callOf im ph o slots (settle a (stateOf im) ph d))
-  call-stands = rw settles (settled-stands im ph st a o (stepStored im slots d o) (λ t. puts-stands (st .sound) (k t .puts) (k t .fits)))
+  pub call-stands : Stands (callOf im ph o slots f (settle a (stateOf im) ph d))
+  call-stands = rw settles (settled-stands im ph st a o (stepStored im slots f d o) (λ t. puts-stands (st .sound) (k t .puts) (k t .fits)))
 
   other-seen : (f : Effect) → effectOf a ≡ f → isDone a ≡ false → seen (leftBy f a ph im o (untouched a ph im o)) ≡ settledBy f a (stateOf im) ph d
   unfolding failedOn releasedOn
@@ -59,12 +59,12 @@ module _ (im : List ℕ) (ph : Phase) (st : Standing im ph) (o : List ℕ) (slot
   others n = other-seen (effectOf a) refl n
 
   -- on an image that stands, what is seen of a call is the protocol's step on its state: its output has room in the bytes lent
-  pub call-seen : (isDone a ≡ true → length (d .output) ≤ length o) → seen (callOf im ph o slots (settle a (stateOf im) ph d)) ≡ settle a (stateOf im) ph d
+  pub call-seen : (isDone a ≡ true → length (d .output) ≤ length o) → seen (callOf im ph o slots f (settle a (stateOf im) ph d)) ≡ settle a (stateOf im) ph d
   call-seen room =
       rw settles
       (by-test (isDone a)
-      (λ t. rw (byte.settle-does a ph im o (stepStored im slots d o) t, settle-does a (stateOf im) ph d t, put-state im (st .sound) slots (d .state) (k t .puts)) (written (room t)))
-      (λ n. rw (settle-other a ph im o (stepStored im slots d o) (untouched a ph im o) n) (others n)))
+      (λ t. rw (byte.settle-does a ph im o (stepStored im slots f d o) t, settle-does a (stateOf im) ph d t, put-state im (st .sound) slots f (d .state) (k t .puts)) (written (room t)))
+      (λ n. rw (settle-other a ph im o (stepStored im slots f d o) (untouched a ph im o) n) (others n)))
     where
       written : length (d .output) ≤ length o
           → record { answer = d .answer; state = d .state; phase = d .phase; output = take (length (d .output)) (laid o 0 (d .output)); leftout = d .leftout } ≡ d

@@ -17,7 +17,7 @@ use Rattle.protocol.specs.State.{State}
 use Rattle.protocol.proofs.KeepingPhases.{resting-fits}
 use Rattle.calls.specs.Outcomes.{After, untouched, failedOn, releasedOn, leftBy, settleOf}
 use Rattle.calls.specs.State.{stateOf}
-use Rattle.calls.specs.Storing.{Slots, stored}
+use Rattle.calls.specs.Storing.{Further, Slots, stored}
 use Rattle.calls.proofs.Ends.{settle-other}
 use Rattle.calls.proofs.Putting.{break-puts, release-puts}
 use Rattle.calls.proofs.Settled.{Admitted}
@@ -30,11 +30,11 @@ pub standing-admitted : {im : List ℕ} {ph : Phase} → Standing im ph → Admi
 standing-admitted {im} st = record { passes = parts-sound im (st .sound); fits = st .fits }
 
 -- a state that is stored stands
-pub puts-stands : {im : List ℕ} → IsSound im → {slots : Slots} {s : State} {ph : Phase} → Puts im slots s → phaseFits ph s ≡ true → Standing (stored im slots s) ph
-puts-stands {im} sound {slots} {s} p f = record {
-  sound = put-sound im sound slots s p;
-  range = put-range im sound slots s p;
-  fits = rw (put-state im sound slots s p) f;
+pub puts-stands : {im : List ℕ} → IsSound im → {slots : Slots} {f : Further} {s : State} {ph : Phase} → Puts im slots f s → phaseFits ph s ≡ true → Standing (stored im slots f s) ph
+puts-stands {im} sound {slots} {f} {s} p ph = record {
+  sound = put-sound im sound slots f s p;
+  range = put-range im sound slots f s p;
+  fits = rw (put-state im sound slots f s p) ph;
 }
 
 -- ---- the three ends of a call that is not done

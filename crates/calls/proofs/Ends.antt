@@ -12,7 +12,7 @@ use Rattle.octets.proofs.Differ.{differ-self}
 use Rattle.block0.specs.declared.Header.{Header}
 use Rattle.block0.specs.Coded.{unprotected}
 use Rattle.image.specs.Events.{releaseOf, breakOf}
-use Rattle.image.specs.Sizes.{block, requestBlock}
+use Rattle.image.specs.Sizes.{block}
 use Rattle.image.specs.State.{decode}
 use Rattle.image.specs.Verdict.{IsSound}
 use Rattle.image.proofs.Same.{break-same, break-changed, release-same, release-changed}
@@ -24,7 +24,7 @@ use Rattle.protocol.specs.Phases.{restingPhase}
 use Rattle.calls.specs.declared.Outcome.{Outcome}
 use Rattle.calls.specs.Outcomes.{After, afterWith, refusal, settleOf, untouched, failedOn, releasedOn, leftBy}
 use Rattle.calls.specs.State.{stateOfNumbers}
-use Rattle.calls.proofs.Further.{further-break, further-release}
+use Rattle.calls.proofs.FurtherBits.{further-break, further-release, further-self}
 use Rattle.calls.proofs.Putting.{break-puts, release-puts}
 
 -- ---- as connection failed; the premises are what the callees ensure
@@ -33,7 +33,7 @@ module _ (a : Answer) (im o : List ℕ) (s : IsSound im) (byte : Bytes im) {h : 
   -- no label is used without protection: the image stays as it is
   pub fail-none : {r : Outcome} → b ≡ false → r ≡ refusal a ph → afterWith r im o ≡ failedOn a im o
   unfolding failedOn laid
-  fail-none f e = rw (break-puts im s, break-same im s byte (sym e₃ ∙ f), differ-self (block im 0), differ-self (block im requestBlock), e, e₂, e₁)
+  fail-none f e = rw (break-puts im s, break-same im s byte (sym e₃ ∙ f), differ-self (block im 0), further-self im, e, e₂, e₁)
 
   pub fail-some : {im′ : List ℕ} → b ≡ true → im′ ≡ breakOf im
       → afterWith (record { answer = a; phase = ph; written = 0; slot = 0; block0 = true; further = 0; leftout = 0 }) im′ o ≡ failedOn a im o
@@ -45,7 +45,7 @@ module _ (a : Answer) (im o : List ℕ) (s : IsSound im) {h : Header} (e : h ≡
   -- with kept 0 the image stays as it is
   pub release-none : {r : Outcome} → Bytes im → h .kept ≡ 0 → r ≡ refusal a Phase.Idle → afterWith r im o ≡ releasedOn a im o
   unfolding releasedOn laid
-  release-none byte idle p = rw (release-puts im, release-same im s byte (rw e at idle), differ-self (block im 0), differ-self (block im requestBlock), p)
+  release-none byte idle p = rw (release-puts im, release-same im s byte (rw e at idle), differ-self (block im 0), further-self im, p)
 
   pub release-some : {im′ : List ℕ} → h .kept ≢ 0 → im′ ≡ releaseOf im
       → afterWith (record { answer = a; phase = Phase.Idle; written = 0; slot = 0; block0 = true; further = 0; leftout = 0 }) im′ o ≡ releasedOn a im o

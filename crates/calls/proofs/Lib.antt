@@ -4,10 +4,10 @@ pub mod Marking
 pub mod Putting
 pub mod Releasing
 pub mod Freeing
-pub mod Further
+pub mod FurtherBits
 pub mod Ends
 pub mod Saying
 pub mod Called
 pub mod Acknowledged
 pub mod Slots
-pub mod Asked
+pub mod Told

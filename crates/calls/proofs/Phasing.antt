@@ -17,12 +17,12 @@ unfolding issuedCount
 issued-is s x t e g = rw (← e, g)
 
 -- the numbers decide alone which have a number and which phase fits
-module _ (h : Header) (words ids : List ℕ) (queue : List (List ℕ)) where
-  pub issued-alone : issuedCount (stateBy h words ids queue) ≡ issuedCount (stateOfNumbers h)
+module _ (h : Header) (words ids index : List ℕ) (queue : List (List ℕ)) where
+  pub issued-alone : issuedCount (stateBy h words ids index queue) ≡ issuedCount (stateOfNumbers h)
   unfolding issuedCount
   issued-alone = refl
 
-  fits-alone : (ph : Phase) → phaseFits ph (stateBy h words ids queue) ≡ phaseFits ph (stateOfNumbers h)
+  fits-alone : (ph : Phase) → phaseFits ph (stateBy h words ids index queue) ≡ phaseFits ph (stateOfNumbers h)
   unfolding phaseFits issuedCount
   fits-alone Phase.Idle = refl
   fits-alone (Phase.InitWait v) = refl
@@ -32,4 +32,4 @@ module _ (h : Header) (words ids : List ℕ) (queue : List (List ℕ)) where
 
 -- a test's result, of a header that was read
 pub fits-read : (im : List ℕ) (ph : Phase) {h : Header} {b t : Bool} → b ≡ phaseFits ph (stateOfNumbers h) → h ≡ decode im .header → b ≡ t → phaseFits ph (stateOf im) ≡ t
-fits-read im ph e f g = rw (fits-alone (decode im .header) (decode im .labels) (decode im .ids) (decode im .queue) ph, ← f, ← e) g
+fits-read im ph e f g = rw (fits-alone (decode im .header) (decode im .labels) (decode im .ids) (decode im .index) (decode im .queue) ph, ← f, ← e) g

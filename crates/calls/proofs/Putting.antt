@@ -18,7 +18,7 @@ use Rattle.image.proofs.Sound.{sound-valid}
 use Rattle.protocol.specs.State.{releasedState}
 use Rattle.protocol.specs.Step.{broken}
 use Rattle.calls.specs.State.{stateOf}
-use Rattle.calls.specs.Storing.{headerFor, stored, stay, empty}
+use Rattle.calls.specs.Storing.{headerFor, stored, same, stay, empty}
 use Rattle.calls.proofs.Marking.{marks-said}
 
 -- kept is 0 or 1
@@ -37,15 +37,15 @@ module _ (im : List ℕ) (s : IsSound im) where
       rw (kept-is (decode im .header .kept) (v .kept), marks-said (decode im .header .marks) (v .marks), queue-length im)
 
   -- a broken state stored is the image as after a break
-  pub break-puts : stored im stay (broken (stateOf im)) ≡ breakOf im
+  pub break-puts : stored im stay same (broken (stateOf im)) ≡ breakOf im
   unfolding breakOf
   break-puts = rw header-same
 
   -- the state that the image stands for already
-  pub put-same : Bytes im → stored im stay (stateOf im) ≡ im
+  pub put-same : Bytes im → stored im stay same (stateOf im) ≡ im
   put-same byte = rw header-same (store-same im s byte)
 
 -- a released state stored is the released image
-pub release-puts : (im : List ℕ) → stored im empty releasedState ≡ releaseOf im
+pub release-puts : (im : List ℕ) → stored im empty same releasedState ≡ releaseOf im
 unfolding releaseOf
 release-puts im = refl

@@ -1,4 +1,5 @@
 pub mod State
 pub mod Storing
 pub mod Outcomes
+pub mod Further
 pub mod Freeing

@@ -1,14 +1,14 @@
 -- What a call leaves: its outcome, the image and the output. A call is restore's checks, then the protocol's step on the state that the image stands for,
 -- and what that makes of the state is stored.
-use Prim.Native.Nat.{ℕ}
+use Prim.Native.Nat.{ℕ, _+_, _*_}
 use mathlib.Core.Bool.{Bool, false}
-use mathlib.Core.List.{List}
+use mathlib.Core.List.{List, [], _∷_}
 use lib.ListN.{length}
 use Rattle.octets.specs.Differ.{differ}
 use Rattle.octets.specs.Laid.{laid}
 use Rattle.octets.specs.Pick.{pick}
 use Rattle.image.specs.declared.Verdict.{Verdict}
-use Rattle.image.specs.Sizes.{block, requestBlock}
+use Rattle.image.specs.Sizes.{block, further}
 use Rattle.image.specs.Verdict.{verdict}
 use Rattle.protocol.specs.declared.Answer.{Answer}
 use Rattle.protocol.specs.declared.Effect.{Effect}
@@ -17,7 +17,7 @@ use Rattle.protocol.specs.Answers.{effectOf}
 use Rattle.protocol.specs.Step.{Step, admitted, failedWith, releasedWith}
 use Rattle.calls.specs.declared.Outcome.{Outcome}
 use Rattle.calls.specs.State.{stateOf}
-use Rattle.calls.specs.Storing.{Slots, stay, empty, slotNamed, stored}
+use Rattle.calls.specs.Storing.{Further, same, Slots, stay, empty, slotNamed, stored}
 
 -- a call with no output has the empty list here
 pub record After : Type 0 where
@@ -35,32 +35,41 @@ refusal a ph = record { answer = a; phase = ph; written = 0; slot = 0; block0 = 
 abbrev pub untouched : Answer → Phase → List ℕ → List ℕ → After
 untouched a ph im o = afterWith (refusal a ph) im o
 
--- which of the further blocks are others, a bit for each: bit 0 for block 65
-abbrev pub furtherBits : Bool → ℕ
-furtherBits requests = pick requests 1 0
+-- block b has other bytes than before
+abbrev pub isOther : List ℕ → List ℕ → ℕ → Bool
+isOther im next b = differ (block im b) (block next b)
+
+-- of the blocks in an order a bit for each that a test names, the lowest for the first
+abbrev pub bitsOf : (ℕ → Bool) → List ℕ → ℕ
+bitsOf named [] = 0
+bitsOf named (b ∷ bs) = pick (named b) 1 0 + 2 * bitsOf named bs
+
+-- which of the further blocks are others: bit 0 for block 65, and so on in their order
+abbrev pub furtherBits : List ℕ → List ℕ → ℕ
+furtherBits im next = bitsOf (isOther im next) further
 
 -- what the protocol's step leaves is stored, and its output written: "0 writes the message from the start and no byte after it"
-abbrev pub stepStored : List ℕ → Slots → Step → List ℕ → After
-stepStored im slots x o =
+abbrev pub stepStored : List ℕ → Slots → Further → Step → List ℕ → After
+stepStored im slots f x o =
     afterWith
     (record {
       answer = x .answer;
       phase = x .phase;
       written = length (x .output);
       slot = slotNamed im slots;
-      block0 = differ (block im 0) (block (stored im slots (x .state)) 0);
-      further = furtherBits (differ (block im requestBlock) (block (stored im slots (x .state)) requestBlock));
+      block0 = isOther im (stored im slots f (x .state)) 0;
+      further = furtherBits im (stored im slots f (x .state));
       leftout = x .leftout;
     })
-    (stored im slots (x .state))
+    (stored im slots f (x .state))
     (laid o 0 (x .output))
 
 -- "as connection failed", and "released, Idle"
 unfoldable pub failedOn : Answer → List ℕ → List ℕ → After
-failedOn a im o = stepStored im stay (failedWith a (stateOf im)) o
+failedOn a im o = stepStored im stay same (failedWith a (stateOf im)) o
 
 unfoldable pub releasedOn : Answer → List ℕ → List ℕ → After
-releasedOn a im o = stepStored im empty (releasedWith a) o
+releasedOn a im o = stepStored im empty same (releasedWith a) o
 
 -- what an answer leaves; `done` is what the call does where the answer is Done
 abbrev pub leftBy : Effect → Answer → Phase → List ℕ → List ℕ → After → After
@@ -83,6 +92,6 @@ checked (Verdict.BadField b) a = Answer.BadField b
 unfoldable pub admittedOn : List ℕ → Phase → Answer → Answer
 admittedOn im ph a = checked (verdict im) (admitted (stateOf im) ph a)
 
--- a call whose step is `x`, and that makes this of the ring of slots
-unfoldable pub callOf : List ℕ → Phase → List ℕ → Slots → Step → After
-callOf im ph o slots x = settleOf (checked (verdict im) (x .answer)) ph im o (stepStored im slots x o)
+-- a call whose step is `x`, and that makes this of the ring of slots and of the further blocks
+unfoldable pub callOf : List ℕ → Phase → List ℕ → Slots → Further → Step → After
+callOf im ph o slots f x = settleOf (checked (verdict im) (x .answer)) ph im o (stepStored im slots f x o)

@@ -21,22 +21,22 @@ bearsMark byte mark = eqb (byte / mark % 2) 1
 abbrev pub marksOf : ℕ → Marks
 marksOf byte = record { stopped = bearsMark byte toldMark; stopping = bearsMark byte tellingMark }
 
--- block 0's numbers, its label words, the IDs of open Requests beside them, and the messages held
-abbrev pub stateBy : Header → List ℕ → List ℕ → List (List ℕ) → State
-stateBy h words ids queue = record {
+-- block 0's numbers, its label words, the IDs of open Requests and the index of prefixes beside them, and the messages held
+abbrev pub stateBy : Header → List ℕ → List ℕ → List ℕ → List (List ℕ) → State
+stateBy h words ids index queue = record {
   released = h .released;
   issued = h .issued;
   secured = h .secured;
   kept = eqb (h .kept) 1;
   terms = record { timeout = h .timeout; keepalive = h .keepalive; maxpdu = h .maxpdu };
   marks = marksOf (h .marks);
-  table = record { words = words; ids = ids };
+  table = record { words = words; ids = ids; index = index };
   queue = queue;
 }
 
 abbrev pub stateOf : List ℕ → State
-stateOf im = stateBy (decode im .header) (decode im .labels) (decode im .ids) (decode im .queue)
+stateOf im = stateBy (decode im .header) (decode im .labels) (decode im .ids) (decode im .index) (decode im .queue)
 
 -- what the numbers say alone: R, I, S, kept, the terms and the marks
 abbrev pub stateOfNumbers : Header → State
-stateOfNumbers h = stateBy h [] [] []
+stateOfNumbers h = stateBy h [] [] [] []

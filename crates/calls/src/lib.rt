@@ -3,6 +3,7 @@ mod acking;
 mod admitting;
 mod answers;
 mod ending;
+mod further;
 mod marks;
 mod phases;
 mod receiving;
@@ -20,6 +21,9 @@ pub use answers::is_done;
 pub use ending::fail;
 pub use ending::release;
 pub use ending::settle;
+pub use further::store_entry;
+pub use further::store_id;
+pub use further::store_taken;
 pub use marks::marks_accepted;
 pub use marks::marks_heard;
 pub use marks::requests_stopped;
@@ -36,7 +40,7 @@ pub use storing::store_changed;
 pub use storing::store_numbers;
 
 // What a call answers. `slot` is the block of the slot that was written, to be stored first, and 0 where none was; `further` has a bit for each further
-// block whose bytes changed, bit 0 for block 65, to be stored next; `block0` says whether block 0's bytes changed, to be stored last and before output
+// block whose bytes changed, bit 0 for block 65, bits 1 and 2 for 66 and 67, to be stored next; `block0` says whether block 0's bytes changed, to be stored last and before output
 // leaves. `leftout` says how many messages were left out: by the peer before the one received, or by us before the one sent.
 pub struct Outcome {
     pub answer: Answer,

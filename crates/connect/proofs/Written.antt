@@ -19,7 +19,7 @@ use Rattle.message_writer.specs.declared.OwnParameters.{OwnParameters}
 use Rattle.message_writer.specs.declared.Written.{Written}
 use Rattle.message_writer.specs.Forms.{initBytes, keepaliveBytes}
 use Rattle.message_writer.specs.Written.{writtenOf}
-use Rattle.image.specs.Sizes.{block, requestBlock}
+use Rattle.image.specs.Sizes.{block}
 use Rattle.image.specs.State.{decode}
 use Rattle.image.specs.Verdict.{IsSound}
 use Rattle.protocol.specs.declared.Answer.{Answer}
@@ -34,9 +34,10 @@ use Rattle.protocol.specs.Writer.{writer}
 use Rattle.calls.specs.declared.Outcome.{Outcome}
 use Rattle.calls.specs.Outcomes.{After, afterWith, refusal, admittedOn, callOf, settleOf, stepStored}
 use Rattle.calls.specs.State.{stateOf, stateOfNumbers}
-use Rattle.calls.specs.Storing.{stay}
+use Rattle.calls.specs.Storing.{stay, same}
 use Rattle.calls.proofs.Called.{call-is}
 use Rattle.calls.proofs.Ends.{settle-done}
+use Rattle.calls.proofs.FurtherBits.{further-self}
 use Rattle.calls.proofs.Putting.{put-same}
 use Rattle.calls.proofs.Settled.{admit-passed, admitted-sound}
 use Rattle.call_meaning.proofs.Calling.{call-refused, call-own, own-refused}
@@ -56,7 +57,7 @@ kept-clear s e = rw e
 module _ (im : List ℕ) (ph : Phase) (next : Phase) (out bytes : List ℕ) where
   -- what is left where the bytes are written
   abbrev done : After
-  done = stepStored im stay (stepped Answer.Done (stateOf im) next bytes) out
+  done = stepStored im stay same (stepped Answer.Done (stateOf im) next bytes) out
 
   -- what was written, by the room: the image says already what is stored
   wrote-by : {w : Written} {out′ : List ℕ} {x : Outcome} → IsSound im → Bytes im → (w, out′) ≡ writtenOf out bytes → x ≡ writtenAs w ph next
@@ -71,18 +72,18 @@ module _ (im : List ℕ) (ph : Phase) (next : Phase) (out bytes : List ℕ) wher
           (own-refused Answer.OutputTooShort ph im out done refl (p ∙ ap (λ (q : Written × List ℕ). writtenAs (q .0) ph next) z))
       by false t =
           let z : _≡_ {A = Written × List ℕ} (w, out′) (Written.Bytes (length bytes), laid out 0 bytes) = e ∙ rw t in
-          rw (settle-done, put-same im s byte, differ-self (block im 0), differ-self (block im requestBlock), ap (λ (q : Written × List ℕ). q .1) z, p, ap (λ (q : Written × List ℕ). q .0) z)
+          rw (settle-done, put-same im s byte, differ-self (block im 0), further-self im, ap (λ (q : Written × List ℕ). q .1) z, p, ap (λ (q : Written × List ℕ). q .0) z)
 
   module _ (may : Bool) where
     abbrev rule : Answer
     rule = whereOpen may (roomFor bytes (length out))
 
     abbrev left : After
-    left = callOf im ph out stay (writer (stateOf im) ph may next bytes (length out))
+    left = callOf im ph out stay same (writer (stateOf im) ph may next bytes (length out))
 
     writer-settles : settleOf (admittedOn im ph rule) ph im out done ≡ left
     unfolding writer
-    writer-settles = sym (call-is im ph out stay rule (stepped Answer.Done (stateOf im) next bytes) refl)
+    writer-settles = sym (call-is im ph out stay same rule (stepped Answer.Done (stateOf im) next bytes) refl)
 
     module _ {r : Answer} (e : r ≡ admittedOn im ph Answer.Done) where
       writer-refused : {x : Outcome} → isDone r ≡ false → x ≡ refusal r ph → afterWith x im out ≡ left

@@ -10,12 +10,12 @@ use Rattle.protocol.specs.KeepAlive.{keepalive}
 use Rattle.protocol.specs.Open.{openSession}
 use Rattle.calls.specs.Outcomes.{After, callOf}
 use Rattle.calls.specs.State.{stateOf}
-use Rattle.calls.specs.Storing.{stay}
+use Rattle.calls.specs.Storing.{same, stay}
 
 -- "Open (Idle, Failed): writes Init, R = kept, ACK = S."
 unfoldable pub openOf : List ℕ → Phase → MessageId → OwnParameters → Proposal → List ℕ → After
-openOf im ph id p t out = callOf im ph out stay (openSession (stateOf im) ph id p t (length out))
+openOf im ph id p t out = callOf im ph out stay same (openSession (stateOf im) ph id p t (length out))
 
 -- "KeepAlive (UpFT, UpPlain) carries FT ACK in UpFT, 16 bytes, and none in UpPlain, 8 bytes."
 unfoldable pub keepaliveOf : List ℕ → Phase → MessageId → List ℕ → After
-keepaliveOf im ph id out = callOf im ph out stay (keepalive (stateOf im) ph id (length out))
+keepaliveOf im ph id out = callOf im ph out stay same (keepalive (stateOf im) ph id (length out))

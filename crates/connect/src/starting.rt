@@ -7,6 +7,9 @@ use calls::Answer;
 use calls::Outcome;
 use calls::Phase;
 
+// The bits of all further blocks.
+const EVERY_FURTHER: u32 = 7;
+
 // A new image; every block of it is to be stored.
 pub fn format(image: &mut [u8]) -> Outcome
     ensures { λ r. ⌜ afterWith r (now (image .exit)) [] ≡ formatOf (now (image .entry)) ⌝ }
@@ -21,7 +24,7 @@ pub fn format(image: &mut [u8]) -> Outcome
         written: 0,
         slot: 0,
         block0: true,
-        further: 1,
+        further: EVERY_FURTHER,
         leftout: 0,
     }
 }

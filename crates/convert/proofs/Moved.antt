@@ -1,23 +1,24 @@
 -- A sound image that can be moved: what comes out passes the checks of its version and stands for the same state; moved again it is the same bytes. Assumes nothing.
-use Prim.Native.Nat.{ℕ}
-use mathlib.Core.Bool.{true, false}
+use Prim.Native.Nat.{ℕ, _<_, _≤_}
+use mathlib.Core.Bool.{Bool, true, false, false≢true}
 use mathlib.Core.List.{List, _++_}
-use mathlib.Core.Logic.{_≢_}
+use mathlib.Core.Logic.{_≢_, ⊎-elim}
 use mathlib.Core.Path.{_≡_, refl, sym, ap, ap₂, _∙_}
 use native.Mathlib.Omega.{arith}
-use lib.ListN.{length, getD, drop}
+use lib.ListN.{length, getD, drop, List·getD-eq-default}
 use lib.Seq.{ext-getD}
 use Rattle.octets.specs.Bytes.{Bytes}
 use Rattle.octets.specs.Laid.{laid}
-use Rattle.octets.proofs.Choice.{by-test}
+use Rattle.octets.proofs.Choice.{below-or-not, by-test}
 use Rattle.octets.proofs.Laid.{laid-front, laid-over}
 use Rattle.block.specs.Check.{blockSize}
 use Rattle.block.specs.Run.{Words}
-use Rattle.label_list.specs.Requests.{onceOf, openIds}
+use Rattle.label_list.specs.Counting.{counting}
+use Rattle.label_list.specs.Requests.{onceOf}
 use Rattle.label_list.specs.Valid.{validOf}
-use Rattle.label_list.specs.Word.{wordCount, isRequest}
+use Rattle.label_list.specs.Word.{wordCount, isRequest, listsLabel}
 use Rattle.label_list.proofs.Counting.{counting-at, counting-length, counting-none}
-use Rattle.label_list.proofs.OpenIds.{once-freed, request-inside}
+use Rattle.label_list.proofs.OpenIds.{once-freed}
 use Rattle.block0.specs.declared.Header.{Header}
 use Rattle.block0.specs.declared.Version.{Version}
 use Rattle.block0.specs.Fields.{FitsBy, ValidBy}
@@ -26,16 +27,16 @@ use Rattle.block0.specs.Updates.{headerTimeout}
 use Rattle.block0.proofs.Rules.{fields-valid}
 use Rattle.block0.proofs.Same.{block0-same}
 use Rattle.block0.proofs.Written.{length-block0}
-use Rattle.request_ids.specs.Layout.{idsOf}
-use Rattle.request_ids.proofs.Written.{good-beside, good-once}
+use Rattle.fec_index.proofs.Counted.{free-lists}
 use Rattle.label_meaning.specs.Valid.{IsValid}
 use Rattle.label_meaning.proofs.Meaning.{means-valid, valid-means}
-use Rattle.image.specs.Sizes.{block, imageSize, requestBlock, withBlock}
-use Rattle.image.specs.State.{Contents, decodeBy, storeBy, storedIds}
+use Rattle.image.specs.Sizes.{block, imageSize, withBlock}
+use Rattle.image.specs.State.{Contents, decodeBy, storeBy, storedIds, storedIndex}
 use Rattle.image.specs.Verdict.{IsSoundBy}
 use Rattle.image.proofs.Blocks.{length-block, put-same}
+use Rattle.image.proofs.Indexed.{Right, right-fewer}
 use Rattle.image.proofs.Ranges.{bytes-block, fits-bytes, labels-bytes, words-count}
-use Rattle.image.proofs.Sound.{sound-storeBy}
+use Rattle.image.proofs.Sound.{onceBy, rightBy, sound-ids, sound-storeBy}
 use Rattle.image.proofs.Stored.{decode-storeBy, other-storeBy, state-eq}
 use Rattle.convert.specs.Move.{headerMoved, imageMoved, listMoved, movable, other, stateMoved}
 use Rattle.convert.proofs.Kept.{again-movable, last-free, moved-again, moved-at, moved-length, moved-none, other-twice, timeout-again, timeout-fits, timeout-none}
@@ -53,13 +54,22 @@ free-request : isRequest 0 ≡ false
 unfolding isRequest
 free-request = refl
 
-open-same : (ls ws xs : List ℕ) → ((i : ℕ) → getD ls i 0 ≡ getD ws i 0) → (i : ℕ) → getD (openIds ls xs) i 0 ≡ getD (openIds ws xs) i 0
-open-same ls ws xs same i =
-    by-test (isRequest (getD ws i 0))
-    (λ t.
-    let u : isRequest (getD ls i 0) ≡ true = rw (same i) t in
-    counting-at 0 isRequest ls xs i u (request-inside ls i u) ∙ sym (counting-at 0 isRequest ws xs i t (request-inside ws i t)))
-    (λ f. counting-none 0 isRequest ls xs i (rw (same i) f) ∙ sym (counting-none 0 isRequest ws xs i f))
+-- what counts beside them: the IDs, and the entries
+module _ (counts : ℕ → Bool) (free : counts 0 ≡ false) where
+  counts-inside : (ws : List ℕ) (i : ℕ) → counts (getD ws i 0) ≡ true → i < length ws
+  counts-inside ws i t =
+      ⊎-elim
+      (λ (l : i < length ws). l)
+      (λ (past : length ws ≤ i). absurd (false≢true (sym free ∙ ap counts (sym (List·getD-eq-default ws 0 {n = i} past)) ∙ t)))
+      (below-or-not i (length ws))
+
+  counted-same : (ls ws xs : List ℕ) → ((i : ℕ) → getD ls i 0 ≡ getD ws i 0) → (i : ℕ) → getD (counting 0 counts ls xs) i 0 ≡ getD (counting 0 counts ws xs) i 0
+  counted-same ls ws xs same i =
+      by-test (counts (getD ws i 0))
+      (λ t.
+      let u : counts (getD ls i 0) ≡ true = rw (same i) t in
+      counting-at 0 counts ls xs i u (counts-inside ls i u) ∙ sym (counting-at 0 counts ws xs i t (counts-inside ws i t)))
+      (λ f. counting-none 0 counts ls xs i (rw (same i) f) ∙ sym (counting-none 0 counts ws xs i f))
 
 -- the first block written twice is what was written last
 put-twice : (image p q : List ℕ) → length p ≡ blockSize → length q ≡ blockSize → length image ≡ imageSize → withBlock (withBlock image 0 p) 0 q ≡ withBlock image 0 q
@@ -133,29 +143,31 @@ module _ (v : Version) (image : List ℕ) (s : IsSoundBy v image) (byte : Bytes 
   pub moved-sound : IsSoundBy (other v) (imageMoved v image)
   unfolding imageMoved zeroth
   moved-sound =
-      let once : onceOf (listMoved v (labelsBy v (block image 0))) (idsOf (block image requestBlock)) ≡ true =
-      once-freed (listMoved v (labelsBy v (block image 0))) (labelsBy v (block image 0)) (idsOf (block image requestBlock))
-      (λ i t. ap isRequest (sym (words-same i)) ∙ t) (good-once (labelsBy v (block image 0)) (block image requestBlock) (s .requests)) in
-      sound-storeBy (other v) image (headerMoved v (headerBy v (block image 0))) (listMoved v (labelsBy v (block image 0))) (s .size) fits words valid (s .slots)
-      (good-beside (labelsBy v (block image 0)) (block image requestBlock) (s .requests) (listMoved v (labelsBy v (block image 0))) once)
+      let ws : List ℕ = labelsBy v (block image 0) in
+      let once : onceOf (listMoved v ws) (storedIds image) ≡ true =
+      once-freed (listMoved v ws) ws (storedIds image) (λ i t. ap isRequest (sym (words-same i)) ∙ t) (onceBy image s) in
+      let right : Right (listMoved v ws) image =
+      right-fewer (listMoved v ws) ws image (λ i t. ap listsLabel (sym (words-same i)) ∙ t) (rightBy image s) in
+      sound-storeBy (other v) image (headerMoved v (headerBy v (block image 0))) (listMoved v ws) (s .size) fits words valid (s .slots) (sound-ids image (listMoved v ws) s once right)
 
-  -- the IDs that count are at their places
-  ids-same : openIds (listMoved v (labelsBy v zeroth)) (storedIds image) ≡ listMoved v (openIds (labelsBy v zeroth) (storedIds image))
+  -- the IDs and entries that count are at their places
+  beside-same : (counts : ℕ → Bool) → counts 0 ≡ false → (xs : List ℕ) → counting 0 counts (listMoved v (labelsBy v zeroth)) xs ≡ listMoved v (counting 0 counts (labelsBy v zeroth) xs)
   unfolding zeroth
-  ids-same =
-      let xs : List ℕ = openIds (labelsBy v (block image 0)) (storedIds image) in
-      let long : length xs ≡ places v = counting-length 0 isRequest (labelsBy v (block image 0)) (storedIds image) ∙ count in
-      let none : getD xs wordCount 0 ≡ 0 = counting-none 0 isRequest (labelsBy v (block image 0)) (storedIds image) wordCount (rw free free-request) in
-      ext-getD 0 (openIds (listMoved v (labelsBy v (block image 0))) (storedIds image)) (listMoved v xs)
-      (counting-length 0 isRequest (listMoved v (labelsBy v (block image 0))) (storedIds image) ∙ words .count ∙ sym (moved-length v xs long))
-      (λ i l. open-same (listMoved v (labelsBy v (block image 0))) (labelsBy v (block image 0)) (storedIds image) words-same i ∙ sym (moved-at v xs long none i))
+  beside-same counts none xs =
+      let ws : List ℕ = labelsBy v (block image 0) in
+      let ys : List ℕ = counting 0 counts ws xs in
+      let long : length ys ≡ places v = counting-length 0 counts ws xs ∙ count in
+      let last : getD ys wordCount 0 ≡ 0 = counting-none 0 counts ws xs wordCount (rw free none) in
+      ext-getD 0 (counting 0 counts (listMoved v ws) xs) (listMoved v ys)
+      (counting-length 0 counts (listMoved v ws) xs ∙ words .count ∙ sym (moved-length v ys long))
+      (λ i l. counted-same counts none (listMoved v ws) ws xs words-same i ∙ sym (moved-at v ys long last i))
 
   -- it stands for the same state, in its own unit
   pub moved-decodes : decodeBy (other v) (imageMoved v image) ≡ stateMoved v (decodeBy v image)
   unfolding imageMoved zeroth
   moved-decodes =
       decode-storeBy (other v) image (s .size) (headerMoved v (headerBy v (block image 0))) (listMoved v (labelsBy v (block image 0))) fits words
-      ∙ state-eq refl refl ids-same refl
+      ∙ state-eq refl refl (beside-same isRequest free-request (storedIds image)) (beside-same listsLabel free-lists (storedIndex image)) refl
 
   -- every other block keeps its bytes
   pub moved-other : (c : ℕ) → c ≢ 0 → block (imageMoved v image) c ≡ block image c

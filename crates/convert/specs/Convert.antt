@@ -1,4 +1,5 @@
--- A conversion's answer and output. 02: "Refusals: 16 ..; it comes after 10, 11 and 12, before 9": restore's checks of the version that is read come first.
+-- A conversion's answer and output. 02: "Refusals: 16 ..; it comes after 10, 11 and 12, before 9": restore's checks of
+-- the version that is read come first.
 use Prim.Native.Nat.{ℕ}
 use mathlib.Core.Bool.{not}
 use mathlib.Core.List.{List}
@@ -22,7 +23,8 @@ pub record Converted : Type 0 where
 abbrev pub converted : Conversion → List ℕ → Converted
 converted answer out = record { answer = answer; out = out }
 
--- an image of version v, moved to the other: "12, 10, 11", then "16", then "9: no room"; with any of these the output stays
+-- an image of version v, moved to the other: "12, 10, 11", then "16", then "9: no room"; with any of these the output
+-- stays
 unfoldable pub convertOf : Version → List ℕ → List ℕ → Converted
 convertOf v image out =
     pick (refuses (verdictBy v image)) (converted (Refused (verdictBy v image)) out)

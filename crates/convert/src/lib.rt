@@ -142,8 +142,8 @@ fn move_block0(block: &[u8], from: Version, moved: &mut [u8])
     move_by(block, from, moved, &mut words);
 }
 
-// An image of a version moved to the other. Answers 12, 10 and 11 as restore's checks of that version give them, then 16, then 9; the output changes only
-// where the answer is 0, and then no byte behind the image.
+// An image of a version moved to the other. Answers 12, 10 and 11 as restore's checks of that version give them, then
+// 16, then 9; the output changes only where the answer is 0, and then no byte behind the image.
 fn convert(image: &[u8], from: Version, out: &mut [u8]) -> Conversion
     ensures { λ r. ⌜ converted r (now (out .exit)) ≡ convertOf from (now (image .entry)) (now (out .entry)) ⌝ }
 {

@@ -4,6 +4,7 @@ use mathlib.Core.List.{List, [], _∷_}
 use mathlib.Core.Path.{_≡_, refl}
 use Rattle.octets.specs.Fix.{fix, steps}
 use Rattle.text.specs.Text.{ascii, decimal}
+use Rattle.tlv.specs.Element.{fecOf, isWildcard, isPrefix}
 use Rattle.tlv.specs.Tlv.{tlvOf}
 use Rattle.tlv.specs.Value.{partAt, fecAt, fieldAt, numberAt, idAt, parametersAt, sessionAt}
 use Rattle.tlv.specs.Walk.{notedOf, turnOf, walkOf, tlvsOf}
@@ -19,7 +20,7 @@ mapping =
     ∷ []
 
 mapping-line : lineOf 0 0 mapping ≡ ascii "0 0 0x0400 7 fec 020001180a0000 label 16 ft-protection 27\n"
-unfolding lineOf headText decimal fix steps readingOf placesOf messageOf typeOf tlvsOf walkOf turnOf notedOf tlvOf partAt fecAt fieldAt numberAt idAt parametersAt sessionAt
+unfolding lineOf headText decimal fix steps readingOf placesOf messageOf typeOf tlvsOf walkOf turnOf notedOf tlvOf partAt fecAt fecOf isWildcard isPrefix fieldAt numberAt idAt parametersAt sessionAt
 mapping-line = refl
 
 abbrev abort : List ℕ
@@ -30,7 +31,7 @@ abort =
     ∷ []
 
 abort-line : lineOf 0 1 abort ≡ ascii "0 1 0x0404 9 fec 020001180a0000 request-id 7\n"
-unfolding lineOf headText decimal fix steps readingOf placesOf messageOf typeOf tlvsOf walkOf turnOf notedOf tlvOf partAt fecAt fieldAt numberAt idAt parametersAt sessionAt
+unfolding lineOf headText decimal fix steps readingOf placesOf messageOf typeOf tlvsOf walkOf turnOf notedOf tlvOf partAt fecAt fecOf isWildcard isPrefix fieldAt numberAt idAt parametersAt sessionAt
 abort-line = refl
 
 abbrev init : List ℕ
@@ -42,7 +43,7 @@ init =
     ∷ []
 
 init-line : lineOf 0 2 init ≡ ascii "0 2 0x0200 1 params 0001003c000010000a0000010000 ft-session-ms 1 30000 ft-ack 27\n"
-unfolding lineOf headText decimal fix steps readingOf placesOf messageOf typeOf tlvsOf walkOf turnOf notedOf tlvOf partAt fecAt fieldAt numberAt idAt parametersAt sessionAt
+unfolding lineOf headText decimal fix steps readingOf placesOf messageOf typeOf tlvsOf walkOf turnOf notedOf tlvOf partAt fecAt fecOf isWildcard isPrefix fieldAt numberAt idAt parametersAt sessionAt
 init-line = refl
 
 withdraw-line : lineOf 0 3 (0x84 ∷ 0x02 ∷ 0 ∷ 4 ∷ 0 ∷ 0 ∷ 0 ∷ 8 ∷ []) ≡ ascii "0 3 0x0402 8 malformed\n"

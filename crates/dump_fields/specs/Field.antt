@@ -26,6 +26,7 @@ typeText n = ascii " 0x" ++ bytesText (bytes 2 n)
 abbrev pub fecText : Fec → List ℕ → List ℕ
 fecText Fec.Absent value = []
 fecText Fec.Wildcard value = ascii " fec " ++ bytesText value
+fecText (Fec.Prefix p) value = ascii " fec " ++ bytesText value
 fecText Fec.Other value = ascii " fec " ++ bytesText value
 
 abbrev pub labelText : Field → List ℕ

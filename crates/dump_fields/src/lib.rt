@@ -57,6 +57,7 @@ pub fn put_fec(out: &mut [u8], at: usize, fec: Fec, value: &[u8]) -> usize
     match fec {
         Fec::Absent => at,
         Fec::Wildcard => put_bytes(out, at, b" fec ", value),
+        Fec::Prefix(_) => put_bytes(out, at, b" fec ", value),
         Fec::Other => put_bytes(out, at, b" fec ", value),
     }
 }

@@ -30,7 +30,7 @@ verdictThen WrongSize rest = WrongSize
 verdictThen (BadBlock b) rest = BadBlock b
 verdictThen (BadField b) rest = BadField b
 
-fault-then : (j : Judgement) (b : ℕ) (v w : Verdict) → faultThen j b (verdictThen v w) ≡ verdictThen (faultThen j b v) w
+pub fault-then : (j : Judgement) (b : ℕ) (v w : Verdict) → faultThen j b (verdictThen v w) ≡ verdictThen (faultThen j b v) w
 fault-then Good b v w = refl
 fault-then BadCheck b v w = refl
 fault-then BadFields b v w = refl

@@ -11,10 +11,9 @@ use Rattle.octets.proofs.Fill.{length-zeros, zeros-at}
 use Rattle.octets.proofs.Laid.{laid-all}
 use Rattle.octets.proofs.Part.{part-at}
 use Rattle.block.specs.Check.{blockSize}
-use Rattle.request_ids.specs.Layout.{idBlock, noIds}
 use Rattle.image.specs.declared.Verdict.the-variants.{Sound, WrongSize}
 use Rattle.image.specs.Events.{sizeVerdict, releaseOf, newImage, formattedImage}
-use Rattle.image.specs.Sizes.{imageSize, block, withBlock, requestBlock}
+use Rattle.image.specs.Sizes.{imageSize, block, cleared, further}
 use Rattle.image.proofs.Blocks.{length-block}
 
 -- a block of zeros
@@ -29,7 +28,7 @@ module _ (s : List ℕ) where
   unfolding sizeVerdict formattedImage
   format-refused h = simp (ne-eqb (length s) imageSize h) (refl, refl)
 
-  pub format-done : length s ≡ imageSize → {z c t : List ℕ} → z ≡ laid s 0 (replicate imageSize 0) → c ≡ withBlock z requestBlock (idBlock noIds) → t ≡ releaseOf c
+  pub format-done : length s ≡ imageSize → {z c t : List ℕ} → z ≡ laid s 0 (replicate imageSize 0) → c ≡ cleared z further → t ≡ releaseOf c
       → (Sound ≡ sizeVerdict s) × (t ≡ formattedImage s)
   unfolding sizeVerdict formattedImage newImage releaseOf
   format-done size ez ec et =

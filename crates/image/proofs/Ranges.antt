@@ -5,28 +5,26 @@ use mathlib.Core.List.{List}
 use mathlib.Core.Logic.{⊎-elim}
 use mathlib.Core.Path.{_≡_, _∙_}
 use native.Mathlib.Omega.{arith}
-use lib.Dec.{eqb}
-use lib.ListN.{length, List·getD-eq-default, set, getD, length-set}
-use lib.Seq.{getD-set-same, getD-set-other}
-use borrow.Author.Tests.{eqb-true, eqb-false}
+use lib.ListN.{length, List·getD-eq-default, getD}
 use Rattle.octets.specs.Bytes.{Bytes}
 use Rattle.octets.proofs.Be.{beAt-lt}
 use Rattle.octets.proofs.Choice.{below-or-not, by-test}
 use Rattle.octets.proofs.Part.{part-at, part-inside}
 use Rattle.block.specs.Check.{blockSize}
-use Rattle.block.specs.Run.{wordsAt, Words}
-use Rattle.block.proofs.WordRun.{length-wordsAt, getD-wordsAt}
+use Rattle.block.specs.Run.{Words}
+use Rattle.block.proofs.WordRun.{length-wordsAt}
 use Rattle.label_list.specs.Requests.{openIds}
 use Rattle.label_list.specs.Valid.{validOf}
 use Rattle.label_list.specs.Word.{wordCount, isRequest}
 use Rattle.label_list.proofs.Counting.{counting-length, counting-at, counting-none}
 use Rattle.label_list.proofs.OpenIds.{request-inside}
+use Rattle.word_block.specs.Layout.{placeCount, blockWords}
+use Rattle.word_block.proofs.Wide.{words-bytes}
+use Rattle.word_block.proofs.Written.{length-words}
 use Rattle.block0.specs.declared.Version.{Version}
 use Rattle.block0.specs.declared.Version.the-variants.{One, Two}
 use Rattle.block0.specs.Fields.{timeoutEnd, FitsBy}
 use Rattle.block0.specs.Layout.{labelsAt, places, headerBy, labelsBy}
-use Rattle.request_ids.specs.Layout.{idCount, idsOf}
-use Rattle.request_ids.proofs.Written.{length-ids}
 use Rattle.label_meaning.proofs.Meaning.{valid-means, valid-range}
 use Rattle.image.specs.Sizes.{block, requestBlock}
 use Rattle.image.specs.State.{decode, InRange, storedIds}
@@ -59,45 +57,18 @@ fits-bytes v b byte = record {
   maxpdu = beAt-lt 2 b 26 byte;
 }
 
-words-bytes : (n : ℕ) (s : List ℕ) (at : ℕ) → Bytes s → Words n (wordsAt n s at)
-words-bytes n s at byte = record {
-  count = length-wordsAt n s at;
-  each = λ i.
-      ⊎-elim
-      (λ (l : i < n). rw (getD-wordsAt n s at i l) (beAt-lt 4 s (at + i * 4) byte))
-      (λ (l : n ≤ i). rw (List·getD-eq-default (wordsAt n s at) 0 {n = i} (rw length-wordsAt l)) (omega arith))
-      (below-or-not i n);
-}
-
 pub labels-bytes : (v : Version) (b : List ℕ) → Bytes b → Words (places v) (labelsBy v b)
 unfolding labelsBy
 labels-bytes v b byte = words-bytes (places v) b (labelsAt v) byte
 
 -- ---- the IDs that block 65 bears
-pub stored-count : (image : List ℕ) → length (storedIds image) ≡ idCount
+pub stored-count : (image : List ℕ) → length (storedIds image) ≡ placeCount
 unfolding storedIds
-stored-count image = length-ids (block image requestBlock)
+stored-count image = length-words (block image requestBlock)
 
-pub stored-words : (image : List ℕ) → Bytes image → Words idCount (storedIds image)
-unfolding storedIds idsOf
-stored-words image byte = words-bytes idCount (block image requestBlock) 0 (bytes-block image requestBlock byte)
-
--- one of them is another
-pub set-words : (n : ℕ) (ws : List ℕ) (i v : ℕ) → Words n ws → v < 4294967296 → Words n (set ws i v)
-set-words n ws i v w small = record {
-  count = length-set ws i v ∙ w .count;
-  each = λ j.
-      by-test (eqb j i)
-      (λ e. rw (eqb-true j i e) (put i))
-      (λ e. rw (getD-set-other ws i j v 0 (eqb-false j i e)) (w .each j));
-}
-  where
-    put : (j : ℕ) → getD (set ws j v) j 0 < 4294967296
-    put j =
-        ⊎-elim
-        (λ (l : j < length ws). rw (getD-set-same ws j v 0 l) small)
-        (λ (l : length ws ≤ j). rw (List·getD-eq-default (set ws j v) 0 {n = j} (rw length-set l)) (omega arith))
-        (below-or-not j (length ws))
+pub stored-words : (image : List ℕ) → Bytes image → Words placeCount (storedIds image)
+unfolding storedIds blockWords
+stored-words image byte = words-bytes placeCount (block image requestBlock) 0 (bytes-block image requestBlock byte)
 
 -- those that count
 pub open-words : {k : ℕ} (ws xs : List ℕ) → length ws ≡ k → ((i : ℕ) → getD xs i 0 < 4294967296) → Words k (openIds ws xs)

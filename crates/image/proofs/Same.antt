@@ -21,16 +21,16 @@ use Rattle.label_list.specs.Find.{any}
 use Rattle.label_list.specs.Rules.{codeSwept}
 use Rattle.label_list.specs.Sweep.{wordSwept, sweptOf}
 use Rattle.label_list.specs.Word.{wordCount, codeOf, wordOf, requestWord}
+use Rattle.word_block.specs.Layout.{wordBlock, blockWords}
+use Rattle.word_block.proofs.Lent.{word-wordBlock}
+use Rattle.word_block.proofs.Same.{wordBlock-same}
 use Rattle.block0.specs.declared.Header.{Header}
 use Rattle.block0.specs.declared.Version.the-variants.{Two}
 use Rattle.block0.specs.Coded.{hasCode, unprotected}
 use Rattle.block0.specs.Fields.{Fits}
 use Rattle.block0.specs.Layout.{headerOf, labelsOf}
 use Rattle.block0.proofs.Same.{block0-same}
-use Rattle.request_ids.specs.Layout.{idBlock, idsOf}
-use Rattle.request_ids.proofs.Counted.{id-idBlock}
-use Rattle.request_ids.proofs.Same.{idBlock-same}
-use Rattle.request_ids.proofs.Written.{good-rest}
+use Rattle.request_ids.proofs.Good.{good-rest}
 use Rattle.label_meaning.specs.Valid.{WordInRange, IsValid}
 use Rattle.label_meaning.proofs.Meaning.{any-none, valid-means, range-listed}
 use Rattle.image.specs.Events.{releaseOf, breakOf}
@@ -40,7 +40,7 @@ use Rattle.image.specs.Verdict.{IsSound}
 use Rattle.image.proofs.Blocks.{length-block, put-same}
 use Rattle.image.proofs.Changes.{release-decodes, break-decodes}
 use Rattle.image.proofs.Ranges.{bytes-block, bytes-in-range, stored-count}
-use Rattle.image.proofs.Sound.{sound-valid}
+use Rattle.image.proofs.Sound.{sound-valid, sound-requests}
 use Rattle.image.proofs.Stored.{decode-store0, id-put, asked-count}
 
 -- a block 0 that says something else has other bytes
@@ -71,10 +71,10 @@ pub id-same : (image : List ℕ) (place : ℕ) (id : MessageId) → IsSound imag
 unfolding storeId storedIds
 id-same image place id s byte same =
     let long : length (block image requestBlock) ≡ blockSize = length-block image requestBlock (omega (arith, s .size)) in
-    ap (λ (v : ℕ). withBlock image requestBlock (idBlock (set (storedIds image) place v))) (sym same)
-    ∙ ap (λ (xs : List ℕ). withBlock image requestBlock (idBlock xs)) (set-getD (storedIds image) place 0)
+    ap (λ (v : ℕ). withBlock image requestBlock (wordBlock (set (storedIds image) place v))) (sym same)
+    ∙ ap (λ (xs : List ℕ). withBlock image requestBlock (wordBlock xs)) (set-getD (storedIds image) place 0)
     ∙ ap (withBlock image requestBlock)
-    (idBlock-same (block image requestBlock) long (bytes-block image requestBlock byte) (s .requests .check) (good-rest (labelsOf (block image 0)) (block image requestBlock) (s .requests)))
+    (wordBlock-same (block image requestBlock) long (bytes-block image requestBlock byte) (sound-requests s .check) (good-rest (labelsOf (block image 0)) (block image requestBlock) (sound-requests s)))
     ∙ put-same image requestBlock (omega (arith, s .size))
 
 -- any other changes the bytes of block 65
@@ -85,9 +85,9 @@ id-changed image place id size room small other =
     let xs : List ℕ = set (storedIds image) place (id .0) in
     let put : getD xs place 0 ≡ id .0 = getD-set-same (storedIds image) place (id .0) 0 (omega (arith, stored-count image)) in
     by-test (differ (block image requestBlock) (block (storeId image place id) requestBlock)) sym (λ same.
-    let e : block image requestBlock ≡ idBlock xs =
+    let e : block image requestBlock ≡ wordBlock xs =
     differ-false (block image requestBlock) (block (storeId image place id) requestBlock) same ∙ id-put image size place id in
-    absurd (other (ap (λ (b : List ℕ). getD (idsOf b) place 0) e ∙ id-idBlock xs (asked-count image size place id) place (rw put small) ∙ put)))
+    absurd (other (ap (λ (b : List ℕ). getD (blockWords b) place 0) e ∙ word-wordBlock xs (asked-count image size place id) place (rw put small) ∙ put)))
 
 -- ---- a release: with kept 0 the image says so already
 pub release-same : (image : List ℕ) → IsSound image → Bytes image → decode image .header .kept ≡ 0 → releaseOf image ≡ image

@@ -1,21 +1,20 @@
 -- The blocks that restore looks at, and the clauses of `verdict` by the tests that lead to each answer. Assumes nothing.
 use Prim.Native.Nat.{ℕ, zero, suc, _+_, _-_, _%_, _≤_, _<_}
 use mathlib.Core.Bool.{Bool, true, false, not}
-use mathlib.Core.List.{List, [], _++_}
+use mathlib.Core.List.{List, [], _∷_, _++_}
 use mathlib.Core.Logic.{_≢_, ⊎-elim}
 use mathlib.Core.Path.{_≡_, refl, sym, ap, _∙_}
-use native.Mathlib.Nat.{eq-or-lt-of-le}
 use native.Mathlib.Omega.{arith}
 use lib.Dec.{eqb}
 use lib.ListN.{length, getD, length-append, List·getD-append}
-use lib.Seq.{getD-append-seam}
-use borrow.Author.Tests.{eq-eqb, ne-eqb, not-true, not-false}
+use borrow.Author.Tests.{eq-eqb, ne-eqb, le-leb, lt-leb, not-true, not-false}
 use Rattle.octets.specs.Pick.{pick, both}
-use Rattle.octets.proofs.Choice.{pick-all, denied}
+use Rattle.octets.proofs.Choice.{pick-all, both-true, denied, below-or-not}
 use Rattle.block.specs.Check.{sound}
 use Rattle.label_list.specs.Find.{any}
 use Rattle.label_list.specs.Word.{requestCode}
 use Rattle.label_list.proofs.Sought.{any-cons}
+use Rattle.word_block.specs.Layout.{blockWords, isEmpty, restZero}
 use Rattle.block0.specs.declared.Header.{Header}
 use Rattle.block0.specs.declared.Version.{Version}
 use Rattle.block0.specs.declared.Version.the-variants.{Two}
@@ -23,18 +22,20 @@ use Rattle.block0.specs.Coded.{hasCode}
 use Rattle.block0.specs.Fields.{fieldsBy}
 use Rattle.block0.specs.Layout.{slotCount, headerBy, headerOf, labelsBy}
 use Rattle.block0.proofs.Judged.{header-either}
-use Rattle.request_ids.specs.Fields.{restZero, idsOk}
-use Rattle.request_ids.specs.Layout.{idsOf}
+use Rattle.fec_index.specs.Entries.{wordsBeside}
+use Rattle.fec_index.proofs.Counted.{empty-right}
+use Rattle.request_ids.specs.Fields.{idsOk}
 use Rattle.slot.specs.declared.SlotVerdict.{SlotVerdict}
 use Rattle.slot.specs.Fields.{slotOk, slotVerdict, slotVerdictNumber}
 use Rattle.image.specs.declared.Judgement.{Judgement}
 use Rattle.image.specs.declared.Verdict.{Verdict}
 use Rattle.image.specs.declared.Verdict.the-variants.{Sound, WrongSize, BadBlock, BadField}
 use Rattle.image.specs.Ring.{ring}
-use Rattle.image.specs.Sizes.{requestBlock, further, blockCount, imageSize, block, blockOf, slotAt}
+use Rattle.image.specs.Sizes.{requestBlock, indexBlock, further, furtherCount, blockCount, imageSize, block, blocksFrom, blockOf, slotAt}
 use Rattle.image.specs.State.{decode, NotLive}
-use Rattle.image.specs.Verdict.{looked, fieldsRight, bytesJudged, slotJudged, blockJudged, faultThen, firstFault, verdictBy, verdict, verdictNumber, verdictBlock, judgementNumber}
-use Rattle.image.proofs.Faults.{fault-same, verdictThen, fault-append, named-below}
+use Rattle.image.specs.Verdict.{looked, furtherOk, fieldsRight, bytesJudged, slotJudged, blockJudged, faultThen, firstFault, verdictBy, verdict, verdictNumber, verdictBlock, judgementNumber}
+use Rattle.image.proofs.Cleared.{from-at}
+use Rattle.image.proofs.Faults.{fault-same, fault-then, verdictThen, fault-append, named-below}
 use Rattle.image.proofs.Requests.{none-once}
 use Rattle.image.proofs.Rings.{ring-length, ring-at}
 
@@ -42,8 +43,19 @@ use Rattle.image.proofs.Rings.{ring-length, ring-at}
 not-zeroth : (k : ℕ) → eqb (blockOf k) 0 ≡ false
 not-zeroth k = ne-eqb (blockOf k) 0 (omega arith)
 
-not-further : (k : ℕ) → k < slotCount → eqb (blockOf k) requestBlock ≡ false
-not-further k l = ne-eqb (blockOf k) requestBlock (omega arith)
+-- a slot's block is none of the further ones
+not-further : (k : ℕ) → k < slotCount → (b n : ℕ) → slotCount < b → any (eqb (blockOf k)) (blocksFrom b n) ≡ false
+unfolding any
+not-further k room b zero past = refl
+not-further k room b (suc n) past =
+    any-cons (eqb (blockOf k)) b (blocksFrom (b + 1) n) (ne-eqb (blockOf k) b (omega arith)) ∙ not-further k room (b + 1) n (omega arith)
+
+-- what stands behind a list
+pub behind : (xs ys : List ℕ) (k : ℕ) → getD (xs ++ ys) (length xs + k) 0 ≡ getD ys k 0
+behind [] ys k = ap (λ (n : ℕ). getD ys n 0) (omega arith)
+behind (x ∷ xs) ys k =
+    let e : suc (length xs) + k ≡ suc (length xs + k) = omega arith in
+    rw e (behind xs ys k)
 
 module _ (h : Header) where
   live : List ℕ
@@ -53,26 +65,29 @@ module _ (h : Header) where
   unfolding live
   live-length = ring-length blockOf (h .first) (h .held)
 
-  pub looked-length : length (looked h) ≡ suc (h .held + 1)
+  pub looked-length : length (looked h) ≡ suc (h .held + furtherCount)
   unfolding live
-  looked-length = ap suc (length-append live further ∙ ap (λ (n : ℕ). n + 1) live-length)
+  looked-length = ap suc (length-append live further ∙ ap (λ (n : ℕ). n + furtherCount) live-length)
 
   pub looked-slot : (i : ℕ) → i < h .held → getD (looked h) (suc i) 0 ≡ blockOf (slotAt (h .first) i)
   unfolding live
   looked-slot i l = List·getD-append live further 0 i (rw live-length l) ∙ ring-at blockOf 0 (h .first) (h .held) i l
 
-  -- the last is block 65
-  pub looked-last : getD (looked h) (suc (h .held)) 0 ≡ requestBlock
+  -- then the further ones
+  pub looked-further : (k : ℕ) → k < furtherCount → getD (looked h) (suc (h .held + k)) 0 ≡ requestBlock + k
   unfolding live
-  looked-last = ap (λ (n : ℕ). getD (live ++ further) n 0) (sym live-length) ∙ getD-append-seam live requestBlock [] 0
+  looked-further k l =
+      ap (λ (n : ℕ). getD (live ++ further) (n + k) 0) (sym live-length) ∙ behind live further k ∙ from-at requestBlock furtherCount k l
 
   looked-below : (i : ℕ) → i < length (looked h) → getD (looked h) i 0 < blockCount
   looked-below zero l = omega arith
   looked-below (suc i) l =
       ⊎-elim
-      (λ (last : i ≡ h .held). rw (last, looked-last) (omega arith))
       (λ (before : i < h .held). rw (looked-slot i before) (omega arith))
-      (eq-or-lt-of-le (omega (arith, looked-length)))
+      (λ (past : h .held ≤ i).
+      let there : i ≡ h .held + (i - h .held) = omega arith in
+      rw (there, looked-further (i - h .held) (omega (arith, looked-length))) (omega (arith, looked-length)))
+      (below-or-not i (h .held))
 
 module _ (v : Version) (image : List ℕ) where
   -- none of these is idle
@@ -99,7 +114,7 @@ unfolding blockJudged any decode ring
 idle-judged image k room idle = rw (not-zeroth k, none (headerBy Two (block image 0) .first) (headerBy Two (block image 0) .held) idle)
   where
     none : (f n : ℕ) → ((i : ℕ) → i < n → slotAt f i ≢ k) → any (eqb (blockOf k)) (ring blockOf f n ++ further) ≡ false
-    none f zero apart = rw (not-further k room)
+    none f zero apart = not-further k room requestBlock furtherCount (omega arith)
     none f (suc n) apart =
         let e : f + 0 ≡ f = omega arith in
         let first : f % slotCount ≢ k = rw e at (apart 0 (omega arith)) in
@@ -114,7 +129,10 @@ verdictJudged SlotVerdict.BadCheck = Judgement.BadCheck
 verdictJudged SlotVerdict.BadFields = Judgement.BadFields
 
 pub slot-fields : (v : Version) (s : List ℕ) (k : ℕ) → k < slotCount → fieldsRight v s (blockOf k) ≡ slotOk (block s (blockOf k))
-slot-fields v s k room = rw (not-zeroth k, not-further k room)
+slot-fields v s k room = rw (not-zeroth k, le-leb (blockOf k) slotCount (omega arith))
+
+pub further-fields : (v : Version) (s : List ℕ) (b : ℕ) → slotCount < b → fieldsRight v s b ≡ furtherOk (labelsBy v (block s 0)) b (block s b)
+further-fields v s b past = rw (ne-eqb b 0 (omega arith), lt-leb b slotCount past)
 
 slot-bytes : (v : Version) (s : List ℕ) (k : ℕ) → k < slotCount → bytesJudged v s (blockOf k) ≡ slotJudged s (blockOf k)
 unfolding bytesJudged slotJudged
@@ -184,8 +202,6 @@ module _ (s : List ℕ) (f n : ℕ) where
       pub scan-next : v ≡ SlotVerdict.Good → firstFault (slotJudged s) (ring blockOf (f + (i + 1)) (n - (i + 1))) ≡ all
       scan-next h = rw h at turned
 
-pub ruleset scans = (scan-start, scan-end, scan-check, scan-fields, scan-next)
-
 -- ---- block 65
 both-yes : (t : Bool) → t ≡ both t true
 both-yes true = refl
@@ -194,30 +210,69 @@ both-yes false = refl
 -- where no word has a Request's code, zeros behind the IDs are enough
 pub unasked : (v : Version) (z b : List ℕ) {t : Bool} → t ≡ any (hasCode requestCode) (labelsBy v z) → not t ≡ true → {r : Bool} → r ≡ restZero b → r ≡ idsOk (labelsBy v z) b
 unfolding idsOk
-unasked v z b et none er = er ∙ rw (none-once (labelsBy v z) (denied et none) (idsOf b)) (both-yes (restZero b))
+unasked v z b et none er = er ∙ rw (none-once (labelsBy v z) (denied et none) (blockWords b)) (both-yes (restZero b))
 
-module _ (v : Version) (s : List ℕ) {b : List ℕ} (eb : b ≡ block s requestBlock) {t : Bool} (et : t ≡ sound b) where
-  last-judged : faultThen (bytesJudged v s requestBlock) requestBlock Sound ≡ firstFault (bytesJudged v s) further
-  unfolding firstFault
-  last-judged = refl
-
-  pub requests-check : not t ≡ true → BadBlock requestBlock ≡ firstFault (bytesJudged v s) further
+-- ---- one of the further blocks
+module _ (v : Version) (s : List ℕ) (n : ℕ) (past : slotCount < n) {b : List ℕ} (eb : b ≡ block s n) where
+  one-judged : {t : Bool} → t ≡ sound b
+      → pick (not t) (BadBlock n) (pick (not (furtherOk (labelsBy v (block s 0)) n (block s n))) (BadField n) Sound) ≡ faultThen (bytesJudged v s n) n Sound
   unfolding bytesJudged
-  requests-check h = simp (← eb, ← et, not-true t h) at last-judged
+  one-judged {t} et = rw (further-fields v s n past, ← eb, ← et) (by t (furtherOk (labelsBy v (block s 0)) n b))
+    where
+      by : (c f : Bool) → pick (not c) (BadBlock n) (pick (not f) (BadField n) Sound) ≡ faultThen (pick (not c) Judgement.BadCheck (pick (not f) Judgement.BadFields Judgement.Good)) n Sound
+      by true true = refl
+      by true false = refl
+      by false f = refl
 
-  module _ (fine : not t ≡ false) {u : Bool} (eu : u ≡ idsOk (labelsBy v (block s 0)) (block s requestBlock)) where
-    fields : u ≡ idsOk (labelsBy v (block s 0)) b
-    fields = eu ∙ ap (idsOk (labelsBy v (block s 0))) (sym eb)
+  module _ {t : Bool} (et : t ≡ sound b) where
+    pub one-check : not t ≡ true → BadBlock n ≡ faultThen (bytesJudged v s n) n Sound
+    one-check h = rw h at (one-judged et)
 
-    pub requests-fields : not u ≡ true → BadField requestBlock ≡ firstFault (bytesJudged v s) further
-    unfolding bytesJudged
-    requests-fields h = simp (← eb, ← et, not-false t fine, ← fields, not-true u h) at last-judged
+    module _ (fine : not t ≡ false) {u : Bool} (eu : u ≡ furtherOk (labelsBy v (block s 0)) n (block s n)) where
+      pub one-fields : not u ≡ true → BadField n ≡ faultThen (bytesJudged v s n) n Sound
+      one-fields h = rw (fine, ← eu, h) at (one-judged et)
 
-    pub requests-right : not u ≡ false → Sound ≡ firstFault (bytesJudged v s) further
-    unfolding bytesJudged
-    requests-right h = simp (← eb, ← et, not-false t fine, ← fields, not-false u h) at last-judged
+      pub one-right : not u ≡ false → Sound ≡ faultThen (bytesJudged v s n) n Sound
+      one-right h = rw (fine, ← eu, h) at (one-judged et)
 
-pub ruleset requested = (requests-check, requests-fields, requests-right)
+  -- one of the index that is empty
+  pub one-empty : requestBlock < n → {e : Bool} → e ≡ isEmpty b → e ≡ true → Sound ≡ faultThen (bytesJudged v s n) n Sound
+  unfolding isEmpty
+  one-empty index ee t =
+      let empty : isEmpty b ≡ true = sym ee ∙ t in
+      let right : furtherOk (labelsBy v (block s 0)) n (block s n) ≡ true =
+      rw (ne-eqb n requestBlock (omega arith), ← eb) (empty-right b empty (wordsBeside (n - indexBlock) (labelsBy v (block s 0)))) in
+      rw right at (one-judged (sym (both-true (sound b) _ empty .0)))
+
+-- ---- the further blocks, in a loop that has come to block b
+module _ (v : Version) (s : List ℕ) (b : ℕ) {all : Verdict} (inv : firstFault (bytesJudged v s) (blocksFrom b (blockCount - b)) ≡ all) where
+  pub further-end : blockCount ≤ b → Sound ≡ all
+  unfolding firstFault
+  further-end past =
+      let none : blockCount - b ≡ 0 = omega arith in
+      rw none at inv
+
+  module _ (left : b < blockCount) {r : Verdict} (er : r ≡ faultThen (bytesJudged v s b) b Sound) where
+    -- block b, and then the rest
+    further-turned : verdictThen r (firstFault (bytesJudged v s) (blocksFrom (b + 1) (blockCount - (b + 1)))) ≡ all
+    unfolding firstFault
+    further-turned =
+        let more : blockCount - b ≡ suc (blockCount - (b + 1)) = omega arith in
+        ap (λ (x : Verdict). verdictThen x (firstFault (bytesJudged v s) (blocksFrom (b + 1) (blockCount - (b + 1))))) er
+        ∙ sym (fault-then (bytesJudged v s b) b Sound (firstFault (bytesJudged v s) (blocksFrom (b + 1) (blockCount - (b + 1)))))
+        ∙ (rw more at inv)
+
+    pub further-size : r ≡ WrongSize → WrongSize ≡ all
+    further-size e = rw e at further-turned
+
+    pub further-check : {k : ℕ} → r ≡ BadBlock k → BadBlock k ≡ all
+    further-check e = rw e at further-turned
+
+    pub further-field : {k : ℕ} → r ≡ BadField k → BadField k ≡ all
+    further-field e = rw e at further-turned
+
+    pub further-next : r ≡ Sound → firstFault (bytesJudged v s) (blocksFrom (b + 1) (blockCount - (b + 1))) ≡ all
+    further-next e = rw e at further-turned
 
 -- ---- restore's checks
 module _ (v : Version) (s : List ℕ) where
@@ -226,7 +281,7 @@ module _ (v : Version) (s : List ℕ) where
   wrong-size h = simp (ne-eqb (length s) imageSize h)
 
   module _ (size : length s ≡ imageSize) where
-    -- block 0, then the live slots, then block 65
+    -- block 0, then the live slots, then the further blocks
     sized : faultThen (bytesJudged v s 0) 0
         (verdictThen (firstFault (bytesJudged v s) (ring blockOf (headerBy v (block s 0) .first) (headerBy v (block s 0) .held))) (firstFault (bytesJudged v s) further)) ≡ verdictBy v s
     unfolding verdictBy firstFault
@@ -253,7 +308,7 @@ module _ (v : Version) (s : List ℕ) where
               ap (λ (x : Verdict). verdictThen x (firstFault (bytesJudged v s) further)) (er ∙ slots-bytes v s f n)
               ∙ (simp (← eb, ← et, not-false t fine, ← eu, not-false u hu, header-either v b, ← eh, ← ef, ← en) at sized)
 
-          -- a fault of a slot is the verdict, else block 65 decides
+          -- a fault of a slot is the verdict, else the further blocks decide
           pub slots-sound : r ≡ Sound → {q : Verdict} → q ≡ firstFault (bytesJudged v s) further → q ≡ verdictBy v s
           slots-sound e eq = eq ∙ (rw e at slots-judged)
 
@@ -265,8 +320,6 @@ module _ (v : Version) (s : List ℕ) where
 
           pub slots-fields : {k : ℕ} → r ≡ BadField k → BadField k ≡ verdictBy v s
           slots-fields e = rw e at slots-judged
-
-pub ruleset verdicts = (wrong-size, zeroth-check, zeroth-fields, slots-sound, slots-size, slots-check, slots-fields)
 
 -- a verdict whose number is 0
 pub number-sound : (v : Verdict) → verdictNumber v ≡ 0 → v ≡ Sound

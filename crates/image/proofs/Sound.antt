@@ -8,38 +8,40 @@ use native.Mathlib.Nat.{eq-or-lt-of-le}
 use native.Mathlib.Omega.{arith}
 use lib.Dec.{eqb}
 use lib.ListN.{length, getD, set}
-use borrow.Author.Tests.{eqb-true, eq-eqb, not-false}
+use borrow.Author.Tests.{eqb-true, eq-eqb, ne-eqb, not-false}
 use Rattle.octets.specs.Pick.{pick}
-use Rattle.octets.proofs.Choice.{cleared}
+use Rattle.octets.proofs.Choice.{both-true, cleared, below-or-not}
 use Rattle.block.specs.Check.{sound}
 use Rattle.block.specs.Run.{Words}
 use Rattle.ft_number.specs.declared.MessageId.{MessageId}
 use Rattle.label_list.specs.Requests.{onceOf, openIds}
 use Rattle.label_list.specs.Word.{wordCount, isRequest}
 use Rattle.label_list.proofs.OpenIds.{once-freed}
+use Rattle.word_block.specs.Layout.{restZero, wordBlock}
 use Rattle.block0.specs.declared.Header.{Header}
 use Rattle.block0.specs.declared.Version.{Version}
 use Rattle.block0.specs.declared.Version.the-variants.{Two}
 use Rattle.block0.specs.Fields.{FitsBy, ValidBy, Fits, Valid}
-use Rattle.block0.specs.Layout.{slotCount, places, headerBy, labelsBy, blockBy, headerOf, labelsOf}
+use Rattle.block0.specs.Layout.{slotCount, places, headerBy, labelsBy, blockBy, headerOf}
 use Rattle.block0.proofs.Rules.{fields-valid, valid-fields}
 use Rattle.block0.proofs.Written.{header-block0, block0-sound, labels-block0}
+use Rattle.fec_index.specs.Entries.{EntriesGood, entriesOk, wordsBeside}
 use Rattle.message.specs.Storable.{Storable}
 use Rattle.request_ids.specs.Fields.{IdsGood}
-use Rattle.request_ids.specs.Layout.{idBlock}
-use Rattle.request_ids.proofs.Counted.{idBlock-good}
-use Rattle.request_ids.proofs.Written.{good-once, good-beside}
+use Rattle.request_ids.proofs.Counted.{wordBlock-good}
+use Rattle.request_ids.proofs.Good.{good-once, good-beside}
 use Rattle.slot.proofs.Holding.{slotFor-sound, slotFor-ok}
 use Rattle.image.specs.declared.Judgement.the-variants.{Good, BadCheck, BadFields}
 use Rattle.image.specs.declared.Verdict.the-variants.{Sound, WrongSize}
-use Rattle.image.specs.Sizes.{block, blockOf, slotAt, imageSize, requestBlock}
+use Rattle.image.specs.Sizes.{block, blockOf, slotAt, imageSize, requestBlock, indexBlock, furtherCount}
 use Rattle.image.specs.State.{NotLive, decode, storeSlot, storeBy, store0, storedIds, Contents, storeId}
-use Rattle.image.specs.Verdict.{looked, fieldsRight, bytesJudged, verdictBy, IsSoundBy, IsSound, SlotGood}
+use Rattle.image.specs.Verdict.{looked, fieldsRight, bytesJudged, verdictBy, IsSoundBy, IsSound, SlotGood, FurtherGood}
 use Rattle.image.proofs.Faults.{NoFault, faultless-each, each-faultless}
-use Rattle.image.proofs.Ranges.{labels-count}
+use Rattle.image.proofs.Indexed.{Right, block-right, places-room, right-block}
+use Rattle.image.proofs.Ranges.{labels-count, words-count}
 use Rattle.image.proofs.Requests.{Fewer, once-dead}
-use Rattle.image.proofs.Scans.{looked-length, looked-slot, looked-judged, slot-fields, looked-last}
-use Rattle.image.proofs.Stored.{length-storeSlot, slot-put, slot-other, length-storeBy, put-storeBy, other-storeBy, decode-slot, id-other, ids-storeSlot, decode-id, length-storeId, id-put, open-dead, once-storeId, asked-count}
+use Rattle.image.proofs.Scans.{looked-length, looked-slot, looked-judged, slot-fields, looked-further, further-fields}
+use Rattle.image.proofs.Stored.{length-storeSlot, slot-put, slot-other, length-storeBy, put-storeBy, other-storeBy, decode-slot, id-other, ids-storeSlot, decode-id, length-storeId, id-put, open-dead, once-storeId, asked-count, index-storeSlot, index-storeId}
 
 -- ---- a verdict and its clauses
 bytes-good : (v : Version) (image : List ℕ) (b : ℕ) → NoFault (bytesJudged v image b) → (sound (block image b) ≡ true) × (fieldsRight v image b ≡ true)
@@ -71,9 +73,9 @@ sound-parts {v} image h =
           let k : ℕ = slotAt (z .first) i in
           let g = bytes-good v image (blockOf k) (rw (looked-slot z i l) at (each (suc i) (omega (arith, looked-length z)))) in
           record { check = g .0; fields = sym (slot-fields v image k (omega arith)) ∙ g .1 };
-      requests =
-          let g = bytes-good v image requestBlock (rw (looked-last z) at (each (suc (z .held)) (omega (arith, looked-length z)))) in
-          record { check = g .0; fields = g .1 };
+      further = λ k l.
+          let g = bytes-good v image (requestBlock + k) (rw (looked-further z k l) at (each (suc (z .held + k)) (omega (arith, looked-length z)))) in
+          record { check = g .0; fields = sym (further-fields v image (requestBlock + k) (omega arith)) ∙ g .1 };
     }
 
 -- and back
@@ -87,10 +89,15 @@ parts-sound {v} image s = simp (eq-eqb _ _ (s .size)) (looked-judged v image ∙
         let z : Header = headerBy v (block image 0) in
         let k : ℕ = slotAt (z .first) i in
         ⊎-elim
-        (λ (last : i ≡ z .held). rw (last, looked-last z) (good-bytes v image requestBlock (s .requests .check) (s .requests .fields)))
         (λ (live : i < z .held).
         rw (looked-slot z i live) (good-bytes v image (blockOf k) (s .slots i live .check) (slot-fields v image k (omega arith) ∙ s .slots i live .fields)))
-        (eq-or-lt-of-le (omega (arith, looked-length z)))
+        (λ (past : z .held ≤ i).
+        let there : i ≡ z .held + (i - z .held) = omega arith in
+        let low : i - z .held < furtherCount = omega (arith, looked-length z) in
+        let good = s .further (i - z .held) low in
+        rw (there, looked-further z (i - z .held) low)
+        (good-bytes v image (requestBlock + (i - z .held)) (good .check) (further-fields v image (requestBlock + (i - z .held)) (omega arith) ∙ good .fields)))
+        (below-or-not i (z .held))
 
 -- ---- what a sound image tells of its state
 pub sound-valid : (image : List ℕ) → IsSound image → Valid (decode image .header) (decode image .labels)
@@ -105,15 +112,57 @@ pub sound-live : (image : List ℕ) → IsSound image → Live image (decode ima
 unfolding decode
 sound-live image s = s .slots
 
--- no ID that counts stands twice
-pub sound-once : (image : List ℕ) → IsSound image → onceOf (decode image .labels) (storedIds image) ≡ true
-unfolding decode storedIds
-sound-once image s = good-once (labelsOf (block image 0)) (block image requestBlock) (s .requests)
+-- block 65 of the further ones
+pub good-ids : {words b : List ℕ} → FurtherGood words requestBlock b → IdsGood words b
+good-ids g = record { check = g .check; fields = g .fields }
 
--- so its block 65 is good beside other words under which none does
-pub sound-ids : (image ls : List ℕ) → IsSound image → onceOf ls (storedIds image) ≡ true → IdsGood ls (block image requestBlock)
+pub sound-requests : {v : Version} {image : List ℕ} → IsSoundBy v image → IdsGood (labelsBy v (block image 0)) (block image requestBlock)
+sound-requests s = good-ids (s .further 0 (omega arith))
+
+-- the further blocks of an image are good beside these words
+abbrev pub Beside : List ℕ → List ℕ → Type 0
+Beside ls image = (k : ℕ) → k < furtherCount → FurtherGood ls (requestBlock + k) (block image (requestBlock + k))
+
+pub goods-beside : (ls image : List ℕ) → IdsGood ls (block image requestBlock) → ((k : ℕ) → k < 2 → EntriesGood (wordsBeside k ls) (block image (indexBlock + k))) → Beside ls image
+goods-beside ls image g e zero l = record { check = g .check; fields = g .fields }
+goods-beside ls image g e (suc k) l =
+    let there : requestBlock + suc k ≡ indexBlock + k = omega arith in
+    let which : indexBlock + k - indexBlock ≡ k = omega arith in
+    let good = e k (omega arith) in
+    rw there (record { check = good .check; fields = rw (ne-eqb (indexBlock + k) requestBlock (omega arith), which) (good .fields) })
+
+-- blocks 66 and 67 of the further ones
+pub sound-entries : {v : Version} {image : List ℕ} → IsSoundBy v image → (k : ℕ) → k < 2 → EntriesGood (wordsBeside k (labelsBy v (block image 0))) (block image (indexBlock + k))
+sound-entries {v} {image} s k l =
+    let there : requestBlock + suc k ≡ indexBlock + k = omega arith in
+    let which : indexBlock + k - indexBlock ≡ k = omega arith in
+    let good : FurtherGood (labelsBy v (block image 0)) (indexBlock + k) (block image (indexBlock + k)) = rw there at (s .further (suc k) (omega arith)) in
+    record { check = good .check; fields = rw (ne-eqb (indexBlock + k) requestBlock (omega arith), which) at (good .fields) }
+
+-- every entry that counts is right
+pub rightBy : {v : Version} (image : List ℕ) → IsSoundBy v image → Right (labelsBy v (block image 0)) image
+rightBy {v} image s = block-right (labelsBy v (block image 0)) image (omega (arith, words-count v (block image 0), places-room v .1)) (λ k l. sound-entries s k l .fields)
+
+pub sound-right : (image : List ℕ) → IsSound image → Right (decode image .labels) image
+unfolding decode
+sound-right image s = rightBy image s
+
+-- no ID that counts stands twice
+pub onceBy : {v : Version} (image : List ℕ) → IsSoundBy v image → onceOf (labelsBy v (block image 0)) (storedIds image) ≡ true
 unfolding storedIds
-sound-ids image ls s once = good-beside (labelsOf (block image 0)) (block image requestBlock) (s .requests) ls once
+onceBy {v} image s = good-once (labelsBy v (block image 0)) (block image requestBlock) (sound-requests s)
+
+pub sound-once : (image : List ℕ) → IsSound image → onceOf (decode image .labels) (storedIds image) ≡ true
+unfolding decode
+sound-once image s = onceBy image s
+
+-- so its further blocks are good beside other words under which none does
+pub sound-ids : {v : Version} (image ls : List ℕ) → IsSoundBy v image → onceOf ls (storedIds image) ≡ true → Right ls image → Beside ls image
+unfolding storedIds entriesOk
+sound-ids {v} image ls s once right =
+    goods-beside ls image (good-beside (labelsBy v (block image 0)) (block image requestBlock) (sound-requests s) ls once) (λ k l.
+    let good = sound-entries s k l in
+    record { check = good .check; fields = right-block ls image k l (both-true (restZero (block image (indexBlock + k))) _ (good .fields) .0) right })
 
 -- as under words with fewer Requests
 pub once-fewer : (image ls : List ℕ) → IsSound image → Fewer ls (decode image .labels) → onceOf ls (storedIds image) ≡ true
@@ -132,7 +181,7 @@ sound-slot image k m s room fits idle =
       slots = rw e (λ i l.
           let apart : slotAt (headerOf (block image 0) .first) i ≢ k = idle i l in
           rw (slot-other image (s .size) k room m fits (blockOf (slotAt (headerOf (block image 0) .first) i)) (omega arith)) (s .slots i l));
-      requests = rw (e, slot-other image (s .size) k room m fits requestBlock (omega arith)) (s .requests);
+      further = rw e (λ j l. rw (slot-other image (s .size) k room m fits (requestBlock + j) (omega arith)) (s .further j l));
     }
 
 -- that slot is then good itself
@@ -149,20 +198,21 @@ sound-id image place id s fits dead =
     let xs : List ℕ = set (storedIds image) place (id .0) in
     let e : block (storeId image place id) 0 ≡ block image 0 = id-other image (s .size) place id 0 (omega arith) in
     let counted : Words wordCount (openIds ls xs) = rw (open-dead image (s .size) place id dead) fits in
-    let good : IdsGood ls (idBlock xs) =
-    idBlock-good xs (asked-count image (s .size) place id) ls (counted .each) (omega (arith, labels-count image)) (once-dead image place id dead (sound-once image s)) in
+    let good : IdsGood ls (wordBlock xs) =
+    wordBlock-good xs (asked-count image (s .size) place id) ls (counted .each) (omega (arith, labels-count image)) (once-dead image place id dead (sound-once image s)) in
     record {
       size = length-storeId image (s .size) place id;
       check = rw e (s .check);
       fields = rw e (s .fields);
       slots = rw e (λ i l.
           rw (id-other image (s .size) place id (blockOf (slotAt (headerOf (block image 0) .first) i)) (omega arith)) (s .slots i l));
-      requests = rw (e, id-put image (s .size) place id) good;
+      further = rw e (goods-beside ls (storeId image place id) (rw (id-put image (s .size) place id) good)
+          (λ k l. rw (id-other image (s .size) place id (indexBlock + k) (omega arith)) (sound-entries s k l)));
     }
 
--- block 0, over an image whose live slots and block 65 are good
+-- block 0, over an image whose live slots and further blocks are good
 pub sound-storeBy : (v : Version) (image : List ℕ) (h : Header) (ls : List ℕ) → length image ≡ imageSize → FitsBy v h → Words (places v) ls → ValidBy v h ls → Live image h
-    → IdsGood ls (block image requestBlock) → IsSoundBy v (storeBy v image h ls)
+    → Beside ls image → IsSoundBy v (storeBy v image h ls)
 sound-storeBy v image h ls size fh fl r live good =
     let e : block (storeBy v image h ls) 0 ≡ blockBy v h ls = put-storeBy v image size h ls in
     let d : headerBy v (blockBy v h ls) ≡ h = header-block0 v h ls fh fl in
@@ -172,11 +222,11 @@ sound-storeBy v image h ls size fh fl r live good =
       check = rw e (block0-sound v h ls);
       fields = rw e (valid-fields v h ls fh fl r);
       slots = rw (e, d) (λ i l. rw (other-storeBy v image size h ls (blockOf (slotAt (h .first) i)) (omega arith)) (live i l));
-      requests = rw (e, dl, other-storeBy v image size h ls requestBlock (omega arith)) good;
+      further = rw (e, dl) (λ k l. rw (other-storeBy v image size h ls (requestBlock + k) (omega arith)) (good k l));
     }
 
 pub sound-store0 : (image : List ℕ) (h : Header) (ls : List ℕ) → length image ≡ imageSize → Fits h → Words wordCount ls → Valid h ls → Live image h
-    → IdsGood ls (block image requestBlock) → IsSound (store0 image h ls)
+    → Beside ls image → IsSound (store0 image h ls)
 unfolding store0
 sound-store0 = sound-storeBy Two
 
@@ -186,39 +236,39 @@ pub idle-last : (image : List ℕ) → decode image .header .held < slotCount �
 idle-last image room i l = omega arith
 
 -- one more held, in the slot after the last: `t` is the image with that slot stored, and perhaps an ID
-sound-queued : (image t : List ℕ) (h : Header) (ls : List ℕ) → IsSound t → Fits h → Words wordCount ls → Valid h ls
+pub sound-queued : (image t : List ℕ) (h : Header) (ls : List ℕ) → IsSound t → Fits h → Words wordCount ls → Valid h ls
     → h .first ≡ decode image .header .first → h .held ≡ decode image .header .held + 1 → decode t .header ≡ decode image .header
     → SlotGood (block t (blockOf (slotAt (decode image .header .first) (decode image .header .held))))
-    → onceOf ls (storedIds t) ≡ true → IsSound (store0 t h ls)
-sound-queued image t h ls s fh fl v ef eh same last once =
+    → onceOf ls (storedIds t) ≡ true → Right ls t → IsSound (store0 t h ls)
+sound-queued image t h ls s fh fl v ef eh same last once right =
     sound-store0 t h ls (s .size) fh fl v (λ i l.
     rw ef
     (⊎-elim
     (λ (e : i ≡ decode image .header .held). rw e last)
     (λ (before : i < decode image .header .held). rw same at (sound-live t s) i before)
     (eq-or-lt-of-le (omega arith))))
-    (sound-ids t ls s once)
+    (sound-ids t ls s once right)
 
 -- the slot, then block 0
 pub sound-accept : (image : List ℕ) (h : Header) (ls m : List ℕ) → IsSound image → Fits h → Words wordCount ls → Valid h ls → Storable m
     → h .first ≡ decode image .header .first → h .held ≡ decode image .header .held + 1 → decode image .header .held < slotCount
-    → onceOf ls (storedIds image) ≡ true
+    → onceOf ls (storedIds image) ≡ true → Right ls image
     → IsSound (store0 (storeSlot image (slotAt (decode image .header .first) (decode image .header .held)) m) h ls)
-sound-accept image h ls m s fh fl v fits ef eh room once =
+sound-accept image h ls m s fh fl v fits ef eh room once right =
     let k : ℕ = slotAt (decode image .header .first) (decode image .header .held) in
     let low : k < slotCount = omega arith in
     let idle : NotLive image k = idle-last image room in
     sound-queued image (storeSlot image k m) h ls (sound-slot image k m s low fits idle) fh fl v ef eh
     (ap (λ (c : Contents). c .header) (decode-slot image (s .size) k low m fits idle))
-    (slot-good image k m (s .size) low fits) (rw (ids-storeSlot image (s .size) k low m fits) once)
+    (slot-good image k m (s .size) low fits) (rw (ids-storeSlot image (s .size) k low m fits) once) (rw (index-storeSlot image (s .size) k low m fits) right)
 
 -- a Request: the slot, then its ID at a place where none counted, then block 0
 pub sound-ask : (image : List ℕ) (h : Header) (ls m : List ℕ) (place : ℕ) (id : MessageId) → IsSound image → Fits h → Words wordCount ls → Valid h ls → Storable m
     → Words wordCount (decode image .ids) → isRequest (getD (decode image .labels) place 0) ≡ false → Words wordCount (openIds ls (set (storedIds image) place (id .0)))
     → h .first ≡ decode image .header .first → h .held ≡ decode image .header .held + 1 → decode image .header .held < slotCount
-    → onceOf ls (set (storedIds image) place (id .0)) ≡ true
+    → onceOf ls (set (storedIds image) place (id .0)) ≡ true → Right ls image
     → IsSound (store0 (storeId (storeSlot image (slotAt (decode image .header .first) (decode image .header .held)) m) place id) h ls)
-sound-ask image h ls m place id s fh fl v fits ids dead words ef eh room once =
+sound-ask image h ls m place id s fh fl v fits ids dead words ef eh room once right =
     let k : ℕ = slotAt (decode image .header .first) (decode image .header .held) in
     let low : k < slotCount = omega arith in
     let idle : NotLive image k = idle-last image room in
@@ -232,19 +282,20 @@ sound-ask image h ls m place id s fh fl v fits ids dead words ef eh room once =
     (ap (λ (c : Contents). c .header) (decode-id t (st .size) place id it dt ∙ same))
     (rw (id-other t (st .size) place id (blockOf k) (omega arith)) (slot-good image k m (s .size) low fits))
     (once-storeId t (st .size) place id ls (rw kept words) (fl .count) ∙ rw kept once)
+    (rw (index-storeId t (st .size) place id, index-storeSlot image (s .size) k low m fits) right)
 
 -- the oldest let go
 pub sound-release : (image : List ℕ) (h : Header) (ls : List ℕ) (n : ℕ) → IsSound image → Fits h → Words wordCount ls → Valid h ls
     → n ≤ decode image .header .held → h .first ≡ slotAt (decode image .header .first) n → h .held ≡ decode image .header .held - n
-    → onceOf ls (storedIds image) ≡ true → IsSound (store0 image h ls)
-sound-release image h ls n s fh fl v low ef eh once =
+    → onceOf ls (storedIds image) ≡ true → Right ls image → IsSound (store0 image h ls)
+sound-release image h ls n s fh fl v low ef eh once right =
     sound-store0 image h ls (s .size) fh fl v (λ i l.
     let there : slotAt (h .first) i ≡ slotAt (decode image .header .first) (n + i) = omega arith in
     rw there (sound-live image s (n + i) (omega arith)))
-    (sound-ids image ls s once)
+    (sound-ids image ls s once right)
 
 -- block 0 alone
 pub sound-keep : (image : List ℕ) (h : Header) (ls : List ℕ) → IsSound image → Fits h → Words wordCount ls → Valid h ls
-    → h .first ≡ decode image .header .first → h .held ≡ decode image .header .held → onceOf ls (storedIds image) ≡ true → IsSound (store0 image h ls)
-sound-keep image h ls s fh fl v ef eh once =
-    sound-store0 image h ls (s .size) fh fl v (λ i l. rw ef (sound-live image s i (omega arith))) (sound-ids image ls s once)
+    → h .first ≡ decode image .header .first → h .held ≡ decode image .header .held → onceOf ls (storedIds image) ≡ true → Right ls image → IsSound (store0 image h ls)
+sound-keep image h ls s fh fl v ef eh once right =
+    sound-store0 image h ls (s .size) fh fl v (λ i l. rw ef (sound-live image s i (omega arith))) (sound-ids image ls s once right)

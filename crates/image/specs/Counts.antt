@@ -1,4 +1,5 @@
--- What the image printer counts. "(numbers, counts, words not zero as read, code 6 included)". So an open Request counts too.
+-- What the image printer counts. "(numbers, counts, words not zero as read, code 6 included)". So an open Request
+-- counts too.
 use Prim.Native.Nat.{ℕ, _-_}
 use Rattle.ft_number.specs.declared.Steps.{Steps}
 use Rattle.ft_number.specs.declared.Steps.the-variants.{Count, Unreachable}

@@ -1,47 +1,66 @@
--- An image that an earlier release stored, 65 blocks, made one of 66: block 65 of zeros with its check behind it. It is of version 1, as every image of
--- that release: the converter comes next, and then restore.
-use Prim.Native.Nat.{ℕ, _*_, _<_}
-use mathlib.Core.Bool.{Bool, true, false}
-use mathlib.Core.List.{List, _++_}
+-- An image that an earlier release stored, 65 blocks or 66, made one of this: empty further blocks behind it. It keeps
+-- its version: one of version 1 the converter moves next.
+use Prim.Native.Nat.{ℕ, _+_, _-_, _*_, _<_}
+use mathlib.Core.Bool.{true, false}
+use mathlib.Core.List.{List}
 use mathlib.Core.Path.{_≡_}
 use lib.Dec.{eqb}
-use lib.ListN.{length}
-use Rattle.octets.specs.Pick.{pick, both}
+use lib.ListN.{length, replicate}
+use Rattle.octets.specs.Pick.{pick}
 use Rattle.block.specs.Check.{blockSize, sound}
 use Rattle.label_list.specs.Find.{any}
 use Rattle.label_list.specs.Word.{requestCode}
-use Rattle.block0.specs.declared.Version.the-variants.{One}
+use Rattle.block0.specs.declared.Version.{Version}
 use Rattle.block0.specs.Coded.{hasCode}
 use Rattle.block0.specs.Fields.{fieldsBy}
-use Rattle.block0.specs.Layout.{headerBy, labelsBy}
-use Rattle.request_ids.specs.Layout.{idBlock, noIds}
+use Rattle.block0.specs.Layout.{places, headerBy, labelsBy}
 use Rattle.image.specs.declared.Verdict.{Verdict}
 use Rattle.image.specs.declared.Verdict.the-variants.{Sound, WrongSize}
-use Rattle.image.specs.Sizes.{requestBlock, imageSize, block, withBlock, blockOf, slotAt}
-use Rattle.image.specs.Verdict.{SlotGood}
+use Rattle.image.specs.Sizes.{requestBlock, indexBlock, blockCount, imageSize, block, blocksFrom, cleared, blockOf, slotAt}
+use Rattle.image.specs.State.{Contents}
+use Rattle.image.specs.Verdict.{SlotGood, FurtherGood}
 
--- 01: "65 blocks of 512 bytes, 33,280 in all"
-abbrev pub earlierSize : ℕ
-earlierSize = requestBlock * blockSize
+-- the size of an image with n further blocks. 01: "65 blocks of 512 bytes, 33,280 in all"; with 02's block 65 behind
+-- them 33,792
+abbrev pub earlierSize : ℕ → ℕ
+earlierSize n = (requestBlock + n) * blockSize
 
-abbrev pub extended : List ℕ → List ℕ
-extended old = old ++ idBlock noIds
+-- an image of which the blocks before one were stored: from it on they are empty
+abbrev pub extendedFrom : List ℕ → ℕ → List ℕ
+extendedFrom image b = cleared image (blocksFrom b (blockCount - b))
 
 -- ---- in a buffer of the new size, of whose bytes so many were stored
-abbrev pub extendable : List ℕ → ℕ → Bool
-extendable image stored = both (eqb (length image) imageSize) (eqb stored earlierSize)
-
 unfoldable pub extendVerdict : List ℕ → ℕ → Verdict
-extendVerdict image stored = pick (extendable image stored) Sound WrongSize
+extendVerdict image stored =
+    pick (eqb (length image) imageSize)
+    (pick (eqb stored (earlierSize 0)) Sound (pick (eqb stored (earlierSize 1)) Sound WrongSize)) WrongSize
 
 unfoldable pub extendOf : List ℕ → ℕ → List ℕ
-extendOf image stored = pick (extendable image stored) (withBlock image requestBlock (idBlock noIds)) image
+extendOf image stored =
+    pick (eqb (length image) imageSize)
+    (pick (eqb stored (earlierSize 0)) (extendedFrom image requestBlock)
+    (pick (eqb stored (earlierSize 1)) (extendedFrom image indexBlock) image)) image
 
--- ---- an image that passed the earlier release's checks, clause by clause: no marks, and no word of code 7
-pub record SoundBefore (old : List ℕ) : Type 0 where
-  pub size : length old ≡ earlierSize
-  pub check : sound (block old 0) ≡ true
-  pub fields : fieldsBy One (block old 0) ≡ true
-  pub marks : headerBy One (block old 0) .marks ≡ 0
-  pub requests : any (hasCode requestCode) (labelsBy One (block old 0)) ≡ false
-  pub slots : (i : ℕ) → i < headerBy One (block old 0) .held → SlotGood (block old (blockOf (slotAt (headerBy One (block old 0) .first) i)))
+-- ---- what the earlier release's checks say
+-- the first blocks of a buffer, with n further ones, passed them, clause by clause; with none of these no word is an
+-- open Request's
+pub record SoundBefore (v : Version) (n : ℕ) (image : List ℕ) : Type 0 where
+  pub size : length image ≡ imageSize
+  pub few : n < 2
+  pub check : sound (block image 0) ≡ true
+  pub fields : fieldsBy v (block image 0) ≡ true
+  pub slots : (i : ℕ) → i < headerBy v (block image 0) .held
+      → SlotGood (block image (blockOf (slotAt (headerBy v (block image 0) .first) i)))
+  pub further : (k : ℕ) → k < n
+      → FurtherGood (labelsBy v (block image 0)) (requestBlock + k) (block image (requestBlock + k))
+  pub requests : n ≡ 0 → any (hasCode requestCode) (labelsBy v (block image 0)) ≡ false
+
+-- what it stands for then: the same numbers, words, IDs and queue. its labels count as of other FECs
+abbrev pub extendedContents : Version → Contents → Contents
+extendedContents v s = record {
+  header = s .header;
+  labels = s .labels;
+  ids = s .ids;
+  index = replicate (places v) 0;
+  queue = s .queue;
+}

@@ -5,3 +5,4 @@ pub mod Counts
 pub mod Verdict
 pub mod Events
 pub mod Extend
+pub mod CountedAlike

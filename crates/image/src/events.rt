@@ -16,7 +16,7 @@ pub fn release(image: &mut [u8])
     block0::write_released(&mut image[0..block::BLOCK_SIZE]);
 }
 
-// A new image: released, with slots of zeros and no ID. Bytes of another size are left as they are (12).
+// A new image: released, with slots of zeros and empty further blocks. Bytes of another size are left as they are (12).
 pub fn format(image: &mut [u8]) -> Verdict
     ensures { λ r. ⌜ (r ≡ sizeVerdict (now (image .entry))) × (now (image .exit) ≡ formattedImage (now (image .entry))) ⌝ }
 {
@@ -24,7 +24,7 @@ pub fn format(image: &mut [u8]) -> Verdict
         return Verdict::WrongSize;
     }
     octets::zero_to(image, 0, crate::IMAGE_SIZE);
-    crate::clear_ids(image);
+    crate::clear_from(image, crate::REQUEST_BLOCK);
     release(image);
     Verdict::Sound
 }

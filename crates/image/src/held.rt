@@ -1,4 +1,5 @@
-// The messages held by a sound image, counted from the oldest: each as that very part of the image, with its kind and label.
+// The messages held by a sound image, counted from the oldest: each as that very part of the image, with its kind and
+// label.
 ghost use Prim.Native.Nat.{_+_, _≤_, _<_};
 ghost use mathlib.Core.List.{[]};
 ghost use mathlib.Core.Path.{_≡_};

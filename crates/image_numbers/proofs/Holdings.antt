@@ -13,7 +13,7 @@ use Rattle.block0.specs.declared.Header.{Header}
 use Rattle.image.specs.declared.Counts.{Counts}
 use Rattle.image.specs.declared.Verdict.{Verdict}
 use Rattle.image.specs.Counts.{countsOf}
-use Rattle.image.specs.Sizes.{requestBlock, imageSize}
+use Rattle.image.specs.Sizes.{blockCount, imageSize}
 use Rattle.image.specs.State.{decode, heldStart}
 use Rattle.image.specs.Verdict.{verdict, verdictNumber, verdictBlock, IsSound}
 use Rattle.image.proofs.Counted.{listed-few}
@@ -36,8 +36,8 @@ count-low im e ek = rw (ek, e) (listed-few im)
 -- ---- by what the checks answered: v, and its number n
 module _ (im : List ℕ) {v : Verdict} {n : ℕ} (ev : v ≡ verdict im) (en : n ≡ verdictNumber v) where
   -- the block that they name is one of the image
-  pub named-low : {b : ℕ} → b ≡ verdictBlock v → b ≤ requestBlock
-  named-low e = rw (e, ev) (omega (arith, verdict-below im))
+  pub named-low : {b : ℕ} → b ≡ verdictBlock v → b < blockCount
+  named-low e = rw (e, ev) (verdict-below im)
 
   pub contents-sound : n ≡ 0 → IsSound im
   contents-sound z = sound-parts im (number-passes im ev en z)

@@ -1,17 +1,21 @@
 -- Checks, label words, open Requests and an extended image as numbers.
-use Prim.Native.Nat.{ℕ}
+use Prim.Native.Nat.{ℕ, _*_, _%_}
 use mathlib.Core.Bool.{not}
 use mathlib.Core.List.{List}
-use lib.Dec.{eqb, ltb}
+use lib.Dec.{eqb, ltb, leb}
 use lib.ListN.{getD}
 use Rattle.octets.specs.Pick.{pick}
 use Rattle.block.specs.declared.BlockCheck.{BlockCheck}
+use Rattle.block.specs.Check.{blockSize}
 use Rattle.label_list.specs.Word.{wordCount, isRequest}
+use Rattle.fec_index.specs.Entries.{wordSpan, lengthIn}
 use Rattle.image.specs.declared.Verdict.{Verdict}
+use Rattle.image.specs.Sizes.{further}
 use Rattle.image.specs.State.{decode}
 use Rattle.image.specs.Verdict.{verdict, verdictNumber}
-use Rattle.calls.specs.Outcomes.{furtherBits}
+use Rattle.calls.specs.Outcomes.{bitsOf}
 use Rattle.image_numbers.specs.declared.ExtendedNumbers.{ExtendedNumbers}
+use Rattle.image_numbers.specs.declared.PrefixNumbers.{PrefixNumbers}
 use Rattle.image_numbers.specs.declared.RequestNumbers.{RequestNumbers}
 
 -- "0xFFFFFFFF where refused"
@@ -46,6 +50,26 @@ requestBy (Verdict.BadField b) words ids place = noRequest
 unfoldable pub openRequest : List ℕ → ℕ → RequestNumbers
 openRequest im place = requestBy (verdict im) (decode im .labels) (decode im .ids) place
 
+-- "1, length in bits (0 to 32) and prefix (its first byte the highest) where the word at place lists a label of an indexed FEC; else 0, 0, 0"
+abbrev pub noPrefix : PrefixNumbers
+noPrefix = record { indexed = 0; length = 0; prefix = 0 }
+
+-- by the entry that counts there: 0 is none
+abbrev pub prefixShown : ℕ → PrefixNumbers
+prefixShown entry = pick (eqb entry 0) noPrefix (record { indexed = 1; length = lengthIn entry; prefix = entry % wordSpan })
+
+abbrev pub prefixBy : Verdict → List ℕ → ℕ → PrefixNumbers
+prefixBy Verdict.Sound index place = prefixShown (getD index place 0)
+prefixBy Verdict.WrongSize index place = noPrefix
+prefixBy (Verdict.BadBlock b) index place = noPrefix
+prefixBy (Verdict.BadField b) index place = noPrefix
+
+unfoldable pub prefixAt : List ℕ → ℕ → PrefixNumbers
+prefixAt im place = prefixBy (verdict im) (decode im .index) place
+
 -- "The blocks behind it are made .. and named in `further`"; 12 where nothing is done
-abbrev pub extendedNumbers : Verdict → ExtendedNumbers
-extendedNumbers v = record { answer = verdictNumber v; further = furtherBits (eqb (verdictNumber v) 0) }
+abbrev pub extendedNumbers : Verdict → ℕ → ExtendedNumbers
+extendedNumbers v stored = record {
+  answer = verdictNumber v;
+  further = pick (eqb (verdictNumber v) 0) (bitsOf (λ b. leb stored (b * blockSize)) further) 0;
+}

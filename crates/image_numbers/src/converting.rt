@@ -1,15 +1,15 @@
 // A stored image moved from one version of the image to the other.
-ghost use Prim.Native.Nat.{_≤_};
+ghost use Prim.Native.Nat.{_<_};
 ghost use mathlib.Core.Path.{_≡_};
 ghost use Rattle.block0.specs.declared.Version.the-variants.{One, Two};
-ghost use Rattle.image.specs.Sizes.{requestBlock};
+ghost use Rattle.image.specs.Sizes.{blockCount};
 ghost use Rattle.convert.specs.Convert.{convertOf, conversionBlock};
 ghost use Rattle.image_numbers.specs.Converting.{convertedNumbers, convertedShown, conversionShown};
 use crate::ConvertedNumbers;
 use convert::Conversion;
 
 fn converted_numbers(c: Conversion) -> ConvertedNumbers
-    requires { ⌜ conversionBlock c ≤ requestBlock ⌝ }
+    requires { ⌜ conversionBlock c < blockCount ⌝ }
     ensures { λ r. ⌜ r ≡ convertedNumbers c ⌝ }
 {
     let answer = convert::conversion_number(c);

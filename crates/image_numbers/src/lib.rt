@@ -11,6 +11,7 @@ pub use converting::convert_forward;
 pub use stored::block_check;
 pub use stored::extend;
 pub use stored::label;
+pub use stored::prefix_at;
 pub use stored::request_at;
 
 // A Request that is open at a place of the label words: 1 and its message ID, or 0 and 0.
@@ -18,6 +19,14 @@ pub use stored::request_at;
 pub struct RequestNumbers {
     pub isopen: u32,
     pub id: u32,
+}
+
+// The prefix of the label that the word at a place lists: 1, its length in bits and its bits; or 0, 0 and 0.
+#[repr(C)]
+pub struct PrefixNumbers {
+    pub indexed: u32,
+    pub length: u32,
+    pub prefix: u32,
 }
 
 // What an image holds: 0, its counts as the image printer says them, the agreed timeout in milliseconds, the peer's parameters and the marks;

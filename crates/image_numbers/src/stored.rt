@@ -1,9 +1,10 @@
-// What a stored image says: the check of a block, the label words and the open Requests; and an image of an earlier release extended.
+// What a stored image says: the check of a block, the label words, the open Requests and the prefixes; and an image of an earlier release extended.
 ghost use mathlib.Core.Path.{_≡_};
 ghost use Rattle.block.specs.Check.{blockCheckOf};
 ghost use Rattle.image.specs.Extend.{extendVerdict, extendOf};
-ghost use Rattle.image_numbers.specs.Stored.{checkNumber, labelAt, openRequest, extendedNumbers};
+ghost use Rattle.image_numbers.specs.Stored.{checkNumber, labelAt, openRequest, noPrefix, prefixAt, extendedNumbers};
 use crate::ExtendedNumbers;
+use crate::PrefixNumbers;
 use crate::RequestNumbers;
 use block::BlockCheck;
 
@@ -48,10 +49,40 @@ pub fn request_at(image: &[u8], place: u32) -> RequestNumbers
     }
 }
 
+fn no_prefix() -> PrefixNumbers
+    ensures { λ r. ⌜ r ≡ noPrefix ⌝ }
+{
+    PrefixNumbers {
+        indexed: 0,
+        length: 0,
+        prefix: 0,
+    }
+}
+
+// The prefix of the label that the word at a place lists, of an image that passes restore's checks; none where they refuse, there is no such place, its word
+// lists no label, or its FEC is not indexed.
+pub fn prefix_at(image: &[u8], place: u32) -> PrefixNumbers
+    ensures { λ r. ⌜ r ≡ prefixAt (now (image .entry)) place ⌝ }
+{
+    // What stands for no word lists no label.
+    if !label_list::lists_label(label(image, place)) {
+        return no_prefix();
+    }
+    let entry = image::entry_at(image, place as usize);
+    if entry == 0 {
+        return no_prefix();
+    }
+    PrefixNumbers {
+        indexed: 1,
+        length: (entry / 4294967296 / 65536 % 256) as u32,
+        prefix: (entry % 4294967296) as u32,
+    }
+}
+
 // An image that an earlier release stored, at the start of a buffer of this release's size, with the blocks made that it lacks. 12, and nothing changed,
 // where the buffer has another size, or so many bytes are no earlier release's image.
 pub fn extend(image: &mut [u8], stored: usize) -> ExtendedNumbers
-    ensures { λ r. ⌜ (r ≡ extendedNumbers (extendVerdict (now (image .entry)) stored)) × (now (image .exit) ≡ extendOf (now (image .entry)) stored) ⌝ }
+    ensures { λ r. ⌜ (r ≡ extendedNumbers (extendVerdict (now (image .entry)) stored) stored) × (now (image .exit) ≡ extendOf (now (image .entry)) stored) ⌝ }
 {
     if image::verdict_number(image::extend(image, stored)) != 0 {
         return ExtendedNumbers {
@@ -59,8 +90,15 @@ pub fn extend(image: &mut [u8], stored: usize) -> ExtendedNumbers
             further: 0,
         };
     }
+    // Of 65 blocks all further ones are made, of 66 those behind block 65.
+    if stored <= image::REQUEST_BLOCK * block::BLOCK_SIZE {
+        return ExtendedNumbers {
+            answer: 0,
+            further: 7,
+        };
+    }
     ExtendedNumbers {
         answer: 0,
-        further: 1,
+        further: 6,
     }
 }

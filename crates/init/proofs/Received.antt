@@ -19,6 +19,7 @@ use Rattle.protocol.specs.Step.{whereOpen, stepped}
 use Rattle.calls.specs.declared.Outcome.{Outcome}
 use Rattle.calls.specs.Outcomes.{After, afterWith, refusal, untouched, admittedOn, settleOf}
 use Rattle.calls.specs.State.{stateOfNumbers, stateOf}
+use Rattle.calls.specs.Storing.{same}
 use Rattle.calls.proofs.Called.{call-is}
 use Rattle.calls.proofs.Ends.{settle-other}
 use Rattle.call_meaning.proofs.Calling.{call-refused, call-own, own-done, own-refused}
@@ -35,7 +36,7 @@ module _ (im : List ℕ) (ph : Phase) (m : List ℕ) where
   unfolding initReceivedOf initReceived begunOn own
   init-is =
       let st = initStart (stateOf im) ph m in
-      call-is im ph [] (startSlots st) own (stepped Answer.Done (startState (stateOf im) st) (startPhase ph st) []) refl
+      call-is im ph [] (startSlots st) same own (stepped Answer.Done (startState (stateOf im) st) (startPhase ph st) []) refl
 
   module _ {r : Answer} (e : r ≡ admittedOn im ph Answer.Done) where
     pub init-refused : {x : Outcome} → isDone r ≡ false → x ≡ refusal r ph → afterWith x im [] ≡ initReceivedOf im ph m
@@ -52,7 +53,7 @@ module _ (im : List ℕ) (ph : Phase) (m : List ℕ) where
       module _ (w : awaits ph ≡ true) {h : Header} {p : ℕ} {rd : Reading} {st : Start} (eh : h ≡ decode im .header) (ep : p ≡ proposalOf ph) (er : rd ≡ readingOf m)
           (es : st ≡ startOf (stateOfNumbers h) p rd) where
         start-is : st ≡ initStart (stateOf im) ph m
-        start-is = es ∙ rw (eh, ep, er) (start-alone (decode im .header) (decode im .labels) (decode im .ids) (decode im .queue) (proposalOf ph) (readingOf m))
+        start-is = es ∙ rw (eh, ep, er) (start-alone (decode im .header) (decode im .labels) (decode im .ids) (decode im .index) (decode im .queue) (proposalOf ph) (readingOf m))
 
         pub init-fits : IsSound im → StartFits (decode im .header .held) st
         init-fits s = rw (es, eh) (start-fits (decode im .header) (sound-valid im s .window) p rd)

@@ -74,26 +74,26 @@ pub start-malformed : (s : State) (p : ℕ) {rd : Reading} → rd ≡ Reading.Ma
 unfolding startOf
 start-malformed s p w = rw w
 
--- ---- neither the label words and IDs nor the messages held are asked
-module _ (h : Header) (words ids : List ℕ) (queue : List (List ℕ)) (p : ℕ) where
-  both-alone : (t : Terms) (a : ℕ) → bothSet (stateOfNumbers h) t a ≡ bothSet (stateBy h words ids queue) t a
+-- ---- neither the label words, IDs and entries nor the messages held are asked
+module _ (h : Header) (words ids index : List ℕ) (queue : List (List ℕ)) (p : ℕ) where
+  both-alone : (t : Terms) (a : ℕ) → bothSet (stateOfNumbers h) t a ≡ bothSet (stateBy h words ids index queue) t a
   unfolding bothSet
   both-alone t a = refl
 
-  peer-alone : (t : Terms) (ack : FtField) → peerSet (stateOfNumbers h) t ack ≡ peerSet (stateBy h words ids queue) t ack
+  peer-alone : (t : Terms) (ack : FtField) → peerSet (stateOfNumbers h) t ack ≡ peerSet (stateBy h words ids index queue) t ack
   peer-alone t FtField.Absent = refl
   peer-alone t (FtField.Number a) = rw (both-alone t (a .0))
 
-  session-alone : (ka mp : ℕ) (ack : FtField) (s : Session) → sessionStart (stateOfNumbers h) p ka mp ack s ≡ sessionStart (stateBy h words ids queue) p ka mp ack s
+  session-alone : (ka mp : ℕ) (ack : FtField) (s : Session) → sessionStart (stateOfNumbers h) p ka mp ack s ≡ sessionStart (stateBy h words ids index queue) p ka mp ack s
   session-alone ka mp ack Session.Absent = refl
   session-alone ka mp ack (Session.Given true n) = peer-alone (termsOf p n ka mp) ack
   session-alone ka mp ack (Session.Given false n) = refl
 
-  parameters-alone : (ack : FtField) (s : Session) (q : Parameters) → parametersStart (stateOfNumbers h) p ack s q ≡ parametersStart (stateBy h words ids queue) p ack s q
+  parameters-alone : (ack : FtField) (s : Session) (q : Parameters) → parametersStart (stateOfNumbers h) p ack s q ≡ parametersStart (stateBy h words ids index queue) p ack s q
   parameters-alone ack s Parameters.Absent = refl
   parameters-alone ack s (Parameters.Given ka mp) = session-alone ka mp ack s
 
-  pub start-alone : (rd : Reading) → startOf (stateOfNumbers h) p rd ≡ startOf (stateBy h words ids queue) p rd
+  pub start-alone : (rd : Reading) → startOf (stateOfNumbers h) p rd ≡ startOf (stateBy h words ids index queue) p rd
   unfolding startOf
   start-alone Reading.Malformed = refl
   start-alone (Reading.Whole g) = rw (parameters-alone (g .ack) (g .session) (g .parameters))

@@ -11,7 +11,7 @@ ghost use Rattle.protocol.specs.Phases.{awaits, proposalOf, upWith};
 ghost use Rattle.protocol.specs.State.{releasedState};
 ghost use Rattle.calls.specs.Outcomes.{afterWith};
 ghost use Rattle.calls.specs.State.{stateOf};
-ghost use Rattle.calls.specs.Storing.{empty, fewer, stored};
+ghost use Rattle.calls.specs.Storing.{same, empty, fewer, stored};
 ghost use Rattle.init.specs.Fitting.{StartFits};
 ghost use Rattle.init.specs.Received.{startSlots, begunOn, initReceivedOf};
 use crate::judging::judge_start;
@@ -54,7 +54,7 @@ fn proposal_of(phase: Phase) -> u32
 // A fresh session: kept 1, the terms, and nothing else. The IDs in block 65 stay: without a Request's word none counts. Whether block 0 changed.
 fn store_fresh(image: &mut [u8], terms: Terms) -> bool
     requires { ⌜ IsSound (now image) ⌝ }
-    ensures { λ r. ⌜ (now (image .exit) ≡ stored (now (image .entry)) empty (fresh terms)) × (r ≡ differ (block (now (image .entry)) 0) (block (now (image .exit)) 0)) ⌝ }
+    ensures { λ r. ⌜ (now (image .exit) ≡ stored (now (image .entry)) empty same (fresh terms)) × (r ≡ differ (block (now (image .entry)) 0) (block (now (image .exit)) 0)) ⌝ }
 {
     let h = Header {
         released: FtNumber(0),
@@ -75,7 +75,7 @@ fn store_fresh(image: &mut [u8], terms: Terms) -> bool
 // A resumed session: the peer's ACK is applied, and the timeout is the newly agreed one. Whether block 0 changed.
 fn store_resumed(image: &mut [u8], terms: Terms, count: u32, ack: FtNumber) -> bool
     requires { ⌜ IsSound (now image) × (count ≤ decode (now image) .header .held) ⌝ }
-    ensures { λ r. ⌜ (now (image .exit) ≡ stored (now (image .entry)) (fewer count) (resumed (stateOf (now (image .entry))) terms count (ack .0))) × (r ≡ differ (block (now (image .entry)) 0) (block (now (image .exit)) 0)) ⌝ }
+    ensures { λ r. ⌜ (now (image .exit) ≡ stored (now (image .entry)) (fewer count) same (resumed (stateOf (now (image .entry))) terms count (ack .0))) × (r ≡ differ (block (now (image .entry)) 0) (block (now (image .exit)) 0)) ⌝ }
 {
     let h = image::header_of(image);
     let mut next = calls::released_header(h, count, ack);
@@ -93,7 +93,7 @@ fn store_resumed(image: &mut [u8], terms: Terms, count: u32, ack: FtNumber) -> b
 // The state released. Whether block 0 changed.
 fn store_released(image: &mut [u8]) -> bool
     requires { ⌜ IsSound (now image) ⌝ }
-    ensures { λ r. ⌜ (now (image .exit) ≡ stored (now (image .entry)) empty releasedState) × (r ≡ differ (block (now (image .entry)) 0) (block (now (image .exit)) 0)) ⌝ }
+    ensures { λ r. ⌜ (now (image .exit) ≡ stored (now (image .entry)) empty same releasedState) × (r ≡ differ (block (now (image .entry)) 0) (block (now (image .exit)) 0)) ⌝ }
 {
     let o = calls::release(image, Answer::Done);
     o.block0
@@ -102,7 +102,7 @@ fn store_released(image: &mut [u8]) -> bool
 // Stores the state that a start leads to; a refusal leaves the image as it is. Whether block 0 changed.
 fn store_start(image: &mut [u8], start: Start) -> bool
     requires { ⌜ IsSound (now image) × StartFits (decode (now image) .header .held) start ⌝ }
-    ensures { λ r. ⌜ (now (image .exit) ≡ stored (now (image .entry)) (startSlots start) (startState (stateOf (now (image .entry))) start)) × (r ≡ differ (block (now (image .entry)) 0) (block (now (image .exit)) 0)) ⌝ }
+    ensures { λ r. ⌜ (now (image .exit) ≡ stored (now (image .entry)) (startSlots start) same (startState (stateOf (now (image .entry))) start)) × (r ≡ differ (block (now (image .entry)) 0) (block (now (image .exit)) 0)) ⌝ }
 {
     match start {
         Start::Refused(_) => false,

@@ -5,21 +5,23 @@ use mathlib.Core.List.{List}
 use mathlib.Core.Logic.{_≢_}
 use mathlib.Core.Path.{_≡_, refl, sym, _∙_}
 use native.Mathlib.Omega.{arith}
+use lib.Dec.{ltb}
 use lib.ListN.{length, getD, set, length-set}
 use lib.Seq.{getD-set-other}
-use borrow.Author.Tests.{eq-eqb, ne-eqb}
-use Rattle.octets.proofs.Choice.{by-test}
+use borrow.Author.Tests.{eq-eqb, ne-eqb, ltb-true}
+use Rattle.octets.specs.Pick.{both}
+use Rattle.octets.proofs.Choice.{by-test, both-true}
 use Rattle.label_list.specs.declared.Found.{Found}
 use Rattle.label_list.specs.declared.Found.the-variants.{At, Nowhere}
 use Rattle.label_list.specs.declared.Side.{Side}
 use Rattle.label_list.specs.Find.{findOf, FoundIn}
 use Rattle.label_list.specs.Word.{isFree, isRequest, requestWord, standsFor}
 use Rattle.label_list.proofs.OpenIds.{request-inside, past-end}
-use Rattle.label_list.proofs.Reached.{found-in, found-passes}
+use Rattle.label_list.proofs.Reached.{found-passes}
 use Rattle.label_list.proofs.Sought.{find-set}
 use Rattle.label_list.proofs.Standing.{free-stands, request-stands, request-word}
 use Rattle.label_events.specs.Change.{codeIn, codeAt}
-use Rattle.label_events.specs.Requests.{endedAt, roomAt}
+use Rattle.label_events.specs.Requests.{endedAt, whereFree, roomAt}
 
 -- The ways through both definitions.
 module _ (words : List ℕ) {f : Found} (i : ℕ) (at : f ≡ At i) where
@@ -28,18 +30,18 @@ module _ (words : List ℕ) {f : Found} (i : ℕ) (at : f ≡ At i) where
     unfolding endedAt isRequest
     ended-here = rw (at, eq-eqb (getD words i 0) requestWord e)
 
-    pub room-here : At i ≡ roomAt f words
+    pub room-here : (spare : Found) → At i ≡ roomAt f spare words
     unfolding roomAt isRequest
-    room-here = rw (at, eq-eqb (getD words i 0) requestWord e)
+    room-here spare = rw (at, eq-eqb (getD words i 0) requestWord e)
 
   module _ (e : getD words i 0 ≢ requestWord) where
     pub ended-not : words ≡ endedAt f words
     unfolding endedAt isRequest
     ended-not = rw (at, ne-eqb (getD words i 0) requestWord e)
 
-    pub room-free : findOf isFree words ≡ roomAt f words
+    pub room-free : (spare : Found) → whereFree spare words ≡ roomAt f spare words
     unfolding roomAt isRequest
-    room-free = rw (at, ne-eqb (getD words i 0) requestWord e)
+    room-free spare = rw (at, ne-eqb (getD words i 0) requestWord e)
 
   -- past the end of the list no Request is open
   module _ (h : length words ≤ i) where
@@ -49,7 +51,7 @@ module _ (words : List ℕ) {f : Found} (i : ℕ) (at : f ≡ At i) where
     pub ended-past : words ≡ endedAt f words
     ended-past = ended-not not-past
 
-    pub room-past : findOf isFree words ≡ roomAt f words
+    pub room-past : (spare : Found) → whereFree spare words ≡ roomAt f spare words
     room-past = room-free not-past
 
 module _ (words : List ℕ) {f : Found} (none : f ≡ Nowhere) where
@@ -57,27 +59,36 @@ module _ (words : List ℕ) {f : Found} (none : f ≡ Nowhere) where
   unfolding endedAt
   ended-nowhere = rw none
 
-  pub room-nowhere : findOf isFree words ≡ roomAt f words
+  pub room-nowhere : (spare : Found) → whereFree spare words ≡ roomAt f spare words
   unfolding roomAt
-  room-nowhere = rw none
+  room-nowhere spare = rw none
 
 pub ended-length : (request : Found) (words : List ℕ) → length (endedAt request words) ≡ length words
 unfolding endedAt
 ended-length (At i) words = by-test (isRequest (getD words i 0)) (λ t. rw t (length-set words i 0)) (λ f. rw f)
 ended-length Nowhere words = refl
 
+-- A spare place that counts is that of a free word inside the list.
+pub where-free-in : (spare : Found) (words : List ℕ) → FoundIn words (whereFree spare words)
+where-free-in (At i) words =
+    by-test
+    (both (ltb i (length words)) (isFree (getD words i 0)))
+    (λ t. rw t (ltb-true i (length words) (both-true (ltb i (length words)) (isFree (getD words i 0)) t .0)))
+    (λ f. rw f tt)
+where-free-in Nowhere words = tt
+
 -- The room for a label is inside the list, before the Request has ended and after.
-room-in : (request : Found) (words : List ℕ) → FoundIn words (roomAt request words)
+room-in : (request spare : Found) (words : List ℕ) → FoundIn words (roomAt request spare words)
 unfolding roomAt
-room-in (At i) words = by-test (isRequest (getD words i 0)) (λ t. rw t (request-inside words i t)) (λ f. rw f (found-in isFree words refl))
-room-in Nowhere words = found-in isFree words refl
+room-in (At i) spare words = by-test (isRequest (getD words i 0)) (λ t. rw t (request-inside words i t)) (λ f. rw f (where-free-in spare words))
+room-in Nowhere spare words = where-free-in spare words
 
 same-in : (words after : List ℕ) (f : Found) → length after ≡ length words → FoundIn words f → FoundIn after f
 same-in words after (At i) e h = rw e h
 same-in words after Nowhere e h = tt
 
-pub room-still-in : (request : Found) (words : List ℕ) → FoundIn (endedAt request words) (roomAt request words)
-room-still-in request words = same-in words (endedAt request words) (roomAt request words) (ended-length request words) (room-in request words)
+pub room-still-in : (request spare : Found) (words : List ℕ) → FoundIn (endedAt request words) (roomAt request spare words)
+room-still-in request spare words = same-in words (endedAt request words) (roomAt request spare words) (ended-length request words) (room-in request spare words)
 
 -- No label has moved.
 module _ (words : List ℕ) (s : Side) (l : ℕ) where

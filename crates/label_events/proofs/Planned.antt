@@ -7,7 +7,7 @@ use mathlib.Core.Path.{_≡_, refl, sym, _∙_}
 use native.Mathlib.Omega.{arith}
 use lib.ListN.{getD, set}
 use borrow.Author.Tests.{eq-eqb, ne-eqb}
-use Rattle.octets.proofs.Choice.{pick-all}
+use Rattle.octets.proofs.Choice.{by-test, pick-all}
 use Rattle.label_list.specs.declared.Found.{Found}
 use Rattle.label_list.specs.declared.Found.the-variants.{At, Nowhere}
 use Rattle.label_list.specs.declared.LabelMessage.{LabelMessage}
@@ -18,7 +18,7 @@ use Rattle.label_list.specs.declared.Side.{Side}
 use Rattle.label_list.specs.Find.{findOf, FoundIn}
 use Rattle.label_list.specs.Protection.{codeProtection}
 use Rattle.label_list.specs.Rules.{sentSide, receivedSide, codeAccepted, codeAcked, codeReceived}
-use Rattle.label_list.specs.Word.{labelCount, codeOf, wordOf, listable, standsFor}
+use Rattle.label_list.specs.Word.{labelCount, codeOf, wordOf, isFree, listable, standsFor}
 use Rattle.label_list.proofs.Reached.{found-in, found-passes}
 use Rattle.label_list.proofs.Standing.{within-in, within-below, within-above, stands-parts}
 use Rattle.label_events.specs.declared.Acceptance.{Acceptance}
@@ -28,13 +28,11 @@ use Rattle.label_events.specs.declared.Change.the-variants.{Keep, Put, N
 use Rattle.label_events.specs.declared.Plan.{Plan}
 use Rattle.label_events.specs.declared.Plan.the-variants.{Allowed, Refused}
 use Rattle.label_events.specs.declared.Touched.{Touched}
-use Rattle.label_events.specs.declared.Touched.the-variants.{Label, Every, Nothing}
 use Rattle.label_events.specs.Accept.{planBy, planOf, acceptanceOf, acceptedOf, planChange, acceptedBy}
 use Rattle.label_events.specs.Ack.{ackedAt, ackedOf}
-use Rattle.label_events.specs.Change.{ChangeIn, codeIn, codeAt, changeAt, changed}
-use Rattle.label_events.specs.Protect.{protectionOf}
-use Rattle.label_events.specs.Receive.{receivedPlace, receivedChange}
-use Rattle.label_events.specs.Requests.{roomAt}
+use Rattle.label_events.specs.Change.{ChangeIn, codeIn, codeAt, takeFree, changeAt, moveTo, placedAt, changed}
+use Rattle.label_events.specs.Protect.{protectionOf, protectionBeside}
+use Rattle.label_events.specs.Receive.{receivedPlace, movesBy, receivedChange}
 use Rattle.label_events.proofs.Written.{change-of-in}
 
 -- A change, by what the two searches found.
@@ -49,6 +47,10 @@ module _ (label code : ℕ) (f g : Found) where
     change-none z = rw (p, eq-eqb code 0 z)
 
     module _ (z : code ≢ 0) where
+      pub change-taken : {x : Change} {w : ℕ} {h : Found} → w ≡ wordOf label code → h ≡ g → x ≡ takeFree h w → x ≡ changeAt f g label code
+      unfolding changeAt
+      change-taken e r q = q ∙ rw (p, ne-eqb code 0 z, e, r)
+
       pub change-free : {w : ℕ} {h : Found} (i : ℕ) → w ≡ wordOf label code → h ≡ g → h ≡ At i → Put i w ≡ changeAt f g label code
       unfolding changeAt
       change-free i e q r = rw (p, ne-eqb code 0 z, ← q, r, e)
@@ -92,8 +94,7 @@ module _ (words : List ℕ) (message : LabelMessage) (label : ℕ) where
     unfolding planOf
     plan-is = rw (listable-yes label low high, en, ec, ef, es)
 
-    pub plan-allowed : {code : ℕ} {change : Change} → n ≡ Code code → change ≡ changeAt f (roomAt Nowhere words) label code → Allowed change ≡ planOf words message label
-    unfolding roomAt
+    pub plan-allowed : {code : ℕ} {change : Change} → n ≡ Code code → change ≡ changeAt f (findOf isFree words) label code → Allowed change ≡ planOf words message label
     plan-allowed e ex = rw (ex, ef) (rw e at plan-is)
 
     pub plan-refused : n ≡ Next.NotAllowed → Refused ≡ planOf words message label
@@ -142,26 +143,41 @@ module _ (words : List ℕ) (message : LabelMessage) (label : ℕ) where
 -- A message of the peer's: its place, its change, and what becomes of it.
 pub place-in : (words : List ℕ) (message : LabelMessage) (t : Touched) {f : Found} → f ≡ receivedPlace words message t → FoundIn words f
 unfolding receivedPlace
-place-in words message (Label label) e = found-in (standsFor (receivedSide message) label) words e
-place-in words message Every e = rw e tt
-place-in words message Nothing e = rw e tt
+place-in words message (Touched.Label label) e = found-in (standsFor (receivedSide message) label) words e
+place-in words message Touched.Every e = rw e tt
+place-in words message (Touched.Prefix entry) e = rw e tt
+place-in words message Touched.Nothing e = rw e tt
 
-pub protection-label : (words : List ℕ) (message : LabelMessage) (protected : Bool) (label : ℕ) {t : Touched} {f : Found} {c : ℕ} {p : Protection}
-    → t ≡ Label label → f ≡ receivedPlace words message t → c ≡ codeIn words f → p ≡ codeProtection message protected c → p ≡ protectionOf words message protected t
-unfolding receivedPlace protectionOf
-protection-label words message protected label et ef ec ep = ep ∙ rw (ec, ef, et)
+pub protection-label : (words entries : List ℕ) (message : LabelMessage) (protected : Bool) (label : ℕ) {t : Touched} {f : Found} {c : ℕ} {p : Protection}
+    → t ≡ Touched.Label label → f ≡ receivedPlace words message t → c ≡ codeIn words f → p ≡ codeProtection message protected c → p ≡ protectionBeside words entries message protected t
+unfolding receivedPlace protectionOf protectionBeside
+protection-label words entries message protected label et ef ec ep = ep ∙ rw (ec, ef, et)
 
-module _ (words : List ℕ) (room : Found) (message : LabelMessage) (protected : Bool) (label : ℕ) where
-  pub received-low : label < 16 → Keep ≡ receivedChange words room message protected label
+module _ (words : List ℕ) (room : Found) (another : Bool) (message : LabelMessage) (protected : Bool) (label : ℕ) where
+  pub received-low : label < 16 → Keep ≡ receivedChange words room another message protected label
   unfolding receivedChange
   received-low h = rw (listable-low label h)
 
-  pub received-high : labelCount ≤ label → Keep ≡ receivedChange words room message protected label
+  pub received-high : labelCount ≤ label → Keep ≡ receivedChange words room another message protected label
   unfolding receivedChange
   received-high h = rw (listable-high label h)
 
-  pub received-is : 16 ≤ label → label < labelCount → {f : Found} {c n : ℕ}
-      → f ≡ receivedPlace words message (Label label) → c ≡ codeIn words f → n ≡ codeReceived message protected c
-      → changeAt f room label n ≡ receivedChange words room message protected label
+  pub received-is : 16 ≤ label → label < labelCount → {f g : Found} {c n : ℕ} {b : Bool}
+      → f ≡ receivedPlace words message (Touched.Label label) → c ≡ codeIn words f → n ≡ codeReceived message protected c → g ≡ room → b ≡ movesBy message another
+      → placedAt b f g label n ≡ receivedChange words room another message protected label
   unfolding receivedChange receivedPlace
-  received-is l h ef ec en = rw (listable-yes label l h, en, ec, ef)
+  received-is l h ef ec en eg eb = rw (listable-yes label l h, en, ec, ef, eg, eb)
+
+-- The change that places a label, by what was found.
+module _ (b : Bool) (label code : ℕ) (f g : Found) where
+  pub placed-moved : {x : Change} {w : ℕ} (i : ℕ) → b ≡ true → w ≡ wordOf label code → x ≡ moveTo i g w → f ≡ At i → x ≡ placedAt b f g label code
+  unfolding placedAt
+  placed-moved i eb ew ex ef = ex ∙ rw (eb, ef, ew)
+
+  pub placed-stays : {w : ℕ} (i : ℕ) → b ≡ false → w ≡ wordOf label code → f ≡ At i → Put i w ≡ placedAt b f g label code
+  unfolding placedAt changeAt
+  placed-stays i eb ew ef = rw (eb, ef, ew)
+
+  pub placed-new : {x : Change} → x ≡ changeAt f g label code → f ≡ Nowhere → x ≡ placedAt b f g label code
+  unfolding placedAt
+  placed-new ex ef = ex ∙ rw ef (by-test b (λ t. rw t) (λ n. rw n))

@@ -36,6 +36,7 @@ planChange Plan.Refused = Change.Keep
 abbrev pub acceptanceOf : Change → Acceptance
 acceptanceOf Change.Keep = Acceptance.Taken
 acceptanceOf (Change.Put i w) = Acceptance.Taken
+acceptanceOf (Change.Move i j w) = Acceptance.Taken
 acceptanceOf Change.NoRoom = Acceptance.NoRoom
 
 -- a refusal leaves the list as it was

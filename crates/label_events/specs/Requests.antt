@@ -1,8 +1,9 @@
 -- Requests of ours: one is asked, one is taken back, one is answered; the words and the IDs afterwards.
 use Prim.Native.Nat.{ℕ}
 use mathlib.Core.List.{List}
-use lib.ListN.{getD, set}
-use Rattle.octets.specs.Pick.{pick}
+use lib.Dec.{ltb}
+use lib.ListN.{length, getD, set}
+use Rattle.octets.specs.Pick.{pick, both}
 use Rattle.ft_number.specs.declared.MessageId.{MessageId}
 use Rattle.label_list.specs.declared.Found.{Found}
 use Rattle.label_list.specs.declared.Found.the-variants.{At, Nowhere}
@@ -25,6 +26,7 @@ askedPlan words ids id = pick (isFound (openAt id words ids)) Plan.Refused (Plan
 abbrev pub idsPut : List ℕ → Change → MessageId → List ℕ
 idsPut ids Change.Keep id = ids
 idsPut ids (Change.Put i w) id = set ids i (id .0)
+idsPut ids (Change.Move i j w) id = ids
 idsPut ids Change.NoRoom id = ids
 
 -- 02: "6 also for .. an Abort of none"; "It ends when its Abort is accepted": its word is free then, and the ID "stays when its word is freed"
@@ -40,7 +42,12 @@ unfoldable pub endedAt : Found → List ℕ → List ℕ
 endedAt (At i) words = pick (isRequest (getD words i 0)) (set words i 0) words
 endedAt Nowhere words = words
 
--- "the Mapping taking its word if the label has none": that of the Request which it ends, else the first free one
-unfoldable pub roomAt : Found → List ℕ → Found
-roomAt (At i) words = pick (isRequest (getD words i 0)) (At i) (findOf isFree words)
-roomAt Nowhere words = findOf isFree words
+-- a spare place counts only where the word there is free
+abbrev pub whereFree : Found → List ℕ → Found
+whereFree (At i) words = pick (both (ltb i (length words)) (isFree (getD words i 0))) (At i) Nowhere
+whereFree Nowhere words = Nowhere
+
+-- 02: "A Mapping takes its Request's word or the first that is free in the old block 0 too": that of the Request which it ends, else the spare one
+unfoldable pub roomAt : Found → Found → List ℕ → Found
+roomAt (At i) spare words = pick (isRequest (getD words i 0)) (At i) (whereFree spare words)
+roomAt Nowhere spare words = whereFree spare words

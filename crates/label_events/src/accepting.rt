@@ -31,7 +31,7 @@ fn plan_accept(words: &[u32], message: LabelMessage, label: u32) -> Plan
     }
     let place = find_label(words, sent_side(message), label);
     match code_accepted(message, code_at(words, place)) {
-        Next::Code(code) => Plan::Allowed(plan_change(words, place, Found::Nowhere, label, code)),
+        Next::Code(code) => Plan::Allowed(plan_change(words, place, label, code)),
         Next::NotAllowed => Plan::Refused,
     }
 }
@@ -42,6 +42,7 @@ fn acceptance(change: Change) -> Acceptance
     match change {
         Change::Keep => Acceptance::Taken,
         Change::Put(_, _) => Acceptance::Taken,
+        Change::Move(_, _, _) => Acceptance::Taken,
         Change::NoRoom => Acceptance::NoRoom,
     }
 }

@@ -4,6 +4,8 @@ pub mod Reached
 pub mod Marks
 pub mod Checked
 pub mod Small
+pub mod Besides
+pub mod Spare
 pub mod Counting
 pub mod Open
 pub mod Once

@@ -52,3 +52,13 @@ isFound Nowhere = false
 abbrev pub FoundIn : List ℕ → Found → Type 0
 FoundIn words (At i) = i < length words
 FoundIn words Nowhere = Unit {0}
+
+-- the words, and where one of them is free the old one: free where both are
+unfoldable pub overlaid : List ℕ → List ℕ → List ℕ
+overlaid [] old = []
+overlaid (w ∷ ws) [] = w ∷ overlaid ws []
+overlaid (w ∷ ws) (v ∷ vs) = pick (isFree w) v w ∷ overlaid ws vs
+
+-- 02: "the first that is free in the old block 0 too"
+unfoldable pub spareIn : List ℕ → List ℕ → Found
+spareIn old words = findOf isFree (overlaid words old)

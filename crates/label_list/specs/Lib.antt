@@ -6,4 +6,5 @@ pub mod Valid
 pub mod Marks
 pub mod Sweep
 pub mod Counting
+pub mod Beside
 pub mod Requests

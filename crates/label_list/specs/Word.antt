@@ -55,6 +55,10 @@ requestWord = labelCount * requestCode
 unfoldable pub isRequest : ℕ → Bool
 isRequest w = eqb w requestWord
 
+-- the word lists a label: its code is one of a side; neither a free word's nor an open Request's is
+unfoldable pub listsLabel : ℕ → Bool
+listsLabel w = pick (onSide Given (codeOf w)) true (onSide Used (codeOf w))
+
 -- the word lists that label on that side
 unfoldable pub standsFor : Side → ℕ → ℕ → Bool
 standsFor side label w = both (onSide side (codeOf w)) (eqb (labelOf w) label)

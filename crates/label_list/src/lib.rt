@@ -2,6 +2,7 @@
 //
 // A word is label + 1,048,576 x code, and 0 is a free word. Codes: 1 given, 2 withdrawing, 3 using, 4 asked back, 5 releasing, 6 using without protection, 7 an open
 // Request, whose message ID stands at the same place of a list beside the words, 8 withdrawn and the ACK has come, 9 withdrawn and the Release has come.
+mod beside;
 mod requests;
 mod rules;
 mod search;
@@ -9,6 +10,8 @@ mod sweeping;
 mod validity;
 mod word;
 
+pub use beside::any_guarded;
+pub use beside::sweep_beside;
 pub use requests::find_request;
 pub use requests::ids_stand_once;
 pub use rules::code_accepted;
@@ -26,6 +29,7 @@ pub use word::FIRST_LABEL;
 pub use word::LABEL_COUNT;
 pub use word::REQUEST_WORD;
 pub use word::WORD_COUNT;
+pub use word::lists_label;
 pub use word::word_of;
 
 // The two sides on which a label can stand: given to the peer, codes 1, 2, 8 and 9; used by us, codes 3 to 6.
@@ -47,7 +51,7 @@ pub enum LabelMessage {
     Release,
 }
 
-// A rule for every word: a Withdraw or a Release of the wildcard FEC, or the end of a connection.
+// A rule for many words: a Withdraw or a Release that names no label, or the end of a connection.
 pub enum SweepRule {
     WithdrawAll,
     ReleaseAll,

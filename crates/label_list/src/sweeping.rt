@@ -6,7 +6,8 @@ use crate::rules::code_swept;
 use crate::word::LABEL_COUNT;
 use crate::word::word_of;
 
-fn word_swept(rule: SweepRule, word: u32) -> u32
+// One word after a rule.
+pub fn word_swept(rule: SweepRule, word: u32) -> u32
     ensures { λ r. ⌜ r ≡ wordSwept rule word ⌝ }
 {
     word_of(word % LABEL_COUNT, code_swept(rule, word / LABEL_COUNT))

@@ -1,7 +1,7 @@
 // One label word: its label, its code, and the side on which it stands.
 ghost use Prim.Native.Nat.{_<_};
 ghost use mathlib.Core.Path.{_≡_};
-ghost use Rattle.label_list.specs.Word.{labelCount, wordOf, onSide};
+ghost use Rattle.label_list.specs.Word.{labelCount, wordOf, onSide, listsLabel};
 use crate::Side;
 
 // The number of label words in the stored image.
@@ -31,6 +31,17 @@ pub fn on_side(side: Side, code: u32) -> bool
         },
         _ => false,
     }
+}
+
+// Whether a word lists a label: neither a free word nor an open Request's does.
+pub fn lists_label(word: u32) -> bool
+    ensures { λ r. ⌜ r ≡ listsLabel word ⌝ }
+{
+    let code = word / LABEL_COUNT;
+    if on_side(Side::Given, code) {
+        return true;
+    }
+    on_side(Side::Used, code)
 }
 
 // The word of a label under a code, label + 1,048,576 x code; under code 0 a free word.

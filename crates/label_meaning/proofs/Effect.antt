@@ -1,12 +1,12 @@
 -- A change that writes one label's word keeps the list valid, gives that label its code and leaves every other. Assumes nothing.
 use Prim.Native.Nat.{ℕ, _+_, _*_, _≤_, _<_}
-use mathlib.Core.Bool.{true, false, true≢false}
+use mathlib.Core.Bool.{Bool, true, false, true≢false}
 use mathlib.Core.List.{List}
 use mathlib.Core.Logic.{_≢_, _⊎_, inl, inr, ⊎-elim}
 use mathlib.Core.Path.{_≡_, refl, sym, _∙_}
 use native.Mathlib.Omega.{arith}
 use lib.Dec.{eqb}
-use lib.ListN.{length, getD, set}
+use lib.ListN.{length, getD, set, length-set}
 use lib.Seq.{getD-set-same, getD-set-other}
 use borrow.Author.Tests.{eqb-true, eqb-false, eq-eqb, ne-eqb}
 use Rattle.octets.proofs.Choice.{by-test}
@@ -16,9 +16,9 @@ use Rattle.label_list.specs.declared.Side.{Side}
 use Rattle.label_list.specs.Find.{findOf}
 use Rattle.label_list.specs.Word.{labelCount, labelOf, codeOf, wordOf, isFree, onSide, requestWord, standsFor}
 use Rattle.label_list.proofs.Reached.{found-in, found-place, found-passes}
-use Rattle.label_list.proofs.Standing.{side-listed, parts-stands, free-stands}
+use Rattle.label_list.proofs.Standing.{side-listed, stands-parts, parts-stands, free-stands}
 use Rattle.label_events.specs.declared.Change.the-variants.{NoRoom}
-use Rattle.label_events.specs.Change.{takeFree, changeAt, changeWith, changed}
+use Rattle.label_events.specs.Change.{takeFree, changeAt, moveTo, placedAt, changeWith, changed}
 use Rattle.label_meaning.specs.Valid.{WordInRange, IsValid}
 use Rattle.label_meaning.specs.View.{CodeIs, listed, absent, Effect}
 use Rattle.label_meaning.proofs.Meaning.{stands-same}
@@ -139,6 +139,18 @@ module _ (words : List ℕ) (v : IsValid words) (s : Side) (l c i w : ℕ) (insi
   write-effect : Effect words (set words i w) s l c
   write-effect = record { valid = record { each = after-each; once = after-once }; there = after-there; elsewhere = after-elsewhere }
 
+-- A label that is absent stands in no word.
+pub absent-means : {words : List ℕ} {s : Side} {l : ℕ} → CodeIs words s l 0 → (j : ℕ) → standsFor s l (getD words j 0) ≡ false
+absent-means {words} {s} {l} x = go x refl
+  where
+    go : {c : ℕ} → CodeIs words s l c → c ≡ 0 → (j : ℕ) → standsFor s l (getD words j 0) ≡ false
+    go (listed i p) z = absurd (side-listed s (codeOf (getD words i 0)) (stands-parts s l (getD words i 0) p .0) z)
+    go (absent p) z = p
+
+-- Two effects on one label are one.
+pub then-effect : {before mid after : List ℕ} {s : Side} {l c d : ℕ} → Effect before mid s l c → Effect mid after s l d → Effect before after s l d
+then-effect x y = record { valid = y .valid; there = y .there; elsewhere = λ t k e other code. y .elsewhere t k e other (x .elsewhere t k e other code) }
+
 -- Nothing is written: the label was absent and stays so.
 pub keep-effect : (words : List ℕ) → IsValid words → (s : Side) (l c : ℕ) → ((j : ℕ) → standsFor s l (getD words j 0) ≡ false) → c ≡ 0 → Effect words words s l c
 keep-effect words v s l c none z = record { valid = v; there = rw z (absent none); elsewhere = λ t k d other code. code }
@@ -177,6 +189,25 @@ module _ (words : List ℕ) (v : IsValid words) (s : Side) (l c : ℕ) (low : 16
       let listed : c ≢ 0 = side-listed s c on in
       rw (ne-eqb c 0 listed) (effect-free g (sym e) h))
       proper
+
+  -- a listed label moves into a free word, and its own is free then
+  move-effect : (i : ℕ) (g : Found) → At i ≡ findOf (standsFor s l) words → FreeAt words g → moveTo i g (wordOf l c) ≢ NoRoom → Effect words (changed words (moveTo i g (wordOf l c))) s l c
+  unfolding changed
+  move-effect i (At j) e h room =
+      let here : standsFor s l (getD words i 0) ≡ true = found-passes (standsFor s l) words i e refl in
+      let inside : i < length words = found-place words (At i) i (found-in (standsFor s l) words e) refl in
+      let left : Effect words (set words i 0) s l 0 = write-effect words v s l 0 i 0 inside (inr here) (λ k p. v .once s l k i p here) (inl (refl, refl)) in
+      let free : getD (set words i 0) j 0 ≡ 0 = at-index words i 0 inside (λ (x : ℕ). x ≡ 0) j (λ same. refl) (λ apart. h .1) in
+      then-effect left
+      (write-effect (set words i 0) (left .valid) s l c j (wordOf l c) (rw (length-set words i 0) (h .0)) (inl free)
+      (λ k p. absurd (true≢false (sym p ∙ absent-means (left .there) k))) (word-written s l c low high proper))
+  move-effect i Nowhere e h room = absurd (room refl)
+
+  pub effect-placed : (b : Bool) (f g : Found) → f ≡ findOf (standsFor s l) words → FreeAt words g → placedAt b f g l c ≢ NoRoom → Effect words (changed words (placedAt b f g l c)) s l c
+  unfolding placedAt
+  effect-placed true (At i) g e h = move-effect i g e h
+  effect-placed true Nowhere g e h = effect-found Nowhere g e h
+  effect-placed false f g e h = effect-found f g e h
 
   pub change-effect : (room : Found) → FreeAt words room → changeWith words room s l c ≢ NoRoom → Effect words (changed words (changeWith words room s l c)) s l c
   change-effect room free = effect-found (findOf (standsFor s l) words) room refl free

@@ -6,6 +6,11 @@ pub mod Unlisted
 pub mod Swept
 pub mod Kept
 pub mod Step
+pub mod Listed
+pub mod Entries
+pub mod Taken
+pub mod Sets
+pub mod Besides
 pub mod Moved
 pub mod Life
 pub mod Withdrawal
@@ -15,3 +20,4 @@ pub mod Protected
 pub mod Room
 pub mod Requests
 pub mod RequestIds
+pub mod Exact

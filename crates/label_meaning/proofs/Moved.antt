@@ -8,7 +8,6 @@ use native.Mathlib.Omega.{arith}
 use lib.Dec.{eqb, leb}
 use borrow.Author.Tests.{eqb-true, eqb-false, leb-true}
 use Rattle.octets.proofs.Choice.{by-test}
-use Rattle.label_list.specs.declared.Found.{Found}
 use Rattle.label_list.specs.declared.LabelMessage.{LabelMessage}
 use Rattle.label_list.specs.declared.LabelMessage.the-variants.{Mapping, Withdraw, Release}
 use Rattle.label_list.specs.declared.Next.the-variants.{Code}
@@ -17,22 +16,22 @@ use Rattle.label_list.specs.declared.Side.the-variants.{Given, Used}
 use Rattle.label_list.specs.declared.SweepRule.{SweepRule}
 use Rattle.label_list.specs.declared.SweepRule.the-variants.{WithdrawAll, ReleaseAll, AfterBreak}
 use Rattle.label_list.specs.Rules.{sentSide, receivedSide, codeAccepted, codeAcked, codeReceived, codeSwept}
-use Rattle.label_list.specs.Sweep.{sweptOf}
+use Rattle.label_list.specs.Sweep.{sweptOf, reachedOf}
 use Rattle.label_list.specs.Word.{withoutProtection, onSide}
-use Rattle.label_events.specs.declared.Touched.{Touched}
-use Rattle.label_events.specs.declared.Touched.the-variants.{Label, Every, Nothing}
+use Rattle.label_events.specs.declared.Meets.{Meets}
 use Rattle.label_events.specs.Accept.{acceptedOf}
 use Rattle.label_events.specs.Change.{codeAt}
+use Rattle.label_events.specs.Reach.{Reach, Those, Label, Nothing}
 use Rattle.label_events.specs.Receive.{everyReceived, receivedWith, receivedOf}
 use Rattle.label_events.specs.Requests.{endedAt}
 use Rattle.label_events.proofs.Ended.{ended-code}
-use Rattle.label_meaning.specs.Event.{LabelEvent, Accepted, Acked, Received, Asked, Ended, Broken, afterEvent, Touches, named, every, Moves, given, withdrawn, released, returned, withdraw-acked, release-acked, taken, taken-again, taken-bare, asked-back, bare-withdrawn, given-back, withdrawn-back, bare-lost, back-acked, acked-back}
+use Rattle.label_meaning.specs.Event.{LabelEvent, Accepted, Acked, Received, Asked, Ended, Broken, afterEvent, Touches, named, among, Moves, given, withdrawn, released, returned, withdraw-acked, release-acked, taken, taken-again, taken-bare, asked-back, bare-withdrawn, given-back, withdrawn-back, bare-lost, back-acked, acked-back}
 use Rattle.label_meaning.specs.Life.{Moved}
 use Rattle.label_meaning.specs.Valid.{IsValid}
 use Rattle.label_meaning.specs.View.{Effect}
 use Rattle.label_meaning.proofs.Proper.{Proper, proper-side}
 use Rattle.label_meaning.proofs.Step.{Accepts, code-proper, accepted-outcome, acked-effect, received-outcome}
-use Rattle.label_meaning.proofs.Swept.{sweep-valid, sweep-code}
+use Rattle.label_meaning.proofs.Swept.{sweep-valid, sweep-code, reach-valid, reach-code}
 use Rattle.label_meaning.proofs.Unlisted.{LabelsStay, stay-code, ended-stays, asked-stays}
 use Rattle.label_meaning.proofs.View.{code-is, is-code}
 
@@ -87,7 +86,7 @@ acked-move Withdraw k c =
     (λ p. by-test (eqb c 9) (λ q. let nine : c ≡ 9 = eqb-true c 9 q in inr (rw nine back-acked)) (λ q. inl (rw (p, q))))
 acked-move Release k c = by-test (eqb c 5) (λ p. let five : c ≡ 5 = eqb-true c 5 p in inr (rw five release-acked)) (λ p. inl (rw p))
 
-mapping-move : (r : Found) (p : Bool) (k c : ℕ) → Move (Received r Mapping p (Label k)) Used k c (codeReceived Mapping p c)
+mapping-move : (r : Meets) (p : Bool) (k c : ℕ) → Move (Received r Mapping p (Label k)) Used k c (codeReceived Mapping p c)
 unfolding codeReceived
 mapping-move r true k c =
     by-test
@@ -97,7 +96,7 @@ mapping-move r true k c =
 mapping-move r false k c = by-test (eqb c 0) (λ z. let none : c ≡ 0 = eqb-true c 0 z in inr (rw none taken-bare)) (λ z. inl (rw z))
 
 module _ (s : Side) (k c : ℕ) (proper : Proper s c) where
-  withdraw-move : (r : Found) (p q : Bool) (t : Touched) → Touches t k → Move (Received r Withdraw p t) s k c (codeReceived Withdraw q c)
+  withdraw-move : (r : Meets) (p q : Bool) (t : Reach) → Touches t k → Move (Received r Withdraw p t) s k c (codeReceived Withdraw q c)
   unfolding codeReceived onSide
   withdraw-move r p q t touches =
       by-test
@@ -112,7 +111,7 @@ module _ (s : Side) (k c : ℕ) (proper : Proper s c) where
       inr (rw (proper-side s Used c proper (rw bare), bare) (bare-withdrawn touches)))
       (λ y. inl (rw (z, y))))
 
-  release-move : (r : Found) (p q : Bool) (t : Touched) → Touches t k → Move (Received r Release p t) s k c (codeReceived Release q c)
+  release-move : (r : Meets) (p q : Bool) (t : Reach) → Touches t k → Move (Received r Release p t) s k c (codeReceived Release q c)
   unfolding codeReceived onSide
   release-move r p q t touches =
       by-test
@@ -162,38 +161,47 @@ module _ (words : List ℕ) (v : IsValid words) where
       (λ same. rw (same .0, same .1, is-code after s l (x .valid) (x .there)) move)
       (λ other. inl (is-code after t k (x .valid) (x .elsewhere t k (codeAt words t k) other (code-is words t k))))
 
+  reached-moved : (e : LabelEvent) (reached : ℕ → Bool) (r : SweepRule) → ((t : Side) (k c : ℕ) → reached k ≡ true → Proper t c → Move e t k c (codeSwept r c)) → (t : Side) (k : ℕ)
+      → MovedTo words (reachedOf words reached r) e t k
+  reached-moved e reached r move t k =
+      rw (is-code (reachedOf words reached r) t k (reach-valid words v reached r) (reach-code words v reached r t k (codeAt words t k) (code-is words t k)))
+      (by-test (reached k) (λ y. rw y (move t k (codeAt words t k) y (code-proper words t k))) (λ n. inl (rw n)))
+
   swept-moved : (e : LabelEvent) (r : SweepRule) → ((t : Side) (k c : ℕ) → Proper t c → Move e t k c (codeSwept r c)) → (t : Side) (k : ℕ) → MovedTo words (sweptOf words r) e t k
   swept-moved e r move t k =
       rw (is-code (sweptOf words r) t k (sweep-valid words v r) (sweep-code words v r t k (codeAt words t k) (code-is words t k)))
       (move t k (codeAt words t k) (code-proper words t k))
 
-  named-move : (r : Found) (m : LabelMessage) (p : Bool) (l : ℕ)
+  named-move : (r : Meets) (m : LabelMessage) (p : Bool) (l : ℕ)
       → Move (Received r m p (Label l)) (receivedSide m) l (codeAt words (receivedSide m) l) (codeReceived m p (codeAt words (receivedSide m) l))
   unfolding receivedSide
   named-move r Mapping p l = mapping-move r p l (codeAt words Used l)
   named-move r Withdraw p l = withdraw-move Used l (codeAt words Used l) (code-proper words Used l) r p p (Label l) named
   named-move r Release p l = release-move Given l (codeAt words Given l) (code-proper words Given l) r p p (Label l) named
 
-  every-moved : (r : Found) (m : LabelMessage) (p : Bool) (t : Side) (k : ℕ) → MovedTo words (everyReceived m words) (Received r m p Every) t k
+  every-moved : (r : Meets) (m : LabelMessage) (p : Bool) (reached : ℕ → Bool) (t : Side) (k : ℕ) → MovedTo words (everyReceived m reached words) (Received r m p (Those reached)) t k
   unfolding everyReceived codeSwept
-  every-moved r Mapping p t k = inl refl
-  every-moved r Withdraw p t k = swept-moved (Received r Withdraw p Every) WithdrawAll (λ s l c proper. withdraw-move s l c proper r p true Every every) t k
-  every-moved r Release p t k = swept-moved (Received r Release p Every) ReleaseAll (λ s l c proper. release-move s l c proper r p true Every every) t k
+  every-moved r Mapping p reached t k = inl refl
+  every-moved r Withdraw p reached t k =
+      reached-moved (Received r Withdraw p (Those reached)) reached WithdrawAll (λ s l c y proper. withdraw-move s l c proper r p true (Those reached) (among y)) t k
+  every-moved r Release p reached t k =
+      reached-moved (Received r Release p (Those reached)) reached ReleaseAll (λ s l c y proper. release-move s l c proper r p true (Those reached) (among y)) t k
 
 module _ (words : List ℕ) (v : IsValid words) where
   stay-moved : {after : List ℕ} (e : LabelEvent) → LabelsStay words after → (t : Side) (k : ℕ) → MovedTo words after e t k
   stay-moved e x t k = inl (stay-code x t k)
 
-  received-moved : (r : Found) (m : LabelMessage) (p : Bool) (x : Touched) (t : Side) (k : ℕ) → MovedTo words (receivedOf words r m p x .1) (Received r m p x) t k
+  received-moved : (r : Meets) (m : LabelMessage) (p : Bool) (x : Reach) (t : Side) (k : ℕ) → MovedTo words (receivedOf words r m p x .1) (Received r m p x) t k
   unfolding receivedWith
   received-moved r m p (Label l) t k =
       ⊎-elim
-      (λ (same : receivedOf words r m p (Label l) .1 ≡ endedAt r words). inl (rw same (ended-code words t k r)))
+      (λ (same : receivedOf words r m p (Label l) .1 ≡ endedAt (r .request) words). inl (rw same (ended-code words t k (r .request))))
       (λ (x : Effect words (receivedOf words r m p (Label l) .1) (receivedSide m) l (codeReceived m p (codeAt words (receivedSide m) l))).
       effect-moved words v (Received r m p (Label l)) (receivedSide m) l (codeReceived m p (codeAt words (receivedSide m) l)) x (named-move words v r m p l) t k)
       (received-outcome words v r m p l)
-  received-moved r m p Every t k = rw (ended-code words t k r) at (every-moved (endedAt r words) (ended-stays words v r .valid) r m p t k)
-  received-moved r m p Nothing t k = inl (ended-code words t k r)
+  received-moved r m p (Those reached) t k =
+      rw (ended-code words t k (r .request)) at (every-moved (endedAt (r .request) words) (ended-stays words v (r .request) .valid) r m p reached t k)
+  received-moved r m p Nothing t k = inl (ended-code words t k (r .request))
 
   -- Every event leaves every label's code, or moves it as 01 says.
   pub every-move : (e : LabelEvent) (side : Side) (label : ℕ) → Moved words e side label

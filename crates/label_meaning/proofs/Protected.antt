@@ -10,7 +10,6 @@ use lib.ListN.{getD}
 use borrow.Author.Tests.{eqb-false}
 use Rattle.octets.specs.Pick.{pick}
 use Rattle.octets.proofs.Choice.{by-test, both-true}
-use Rattle.label_list.specs.declared.Found.{Found}
 use Rattle.label_list.specs.declared.LabelMessage.{LabelMessage}
 use Rattle.label_list.specs.declared.LabelMessage.the-variants.{Mapping, Withdraw, Release}
 use Rattle.label_list.specs.declared.Protection.{Protection}
@@ -21,12 +20,12 @@ use Rattle.label_list.specs.Find.{any}
 use Rattle.label_list.specs.Protection.{needsProtection, barsProtection, codeProtection, protectedOn}
 use Rattle.label_list.specs.Rules.{receivedSide}
 use Rattle.label_list.specs.Word.{labelOf, codeOf, withoutProtection, onSide, standsFor}
-use Rattle.label_list.proofs.Standing.{parts-stands}
-use Rattle.label_events.specs.declared.Touched.{Touched}
-use Rattle.label_events.specs.declared.Touched.the-variants.{Label, Every, Nothing}
+use Rattle.label_list.proofs.Standing.{parts-stands, stands-parts}
+use Rattle.label_events.specs.declared.Meets.{Meets}
 use Rattle.label_events.specs.Change.{codeAt}
-use Rattle.label_events.specs.Protect.{protectionOf}
-use Rattle.label_meaning.specs.Event.{Received, afterEvent, Touches, named, every, Moves, taken-bare, asked-back, bare-withdrawn, given-back, withdrawn-back, acked-back}
+use Rattle.label_events.specs.Protect.{protectionOf, guardedBy}
+use Rattle.label_events.specs.Reach.{Reach, Those, Label, Nothing}
+use Rattle.label_meaning.specs.Event.{Received, afterEvent, Touches, named, among, Moves, taken-bare, asked-back, bare-withdrawn, given-back, withdrawn-back, acked-back}
 use Rattle.label_meaning.specs.Protected.{TouchesProtected}
 use Rattle.label_meaning.specs.Valid.{IsValid}
 use Rattle.label_meaning.specs.View.{CodeIs, listed, absent}
@@ -40,22 +39,29 @@ unfolding needsProtection onSide
 needs-none Given = refl
 needs-none Used = refl
 
-some-protected : (words : List ℕ) (s : Side) (k c : ℕ) → CodeIs words s k c → needsProtection s c ≡ true → any (protectedOn s) words ≡ true
-some-protected words s k c (listed i p) needs =
-    by-test (any (protectedOn s) words) (λ e. e) (λ e. absurd (true≢false (sym needs ∙ any-none (protectedOn s) words e (needs-none s) i)))
-some-protected words s k c (absent p) needs = absurd (true≢false (sym needs ∙ needs-none s))
+unguarded : (s : Side) (reached : ℕ → Bool) → guardedBy s reached 0 ≡ false
+unguarded s reached = by-test (reached (labelOf 0)) (λ t. rw (t, needs-none s)) (λ f. rw f)
+
+some-protected : (words : List ℕ) (s : Side) (reached : ℕ → Bool) (k : ℕ) → reached k ≡ true → (c : ℕ) → CodeIs words s k c → needsProtection s c ≡ true
+    → any (guardedBy s reached) words ≡ true
+some-protected words s reached k y c (listed i p) needs =
+    by-test (any (guardedBy s reached) words) (λ e. e)
+    (λ e.
+    let none : guardedBy s reached (getD words i 0) ≡ false = any-none (guardedBy s reached) words e (unguarded s reached) i in
+    absurd (true≢false (sym needs ∙ rw (stands-parts s k (getD words i 0) p .1, y) at none)))
+some-protected words s reached k y c (absent p) needs = absurd (true≢false (sym needs ∙ needs-none s))
 
 -- An unprotected message that touches such a label lacks protection.
-pub touched-missing : (words : List ℕ) (m : LabelMessage) (t : Touched) (k : ℕ) → Touches t k → needsProtection (receivedSide m) (codeAt words (receivedSide m) k) ≡ true → protectionOf words m false t ≡ Missing
+pub touched-missing : (words : List ℕ) (m : LabelMessage) (t : Reach) (k : ℕ) → Touches t k → needsProtection (receivedSide m) (codeAt words (receivedSide m) k) ≡ true → protectionOf words m false t ≡ Missing
 unfolding protectionOf codeProtection
 touched-missing words m t k named needs = rw needs
-touched-missing words m t k every needs = rw (some-protected words (receivedSide m) k (codeAt words (receivedSide m) k) (code-is words (receivedSide m) k) needs)
+touched-missing words m t k (among {reached} y) needs = rw (some-protected words (receivedSide m) reached k y (codeAt words (receivedSide m) k) (code-is words (receivedSide m) k) needs)
 
 right-missing : {verdict : Protection} → verdict ≡ Right → verdict ≡ Missing → ⊥
 right-missing p q = let z : _≡_ {A = ℕ} 0 1 = cc in omega arith
 
 -- No move of a listed label of any code but 6 by an unprotected message agrees with a verdict that its protection is right.
-no-move : (words : List ℕ) {r : Found} {m : LabelMessage} {t : Touched} {s : Side} {k c d : ℕ} → codeAt words s k ≡ c → c ≢ 0 → c ≢ withoutProtection → protectionOf words m false t ≡ Right → Moves (Received r m false t) s k c d → ⊥
+no-move : (words : List ℕ) {r : Meets} {m : LabelMessage} {t : Reach} {s : Side} {k c d : ℕ} → codeAt words s k ≡ c → c ≢ 0 → c ≢ withoutProtection → protectionOf words m false t ≡ Right → Moves (Received r m false t) s k c d → ⊥
 unfolding receivedSide needsProtection onSide
 no-move words e there kept right taken-bare = there refl
 no-move words e there kept right (asked-back {k = k} touches) = right-missing right (touched-missing words Withdraw _ k touches (rw e))
@@ -87,16 +93,17 @@ missing-if true e = refl
 missing-if false e = absurd (right-missing refl e)
 
 -- In a valid list protection is missing only so.
-pub missing-touches : (words : List ℕ) → IsValid words → (m : LabelMessage) (t : Touched) → protectionOf words m false t ≡ Missing → TouchesProtected words m t
+pub missing-touches : (words : List ℕ) → IsValid words → (m : LabelMessage) (t : Reach) → protectionOf words m false t ≡ Missing → TouchesProtected words m t
 unfolding protectionOf codeProtection
 missing-touches words v m (Label l) e = record { label = l; touches = named; needs = missing-if (needsProtection (receivedSide m) (codeAt words (receivedSide m) l)) e }
-missing-touches words v m Every e =
+missing-touches words v m (Those reached) e =
     let s : Side = receivedSide m in
-    let found : Passed (protectedOn s) words = any-some (protectedOn s) words (missing-if (any (protectedOn s) words) e) in
+    let found : Passed (guardedBy s reached) words = any-some (guardedBy s reached) words (missing-if (any (guardedBy s reached) words) e) in
     let w : ℕ = getD words (found .at) 0 in
-    let stands : standsFor s (labelOf w) w ≡ true = parts-stands s (labelOf w) w (needs-side s (codeOf w) (found .passes)) refl in
+    let parts : (reached (labelOf w) ≡ true) × (protectedOn s w ≡ true) = both-true (reached (labelOf w)) (protectedOn s w) (found .passes) in
+    let stands : standsFor s (labelOf w) w ≡ true = parts-stands s (labelOf w) w (needs-side s (codeOf w) (parts .1)) refl in
     let code : codeAt words s (labelOf w) ≡ codeOf w = is-code words s (labelOf w) v (listed (found .at) stands) in
-    record { label = labelOf w; touches = every; needs = rw code (found .passes) }
+    record { label = labelOf w; touches = among (parts .0); needs = rw code (parts .1) }
 missing-touches words v m Nothing e = absurd (right-missing refl e)
 
 -- Where the protection of a protected Mapping or Withdraw is right, it names no label that we use without protection.
@@ -112,7 +119,7 @@ protected-names words Withdraw l u e = eqb-false (codeAt words Used l) withoutPr
 protected-names words Release l u e = λ bare. let z : _≡_ {A = ℕ} 0 1 = cc in omega arith
 
 -- What is right never loses a protected label to an unprotected message.
-pub unprotected-harmless : (words : List ℕ) → IsValid words → (r : Found) (m : LabelMessage) (t : Touched) → protectionOf words m false t ≡ Right
+pub unprotected-harmless : (words : List ℕ) → IsValid words → (r : Meets) (m : LabelMessage) (t : Reach) → protectionOf words m false t ≡ Right
     → (s : Side) (k : ℕ) → codeAt words s k ≢ 0 → codeAt words s k ≢ withoutProtection → codeAt (afterEvent words (Received r m false t)) s k ≡ codeAt words s k
 unprotected-harmless words v r m t right s k there kept =
     ⊎-elim

@@ -6,7 +6,7 @@ use mathlib.Core.Logic.{_≢_, inr, ⊎-elim}
 use mathlib.Core.Path.{_≡_, refl, sym, _∙_}
 use native.Mathlib.Omega.{arith}
 use lib.Dec.{eqb}
-use lib.ListN.{length, getD, set}
+use lib.ListN.{length, getD, set, length-set}
 use lib.Seq.{getD-set-same}
 use borrow.Author.Tests.{eqb-true, eq-eqb, ne-eqb, eqb-false}
 use Rattle.octets.proofs.Choice.{by-test, pick-all, no}
@@ -21,17 +21,17 @@ use Rattle.label_list.specs.declared.SweepRule.{SweepRule}
 use Rattle.label_list.specs.declared.SweepRule.the-variants.{WithdrawAll, ReleaseAll, AfterBreak}
 use Rattle.label_list.specs.Find.{findOf}
 use Rattle.label_list.specs.Rules.{sentSide, receivedSide, codeAccepted, codeAcked, codeReceived, codeSwept}
-use Rattle.label_list.specs.Sweep.{wordSwept, sweptOf}
+use Rattle.label_list.specs.Sweep.{wordSwept, sweptOf, wordReached, reachedOf}
 use Rattle.label_list.specs.Word.{labelCount, labelOf, codeOf, wordOf, isFree, onSide, requestWord, isRequest, withoutProtection, listable, standsFor, requestCode}
 use Rattle.label_list.proofs.OpenIds.{request-inside}
 use Rattle.label_list.proofs.Reached.{found-in, found-place, found-passes}
 use Rattle.label_list.proofs.Standing.{within-range, stands-parts, request-stands, request-word, side-plain}
-use Rattle.label_events.specs.declared.Touched.{Touched}
-use Rattle.label_events.specs.declared.Touched.the-variants.{Label, Every, Nothing}
+use Rattle.label_events.specs.declared.Meets.{Meets}
 use Rattle.label_events.specs.Accept.{planBy, planOf, acceptedBy, acceptedOf}
 use Rattle.label_events.specs.Ack.{ackedAt}
-use Rattle.label_events.specs.Change.{codeAt, takeFree, changeAt, changed}
-use Rattle.label_events.specs.Receive.{receivedChange, everyReceived, receivedWith, receivedOf}
+use Rattle.label_events.specs.Change.{codeAt, takeFree, changeAt, changed, moveTo, placedAt}
+use Rattle.label_events.specs.Reach.{Reach, Those, Label, Nothing}
+use Rattle.label_events.specs.Receive.{receivedChange, everyReceived, receivedWith, receivedOf, movesBy}
 use Rattle.label_events.specs.Requests.{endedAt, roomAt}
 use Rattle.label_meaning.specs.Event.{LabelEvent, Accepted, Acked, Received, Asked, Ended, Broken, afterEvent}
 use Rattle.label_meaning.specs.Requests.{endsAt}
@@ -97,6 +97,23 @@ module _ (words : List ℕ) (s : Side) (l c : ℕ) (small : l < labelCount) (pla
   change-requests Nowhere room e free =
       by-test (eqb c 0) (λ z. rw z (same-requests words Nowhere)) (λ z. rw z (free-requests room free))
 
+  -- a label that moves
+  move-requests : (i : ℕ) (room : Found) → At i ≡ findOf (standsFor s l) words → FreeAt words room → RequestsStay words (changed words (moveTo i room (wordOf l c))) Nowhere
+  unfolding changed
+  move-requests i (At j) e free =
+      let inside : i < length words = found-place words (At i) i (found-in (standsFor s l) words e) refl in
+      let was : isRequest (getD words i 0) ≡ false = stands-plain (getD words i 0) s l (found-passes (standsFor s l) words i e refl) in
+      let empty : getD (set words i 0) j 0 ≡ 0 = at-index words i 0 inside (λ (x : ℕ). x ≡ 0) j (λ same. refl) (λ apart. free .1) in
+      then-requests (set-requests words i 0 inside was (free-plain 0 refl))
+      (set-requests (set words i 0) j (wordOf l c) (rw (length-set words i 0) (free .0)) (free-plain (getD (set words i 0) j 0) empty) (written-plain l c small plain))
+  move-requests i Nowhere e free = same-requests words Nowhere
+
+  placed-requests : (b : Bool) (f room : Found) → f ≡ findOf (standsFor s l) words → FreeAt words room → RequestsStay words (changed words (placedAt b f room l c)) Nowhere
+  unfolding placedAt
+  placed-requests true (At i) room e free = move-requests i room e free
+  placed-requests true Nowhere room e free = change-requests Nowhere room e free
+  placed-requests false f room e free = change-requests f room e free
+
 -- ---- a sweep leaves a Request's word, and makes none
 abbrev WasRequest : ℕ → ℕ → Type 0
 WasRequest c d = d ≡ requestCode → c ≡ requestCode
@@ -127,16 +144,24 @@ swept-old r w t =
     own-word w (rw (seven, ← rule-keeps r (codeOf w) seven) at t))
     (λ e. absurd (true≢false (sym t ∙ written-plain (labelOf w) (codeSwept r (codeOf w)) (omega arith) (eqb-false (codeSwept r (codeOf w)) requestCode e))))
 
+reached-old : (reached : ℕ → Bool) (r : SweepRule) (w : ℕ) → isRequest (wordReached reached r w) ≡ true → isRequest w ≡ true
+unfolding wordReached
+reached-old reached r w t = by-test (reached (labelOf w)) (λ y. swept-old r w (rw y at t)) (λ n. rw n at t)
+
 pub request-itself : isRequest requestWord ≡ true
 unfolding isRequest
 request-itself = refl
 
-swept-requests : (words : List ℕ) (r : SweepRule) → RequestsStay words (sweptOf words r) Nowhere
-swept-requests words r =
+reached-requests : (words : List ℕ) (reached : ℕ → Bool) (r : SweepRule) → RequestsStay words (reachedOf words reached r) Nowhere
+reached-requests words reached r =
     record {
-      old = λ i t. swept-old r (getD words i 0) (rw (swept-at words r i) at t);
-      still = λ i apart t. rw (swept-at words r i, request-word (getD words i 0) t, swept-request r) request-itself;
+      old = λ i t. reached-old reached r (getD words i 0) (rw (swept-at words reached r i) at t);
+      still = λ i apart t. rw (swept-at words reached r i, request-word (getD words i 0) t, swept-request reached r) request-itself;
     }
+
+swept-requests : (words : List ℕ) (r : SweepRule) → RequestsStay words (sweptOf words r) Nowhere
+unfolding wordReached
+swept-requests words r = reached-requests words (λ k. true) r
 
 -- ---- each event
 module _ (words : List ℕ) where
@@ -166,27 +191,27 @@ module _ (words : List ℕ) where
       found-requests words (sentSide m) l c (omega (arith, parts .1)) (proper-plain (sentSide m) c (acked-proper m (codeOf (getD words i 0)) (inr (parts .0)))) i e
   acked-requests m l Nowhere e = same-requests words Nowhere
 
-  every-requests : (m : LabelMessage) → RequestsStay words (everyReceived m words) Nowhere
+  every-requests : (m : LabelMessage) (reached : ℕ → Bool) → RequestsStay words (everyReceived m reached words) Nowhere
   unfolding everyReceived
-  every-requests Mapping = same-requests words Nowhere
-  every-requests Withdraw = swept-requests words WithdrawAll
-  every-requests Release = swept-requests words ReleaseAll
+  every-requests Mapping reached = same-requests words Nowhere
+  every-requests Withdraw reached = reached-requests words reached WithdrawAll
+  every-requests Release reached = reached-requests words reached ReleaseAll
 
-  with-requests : (room : Found) → FreeAt words room → (m : LabelMessage) (p : Bool) (t : Touched) → RequestsStay words (receivedWith words room m p t .1) Nowhere
+  with-requests : (room : Found) → FreeAt words room → (another : Bool) (m : LabelMessage) (p : Bool) (t : Reach) → RequestsStay words (receivedWith words room another m p t .1) Nowhere
   unfolding receivedWith receivedChange changed
-  with-requests room free m p (Label l) =
+  with-requests room free another m p (Label l) =
       let c : ℕ = codeReceived m p (codeAt words (receivedSide m) l) in
       by-test
       (listable l)
       (λ may.
       let range : (16 ≤ l) × (l ≤ 1048575) = within-range 16 1048575 l may in
       rw may
-      (change-requests words (receivedSide m) l c (omega arith)
+      (placed-requests words (receivedSide m) l c (omega arith)
       (proper-plain (receivedSide m) c (received-proper m p (codeAt words (receivedSide m) l) (code-proper words (receivedSide m) l)))
-      (findOf (standsFor (receivedSide m) l) words) room refl free))
+      (movesBy m another) (findOf (standsFor (receivedSide m) l) words) room refl free))
       (λ may. rw may (same-requests words Nowhere))
-  with-requests room free m p Every = every-requests m
-  with-requests room free m p Nothing = same-requests words Nowhere
+  with-requests room free another m p (Those reached) = every-requests m reached
+  with-requests room free another m p Nothing = same-requests words Nowhere
 
   -- where a Request was ended none is open
   ended-closed : (i : ℕ) → isRequest (getD (endedAt (At i) words) i 0) ≡ false
@@ -217,11 +242,15 @@ module _ (words : List ℕ) where
   asked-still (At j) free i t = at-index words j requestWord (free .0) (λ (x : ℕ). isRequest x ≡ true) i (λ e. request-itself) (λ e. t)
   asked-still Nowhere free i t = t
 
+after-ended : (words : List ℕ) (x : Meets) (m : LabelMessage) (p : Bool) (t : Reach) → RequestsStay (endedAt (x .request) words) (receivedOf words x m p t .1) Nowhere
+after-ended words x m p t =
+    with-requests (endedAt (x .request) words) (roomAt (x .request) (x .spare) words) (room-is-free (x .request) (x .spare) words) (x .another) m p t
+
 step-requests : (words : List ℕ) (e : LabelEvent) → e ≢ Asked → RequestsStay words (afterEvent words e) (endsAt e)
 unfolding afterEvent
 step-requests words (Accepted m l) other = accepted-requests words m l
 step-requests words (Acked m l) other = acked-requests words m l (findOf (standsFor (sentSide m) l) words) refl
-step-requests words (Received r m p t) other = then-requests (ended-requests words r) (with-requests (endedAt r words) (roomAt r words) (room-is-free r words) m p t)
+step-requests words (Received x m p t) other = then-requests (ended-requests words (x .request)) (after-ended words x m p t)
 step-requests words Asked other = absurd (other refl)
 step-requests words (Ended r) other = ended-requests words r
 step-requests words Broken other = swept-requests words AfterBreak
@@ -245,11 +274,11 @@ pub request-ends : (words : List ℕ) (e : LabelEvent) (i : ℕ) → endsAt e �
 unfolding afterEvent
 request-ends words (Accepted m l) i at = no cc
 request-ends words (Acked m l) i at = no cc
-request-ends words (Received r m p t) i at =
+request-ends words (Received x m p t) i at =
     by-test
-    (isRequest (getD (receivedOf words r m p t .1) i 0))
+    (isRequest (getD (receivedOf words x m p t .1) i 0))
     (λ u.
-    let was : isRequest (getD (endedAt r words) i 0) ≡ true = with-requests (endedAt r words) (roomAt r words) (room-is-free r words) m p t .old i u in
+    let was : isRequest (getD (endedAt (x .request) words) i 0) ≡ true = after-ended words x m p t .old i u in
     absurd (true≢false (sym (rw at at was) ∙ ended-closed words i)))
     (λ f. f)
 request-ends words Asked i at = no cc

@@ -1,13 +1,16 @@
 -- Each event changes one label's code by its rule, or takes every label through a rule; a valid list stays valid. Assumes nothing.
 use Prim.Native.Nat.{ℕ, _≤_, _<_}
-use mathlib.Core.Bool.{Bool, true}
+use mathlib.Core.Bool.{Bool, true, false}
 use mathlib.Core.List.{List}
 use mathlib.Core.Logic.{_≢_, _⊎_, inl, inr, ⊎-elim}
 use mathlib.Core.Path.{_≡_, refl, sym}
 use native.Mathlib.Omega.{arith}
+use lib.Dec.{ltb, eqb}
 use lib.ListN.{length, getD, set, length-set}
 use lib.Seq.{getD-set-same}
-use Rattle.octets.proofs.Choice.{by-test, no}
+use borrow.Author.Tests.{ltb-true, eqb-true}
+use Rattle.octets.specs.Pick.{both}
+use Rattle.octets.proofs.Choice.{by-test, no, both-true}
 use Rattle.label_list.specs.declared.Found.{Found}
 use Rattle.label_list.specs.declared.Found.the-variants.{At, Nowhere}
 use Rattle.label_list.specs.declared.LabelMessage.{LabelMessage}
@@ -25,21 +28,22 @@ use Rattle.label_list.proofs.Reached.{found-passes}
 use Rattle.label_list.proofs.Standing.{within-in, within-range, stands-parts}
 use Rattle.label_events.specs.declared.Acceptance.{Acceptance}
 use Rattle.label_events.specs.declared.Change.{Change}
-use Rattle.label_events.specs.declared.Change.the-variants.{Keep, Put, NoRoom}
-use Rattle.label_events.specs.declared.Touched.{Touched}
-use Rattle.label_events.specs.declared.Touched.the-variants.{Label, Every, Nothing}
+use Rattle.label_events.specs.declared.Change.the-variants.{Keep, Put, NoRoom, Move}
+use Rattle.label_events.specs.declared.Meets.{Meets}
+use Rattle.label_events.specs.declared.Reception.{Reception}
 use Rattle.label_events.specs.Accept.{planBy, planOf, acceptedBy, acceptanceOf, acceptedOf}
 use Rattle.label_events.specs.Ack.{ackedAt, ackedOf}
-use Rattle.label_events.specs.Change.{codeIn, codeAt, changeAt, changeWith, changed, changeOf}
-use Rattle.label_events.specs.Receive.{receivedChange, everyReceived, receivedWith, receivedOf}
-use Rattle.label_events.specs.Requests.{endedAt, roomAt}
+use Rattle.label_events.specs.Change.{codeIn, codeAt, changeAt, changeWith, changed, changeOf, placedAt}
+use Rattle.label_events.specs.Reach.{Reach, Those, Label, Nothing}
+use Rattle.label_events.specs.Receive.{receivedChange, everyReceived, receivedWith, receivedOf, movesBy, receptionOf}
+use Rattle.label_events.specs.Requests.{endedAt, roomAt, whereFree}
 use Rattle.label_meaning.specs.Event.{LabelEvent, Accepted, Acked, Received, Asked, Ended, Broken, afterEvent}
 use Rattle.label_meaning.specs.Valid.{WordInRange, IsValid}
 use Rattle.label_meaning.specs.View.{CodeIs, listed, absent, Effect}
-use Rattle.label_meaning.proofs.Effect.{FreeAt, free-first, keep-effect, effect-found, change-effect}
+use Rattle.label_meaning.proofs.Effect.{FreeAt, free-first, keep-effect, effect-found, change-effect, effect-placed}
 use Rattle.label_meaning.proofs.Meaning.{stands-range, valid-means, means-valid}
 use Rattle.label_meaning.proofs.Proper.{Proper, accepted-proper, acked-proper, received-proper}
-use Rattle.label_meaning.proofs.Swept.{sweep-valid}
+use Rattle.label_meaning.proofs.Swept.{sweep-valid, reach-valid}
 use Rattle.label_meaning.proofs.Unlisted.{LabelsStay, stay-code, stay-effect, ended-stays, asked-stays}
 use Rattle.label_meaning.proofs.View.{found-none, code-is}
 
@@ -54,11 +58,13 @@ code-proper words s l = is-proper (code-is words s l)
 room : (x : Change) → (x ≡ NoRoom) ⊎ (x ≢ NoRoom)
 room Keep = inr (λ e. let z : _≡_ {A = ℕ} 0 1 = cc in omega arith)
 room (Put i w) = inr (λ e. let z : _≡_ {A = ℕ} 0 1 = cc in omega arith)
+room (Move i j w) = inr (λ e. let z : _≡_ {A = ℕ} 0 1 = cc in omega arith)
 room NoRoom = inl refl
 
 has-room : (x : Change) → acceptanceOf x ≡ Acceptance.Taken → x ≢ NoRoom
 has-room Keep e z = no cc
 has-room (Put i w) e z = no cc
+has-room (Move i j w) e z = no cc
 has-room NoRoom e z = no cc
 
 -- A message of ours that is allowed, with room for it.
@@ -143,6 +149,9 @@ module _ (words : List ℕ) (v : IsValid words) where
     listed-effect : (place : Found) → codeAt words s l ≢ 0 → (listable l ≡ true) × Effect words (changed words (changeWith words place s l n)) s l n
     listed-effect place = listed-found (findOf (standsFor s l) words) place refl
 
+  pub listed-may : (s : Side) (l : ℕ) → codeAt words s l ≢ 0 → listable l ≡ true
+  listed-may s l h = listed-effect s l 0 (inl refl) Nowhere h .0
+
   pub accepted-listed : (m : LabelMessage) (l n : ℕ) → codeAt words (sentSide m) l ≢ 0 → codeAccepted m (codeAt words (sentSide m) l) ≡ Code n → Effect words (acceptedOf words m l .1) (sentSide m) l n
   unfolding acceptedOf planOf
   accepted-listed m l n h e =
@@ -167,73 +176,116 @@ module _ (words : List ℕ) (v : IsValid words) where
   acked-effect m l = acked-at m l (findOf (standsFor (sentSide m) l) words) refl
 
   -- a message of the peer's that names its label, where `place` is that of a free word
-  module _ (place : Found) (m : LabelMessage) (p : Bool) (l : ℕ) where
+  module _ (place : Found) (another : Bool) (m : LabelMessage) (p : Bool) (l : ℕ) where
     proper-received : Proper (receivedSide m) (codeReceived m p (codeAt words (receivedSide m) l))
     proper-received = received-proper m p (codeAt words (receivedSide m) l) (code-proper words (receivedSide m) l)
 
-    listed-with : codeAt words (receivedSide m) l ≢ 0
-        → Effect words (receivedWith words place m p (Label l) .1) (receivedSide m) l (codeReceived m p (codeAt words (receivedSide m) l))
-    unfolding receivedWith receivedChange
-    listed-with h =
+    -- of a label that stays where it is no room is asked
+    listed-with : codeAt words (receivedSide m) l ≢ 0 → movesBy m another ≡ false
+        → Effect words (receivedWith words place another m p (Label l) .1) (receivedSide m) l (codeReceived m p (codeAt words (receivedSide m) l))
+    unfolding receivedWith receivedChange placedAt
+    listed-with h stays =
         let listed-l = listed-effect (receivedSide m) l (codeReceived m p (codeAt words (receivedSide m) l)) proper-received place h in
-        rw (listed-l .0) (listed-l .1)
+        rw (listed-l .0, stays) (listed-l .1)
 
-    outcome-with : FreeAt words place → (receivedWith words place m p (Label l) .1 ≡ words)
-        ⊎ Effect words (receivedWith words place m p (Label l) .1) (receivedSide m) l (codeReceived m p (codeAt words (receivedSide m) l))
+    outcome-with : FreeAt words place → (receivedWith words place another m p (Label l) .1 ≡ words)
+        ⊎ Effect words (receivedWith words place another m p (Label l) .1) (receivedSide m) l (codeReceived m p (codeAt words (receivedSide m) l))
     unfolding receivedWith receivedChange changed
     outcome-with free =
         by-test
         (listable l)
-        (λ may. rw may (change-outcome place free (receivedSide m) l (codeReceived m p (codeAt words (receivedSide m) l)) may proper-received))
+        (λ may.
+        let range : (16 ≤ l) × (l ≤ 1048575) = within-range 16 1048575 l may in
+        let code : ℕ = codeReceived m p (codeAt words (receivedSide m) l) in
+        let there : Found = findOf (standsFor (receivedSide m) l) words in
+        rw may
+        (⊎-elim
+        (λ (full : placedAt (movesBy m another) there place l code ≡ NoRoom). inl (rw full))
+        (λ (has : placedAt (movesBy m another) there place l code ≢ NoRoom).
+        inr (effect-placed words v (receivedSide m) l code (range .0) (omega arith) proper-received (movesBy m another) there place refl free has))
+        (room (placedAt (movesBy m another) there place l code))))
         (λ may. inl (rw may))
 
-  every-valid : (m : LabelMessage) → IsValid (everyReceived m words)
+    -- where it is taken its code is what the rule says
+    taken-with : listable l ≡ true → FreeAt words place → receivedWith words place another m p (Label l) .0 ≡ Reception.Taken
+        → Effect words (receivedWith words place another m p (Label l) .1) (receivedSide m) l (codeReceived m p (codeAt words (receivedSide m) l))
+    unfolding receivedWith receivedChange changed
+    taken-with may free done =
+        let range : (16 ≤ l) × (l ≤ 1048575) = within-range 16 1048575 l may in
+        let code : ℕ = codeReceived m p (codeAt words (receivedSide m) l) in
+        let there : Found = findOf (standsFor (receivedSide m) l) words in
+        let told : receptionOf (placedAt (movesBy m another) there place l code) ≡ Reception.Taken = rw may at done in
+        rw may
+        (effect-placed words v (receivedSide m) l code (range .0) (omega arith) proper-received (movesBy m another) there place refl free
+        (λ (full : placedAt (movesBy m another) there place l code ≡ NoRoom). let z : Reception.NoRoom ≡ Reception.Taken = rw full at told in no cc))
+
+  every-valid : (m : LabelMessage) (reached : ℕ → Bool) → IsValid (everyReceived m reached words)
   unfolding everyReceived
-  every-valid Mapping = v
-  every-valid Withdraw = sweep-valid words v WithdrawAll
-  every-valid Release = sweep-valid words v ReleaseAll
+  every-valid Mapping reached = v
+  every-valid Withdraw reached = reach-valid words v reached WithdrawAll
+  every-valid Release reached = reach-valid words v reached ReleaseAll
+
+-- A spare place that counts is one of a free word.
+spare-is-free : (spare : Found) (words : List ℕ) → FreeAt words (whereFree spare words)
+unfolding isFree
+spare-is-free (At i) words =
+    by-test
+    (both (ltb i (length words)) (eqb (getD words i 0) 0))
+    (λ t.
+    let parts = both-true (ltb i (length words)) (eqb (getD words i 0) 0) t in
+    rw t (ltb-true i (length words) (parts .0), eqb-true (getD words i 0) 0 (parts .1)))
+    (λ f. rw f tt)
+spare-is-free Nowhere words = tt
 
 -- The place that a message of the peer's is given for a new label is one of a free word.
-pub room-is-free : (request : Found) (words : List ℕ) → FreeAt (endedAt request words) (roomAt request words)
+pub room-is-free : (request spare : Found) (words : List ℕ) → FreeAt (endedAt request words) (roomAt request spare words)
 unfolding endedAt roomAt
-room-is-free (At i) words =
+room-is-free (At i) spare words =
     by-test
     (isRequest (getD words i 0))
     (λ t.
     let inside : i < length words = request-inside words i t in
     rw t (rw (length-set words i 0) inside, getD-set-same words i 0 0 inside))
-    (λ f. rw f (free-first words (findOf isFree words) refl))
-room-is-free Nowhere words = free-first words (findOf isFree words) refl
+    (λ f. rw f (spare-is-free spare words))
+room-is-free Nowhere spare words = spare-is-free spare words
 
--- A message of the peer's, with the Request that it ends.
-module _ (words : List ℕ) (v : IsValid words) (request : Found) where
-  stays : LabelsStay words (endedAt request words)
-  stays = ended-stays words v request
+-- A message of the peer's, with what it meets.
+module _ (words : List ℕ) (v : IsValid words) (x : Meets) where
+  stays : LabelsStay words (endedAt (x .request) words)
+  stays = ended-stays words v (x .request)
 
-  pub received-listed : (m : LabelMessage) (p : Bool) (l : ℕ) → codeAt words (receivedSide m) l ≢ 0
-      → Effect words (receivedOf words request m p (Label l) .1) (receivedSide m) l (codeReceived m p (codeAt words (receivedSide m) l))
-  received-listed m p l h =
-      let same : codeAt (endedAt request words) (receivedSide m) l ≡ codeAt words (receivedSide m) l = stay-code stays (receivedSide m) l in
-      rw (← same) (stay-effect stays (listed-with (endedAt request words) (stays .valid) (roomAt request words) m p l (rw same h)))
+  pub received-listed : (m : LabelMessage) (p : Bool) (l : ℕ) → codeAt words (receivedSide m) l ≢ 0 → movesBy m (x .another) ≡ false
+      → Effect words (receivedOf words x m p (Label l) .1) (receivedSide m) l (codeReceived m p (codeAt words (receivedSide m) l))
+  received-listed m p l h still =
+      let same : codeAt (endedAt (x .request) words) (receivedSide m) l ≡ codeAt words (receivedSide m) l = stay-code stays (receivedSide m) l in
+      rw (← same) (stay-effect stays (listed-with (endedAt (x .request) words) (stays .valid) (roomAt (x .request) (x .spare) words) (x .another) m p l (rw same h) still))
 
-  pub received-outcome : (m : LabelMessage) (p : Bool) (l : ℕ) → (receivedOf words request m p (Label l) .1 ≡ endedAt request words)
-      ⊎ Effect words (receivedOf words request m p (Label l) .1) (receivedSide m) l (codeReceived m p (codeAt words (receivedSide m) l))
+  pub received-outcome : (m : LabelMessage) (p : Bool) (l : ℕ) → (receivedOf words x m p (Label l) .1 ≡ endedAt (x .request) words)
+      ⊎ Effect words (receivedOf words x m p (Label l) .1) (receivedSide m) l (codeReceived m p (codeAt words (receivedSide m) l))
   received-outcome m p l =
-      let same : codeAt (endedAt request words) (receivedSide m) l ≡ codeAt words (receivedSide m) l = stay-code stays (receivedSide m) l in
+      let same : codeAt (endedAt (x .request) words) (receivedSide m) l ≡ codeAt words (receivedSide m) l = stay-code stays (receivedSide m) l in
       ⊎-elim
       inl
-      (λ (x : Effect (endedAt request words) (receivedOf words request m p (Label l) .1) (receivedSide m) l (codeReceived m p (codeAt (endedAt request words) (receivedSide m) l))).
-      inr (rw (← same) (stay-effect stays x)))
-      (outcome-with (endedAt request words) (stays .valid) (roomAt request words) m p l (room-is-free request words))
+      (λ (e : Effect (endedAt (x .request) words) (receivedOf words x m p (Label l) .1) (receivedSide m) l (codeReceived m p (codeAt (endedAt (x .request) words) (receivedSide m) l))).
+      inr (rw (← same) (stay-effect stays e)))
+      (outcome-with (endedAt (x .request) words) (stays .valid) (roomAt (x .request) (x .spare) words) (x .another) m p l (room-is-free (x .request) (x .spare) words))
 
-  received-valid : (m : LabelMessage) (p : Bool) (t : Touched) → IsValid (receivedOf words request m p t .1)
+  pub received-taken : (m : LabelMessage) (p : Bool) (l : ℕ) → listable l ≡ true → receivedOf words x m p (Label l) .0 ≡ Reception.Taken
+      → Effect words (receivedOf words x m p (Label l) .1) (receivedSide m) l (codeReceived m p (codeAt words (receivedSide m) l))
+  received-taken m p l may done =
+      let same : codeAt (endedAt (x .request) words) (receivedSide m) l ≡ codeAt words (receivedSide m) l = stay-code stays (receivedSide m) l in
+      rw (← same)
+      (stay-effect stays
+      (taken-with (endedAt (x .request) words) (stays .valid) (roomAt (x .request) (x .spare) words) (x .another) m p l may (room-is-free (x .request) (x .spare) words) done))
+
+  received-valid : (m : LabelMessage) (p : Bool) (t : Reach) → IsValid (receivedOf words x m p t .1)
   unfolding receivedWith
   received-valid m p (Label l) =
       ⊎-elim
-      (λ (same : receivedOf words request m p (Label l) .1 ≡ endedAt request words). rw same (stays .valid))
-      (λ (x : Effect words (receivedOf words request m p (Label l) .1) (receivedSide m) l (codeReceived m p (codeAt words (receivedSide m) l))). x .valid)
+      (λ (same : receivedOf words x m p (Label l) .1 ≡ endedAt (x .request) words). rw same (stays .valid))
+      (λ (e : Effect words (receivedOf words x m p (Label l) .1) (receivedSide m) l (codeReceived m p (codeAt words (receivedSide m) l))). e .valid)
       (received-outcome m p l)
-  received-valid m p Every = every-valid (endedAt request words) (stays .valid) m
+  received-valid m p (Those reached) = every-valid (endedAt (x .request) words) (stays .valid) m reached
   received-valid m p Nothing = stays .valid
 
 pub step-is-valid : (words : List ℕ) → IsValid words → (e : LabelEvent) → IsValid (afterEvent words e)

@@ -9,7 +9,6 @@ use lib.Dec.{eqb}
 use borrow.Author.Tests.{eqb-true, eq-eqb}
 use Rattle.octets.specs.Pick.{pick, both}
 use Rattle.octets.proofs.Choice.{by-test, both-true, no}
-use Rattle.label_list.specs.declared.Found.{Found}
 use Rattle.label_list.specs.declared.LabelMessage.{LabelMessage}
 use Rattle.label_list.specs.declared.LabelMessage.the-variants.{Mapping, Withdraw, Release}
 use Rattle.label_list.specs.declared.Next.the-variants.{NotAllowed}
@@ -17,11 +16,11 @@ use Rattle.label_list.specs.declared.Side.the-variants.{Given}
 use Rattle.label_list.specs.Rules.{sentSide, codeAccepted}
 use Rattle.label_list.specs.Word.{listable}
 use Rattle.label_events.specs.declared.Acceptance.{Acceptance}
-use Rattle.label_events.specs.declared.Touched.{Touched}
-use Rattle.label_events.specs.declared.Touched.the-variants.{Label, Every, Nothing}
+use Rattle.label_events.specs.declared.Meets.{Meets}
 use Rattle.label_events.specs.Accept.{planOf, acceptedOf}
 use Rattle.label_events.specs.Change.{codeAt}
-use Rattle.label_meaning.specs.Event.{LabelEvent, Accepted, Acked, Received, Asked, Ended, Broken, afterEvent, Touches, named, every, Moves, given, withdrawn, withdraw-acked, back-acked, given-back, withdrawn-back, acked-back}
+use Rattle.label_events.specs.Reach.{Reach, Those, Label, Nothing}
+use Rattle.label_meaning.specs.Event.{LabelEvent, Accepted, Acked, Received, Asked, Ended, Broken, afterEvent, Touches, named, among, Moves, given, withdrawn, withdraw-acked, back-acked, given-back, withdrawn-back, acked-back}
 use Rattle.label_meaning.specs.Valid.{IsValid}
 use Rattle.label_meaning.specs.Withdrawal.{afterEvents, touchesLabel, bringsAck, bringsRelease, ackComes, releaseComes, withdrawnCode, Freed, free-now, free-later, GivenEnds, by-release, by-both, ends-later, offers, withdraws, comes}
 use Rattle.label_meaning.proofs.Life.{move-happens}
@@ -31,16 +30,16 @@ use Rattle.label_meaning.proofs.Step.{step-is-valid}
 -- ---- what an event brings
 data Brought (k : ℕ) : LabelEvent → Type 0 where
   an-ack : Brought k (Acked Withdraw k)
-  a-release : {r : Found} {p : Bool} {t : Touched} → Touches t k → Brought k (Received r Release p t)
+  a-release : {r : Meets} {p : Bool} {t : Reach} → Touches t k → Brought k (Received r Release p t)
   neither : {e : LabelEvent} → bringsAck k e ≡ false → bringsRelease k e ≡ false → Brought k e
 
-touches-true : {t : Touched} {k : ℕ} → Touches t k → touchesLabel t k ≡ true
+touches-true : {t : Reach} {k : ℕ} → Touches t k → touchesLabel t k ≡ true
 touches-true (named {k}) = eq-eqb k k refl
-touches-true every = refl
+touches-true (among y) = y
 
-true-touches : (t : Touched) (k : ℕ) → touchesLabel t k ≡ true → Touches t k
+true-touches : (t : Reach) (k : ℕ) → touchesLabel t k ≡ true → Touches t k
 true-touches (Label l) k e = rw (eqb-true l k e) named
-true-touches Every k e = every
+true-touches (Those reached) k e = among e
 true-touches Nothing k e = absurd (false≢true e)
 
 brought : (k : ℕ) (e : LabelEvent) → Brought k e
@@ -79,7 +78,7 @@ acked-again : {k c d : ℕ} → c ≡ 8 → Moves (Acked Withdraw k) Given k c d
 acked-again z withdraw-acked = omega arith
 acked-again z back-acked = omega arith
 
-released-again : {k c d : ℕ} {r : Found} {p : Bool} {t : Touched} → c ≡ 9 → Moves (Received r Release p t) Given k c d → ⊥
+released-again : {k c d : ℕ} {r : Meets} {p : Bool} {t : Reach} → c ≡ 9 → Moves (Received r Release p t) Given k c d → ⊥
 released-again z (given-back u) = omega arith
 released-again z (withdrawn-back u) = omega arith
 released-again z (acked-back u) = omega arith
@@ -93,15 +92,15 @@ module _ (words : List ℕ) (v : IsValid words) (k : ℕ) where
       (every-move words v e Given k)
 
   acked-at : (a r : Bool) → both a r ≡ false → codeAt words Given k ≡ withdrawnCode a r → codeAt (afterEvent words (Acked Withdraw k)) Given k ≡ withdrawnCode true r
-  acked-at false false n is = move-happens words v withdraw-acked (λ z. omega arith) is
-  acked-at false true n is = move-happens words v back-acked (λ z. omega arith) is
+  acked-at false false n is = move-happens words v withdraw-acked (λ z. omega arith) is tt
+  acked-at false true n is = move-happens words v back-acked (λ z. omega arith) is tt
   acked-at true false n is = stays (Acked Withdraw k) is (acked-again is)
   acked-at true true n is = absurd (true≢false n)
 
-  released-at : (a r : Bool) → both a r ≡ false → codeAt words Given k ≡ withdrawnCode a r → (f : Found) (p : Bool) (t : Touched) → Touches t k
+  released-at : (a r : Bool) → both a r ≡ false → codeAt words Given k ≡ withdrawnCode a r → (f : Meets) (p : Bool) (t : Reach) → Touches t k
       → codeAt (afterEvent words (Received f Release p t)) Given k ≡ withdrawnCode a true
-  released-at false false n is f p t touches = move-happens words v (withdrawn-back touches) (λ z. omega arith) is
-  released-at true false n is f p t touches = move-happens words v (acked-back touches) (λ z. omega arith) is
+  released-at false false n is f p t touches = move-happens words v (withdrawn-back touches) (λ z. omega arith) is tt
+  released-at true false n is f p t touches = move-happens words v (acked-back touches) (λ z. omega arith) is tt
   released-at false true n is f p t touches = stays (Received f Release p t) is (released-again is)
   released-at true true n is f p t touches = absurd (true≢false n)
 
@@ -183,7 +182,7 @@ absent-stays words v k e n is = stays words v k e is (unlisted is n)
 -- a Release frees a label that is given
 given-released : (words : List ℕ) → IsValid words → (k : ℕ) → codeAt words Given k ≡ 1 → (e : LabelEvent) → Brought k e → bringsRelease k e ≡ true → codeAt (afterEvent words e) Given k ≡ 0
 given-released words v k one e an-ack t = absurd (false≢true t)
-given-released words v k one e (a-release touches) t = move-happens words v (given-back touches) (λ z. omega arith) one
+given-released words v k one e (a-release touches) t = move-happens words v (given-back touches) (λ z. omega arith) one tt
 given-released words v k one e (neither x y) t = absurd (true≢false (sym t ∙ y))
 
 -- one that is given stays so until it is withdrawn or released
@@ -294,7 +293,7 @@ given-ends k (e ∷ es) words v one (free-later f) =
   where
     by-move : (e : LabelEvent) → FromGiven k e → Freed k (afterEvent words e) es → GivenEnds k words (e ∷ es)
     by-move e is-withdrawn f =
-        let p = both-true _ _ (freed-both k es (afterEvent words (Accepted Withdraw k)) (step-is-valid words v (Accepted Withdraw k)) false false (move-happens words v withdrawn (λ z. omega arith) one) f) in
+        let p = both-true _ _ (freed-both k es (afterEvent words (Accepted Withdraw k)) (step-is-valid words v (Accepted Withdraw k)) false false (move-happens words v withdrawn (λ z. omega arith) one tt) f) in
         by-both one (p .0) (p .1)
     by-move e (is-released t) f = by-release one t
 
@@ -302,5 +301,5 @@ given-ends k (e ∷ es) words v one (free-later f) =
 pub ends-free : (k : ℕ) (es : List LabelEvent) (words : List ℕ) → IsValid words → GivenEnds k words es → Freed k words es
 ends-free k (e ∷ es) words v (by-release one t) = free-later (free-now (given-released words v k one e (brought k e) t))
 ends-free k (e ∷ es) words v (by-both one a r) =
-    free-later (both-freed k es (afterEvent words (Accepted Withdraw k)) (step-is-valid words v (Accepted Withdraw k)) false false (move-happens words v withdrawn (λ z. omega arith) one) a r)
+    free-later (both-freed k es (afterEvent words (Accepted Withdraw k)) (step-is-valid words v (Accepted Withdraw k)) false false (move-happens words v withdrawn (λ z. omega arith) one tt) a r)
 ends-free k (e ∷ es) words v (ends-later f) = free-later (ends-free k es (afterEvent words e) (step-is-valid words v e) f)

@@ -2,6 +2,7 @@
 use Prim.Native.Nat.{ℕ}
 use mathlib.Core.Bool.{Bool, true, false}
 use mathlib.Core.List.{List}
+use mathlib.Core.Path.{_≡_}
 use Rattle.label_list.specs.declared.Found.{Found}
 use Rattle.label_list.specs.declared.LabelMessage.{LabelMessage}
 use Rattle.label_list.specs.declared.LabelMessage.the-variants.{Mapping, Withdraw, Release}
@@ -10,20 +11,21 @@ use Rattle.label_list.specs.declared.Side.the-variants.{Given, Used}
 use Rattle.label_list.specs.declared.SweepRule.the-variants.{AfterBreak}
 use Rattle.label_list.specs.Sweep.{sweptOf}
 use Rattle.label_list.specs.Word.{withoutProtection}
-use Rattle.label_events.specs.declared.Touched.{Touched}
-use Rattle.label_events.specs.declared.Touched.the-variants.{Label, Every}
+use Rattle.label_events.specs.declared.Meets.{Meets}
 use Rattle.label_events.specs.Accept.{acceptedOf}
 use Rattle.label_events.specs.Ack.{ackedOf}
 use Rattle.label_events.specs.Change.{changed}
+use Rattle.label_events.specs.Reach.{Reach, Label, Those}
 use Rattle.label_events.specs.Receive.{receivedOf}
 use Rattle.label_events.specs.Requests.{askedChange, endedAt}
 
--- a message of ours is accepted for sending or released by an ACK, one of the peer's is received (the place of the Request that it ends; the Bool: protected),
--- a Request of ours is accepted under an ID that is not open, one is ended at a place (by its Abort, or by a Notification), a connection ends
+-- a message of ours is accepted for sending or released by an ACK, one of the peer's is received (what it meets beside the words; the
+-- Bool: protected), a Request of ours is accepted under an ID that is not open, one is ended at a place (by its Abort, or by a
+-- Notification), a connection ends
 pub data LabelEvent : Type 0 where
   Accepted : LabelMessage → ℕ → LabelEvent
   Acked : LabelMessage → ℕ → LabelEvent
-  Received : Found → LabelMessage → Bool → Touched → LabelEvent
+  Received : Meets → LabelMessage → Bool → Reach → LabelEvent
   Asked : LabelEvent
   Ended : Found → LabelEvent
   Broken : LabelEvent
@@ -31,15 +33,15 @@ pub data LabelEvent : Type 0 where
 unfoldable pub afterEvent : List ℕ → LabelEvent → List ℕ
 afterEvent words (Accepted message label) = acceptedOf words message label .1
 afterEvent words (Acked message label) = ackedOf words message label
-afterEvent words (Received request message protected touched) = receivedOf words request message protected touched .1
+afterEvent words (Received x message protected reach) = receivedOf words x message protected reach .1
 afterEvent words Asked = changed words (askedChange words)
 afterEvent words (Ended request) = endedAt request words
 afterEvent words Broken = sweptOf words AfterBreak
 
 -- the labels that a received message touches
-pub data Touches : Touched → ℕ → Type 0 where
+pub data Touches : Reach → ℕ → Type 0 where
   named : {k : ℕ} → Touches (Label k) k
-  every : {k : ℕ} → Touches Every k
+  among : {reached : ℕ → Bool} {k : ℕ} → reached k ≡ true → Touches (Those reached) k
 
 -- an event moves a label on a side from a code to a code; 0: absent. A Request asked or ended moves none
 pub data Moves : LabelEvent → Side → ℕ → ℕ → ℕ → Type 0 where
@@ -53,15 +55,15 @@ pub data Moves : LabelEvent → Side → ℕ → ℕ → ℕ → Type 0 where
   back-acked : {k : ℕ} → Moves (Acked Withdraw k) Given k 9 0
   release-acked : {k : ℕ} → Moves (Acked Release k) Used k 5 0
   -- "Received: Mapping protected, absent or 3 or 5 becomes 3 ..; unprotected, absent becomes 6"
-  taken : {k : ℕ} {r : Found} → Moves (Received r Mapping true (Label k)) Used k 0 3
-  taken-again : {k : ℕ} {r : Found} → Moves (Received r Mapping true (Label k)) Used k 5 3
-  taken-bare : {k : ℕ} {r : Found} → Moves (Received r Mapping false (Label k)) Used k 0 withoutProtection
+  taken : {k : ℕ} {r : Meets} → Moves (Received r Mapping true (Label k)) Used k 0 3
+  taken-again : {k : ℕ} {r : Meets} → Moves (Received r Mapping true (Label k)) Used k 5 3
+  taken-bare : {k : ℕ} {r : Meets} → Moves (Received r Mapping false (Label k)) Used k 0 withoutProtection
   -- "Withdraw: 3 becomes 4; .. 6 becomes free"
-  asked-back : {p : Bool} {t : Touched} {k : ℕ} {r : Found} → Touches t k → Moves (Received r Withdraw p t) Used k 3 4
-  bare-withdrawn : {p : Bool} {t : Touched} {k : ℕ} {r : Found} → Touches t k → Moves (Received r Withdraw p t) Used k withoutProtection 0
+  asked-back : {p : Bool} {t : Reach} {k : ℕ} {r : Meets} → Touches t k → Moves (Received r Withdraw p t) Used k 3 4
+  bare-withdrawn : {p : Bool} {t : Reach} {k : ℕ} {r : Meets} → Touches t k → Moves (Received r Withdraw p t) Used k withoutProtection 0
   -- 02: "A Release at code 1 still frees it"; 2 becomes 9, 8 becomes free
-  given-back : {p : Bool} {t : Touched} {k : ℕ} {r : Found} → Touches t k → Moves (Received r Release p t) Given k 1 0
-  withdrawn-back : {p : Bool} {t : Touched} {k : ℕ} {r : Found} → Touches t k → Moves (Received r Release p t) Given k 2 9
-  acked-back : {p : Bool} {t : Touched} {k : ℕ} {r : Found} → Touches t k → Moves (Received r Release p t) Given k 8 0
+  given-back : {p : Bool} {t : Reach} {k : ℕ} {r : Meets} → Touches t k → Moves (Received r Release p t) Given k 1 0
+  withdrawn-back : {p : Bool} {t : Reach} {k : ℕ} {r : Meets} → Touches t k → Moves (Received r Release p t) Given k 2 9
+  acked-back : {p : Bool} {t : Reach} {k : ℕ} {r : Meets} → Touches t k → Moves (Received r Release p t) Given k 8 0
   -- "code 6 words are freed"
   bare-lost : {k : ℕ} → Moves Broken Used k withoutProtection 0

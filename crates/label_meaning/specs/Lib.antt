@@ -8,3 +8,5 @@ pub mod Earlier
 pub mod Protected
 pub mod Room
 pub mod Requests
+pub mod Entries
+pub mod Exact

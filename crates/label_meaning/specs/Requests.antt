@@ -7,7 +7,7 @@ use Rattle.label_meaning.specs.Event.{LabelEvent, Accepted, Acked, Recei
 abbrev pub endsAt : LabelEvent → Found
 endsAt (Accepted message label) = Nowhere
 endsAt (Acked message label) = Nowhere
-endsAt (Received request message protected touched) = request
+endsAt (Received x message protected reach) = x .request
 endsAt Asked = Nowhere
 endsAt (Ended request) = request
 endsAt Broken = Nowhere

@@ -9,9 +9,8 @@ use Rattle.octets.specs.Pick.{pick, both}
 use Rattle.label_list.specs.declared.LabelMessage.{LabelMessage}
 use Rattle.label_list.specs.declared.LabelMessage.the-variants.{Mapping, Withdraw, Release}
 use Rattle.label_list.specs.declared.Side.the-variants.{Given}
-use Rattle.label_events.specs.declared.Touched.{Touched}
-use Rattle.label_events.specs.declared.Touched.the-variants.{Label, Every, Nothing}
 use Rattle.label_events.specs.Change.{codeAt}
+use Rattle.label_events.specs.Reach.{Reach, Label, Those, Nothing}
 use Rattle.label_meaning.specs.Event.{LabelEvent, Accepted, Acked, Received, Asked, Ended, Broken, afterEvent}
 
 -- the list after a run of events
@@ -19,9 +18,10 @@ abbrev pub afterEvents : List ℕ → List LabelEvent → List ℕ
 afterEvents words [] = words
 afterEvents words (e ∷ es) = afterEvents (afterEvent words e) es
 
-abbrev pub touchesLabel : Touched → ℕ → Bool
+-- `Touches` as a test
+abbrev pub touchesLabel : Reach → ℕ → Bool
 touchesLabel (Label l) k = eqb l k
-touchesLabel Every k = true
+touchesLabel (Those reached) k = reached k
 touchesLabel Nothing k = false
 
 abbrev pub isMapping : LabelMessage → Bool
@@ -43,16 +43,16 @@ isRelease Release = true
 abbrev pub bringsAck : ℕ → LabelEvent → Bool
 bringsAck k (Accepted message label) = false
 bringsAck k (Acked message label) = both (isWithdraw message) (eqb label k)
-bringsAck k (Received request message protected touched) = false
+bringsAck k (Received x message protected reach) = false
 bringsAck k Asked = false
 bringsAck k (Ended request) = false
 bringsAck k Broken = false
 
--- the event is a Release of the label, by its name or under the wildcard
+-- the event is a Release of the label, by its name, under its prefix or under the wildcard
 abbrev pub bringsRelease : ℕ → LabelEvent → Bool
 bringsRelease k (Accepted message label) = false
 bringsRelease k (Acked message label) = false
-bringsRelease k (Received request message protected touched) = both (isRelease message) (touchesLabel touched k)
+bringsRelease k (Received x message protected reach) = both (isRelease message) (touchesLabel reach k)
 bringsRelease k Asked = false
 bringsRelease k (Ended request) = false
 bringsRelease k Broken = false
@@ -61,7 +61,7 @@ bringsRelease k Broken = false
 abbrev pub offers : ℕ → LabelEvent → Bool
 offers k (Accepted message label) = both (isMapping message) (eqb label k)
 offers k (Acked message label) = false
-offers k (Received request message protected touched) = false
+offers k (Received x message protected reach) = false
 offers k Asked = false
 offers k (Ended request) = false
 offers k Broken = false
@@ -70,7 +70,7 @@ offers k Broken = false
 abbrev pub withdraws : ℕ → LabelEvent → Bool
 withdraws k (Accepted message label) = both (isWithdraw message) (eqb label k)
 withdraws k (Acked message label) = false
-withdraws k (Received request message protected touched) = false
+withdraws k (Received x message protected reach) = false
 withdraws k Asked = false
 withdraws k (Ended request) = false
 withdraws k Broken = false

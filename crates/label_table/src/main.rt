@@ -9,6 +9,7 @@ ghost use Rattle.label_events.specs.Protect.{protectionNumber};
 ghost use Rattle.label_events.specs.Receive.{receptionNumber};
 use ft_number::MessageId;
 use label_events::Acceptance;
+use label_events::Meets;
 use label_events::Reception;
 use label_events::Touched;
 use label_list::Found;
@@ -18,6 +19,7 @@ use label_list::Protection;
 use label_list::REQUEST_WORD;
 use label_list::SweepRule;
 use label_list::WORD_COUNT;
+use label_list::Wanted;
 
 const STDOUT: i32 = 1;
 
@@ -70,7 +72,8 @@ fn protection_number(verdict: Protection) -> u32
     }
 }
 
-// The protection is judged first; a message whose protection is missing or wrong is not received. It answers the Request at the place `request`.
+// The protection is judged first; a message whose protection is missing or wrong is not received. It answers the Request at the place `request`, and
+// its FEC has the entry of its label: every FEC here is another than a prefix.
 fn receive(
     words: &mut [u32],
     request: Found,
@@ -79,8 +82,10 @@ fn receive(
     touched: Touched,
 ) -> u32 {
     let place = label_events::received_place(words, message, touched);
+    let entries = [0u64; WORD_COUNT];
     let refusal = protection_number(label_events::judge_protection(
         words,
+        &entries,
         place,
         message,
         protected,
@@ -89,7 +94,15 @@ fn receive(
     if refusal != 0 {
         return refusal;
     }
-    reception_number(label_events::receive(words, place, request, message, protected, touched))
+    let spare = label_list::find(words, Wanted::Free);
+    let meets = Meets {
+        request: request,
+        spare: spare,
+        another: false,
+    };
+    let receipt = label_events::receive(words, &entries, place, meets, message, protected, touched);
+    let reception = receipt.reception;
+    reception_number(reception)
 }
 
 // The answer's number; 0 where the event has no answer.

@@ -6,9 +6,10 @@ ghost use Rattle.image.specs.Extend.{extendVerdict, extendOf};
 ghost use Rattle.convert.specs.Convert.{convertOf};
 ghost use Rattle.image_numbers.specs.Contents.{summaryOf, wordsShown, wordsOf, heldOf, ShowsHeld};
 ghost use Rattle.image_numbers.specs.Converting.{convertedShown, conversionShown};
-ghost use Rattle.image_numbers.specs.Stored.{checkNumber, labelAt, openRequest, extendedNumbers};
+ghost use Rattle.image_numbers.specs.Stored.{checkNumber, labelAt, openRequest, prefixAt, extendedNumbers};
 use image_numbers::ConvertedNumbers;
 use image_numbers::ExtendedNumbers;
+use image_numbers::PrefixNumbers;
 use image_numbers::RequestNumbers;
 use image_numbers::SummaryNumbers;
 use image_numbers::WordsNumbers;
@@ -58,8 +59,15 @@ pub extern "C" fn ldp_ft_request_at(image: &[u8], place: u32) -> RequestNumbers
 }
 
 #[no_mangle]
+pub extern "C" fn ldp_ft_prefix_at(image: &[u8], place: u32) -> PrefixNumbers
+    ensures { λ r. ⌜ r ≡ prefixAt (now (image .entry)) place ⌝ }
+{
+    image_numbers::prefix_at(image, place)
+}
+
+#[no_mangle]
 pub extern "C" fn ldp_ft_extend(image: &mut [u8], stored: usize) -> ExtendedNumbers
-    ensures { λ r. ⌜ (r ≡ extendedNumbers (extendVerdict (now (image .entry)) stored)) × (now (image .exit) ≡ extendOf (now (image .entry)) stored) ⌝ }
+    ensures { λ r. ⌜ (r ≡ extendedNumbers (extendVerdict (now (image .entry)) stored) stored) × (now (image .exit) ≡ extendOf (now (image .entry)) stored) ⌝ }
 {
     image_numbers::extend(image, stored)
 }

@@ -1,20 +1,24 @@
 -- A message read, by the tests and the calls of the code. Assumes nothing.
-use Prim.Native.Nat.{ℕ, _≤_}
+use Prim.Native.Nat.{ℕ, _+_, _≤_}
 use mathlib.Core.Bool.{Bool, true, false, not}
 use mathlib.Core.List.{List}
 use mathlib.Core.Path.{_≡_, refl, sym, _∙_, ap}
 use lib.ListN.{length}
 use borrow.Author.Tests.{not-true, not-false}
+use Rattle.octets.specs.Be.{beAt}
 use Rattle.octets.proofs.Choice.{no, cleared}
+use Rattle.tlv.specs.declared.Fec.{Fec}
 use Rattle.tlv.specs.declared.Found.{Found}
 use Rattle.tlv.specs.declared.walk.Walk.{Walk}
-use Rattle.tlv.specs.Value.{Places}
+use Rattle.tlv.specs.Element.{entryBy}
+use Rattle.tlv.specs.Value.{Within, Places, fecAt}
 use Rattle.tlv.specs.Walk.{headSize, tlvsOf}
 use Rattle.tlv.proofs.Places.{places}
 use Rattle.message.specs.declared.Message.{Message}
 use Rattle.message.specs.declared.MessageType.{MessageType}
 use Rattle.message.specs.declared.Reading.{Reading}
 use Rattle.message.specs.Reading.{typeOf, numberIn, bearsOf, placesBy, placesOf, messageOf, readingBy, readingOf}
+use Rattle.message.specs.Submission.{entryIn}
 
 -- the places of a well-formed message's TLVs
 module _ (m : List ℕ) (w : Walk) (wq : w ≡ tlvsOf m) where
@@ -65,3 +69,19 @@ module _ (m : List ℕ) (w : Walk) (wq : w ≡ placesOf m) where
     reading-whole g gq = ap Reading.Whole gq ∙ ap (readingBy m) (sym e ∙ wq)
 
 pub ruleset readings = (reading-malformed, reading-places, reading-whole)
+
+-- the entry of its FEC
+module _ (m : List ℕ) (w : Walk) (wq : w ≡ placesOf m) where
+  pub entry-malformed : w ≡ Walk.Malformed → 0 ≡ entryIn m
+  unfolding entryIn readingOf
+  entry-malformed e = simp (sym wq ∙ e)
+
+  module _ (f : Found) (e : w ≡ Walk.Whole f) where
+    pub entry-within : Within m (f .fec) (beAt 2 m (f .fec + 2))
+    entry-within = reading-places m w wq f e .fec
+
+    pub entry-whole : (fec : Fec) → fec ≡ fecAt m (f .fec) → (n : ℕ) → n ≡ entryBy fec → n ≡ entryIn m
+    unfolding entryIn readingOf messageOf
+    entry-whole fec fq n nq = nq ∙ simp (fq, sym wq ∙ e)
+
+pub ruleset entries = (entry-malformed, entry-within, entry-whole)

@@ -1,4 +1,4 @@
--- Submit's answers 4 and 5 as one judgement.
+-- Submit's answers 4 and 5 as one judgement, and the entry of a submitted message's FEC.
 -- 01: "4: malformed submission or PDU. 5: submitted kind not 1 to 6, FT TLV present, or kinds 1-3 without a label"; with 02's kinds, 1 to 9.
 use Prim.Native.Nat.{ℕ}
 use mathlib.Core.Bool.{Bool, not}
@@ -7,6 +7,7 @@ use lib.Dec.{eqb}
 use Rattle.octets.specs.Pick.{pick, both}
 use Rattle.tlv.specs.declared.Field.{Field}
 use Rattle.tlv.specs.declared.Found.{Found}
+use Rattle.tlv.specs.Element.{entryBy}
 use Rattle.message.specs.declared.Kind.{Kind}
 use Rattle.message.specs.declared.Reading.{Reading}
 use Rattle.message.specs.declared.Submission.{Submission}
@@ -49,3 +50,11 @@ submissionByReading (Reading.Whole g) = pick (bearsFt (g .found)) Submission.Ref
 
 unfoldable pub submissionOf : List ℕ → Submission
 submissionOf m = submissionByReading (readingOf m)
+
+-- 02: the entry of its FEC; a malformed message is answered 4, and has none
+abbrev pub entryByReading : Reading → ℕ
+entryByReading Reading.Malformed = 0
+entryByReading (Reading.Whole g) = entryBy (g .fec)
+
+unfoldable pub entryIn : List ℕ → ℕ
+entryIn m = entryByReading (readingOf m)

@@ -6,7 +6,7 @@ ghost use Rattle.tlv.specs.Value.{Places};
 ghost use Rattle.tlv.specs.Walk.{headSize};
 ghost use Rattle.message.specs.Kinds.{fatalOf, statusCode, notificationKind, abortKind, kindFor, kindOf, kindNumber};
 ghost use Rattle.message.specs.Reading.{typeOf, numberIn, idIn, bearsOf, placesOf, messageOf, readingOf};
-ghost use Rattle.message.specs.Submission.{bearsFt, submissionOf};
+ghost use Rattle.message.specs.Submission.{bearsFt, submissionOf, entryIn};
 use ft_number::MessageId;
 pub use tlv::Fec;
 pub use tlv::Field;
@@ -16,6 +16,7 @@ pub use tlv::IdField;
 pub use tlv::Parameters;
 pub use tlv::Part;
 pub use tlv::Session;
+use tlv::element;
 use tlv::value;
 use tlv::walk;
 
@@ -316,5 +317,15 @@ pub fn judge_submission(m: &[u8]) -> Submission
             }
             Submission::Accepted(kind, octets::get_u32(m, label + 4))
         }
+    }
+}
+
+// The entry of a message's FEC: of the message's values that one alone is read. 0 for one that is malformed.
+pub fn entry_in(m: &[u8]) -> u64
+    ensures { λ r. ⌜ r ≡ entryIn (now (m .entry)) ⌝ }
+{
+    match places_in(m) {
+        walk::Walk::Malformed => 0,
+        walk::Walk::Whole(found) => element::entry_by(value::fec_at(m, found.fec)),
     }
 }

@@ -7,20 +7,23 @@ use native.Mathlib.Nat.{add-zero}
 use native.Mathlib.Omega.{arith}
 use lib.Dec.{eqb}
 use lib.ListN.{length}
+use lib.Seq.{ext-getD}
 use borrow.Author.Tests.{eq-eqb, ne-eqb, eqb-true}
 use Rattle.octets.specs.Be.{beAt, bytes}
+use Rattle.octets.specs.Part.{part}
 use Rattle.octets.specs.Pick.{pick}
 use Rattle.octets.proofs.Bytes.{beAt-behind}
 use Rattle.octets.proofs.Choice.{where-same}
+use Rattle.octets.proofs.Part.{length-part, part-at, part-inside}
 use Rattle.ft_number.specs.declared.FtNumber.{FtNumber}
 use Rattle.ft_number.specs.declared.Timeout.{Timeout}
-use Rattle.tlv.specs.declared.Fec.{Fec}
 use Rattle.tlv.specs.declared.Field.{Field}
 use Rattle.tlv.specs.declared.Found.{Found}
 use Rattle.tlv.specs.declared.FtField.{FtField}
 use Rattle.tlv.specs.declared.Session.{Session}
 use Rattle.tlv.specs.declared.walk.Tlv.{Tlv}
 use Rattle.tlv.specs.declared.walk.Walk.{Walk}
+use Rattle.tlv.specs.Element.{fecOf}
 use Rattle.tlv.specs.Tlv.{tlvOf, publishedLength, lengthFits, headOf, labelValue, protectionType, ackType}
 use Rattle.tlv.specs.Value.{Within, Places, partAt, fecAt, fieldAt, numberAt, idAt, parametersAt, topBit, timeoutAt, sessionAt}
 use Rattle.tlv.specs.Walk.{placeOf, placedOf, notedOf, turnOf, walkOf, headSize, tlvsOf}
@@ -33,7 +36,7 @@ use Rattle.message.proofs.Laws.{Whole, whole, whole-head, NoFt}
 use Rattle.message_writer.specs.Forms.{tlvBytes, ackTlv, raisedTo, raised, ftTlvs, protectedBytes}
 use Rattle.message_writer.specs.ReadBack.{AckFits, ftPlaces, protectedPlaces, withFt, protectedMessage}
 use Rattle.message_writer.proofs.Append.{walk-append}
-use Rattle.message_writer.proofs.Puts.{length-raisedTo}
+use Rattle.message_writer.proofs.Puts.{length-raisedTo, length-raised}
 use Rattle.message_writer.proofs.Raised.{bytes-read, raised-field, raised-number, raised-walk}
 
 walk-nil : (at : ℕ) (f : Found) → walkOf at [] f ≡ Walk.Whole f
@@ -108,17 +111,22 @@ module _ (m t : List ℕ) (same : (w at : ℕ) → headSize ≤ at → at + w �
         let a : beAt 4 t (p + 4) ≡ beAt 4 m (p + 4) = value-same 4 0 within z in
         rw a (ap (Session.Given (topBit (beAt 4 m (p + 4)))) (timeout-same within z)))
 
-    fec-same : fecAt t p ≡ fecAt m p
+    fec-same : length m ≤ length t → fecAt t p ≡ fecAt m p
     unfolding fecAt
-    fec-same =
-        where-same p 0 _ _ (λ z. ap (λ (n : ℕ). pick (eqb n 1) (pick (eqb (beAt 1 t (p + 4)) 1) Fec.Wildcard Fec.Other) Fec.Other) (length-same z) ∙ by-length (eqb (beAt 2 m (p + 2)) 1) z refl)
+    fec-same long = where-same p 0 _ _ (λ z. ap fecOf (value-part z))
       where
-        by-length : (b : Bool) → (p ≡ 0 → ⊥) → eqb (beAt 2 m (p + 2)) 1 ≡ b
-            → pick b (pick (eqb (beAt 1 t (p + 4)) 1) Fec.Wildcard Fec.Other) Fec.Other ≡ pick b (pick (eqb (beAt 1 m (p + 4)) 1) Fec.Wildcard Fec.Other) Fec.Other
-        by-length false z q = refl
-        by-length true z q =
-            ap (λ (x : ℕ). pick (eqb x 1) Fec.Wildcard Fec.Other)
-            (same 1 (p + 4) (omega (arith, lies z .after)) (omega (arith, lies z .within, eqb-true (beAt 2 m (p + 2)) 1 q)))
+        value-part : (p ≡ 0 → ⊥) → part t (p + 4) (p + 4 + beAt 2 t (p + 2)) ≡ part m (p + 4) (p + 4 + beAt 2 m (p + 2))
+        value-part z =
+            let n : ℕ = beAt 2 m (p + 2) in
+            let end : p + 4 + n ≤ length m = omega (arith, lies z .within) in
+            rw (length-same z)
+            (ext-getD 0 (part t (p + 4) (p + 4 + n)) (part m (p + 4) (p + 4 + n))
+            (length-part t (p + 4) (p + 4 + n) (omega arith) ∙ sym (length-part m (p + 4) (p + 4 + n) end))
+            (λ i l.
+            let inside : i < p + 4 + n - (p + 4) = part-inside t (p + 4) (p + 4 + n) i l in
+            part-at t (p + 4) (p + 4 + n) i inside
+            ∙ same 1 (p + 4 + i) (omega (arith, lies z .after)) (omega arith)
+            ∙ sym (part-at m (p + 4) (p + 4 + n) i inside)))
 
 -- an FT number behind the message
 ft-number : (m t : List ℕ) (n : FtNumber) (at : ℕ) → 8 ≤ length m → n .0 < 256 ^ 4 → beAt 4 t (at + 4) ≡ beAt 4 (bytes 4 (n .0)) 0
@@ -155,7 +163,7 @@ module _ (m t : List ℕ) (f : Found) (e : tlvsOf m ≡ Walk.Whole f) (n : FtNum
         id,
         acked,
         protected,
-        fec-same m (raised m t) same Tlv.Fec (f .fec) (l .fec),
+        fec-same m (raised m t) same Tlv.Fec (f .fec) (l .fec) (omega (arith, length-raised m head t)),
         part-same m (raised m t) same Tlv.Fec (f .fec) (l .fec),
         field-same m (raised m t) same Tlv.Label (f .label) (l .label) (w .label),
         field-same m (raised m t) same Tlv.Status (f .status) (l .status) (λ z. omega (arith, w .status z)),

@@ -18,8 +18,8 @@ use Rattle.protocol.specs.declared.Answer.{Answer}
 use Rattle.protocol.specs.declared.Phase.{Phase}
 use Rattle.protocol.specs.declared.Progress.{Progress}
 use Rattle.protocol.specs.Acked.{acked}
-use Rattle.protocol.specs.Cases.{mayReceive, wordsAfter, Heard, AckRight, ProtectionRight, TurnRight, Takes, Case, wrong-phase, malformed, an-init, fatal, ft-tlv, passed-on, zero-number, wrong-ack, missing, wrong, out-of-turn, no-word, taken, tableAfter}
-use Rattle.protocol.specs.Labels.{labelEffect, isProtected, protectionRule, effectReception, answeredAt}
+use Rattle.protocol.specs.Cases.{mayReceive, Heard, AckRight, ProtectionRight, TurnRight, Takes, Case, wrong-phase, malformed, an-init, fatal, ft-tlv, passed-on, zero-number, wrong-ack, missing, wrong, out-of-turn, no-word, taken, tableAfter}
+use Rattle.protocol.specs.Labels.{labelEffect, isProtected, protectionRule, effectReception, meets}
 use Rattle.protocol.specs.Receive.{ackRule, ackOn, ftRule, receiveRule, isFatal, messageRule, plainRule, isZero, turnBorne, turnRule, receptionRule, protectedRule, labelsRule, readRule, ackCount}
 use Rattle.protocol.specs.Received.{isInit}
 use Rattle.protocol.specs.State.{State}
@@ -40,7 +40,7 @@ module _ (s : State) (u : Progress) (g : Message) where
   abbrev Here : Answer → Type 0
   Here a = Case s (Phase.UpFT u) (Reading.Whole g) a
 
-  room-case : {k : ℕ} → TurnRight s (u .resumed) g k → (r : Reception) → effectReception (wordsAfter s k) (answeredAt (tableAfter s k) g) (isProtected (g .protection)) (labelEffect g) ≡ r → Here (receptionRule r)
+  room-case : {k : ℕ} → TurnRight s (u .resumed) g k → (r : Reception) → effectReception (tableAfter s k) (meets (s .table .words) (tableAfter s k) g) (isProtected (g .protection)) (labelEffect g) ≡ r → Here (receptionRule r)
   room-case t Reception.Taken e = taken (record { turn = t; room = e })
   room-case t Reception.NoRoom e = no-word t e
 
@@ -53,19 +53,19 @@ module _ (s : State) (u : Progress) (g : Message) where
   turn-number (FtField.Number n) z e = absurd (eqb-false (n .0) 0 z (turn-is-zero (u .resumed) (s .secured .0) (n .0) e))
 
   turn-case : {k : ℕ} → ProtectionRight s g k → (t : Turn) → turn ≡ t
-      → Here (turnRule t (receptionRule (effectReception (wordsAfter s k) (answeredAt (tableAfter s k) g) (isProtected (g .protection)) (labelEffect g))))
-  turn-case {k} p (Turn.InTurn n) e = room-case (record { protection = p; leftout = n; turn = e }) (effectReception (wordsAfter s k) (answeredAt (tableAfter s k) g) (isProtected (g .protection)) (labelEffect g)) refl
+      → Here (turnRule t (receptionRule (effectReception (tableAfter s k) (meets (s .table .words) (tableAfter s k) g) (isProtected (g .protection)) (labelEffect g))))
+  turn-case {k} p (Turn.InTurn n) e = room-case (record { protection = p; leftout = n; turn = e }) (effectReception (tableAfter s k) (meets (s .table .words) (tableAfter s k) g) (isProtected (g .protection)) (labelEffect g)) refl
   turn-case p Turn.OutOfTurn e = out-of-turn p e
   turn-case p Turn.ZeroNumber e = turn-number (g .protection) (p .ack .nonzero) e
 
-  protection-case : {k : ℕ} → AckRight s g k → (p : Protection) → protectionRule (wordsAfter s k) g ≡ p → Here (protectedRule (tableAfter s k) turn g p)
+  protection-case : {k : ℕ} → AckRight s g k → (p : Protection) → protectionRule (tableAfter s k) g ≡ p → Here (protectedRule (s .table .words) (tableAfter s k) turn g p)
   protection-case a Protection.Missing e = missing a e
   protection-case a Protection.Wrong e = wrong a e
   protection-case a Protection.Right e = turn-case (record { ack = a; right = e }) turn refl
 
   ack-case : Heard g → isZero (g .protection) ≡ false → (x : Ack) → ackOn s g ≡ x → Here (ackRule s (u .resumed) g x)
   unfolding acked labelsRule
-  ack-case h z (Ack.Releases k) e = protection-case (record { heard = h; nonzero = z; acks = e }) (protectionRule (wordsAfter s k) g) refl
+  ack-case h z (Ack.Releases k) e = protection-case (record { heard = h; nonzero = z; acks = e }) (protectionRule (tableAfter s k) g) refl
   ack-case h z Ack.SequenceError e = wrong-ack h z e
 
   zero-case : Heard g → (b : Bool) → isZero (g .protection) ≡ b → Here (pick b Answer.ZeroNumber (ackRule s (u .resumed) g (ackOn s g)))
@@ -119,7 +119,7 @@ alike s Phase.Failed rd x e f = absurd (false≢true e)
 
 -- past 30 and 34 the labels are judged, as the ACK leaves them
 acked-rule : (s : State) (u : Progress) (g : Message) (k : ℕ) → AckRight s g k
-    → receiveRule s (Phase.UpFT u) (Reading.Whole g) ≡ protectedRule (tableAfter s k) (turnBorne (u .resumed) (s .secured .0) (g .protection)) g (protectionRule (wordsAfter s k) g)
+    → receiveRule s (Phase.UpFT u) (Reading.Whole g) ≡ protectedRule (s .table .words) (tableAfter s k) (turnBorne (u .resumed) (s .secured .0) (g .protection)) g (protectionRule (tableAfter s k) g)
 unfolding ftRule messageRule labelsRule acked
 acked-rule s u g k a = rw (a .heard .another, a .heard .mild, a .nonzero, a .acks)
 

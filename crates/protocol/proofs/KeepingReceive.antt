@@ -33,9 +33,9 @@ borne-width : (s : State) → s .released .0 < 4294967296 → (f : FtField) → 
 borne-width s l FtField.Absent w = l
 borne-width s l (FtField.Number a) w = w a refl
 
-taken-issued : (s : State) (g : Message) → issuedCount (taken s g) ≡ issuedCount s
+taken-issued : (old : List ℕ) (s : State) (g : Message) → issuedCount (taken old s g) ≡ issuedCount s
 unfolding issuedCount taken
-taken-issued s g = refl
+taken-issued old s g = refl
 
 module _ (s : State) (law : Lawful s) (u : Progress) (fits : phaseFits (Phase.UpFT u) s ≡ true) (g : Message) (w : Widths g) where
   up : (s .kept ≡ true) × (u .sent ≤ issuedCount s)
@@ -49,7 +49,7 @@ module _ (s : State) (law : Lawful s) (u : Progress) (fits : phaseFits (Phase.Up
   unfolding receivedState ackOn
   received-issued k e =
       let a : ℕ = ackBorne s (g .ack) in
-      rw e (taken-issued (acked s k a) g ∙ ack-issued s (law .window) a k e (law .released) (law .issued) borne (law .few))
+      rw e (taken-issued (s .table .words) (acked s k a) g ∙ ack-issued s (law .window) a k e (law .released) (law .issued) borne (law .few))
 
   -- and as many fewer count as sent
   received-stands : (k : ℕ) → ackOn s g ≡ Ack.Releases k → LawfulIn (receivedState s g) (receivedPhase s (Phase.UpFT u) g)
@@ -60,7 +60,7 @@ module _ (s : State) (law : Lawful s) (u : Progress) (fits : phaseFits (Phase.Up
       let fewer : issuedCount (receivedState s g) ≡ issuedCount s - k = received-issued k e in
       let fits : phaseFits (upWith (u .resumed) (u .sent - k)) (receivedState s g) ≡ true =
       fits-up (receivedState s g) (u .resumed) (u .sent - k) (up .0) (omega (arith, up .1, fewer)) in
-      rw e (lawful-taken (acked s k a) n (up .0) g (number-width (s .secured) (law .secured) (g .protection) (w .protection)), rw e at fits)
+      rw e (lawful-taken (acked s k a) n (up .0) (s .table .words) g (number-width (s .secured) (law .secured) (g .protection) (w .protection)) (w .entry), rw e at fits)
 
 -- whatever was read
 pub taken-stands : (s : State) (ph : Phase) (m : List ℕ) → LawfulIn s ph → Bytes m → receiveRule s ph (readingOf m) ≡ Answer.Done → LawfulIn (takenAs s ph (readingOf m) .state) (takenAs s ph (readingOf m) .phase)

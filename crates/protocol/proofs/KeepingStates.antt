@@ -14,17 +14,19 @@ use Rattle.label_list.specs.declared.SweepRule.the-variants.{AfterBreak}
 use Rattle.label_list.specs.Counting.{counting}
 use Rattle.label_list.specs.Rules.{codeSwept}
 use Rattle.label_list.specs.Sweep.{wordSwept, sweptOf}
-use Rattle.label_list.specs.Word.{wordOf, isRequest}
+use Rattle.label_list.specs.Word.{onSide, wordOf, isRequest, listsLabel}
+use Rattle.tlv.specs.Element.{entryBy}
 use Rattle.message.specs.declared.Message.{Message}
-use Rattle.message.specs.Submission.{submissionOf}
+use Rattle.message.specs.Submission.{submissionOf, entryIn}
+use Rattle.message.proofs.Widths.{entry-in-width}
 use Rattle.protocol.specs.declared.Answer.{Answer}
 use Rattle.protocol.specs.declared.Phase.{Phase}
 use Rattle.protocol.specs.declared.Terms.{Terms}
 use Rattle.protocol.specs.Acked.{releasedLabels, acked}
 use Rattle.protocol.specs.Init.{fresh, resumed}
-use Rattle.protocol.specs.Labels.{labelEffect, isProtected, answeredAt}
+use Rattle.protocol.specs.Labels.{labelEffect, isProtected, meets}
 use Rattle.protocol.specs.Lawful.{TermsFit, Lawful}
-use Rattle.protocol.specs.Receive.{securedBy, taken, messageLabels}
+use Rattle.protocol.specs.Receive.{securedBy, taken, messageLabels, messageIndex}
 use Rattle.protocol.specs.Send.{numbered}
 use Rattle.protocol.specs.State.{State, held, releasedState}
 use Rattle.protocol.specs.Step.{broken}
@@ -50,6 +52,9 @@ lawful-fresh t f = record {
   width = none-law .beside .width;
   counted = none-law .counted;
   once = none-law .beside .once;
+  index = none-law .beside .index;
+  indexed = none-law .indexed;
+  entries = none-law .beside .entries;
   storable = λ i l. absurd (omega arith);
   idle = λ z. absurd (true≢false z);
 }
@@ -69,6 +74,9 @@ lawful-released = record {
   width = none-law .beside .width;
   counted = none-law .counted;
   once = none-law .beside .once;
+  index = none-law .beside .index;
+  indexed = none-law .indexed;
+  entries = none-law .beside .entries;
   storable = λ i l. absurd (omega arith);
   idle = λ z. refl;
 }
@@ -76,18 +84,19 @@ lawful-released = record {
 module _ (s : State) (law : Lawful s) where
   pub table-lawful : TableLaw (s .table)
   table-lawful = record {
-    beside = record { words = law .words; valid = law .labels; ids = law .ids; width = law .width; once = law .once };
+    beside = record { words = law .words; valid = law .labels; ids = law .ids; width = law .width; once = law .once; index = law .index; entries = law .entries };
     counted = law .counted;
+    indexed = law .indexed;
   }
 
   -- ---- a connection that ends: free words stay free
   broken-idle : s .kept ≡ false → broken s ≡ releasedState
-  unfolding wordSwept wordOf codeSwept counting isRequest
+  unfolding wordSwept wordOf codeSwept counting isRequest listsLabel onSide
   broken-idle z = ap broken (law .idle z)
 
   pub lawful-broken : Lawful (broken s)
   lawful-broken =
-      let v = table-law (sweptOf (s .table .words) AfterBreak) (s .table .ids) (broken-keeps (s .table .ids) (s .table .words) (table-lawful .beside)) in
+      let v = table-law (sweptOf (s .table .words) AfterBreak) (s .table .ids) (s .table .index) (broken-keeps (s .table .ids) (s .table .index) (s .table .words) (table-lawful .beside)) in
       record {
         released = law .released;
         issued = law .issued;
@@ -101,6 +110,9 @@ module _ (s : State) (law : Lawful s) where
         width = v .beside .width;
         counted = v .counted;
         once = v .beside .once;
+        index = v .beside .index;
+        indexed = v .indexed;
+        entries = v .beside .entries;
         storable = law .storable;
         idle = broken-idle;
       }
@@ -110,7 +122,7 @@ module _ (s : State) (law : Lawful s) where
   unfolding submitted
   lawful-submitted ph m byte e =
       let d : Accepted s m = done-accepted s ph m e in
-      let v = accepted-law (s .table) table-lawful (submissionOf m) (id-fits m byte) in
+      let v = accepted-law (s .table) table-lawful (entryIn m) (entry-in-width m byte) (submissionOf m) (id-fits m byte) in
       let more : held (submitted s m) ≡ held s + 1 = length-append (s .queue) (m ∷ []) in
       record {
         released = law .released;
@@ -125,6 +137,9 @@ module _ (s : State) (law : Lawful s) where
         width = v .beside .width;
         counted = v .counted;
         once = v .beside .once;
+        index = v .beside .index;
+        indexed = v .indexed;
+        entries = v .beside .entries;
         storable = queued-storable (s .queue) m (law .storable) (d .storable);
         idle = λ z. absurd (true≢false (sym (d .kept) ∙ z));
       }
@@ -145,6 +160,9 @@ module _ (s : State) (law : Lawful s) where
     width = law .width;
     counted = law .counted;
     once = law .once;
+    index = law .index;
+    indexed = law .indexed;
+    entries = law .entries;
     storable = law .storable;
     idle = λ z. let none : held s ≡ 0 = ap held (law .idle z) in absurd (omega arith);
   }
@@ -153,7 +171,7 @@ module _ (s : State) (law : Lawful s) where
   module _ (a k : ℕ) (la : a < 4294967296) (e : ackOf (s .released .0) (s .issued .0) a ≡ Ack.Releases k) where
     -- of a released state nothing but itself
     acked-idle : s .kept ≡ false → acked s k a ≡ releasedState
-    unfolding acked releasedLabels counting isRequest
+    unfolding acked releasedLabels counting isRequest listsLabel onSide
     acked-idle z =
         let c : Acknowledged (s .released .0) (s .issued .0) a k = ack-releases (s .released .0) (s .issued .0) a k e in
         let r : s .released .0 ≡ 0 = ap (λ (x : State). x .released .0) (law .idle z) in
@@ -165,7 +183,7 @@ module _ (s : State) (law : Lawful s) where
     pub lawful-acked : Lawful (acked s k a)
     unfolding acked
     lawful-acked =
-        let v = table-law (releasedLabels (take k (s .queue)) (s .table .words)) (s .table .ids) (acked-keeps (s .table .ids) (take k (s .queue)) (s .table .words) (table-lawful .beside)) in
+        let v = table-law (releasedLabels (take k (s .queue)) (s .table .words)) (s .table .ids) (s .table .index) (acked-keeps (s .table .ids) (s .table .index) (take k (s .queue)) (s .table .words) (table-lawful .beside)) in
         record {
           released = la;
           issued = law .issued;
@@ -179,6 +197,9 @@ module _ (s : State) (law : Lawful s) where
           width = v .beside .width;
           counted = v .counted;
           once = v .beside .once;
+          index = v .beside .index;
+          indexed = v .indexed;
+          entries = v .beside .entries;
           storable = dropped-storable (s .queue) k (law .storable);
           idle = acked-idle;
         }
@@ -189,11 +210,11 @@ module _ (s : State) (law : Lawful s) (kept : s .kept ≡ true) where
   not-idle z = absurd (true≢false (sym kept ∙ z))
 
   -- a message is taken
-  pub lawful-taken : (g : Message) → securedBy (s .secured) (g .protection) .0 < 4294967296 → Lawful (taken s g)
+  pub lawful-taken : (old : List ℕ) (g : Message) → securedBy (s .secured) (g .protection) .0 < 4294967296 → entryBy (g .fec) < 18446744073709551616 → Lawful (taken old s g)
   unfolding taken
-  lawful-taken g l =
-      let v = table-law (messageLabels (s .table) g) (s .table .ids)
-      (effect-keeps (s .table .ids) (s .table .words) (answeredAt (s .table) g) (isProtected (g .protection)) (labelEffect g) (table-lawful s law .beside)) in
+  lawful-taken old g l w =
+      let v = table-law (messageLabels old (s .table) g) (s .table .ids) (messageIndex old (s .table) g)
+      (effect-keeps (s .table) (meets old (s .table) g) (isProtected (g .protection)) (labelEffect g) (entryBy (g .fec)) w (table-lawful s law .beside)) in
       record {
         released = law .released;
         issued = law .issued;
@@ -207,6 +228,9 @@ module _ (s : State) (law : Lawful s) (kept : s .kept ≡ true) where
         width = v .beside .width;
         counted = v .counted;
         once = v .beside .once;
+        index = v .beside .index;
+        indexed = v .indexed;
+        entries = v .beside .entries;
         storable = law .storable;
         idle = not-idle;
       }
@@ -229,6 +253,9 @@ module _ (s : State) (law : Lawful s) (kept : s .kept ≡ true) where
         width = n .width;
         counted = n .counted;
         once = n .once;
+        index = n .index;
+        indexed = n .indexed;
+        entries = n .entries;
         storable = n .storable;
         idle = not-idle;
       }

@@ -46,6 +46,8 @@ pub mod RequestsSubmitted
 pub mod RequestsReceived
 pub mod MeaningRequests
 pub mod MeaningLife
+pub mod MeaningEntries
+pub mod MeaningExact
 pub mod MeaningMarks
 pub mod Asking
 pub mod Numbered

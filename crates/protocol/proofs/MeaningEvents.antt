@@ -41,17 +41,17 @@ module _ (ls : List ℕ) (v : IsValid ls) (label : ℕ) where
   -- the ACK of a Withdraw is the first of the two for its label of code 2,
   pub withdraw-released : codeAt ls Side.Given label ≡ 2 → codeAt (releasedKind 2 label ls) Side.Given label ≡ 8
   unfolding releasedKind afterEvent
-  withdraw-released two = move-happens ls v withdraw-acked (omega arith) two
+  withdraw-released two = move-happens ls v withdraw-acked (omega arith) two tt
 
   -- and frees that of code 9, whose Release has come
   pub back-released : codeAt ls Side.Given label ≡ 9 → codeAt (releasedKind 2 label ls) Side.Given label ≡ 0
   unfolding releasedKind afterEvent
-  back-released nine = move-happens ls v back-acked (omega arith) nine
+  back-released nine = move-happens ls v back-acked (omega arith) nine tt
 
   -- that of a Release frees its label of code 5
   pub release-released : codeAt ls Side.Used label ≡ 5 → codeAt (releasedKind 3 label ls) Side.Used label ≡ 0
   unfolding releasedKind afterEvent
-  release-released five = move-happens ls v release-acked (omega arith) five
+  release-released five = move-happens ls v release-acked (omega arith) five tt
 
   -- of every other kind nothing changes
   pub other-released : (kind : ℕ) → kind ≢ 2 → kind ≢ 3 → releasedKind kind label ls ≡ ls

@@ -13,32 +13,36 @@ use Rattle.ft_number.specs.declared.FtNumber.{FtNumber}
 use Rattle.label_list.specs.declared.LabelMessage.{LabelMessage}
 use Rattle.label_list.specs.declared.Protection.{Protection}
 use Rattle.label_list.specs.declared.Side.{Side}
+use Rattle.label_list.specs.Beside.{entryOn}
 use Rattle.label_list.specs.Find.{any}
-use Rattle.label_list.specs.Protection.{needsProtection, barsProtection, codeProtection, protectedOn}
+use Rattle.label_list.specs.Protection.{needsProtection, barsProtection, codeProtection}
 use Rattle.label_list.specs.Rules.{receivedSide}
 use Rattle.label_list.specs.Word.{onSide}
 use Rattle.label_list.proofs.Standing.{given-in, given-range, used-in, used-range}
 use Rattle.tlv.specs.declared.Fec.{Fec}
 use Rattle.tlv.specs.declared.Field.{Field}
 use Rattle.tlv.specs.declared.FtField.{FtField}
+use Rattle.tlv.specs.Element.{entryOf}
 use Rattle.label_events.specs.declared.Touched.{Touched}
 use Rattle.label_events.specs.Change.{codeAt}
-use Rattle.label_events.specs.Protect.{protectionOf}
+use Rattle.label_events.specs.Protect.{protectionOf, guardedBy}
+use Rattle.label_events.specs.Reach.{Reach, Label, Those, Nothing}
 use Rattle.message.specs.declared.Kind.{Kind}
 use Rattle.message.specs.declared.Message.{Message}
 use Rattle.message.specs.declared.MessageType.{MessageType}
 use Rattle.message.specs.Kinds.{kindOf}
-use Rattle.label_meaning.specs.Event.{Touches, named, every}
+use Rattle.label_meaning.specs.Event.{Touches, named, among}
 use Rattle.label_meaning.specs.Protected.{TouchesProtected}
 use Rattle.label_meaning.specs.Valid.{IsValid}
 use Rattle.label_meaning.proofs.Protected.{touched-missing, missing-touches}
 use Rattle.protocol.specs.declared.LabelEffect.{LabelEffect}
-use Rattle.protocol.specs.Labels.{touchedBy, effectOn, labelEffect, isProtected, alwaysProtected, effectProtection, protectionRule}
-use Rattle.protocol.specs.MeaningLabels.{LabelType, is-mapping, is-withdraw, is-release, Touching, names, under-wildcard, NeverBare, address, address-withdraw, resources, Demands, by-kind, by-label, WronglyProtected, Guarded, to-mapping, to-withdraw, to-release, to-second}
+use Rattle.protocol.specs.Labels.{touchedBy, effectOn, labelEffect, isProtected, alwaysProtected, effectProtection, protectionRule, reached}
+use Rattle.protocol.specs.MeaningLabels.{LabelType, is-mapping, is-withdraw, is-release, Touching, names, under-wildcard, under-prefix, NeverBare, address, address-withdraw, resources, Demands, by-kind, by-label, WronglyProtected, Guarded, to-mapping, to-withdraw, to-release, to-second}
+use Rattle.protocol.specs.State.{Table}
 
 -- ---- what a message touches
 -- its type is one of the three
-type-of : (x : MessageType) (y : Touched) (m : LabelMessage) (t : Touched) → effectOn x y ≡ LabelEffect.Change m t → LabelType x m × (y ≡ t)
+pub type-of : (x : MessageType) (y : Touched) (m : LabelMessage) (t : Touched) → effectOn x y ≡ LabelEffect.Change m t → LabelType x m × (y ≡ t)
 type-of MessageType.Notification y m t e = no (cc)
 type-of MessageType.Initialization y m t e = no (cc)
 type-of MessageType.KeepAlive y m t e = no (cc)
@@ -51,28 +55,31 @@ type-of MessageType.Release y m t e = let p : LabelMessage.Release ≡ m = cc in
 type-of MessageType.Abort y m t e = no (cc)
 type-of MessageType.Other y m t e = no (cc)
 
-effect-of : (x : MessageType) (m : LabelMessage) → LabelType x m → (t : Touched) → effectOn x t ≡ LabelEffect.Change m t
+pub effect-of : (x : MessageType) (m : LabelMessage) → LabelType x m → (t : Touched) → effectOn x t ≡ LabelEffect.Change m t
 effect-of MessageType.Mapping LabelMessage.Mapping is-mapping t = refl
 effect-of MessageType.Withdraw LabelMessage.Withdraw is-withdraw t = refl
 effect-of MessageType.Release LabelMessage.Release is-release t = refl
 
-module _ (g : Message) (m : LabelMessage) where
-  label-of : LabelType (g .typename) m → (x : Field) → g .label ≡ x → (f : Fec) → g .fec ≡ f → {l : ℕ} → Touches (touchedBy x f) l → Touching g m l
+module _ (tb : Table) (g : Message) (m : LabelMessage) where
+  label-of : LabelType (g .typename) m → (x : Field) → g .label ≡ x → (f : Fec) → g .fec ≡ f → {l : ℕ} → Touches (reached tb m (touchedBy x f)) l → Touching tb g m l
   label-of k (Field.Value l) e f q named = names k e
-  label-of k Field.Absent e Fec.Wildcard q every = under-wildcard k e q
+  label-of k Field.Absent e Fec.Wildcard q (among z) = under-wildcard k e q
+  label-of k Field.Absent e (Fec.Prefix p) q (among {k = l} z) = under-prefix k e q (eqb-true (entryOn (tb .words) (tb .index) (receivedSide m) l) (entryOf p) z)
 
   -- a message touches the label that it names, or all of them under the wildcard FEC
-  pub effect-touches : (t : Touched) → labelEffect g ≡ LabelEffect.Change m t → {l : ℕ} → Touches t l → Touching g m l
+  pub effect-touches : (t : Touched) → labelEffect g ≡ LabelEffect.Change m t → {l : ℕ} → Touches (reached tb m t) l → Touching tb g m l
   unfolding labelEffect
   effect-touches t e p =
       let k = type-of (g .typename) (touchedBy (g .label) (g .fec)) m t e in
       label-of (k .0) (g .label) refl (g .fec) refl (rw (k .1) p)
 
   -- and back
-  pub touching-effect : {l : ℕ} → Touching g m l → (t : Touched) × (labelEffect g ≡ LabelEffect.Change m t) × Touches t l
+  pub touching-effect : {l : ℕ} → Touching tb g m l → (t : Touched) × (labelEffect g ≡ LabelEffect.Change m t) × Touches (reached tb m t) l
   unfolding labelEffect
   touching-effect (names {l = l} k e) = (Touched.Label l, rw e (effect-of (g .typename) m k (Touched.Label l)), named)
-  touching-effect (under-wildcard k e f) = (Touched.Every, rw (e, f) (effect-of (g .typename) m k Touched.Every), every)
+  touching-effect (under-wildcard k e f) = (Touched.Every, rw (e, f) (effect-of (g .typename) m k Touched.Every), among refl)
+  touching-effect (under-prefix {l = l} {p} k e f same) =
+      (Touched.Prefix (entryOf p), rw (e, f) (effect-of (g .typename) m k (Touched.Prefix (entryOf p))), among (eq-eqb (entryOn (tb .words) (tb .index) (receivedSide m) l) (entryOf p) same))
 
 -- ---- the kinds that are always protected
 bare-kind : (k : Kind) → alwaysProtected k ≡ true → NeverBare k
@@ -94,15 +101,15 @@ kind-bare resources = refl
 
 -- ---- 33
 -- a protected message never lacks protection
-never-missing : (ls : List ℕ) (m : LabelMessage) (t : Touched) → protectionOf ls m true t ≡ Protection.Missing → _≡_ {A = ℕ} 0 1
+never-missing : (ls : List ℕ) (m : LabelMessage) (t : Reach) → protectionOf ls m true t ≡ Protection.Missing → _≡_ {A = ℕ} 0 1
 unfolding protectionOf codeProtection
-never-missing ls m (Touched.Label l) e = by (barsProtection m (codeAt ls (receivedSide m) l)) e
+never-missing ls m (Label l) e = by (barsProtection m (codeAt ls (receivedSide m) l)) e
   where
     by : (b : Bool) → pick b Protection.Wrong Protection.Right ≡ Protection.Missing → _≡_ {A = ℕ} 0 1
     by true e = cc
     by false e = cc
-never-missing ls m Touched.Every e = cc
-never-missing ls m Touched.Nothing e = cc
+never-missing ls m (Those reached) e = cc
+never-missing ls m Nothing e = cc
 
 -- codes 3 to 6 without 6
 but-six : (code : ℕ) → both (not (eqb code 6)) (onSide Side.Used code) ≡ true → (3 ≤ code) × (code ≤ 5)
@@ -130,48 +137,48 @@ guarded-needs LabelMessage.Withdraw code (to-withdraw l h) = rw (ne-eqb code 6 (
 guarded-needs LabelMessage.Release code (to-release l h) = rw (ne-eqb code 6 (λ e. omega arith)) (sym (given-in code (inl (l, h))))
 guarded-needs LabelMessage.Release code (to-second l h) = rw (ne-eqb code 6 (λ e. omega arith)) (sym (given-in code (inr (l, h))))
 
-module _ (ls : List ℕ) (g : Message) where
+module _ (tb : Table) (g : Message) where
   -- an unprotected message is judged by its kind, then by its labels
-  bare-rule : g .protection ≡ FtField.Absent → protectionRule ls g ≡ pick (alwaysProtected (kindOf g)) Protection.Missing (effectProtection ls false (labelEffect g))
+  bare-rule : g .protection ≡ FtField.Absent → protectionRule tb g ≡ pick (alwaysProtected (kindOf g)) Protection.Missing (effectProtection tb false (labelEffect g))
   unfolding protectionRule
   bare-rule e = rw e
 
-  bare-effect : IsValid ls → (f : LabelEffect) → labelEffect g ≡ f → effectProtection ls false f ≡ Protection.Missing → Demands ls g
+  bare-effect : IsValid (tb .words) → (f : LabelEffect) → labelEffect g ≡ f → effectProtection tb false f ≡ Protection.Missing → Demands tb g
   bare-effect v LabelEffect.Nothing q e = no (cc)
   bare-effect v (LabelEffect.Change m t) q e =
-      let p : TouchesProtected ls m t = missing-touches ls v m t e in
-      by-label (effect-touches g m t q (p .touches)) (needs-guarded m _ (p .needs))
+      let p : TouchesProtected (tb .words) m (reached tb m t) = missing-touches (tb .words) v m (reached tb m t) e in
+      by-label (effect-touches tb g m t q (p .touches)) (needs-guarded m _ (p .needs))
 
   -- 33 comes only where 01 says so
-  pub missing-means : IsValid ls → protectionRule ls g ≡ Protection.Missing → (g .protection ≡ FtField.Absent) × Demands ls g
+  pub missing-means : IsValid (tb .words) → protectionRule tb g ≡ Protection.Missing → (g .protection ≡ FtField.Absent) × Demands tb g
   unfolding protectionRule
   missing-means v e = by (g .protection) refl e
     where
-      bare : g .protection ≡ FtField.Absent → pick (alwaysProtected (kindOf g)) Protection.Missing (effectProtection ls false (labelEffect g)) ≡ Protection.Missing → Demands ls g
+      bare : g .protection ≡ FtField.Absent → pick (alwaysProtected (kindOf g)) Protection.Missing (effectProtection tb false (labelEffect g)) ≡ Protection.Missing → Demands tb g
       bare q e =
           by-test (alwaysProtected (kindOf g))
           (λ t. by-kind (bare-kind (kindOf g) t))
           (λ f. bare-effect v (labelEffect g) refl (rw f at e))
 
-      guarded : (f : LabelEffect) → effectProtection ls true f ≡ Protection.Missing → _≡_ {A = ℕ} 0 1
+      guarded : (f : LabelEffect) → effectProtection tb true f ≡ Protection.Missing → _≡_ {A = ℕ} 0 1
       guarded LabelEffect.Nothing e = cc
-      guarded (LabelEffect.Change m t) e = never-missing ls m t e
+      guarded (LabelEffect.Change m t) e = never-missing (tb .words) m (reached tb m t) e
 
       by : (x : FtField) → g .protection ≡ x
-          → pick (both (not (isProtected x)) (alwaysProtected (kindOf g))) Protection.Missing (effectProtection ls (isProtected x) (labelEffect g)) ≡ Protection.Missing
-          → (g .protection ≡ FtField.Absent) × Demands ls g
+          → pick (both (not (isProtected x)) (alwaysProtected (kindOf g))) Protection.Missing (effectProtection tb (isProtected x) (labelEffect g)) ≡ Protection.Missing
+          → (g .protection ≡ FtField.Absent) × Demands tb g
       by FtField.Absent q e = (q, bare q e)
       by (FtField.Number n) q e = no (guarded (labelEffect g) e)
 
   -- and always there
-  pub means-missing : g .protection ≡ FtField.Absent → Demands ls g → protectionRule ls g ≡ Protection.Missing
+  pub means-missing : g .protection ≡ FtField.Absent → Demands tb g → protectionRule tb g ≡ Protection.Missing
   means-missing q (by-kind k) = bare-rule q ∙ rw (kind-bare k)
   means-missing q (by-label {m} {l} p guarded) =
-      let e = touching-effect g m p in
+      let e = touching-effect tb g m p in
       bare-rule q
       ∙ by-test (alwaysProtected (kindOf g))
       (λ t. rw t)
-      (λ f. rw (f, e .1) (touched-missing ls m (e .0) l (e .2) (guarded-needs m _ guarded)))
+      (λ f. rw (f, e .1) (touched-missing (tb .words) m (reached tb m (e .0)) l (e .2) (guarded-needs m _ guarded)))
 
 -- ---- 32
 bars-used : (m : LabelMessage) (code : ℕ) → barsProtection m code ≡ true → (receivedSide m ≡ Side.Used) × (code ≡ 6)
@@ -191,26 +198,27 @@ missing-or-right true e = cc
 missing-or-right false e = cc
 
 -- an unprotected message is never wrongly protected
-never-wrong : (ls : List ℕ) (m : LabelMessage) (t : Touched) → protectionOf ls m false t ≡ Protection.Wrong → _≡_ {A = ℕ} 0 1
+never-wrong : (ls : List ℕ) (m : LabelMessage) (t : Reach) → protectionOf ls m false t ≡ Protection.Wrong → _≡_ {A = ℕ} 0 1
 unfolding protectionOf codeProtection
-never-wrong ls m (Touched.Label l) e = missing-or-right (needsProtection (receivedSide m) (codeAt ls (receivedSide m) l)) e
-never-wrong ls m Touched.Every e = missing-or-right (any (protectedOn (receivedSide m)) ls) e
-never-wrong ls m Touched.Nothing e = cc
+never-wrong ls m (Label l) e = missing-or-right (needsProtection (receivedSide m) (codeAt ls (receivedSide m) l)) e
+never-wrong ls m (Those reached) e = missing-or-right (any (guardedBy (receivedSide m) reached) ls) e
+never-wrong ls m Nothing e = cc
 
-named-in : (x : Field) (f : Fec) (l : ℕ) → touchedBy x f ≡ Touched.Label l → x ≡ Field.Value l
+pub named-in : (x : Field) (f : Fec) (l : ℕ) → touchedBy x f ≡ Touched.Label l → x ≡ Field.Value l
 named-in (Field.Value k) f l e = let p : k ≡ l = cc in ap Field.Value p
 named-in Field.Absent Fec.Absent l e = no (cc)
 named-in Field.Absent Fec.Wildcard l e = no (cc)
+named-in Field.Absent (Fec.Prefix p) l e = no (cc)
 named-in Field.Absent Fec.Other l e = no (cc)
 
-module _ (ls : List ℕ) (g : Message) where
+module _ (tb : Table) (g : Message) where
   -- under a wildcard protection is never wrong
-  guarded-wrong : (n : FtNumber) → g .protection ≡ FtField.Number n → (f : LabelEffect) → labelEffect g ≡ f → effectProtection ls true f ≡ Protection.Wrong → WronglyProtected ls g
+  guarded-wrong : (n : FtNumber) → g .protection ≡ FtField.Number n → (f : LabelEffect) → labelEffect g ≡ f → effectProtection tb true f ≡ Protection.Wrong → WronglyProtected (tb .words) g
   unfolding protectionOf codeProtection labelEffect
   guarded-wrong n q LabelEffect.Nothing r e = no (cc)
   guarded-wrong n q (LabelEffect.Change m (Touched.Label l)) r e =
-      let b = passed (barsProtection m (codeAt ls (receivedSide m) l)) Protection.Wrong Protection.Right Protection.Wrong (λ z. cc) e in
-      let u = bars-used m (codeAt ls (receivedSide m) l) (b .0) in
+      let b = passed (barsProtection m (codeAt (tb .words) (receivedSide m) l)) Protection.Wrong Protection.Right Protection.Wrong (λ z. cc) e in
+      let u = bars-used m (codeAt (tb .words) (receivedSide m) l) (b .0) in
       let k = type-of (g .typename) (touchedBy (g .label) (g .fec)) m (Touched.Label l) r in
       record {
         number = n;
@@ -223,27 +231,28 @@ module _ (ls : List ℕ) (g : Message) where
         bare = rw (u .0) at (u .1);
       }
   guarded-wrong n q (LabelEffect.Change m Touched.Every) r e = no (cc)
+  guarded-wrong n q (LabelEffect.Change m (Touched.Prefix x)) r e = no (cc)
   guarded-wrong n q (LabelEffect.Change m Touched.Nothing) r e = no (cc)
 
   -- 32 comes only where 01 says so
-  pub wrong-means : protectionRule ls g ≡ Protection.Wrong → WronglyProtected ls g
+  pub wrong-means : protectionRule tb g ≡ Protection.Wrong → WronglyProtected (tb .words) g
   unfolding protectionRule
   wrong-means e = by (g .protection) refl e
     where
-      bare : (f : LabelEffect) → effectProtection ls false f ≡ Protection.Wrong → _≡_ {A = ℕ} 0 1
+      bare : (f : LabelEffect) → effectProtection tb false f ≡ Protection.Wrong → _≡_ {A = ℕ} 0 1
       bare LabelEffect.Nothing e = cc
-      bare (LabelEffect.Change m t) e = never-wrong ls m t e
+      bare (LabelEffect.Change m t) e = never-wrong (tb .words) m (reached tb m t) e
 
       by : (x : FtField) → g .protection ≡ x
-          → pick (both (not (isProtected x)) (alwaysProtected (kindOf g))) Protection.Missing (effectProtection ls (isProtected x) (labelEffect g)) ≡ Protection.Wrong
-          → WronglyProtected ls g
+          → pick (both (not (isProtected x)) (alwaysProtected (kindOf g))) Protection.Missing (effectProtection tb (isProtected x) (labelEffect g)) ≡ Protection.Wrong
+          → WronglyProtected (tb .words) g
       by FtField.Absent q e =
-          no (bare (labelEffect g) (cleared (alwaysProtected (kindOf g)) Protection.Missing (effectProtection ls false (labelEffect g)) Protection.Wrong (λ z. cc) e .1))
+          no (bare (labelEffect g) (cleared (alwaysProtected (kindOf g)) Protection.Missing (effectProtection tb false (labelEffect g)) Protection.Wrong (λ z. cc) e .1))
       by (FtField.Number n) q e = guarded-wrong n q (labelEffect g) refl e
 
   -- and always there
-  pub means-wrong : WronglyProtected ls g → protectionRule ls g ≡ Protection.Wrong
+  pub means-wrong : WronglyProtected (tb .words) g → protectionRule tb g ≡ Protection.Wrong
   unfolding protectionRule labelEffect protectionOf codeProtection
   means-wrong w =
-      let code : codeAt ls (receivedSide (w .message)) (w .label) ≡ 6 = rw (w .side) (w .bare) in
+      let code : codeAt (tb .words) (receivedSide (w .message)) (w .label) ≡ 6 = rw (w .side) (w .bare) in
       rw (w .protected, w .named, effect-of (g .typename) (w .message) (w .type) (Touched.Label (w .label)), used-bars (w .message) _ (w .side) code)

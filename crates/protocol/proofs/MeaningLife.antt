@@ -15,8 +15,9 @@ use Rattle.label_list.specs.declared.Side.{Side}
 use Rattle.label_list.specs.Requests.{openAt}
 use Rattle.label_list.specs.Rules.{sentSide}
 use Rattle.label_events.specs.declared.Acceptance.{Acceptance}
-use Rattle.label_events.specs.declared.Touched.{Touched}
+use Rattle.label_events.specs.declared.Meets.{Meets}
 use Rattle.label_events.specs.Change.{codeAt}
+use Rattle.label_events.specs.Reach.{Reach}
 use Rattle.label_events.specs.Requests.{askedPlan}
 use Rattle.message.specs.declared.Kind.{Kind}
 use Rattle.message.specs.declared.Message.{Message}
@@ -24,7 +25,7 @@ use Rattle.message.specs.declared.Reading.{Reading}
 use Rattle.message.specs.declared.Submission.{Submission}
 use Rattle.message.specs.Reading.{readingOf}
 use Rattle.message.specs.Storable.{kindIn, labelIn}
-use Rattle.message.specs.Submission.{submissionOf}
+use Rattle.message.specs.Submission.{submissionOf, entryIn}
 use Rattle.label_meaning.specs.Event.{LabelEvent, Acked, Asked, Broken, Ended, Received, afterEvent}
 use Rattle.label_meaning.specs.Valid.{IsValid}
 use Rattle.label_meaning.specs.Withdrawal.{GivenMoves, afterEvents, comes, offers, withdraws, withdrawnCode}
@@ -36,23 +37,24 @@ use Rattle.protocol.specs.declared.Answer.{Answer}
 use Rattle.protocol.specs.declared.LabelEffect.{LabelEffect}
 use Rattle.protocol.specs.declared.Phase.{Phase}
 use Rattle.protocol.specs.declared.Start.{Start}
-use Rattle.protocol.specs.Accepting.{acceptedAs, isBarred}
+use Rattle.protocol.specs.Accepting.{acceptedAs, isBarred, changesEntry}
 use Rattle.protocol.specs.Acked.{acked, releasedKind, releasedLabels}
 use Rattle.protocol.specs.Calls.{Call, formats, restores, fails, opens, greets, passes, submits, sends, keeps-alive, receives, step}
+use Rattle.protocol.specs.Cases.{tableAfter}
 use Rattle.protocol.specs.Init.{fresh, initDeed, initStart, resumed}
 use Rattle.protocol.specs.Judged.{done}
-use Rattle.protocol.specs.Labels.{answeredAt, effectLabels, isProtected, labelEffect}
+use Rattle.protocol.specs.Labels.{effectLabels, isProtected, labelEffect, meets, reached}
 use Rattle.protocol.specs.Lawful.{Lawful}
 use Rattle.protocol.specs.MeaningLabels.{sent-mapping, sent-release, sent-withdraw}
 use Rattle.protocol.specs.MeaningLife
-use Rattle.protocol.specs.MeaningLife.{Events, LabelsFrom, LifeFrom, ackEvents, aborted, asked, broke, by-events, ends-with-state, forgotten, goes-on, messageEvent, nothing, took}
+use Rattle.protocol.specs.MeaningLife.{Events, LabelsFrom, LifeFrom, ackEvents, aborted, asked, broke, by-events, ends-with-state, forgotten, goes-on, effectEvent, messageEvent, nothing, took}
 use Rattle.protocol.specs.Phases.{issuedCount}
 use Rattle.protocol.specs.Receive.{ackCount, ackOn, receivedState, taken, takenAs}
 use Rattle.protocol.specs.Send.{numbered, placeSent, sentState}
-use Rattle.protocol.specs.State.{State, Table, noTable, tableOf}
+use Rattle.protocol.specs.State.{State, Table, noTable}
 use Rattle.protocol.specs.Step.{Step}
 use Rattle.protocol.specs.Submit.{submitDeed, submitted, submitRule}
-use Rattle.protocol.specs.SubmitCases.{Fitting, still-held, code-forbids}
+use Rattle.protocol.specs.SubmitCases.{Fitting, still-held, another-entry, code-forbids}
 use Rattle.protocol.specs.TimePassed.{expired}
 use Rattle.protocol.proofs.Settles.{ends}
 use Rattle.protocol.proofs.SubmitCases.{case-submit}
@@ -73,13 +75,14 @@ run-append : (ls : List ℕ) (es fs : List LabelEvent) → afterEvents ls (es ++
 run-append ls [] fs = refl
 run-append ls (e ∷ es) fs = run-append (afterEvent ls e) es fs
 
-effect-event : (ls : List ℕ) (request : Found) (protected : Bool) (x : LabelEffect) → effectLabels ls request protected x ≡ afterEvent ls (messageEvent x protected request)
+-- a message received is one event of the list
+pub effect-event : (t : Table) (y : Meets) (protected : Bool) (x : LabelEffect) → effectLabels t y protected x ≡ afterEvent (t .words) (effectEvent t y protected x)
 unfolding afterEvent
-effect-event ls request protected LabelEffect.Nothing = refl
-effect-event ls request protected (LabelEffect.Change m t) = refl
+effect-event t y protected LabelEffect.Nothing = refl
+effect-event t y protected (LabelEffect.Change m touched) = refl
 
 -- a Request of an ID that is open is not taken
-request-open : (t : Table) (id : MessageId) (label i : ℕ) → openAt id (t .words) (t .ids) ≡ At i → acceptedAs t (Kind.Request id) label .1 ≡ t .words
+pub request-open : (t : Table) (id : MessageId) (label i : ℕ) → openAt id (t .words) (t .ids) ≡ At i → acceptedAs t (Kind.Request id) label .1 ≡ t .words
 unfolding acceptedAs askedPlan
 request-open t id label i o = rw o
 
@@ -151,11 +154,10 @@ module _ (s : State) (ph : Phase) where
       by (Phase.UpFT u) e Reading.Malformed q = same (receives m) (takenAs s (Phase.UpFT u) Reading.Malformed) refl
       by (Phase.UpFT u) e (Reading.Whole g) q =
           let gone = take (ackCount (ackOn s g)) (s .queue) in
-          let mid = releasedLabels gone words in
-          let request = answeredAt (tableOf mid (s .table .ids)) g in
-          let event = messageEvent (labelEffect g) (isProtected (g .protection)) request in
-          eventful (receives m) (takenAs s (Phase.UpFT u) (Reading.Whole g)) (MeaningLife.received request (record { done = refl; up = rw e; read = q }))
-          (effect-event mid request (isProtected (g .protection)) (labelEffect g)
+          let t : Table = tableAfter s (ackCount (ackOn s g)) in
+          let event = messageEvent words t g in
+          eventful (receives m) (takenAs s (Phase.UpFT u) (Reading.Whole g)) (MeaningLife.received (record { done = refl; up = rw e; read = q }))
+          (effect-event t (meets words t g) (isProtected (g .protection)) (labelEffect g)
           ∙ ap (λ (l : List ℕ). afterEvent l event) (acked-run gone words) ∙ sym (run-append words (ackEvents gone) (event ∷ [])))
       by Phase.UpPlain e r q = same (receives m) (takenAs s Phase.UpPlain r) refl
       by Phase.Failed e r q = same (receives m) (takenAs s Phase.Failed r) refl
@@ -206,14 +208,13 @@ module _ (s : State) (ph : Phase) (law : Lawful s) (k : ℕ) where
   valid : IsValid ls
   valid = valid-means ls (law .labels)
 
-  quiet : (brings : LabelEvent → Bool) → ((m : LabelMessage) (l : ℕ) → brings (Acked m l) ≡ false) → ((r : Found) (m : LabelMessage) (p : Bool) (t : Touched) → brings (Received r m p t) ≡ false)
-      → ((r : Found) → brings (Ended r) ≡ false) → (n : ℕ) (g : Message) (request : Found)
-      → comes brings (ackEvents (take n (s .queue)) ++ (messageEvent (labelEffect g) (isProtected (g .protection)) request ∷ [])) ≡ false
-  quiet brings acks heard ended n g request = comes-append brings (ackEvents (take n (s .queue))) _ (quiet-acks brings acks (take n (s .queue))) (by (labelEffect g))
+  quiet : (brings : LabelEvent → Bool) → ((m : LabelMessage) (l : ℕ) → brings (Acked m l) ≡ false) → ((r : Meets) (m : LabelMessage) (p : Bool) (t : Reach) → brings (Received r m p t) ≡ false)
+      → ((r : Found) → brings (Ended r) ≡ false) → (n : ℕ) (g : Message) → comes brings (ackEvents (take n (s .queue)) ++ (messageEvent ls (tableAfter s n) g ∷ [])) ≡ false
+  quiet brings acks heard ended n g = comes-append brings (ackEvents (take n (s .queue))) _ (quiet-acks brings acks (take n (s .queue))) (by (labelEffect g))
     where
-      by : (x : LabelEffect) → comes brings (messageEvent x (isProtected (g .protection)) request ∷ []) ≡ false
-      by LabelEffect.Nothing = rw (ended request)
-      by (LabelEffect.Change m t) = rw (heard request m (isProtected (g .protection)) t)
+      by : (x : LabelEffect) → comes brings (effectEvent (tableAfter s n) (meets ls (tableAfter s n) g) (isProtected (g .protection)) x ∷ []) ≡ false
+      by LabelEffect.Nothing = rw (ended (meets ls (tableAfter s n) g .request))
+      by (LabelEffect.Change m touched) = rw (heard (meets ls (tableAfter s n) g) m (isProtected (g .protection)) (reached (tableAfter s n) m touched))
 
   life : {c : Call} {x : Step} {es : List LabelEvent} → Events s ph c x es → GivenMoves k es (codeAt ls Side.Given k) (codeAt (afterEvents ls es) Side.Given k)
   life nothing = heard-moves k [] ls valid refl refl
@@ -223,10 +224,10 @@ module _ (s : State) (ph : Phase) (law : Lawful s) (k : ℕ) where
   life (aborted request) = heard-moves k (Ended request ∷ []) ls valid refl refl
   life (MeaningLife.resumed n d) =
       heard-moves k (ackEvents (take n (s .queue))) ls valid (quiet-acks (offers k) (λ m l. refl) (take n (s .queue))) (quiet-acks (withdraws k) (λ m l. refl) (take n (s .queue)))
-  life (MeaningLife.received {g = g} request up) =
+  life (MeaningLife.received {g = g} up) =
       let n = ackCount (ackOn s g) in
-      heard-moves k (ackEvents (take n (s .queue)) ++ (messageEvent (labelEffect g) (isProtected (g .protection)) request ∷ [])) ls valid
-      (quiet (offers k) (λ m l. refl) (λ r m p t. refl) (λ r. refl) n g request) (quiet (withdraws k) (λ m l. refl) (λ r m p t. refl) (λ r. refl) n g request)
+      heard-moves k (ackEvents (take n (s .queue)) ++ (messageEvent ls (tableAfter s n) g ∷ [])) ls valid
+      (quiet (offers k) (λ m l. refl) (λ r m p t. refl) (λ r. refl) n g) (quiet (withdraws k) (λ m l. refl) (λ r m p t. refl) (λ r. refl) n g)
 
   -- THE THEOREM: of every call, whatever it answers: a label that we gave, or did not give, moves as the call's events say, or ends with the state.
   pub step-life : (c : Call) (room : ℕ) → LifeFrom s ph k c (step c s ph room)
@@ -243,7 +244,10 @@ module _ (s : State) (ph : Phase) (k : ℕ) (a r : Bool) (waits : both a r ≡ f
       by-test
       (isBarred (s .queue) kind k)
       (λ t. case-submit s ph m (still-held fits e t))
-      (λ f. case-submit s ph m (code-forbids (record { fitting = fits; accepted = e; free = f }) n))
+      (λ f. by-test
+      (changesEntry (s .table) kind k (entryIn m))
+      (λ o. case-submit s ph m (another-entry fits e f o))
+      (λ o. case-submit s ph m (code-forbids (record { fitting = fits; accepted = e; free = f; same = o }) n)))
 
   pub not-offered : submissionOf m ≡ Submission.Accepted Kind.Mapping k → submitRule s ph m ≡ Answer.LabelNotAllowed
   unfolding acceptedAs sentSide

@@ -62,6 +62,7 @@ module _ (s : State) (g : Message) where
         terms = refl;
         labels = refl;
         ids = refl;
+        index = refl;
         stopped = refl;
         stopping = refl;
         queue = refl;
@@ -102,9 +103,9 @@ module _ (s : State) (g : Message) where
     nothing-acked = rw again (ack-again s (law .released) (law .window))
 
     -- and the message alone acts
-    pub message-alone : receivedState s g ≡ taken s g
+    pub message-alone : receivedState s g ≡ taken (s .table .words) s g
     unfolding receivedState taken acked releasedLabels
-    message-alone = rw (nothing-acked, again, law .counted)
+    message-alone = rw (nothing-acked, again, law .counted, law .indexed)
 
 -- one without FT ACK acknowledges nothing new
 pub unacked : (s : State) (g : Message) → Lawful s → g .ack ≡ FtField.Absent → ackOn s g ≡ Ack.Releases 0

@@ -39,9 +39,9 @@ pub acceptance-numbered : (s : State) (ph : Phase) (kind : Kind) → (answerNumb
 acceptance-numbered s ph kind = (refl, λ may. rw (may .going, may .up))
 
 -- 4 and 5; what is accepted goes on to its kind and label
-pub submission-numbered : (s : State) (ph : Phase) → (answerNumber (submissionRule s ph Submission.Malformed) ≡ submissionNumber Submission.Malformed)
-    × (answerNumber (submissionRule s ph Submission.Refused) ≡ submissionNumber Submission.Refused)
-submission-numbered s ph = (refl, refl)
+pub submission-numbered : (s : State) (ph : Phase) (entry : ℕ) → (answerNumber (submissionRule s ph Submission.Malformed entry) ≡ submissionNumber Submission.Malformed)
+    × (answerNumber (submissionRule s ph Submission.Refused entry) ≡ submissionNumber Submission.Refused)
+submission-numbered s ph entry = (refl, refl)
 
 -- 34, of an Init and of any other message; what is right goes on
 pub ack-numbered : (t : Terms) (a : ℕ) (x : Ack) → answerNumber (startAnswer (resumedBy t a x)) ≡ ackNumber x
@@ -66,6 +66,6 @@ reception-numbered Reception.Taken = refl
 reception-numbered Reception.NoRoom = refl
 
 -- 32 and 33; what is right goes on to the number's turn
-pub protection-numbered : (t : Table) (turn : Turn) (g : Message) → (answerNumber (protectedRule t turn g Protection.Wrong) ≡ protectionNumber Protection.Wrong)
-    × (answerNumber (protectedRule t turn g Protection.Missing) ≡ protectionNumber Protection.Missing)
-protection-numbered t s g = (refl, refl)
+pub protection-numbered : (old : List ℕ) (t : Table) (turn : Turn) (g : Message) → (answerNumber (protectedRule old t turn g Protection.Wrong) ≡ protectionNumber Protection.Wrong)
+    × (answerNumber (protectedRule old t turn g Protection.Missing) ≡ protectionNumber Protection.Missing)
+protection-numbered old t s g = (refl, refl)

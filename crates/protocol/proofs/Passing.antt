@@ -24,6 +24,7 @@ module _ (s : State) (ph : Phase) (m : List ℕ) where
     fitting = record { kept = p .kept; low = p .storable .low; high = p .storable .short };
     accepted = p .storable .accepted;
     free = p .free;
+    same = p .same;
   }
 
   answer-by : Passes s ph m → {a : Answer} → SubmitCase s ph m a → submit s ph m .answer ≡ a
@@ -46,6 +47,7 @@ module _ (s : State) (ph : Phase) (m : List ℕ) where
         kept = u .fitting .kept;
         storable = record { low = u .fitting .low; short = u .fitting .high; kind = w .kind; label = w .label; accepted = u .accepted };
         free = u .free;
+        same = u .same;
         allowed = w .taken;
         may = w .may;
       }

@@ -16,10 +16,11 @@ use Rattle.label_list.specs.Find.{isFound}
 use Rattle.label_list.specs.Requests.{openAt, openIds}
 use Rattle.label_list.proofs.OpenIds.{open-counting}
 use Rattle.tlv.specs.declared.IdField.{IdField}
+use Rattle.label_events.specs.declared.Meets.{Meets}
 use Rattle.message.specs.declared.Message.{Message}
 use Rattle.message.specs.declared.Reading.{Reading}
 use Rattle.message.specs.Reading.{readingOf}
-use Rattle.label_meaning.specs.Event.{LabelEvent, afterEvent, Asked, Ended, Received}
+use Rattle.label_meaning.specs.Event.{LabelEvent, afterEvent, Asked}
 use Rattle.label_meaning.specs.Requests.{endsAt}
 use Rattle.label_meaning.proofs.RequestIds.{step-ids}
 use Rattle.protocol.specs.declared.Answer.{Answer}
@@ -29,9 +30,10 @@ use Rattle.protocol.specs.declared.Progress.{Progress}
 use Rattle.protocol.specs.Acked.{acked, releasedLabels}
 use Rattle.protocol.specs.Calls.{receives}
 use Rattle.protocol.specs.Judged.{done}
-use Rattle.protocol.specs.Labels.{effectLabels, labelEffect, isProtected, answeredAt, answers}
+use Rattle.protocol.specs.Labels.{labelEffect, isProtected, answeredAt, answers, meets}
 use Rattle.protocol.specs.Lawful.{Lawful}
-use Rattle.protocol.specs.MeaningRequests.{isOpen, opensIn, answered, RequestFrom}
+use Rattle.protocol.specs.MeaningLife.{effectEvent}
+use Rattle.protocol.specs.MeaningRequests.{isOpen, answered, RequestFrom}
 use Rattle.protocol.specs.Phases.{isUpFT}
 use Rattle.protocol.specs.Receive.{ackCount, ackOn, receivedState, taken, receivedPhase, receive, leftBefore}
 use Rattle.protocol.specs.State.{State, tableOf, Table}
@@ -39,7 +41,8 @@ use Rattle.protocol.specs.Step.{Step, steppedPast}
 use Rattle.protocol.proofs.Answered.{receive-does}
 use Rattle.protocol.proofs.KeepingLabels.{acked-keeps, Beside}
 use Rattle.protocol.proofs.KeepingStates.{table-lawful}
-use Rattle.protocol.proofs.OpenRequests.{kept-by, ended-same, ended-other}
+use Rattle.protocol.proofs.MeaningLife.{effect-event}
+use Rattle.protocol.proofs.OpenRequests.{opensOf, kept-by, ended-same, ended-other}
 use Rattle.protocol.proofs.Requests.{acked-open, id-same}
 
 module _ (s : State) (ph : Phase) (law : Lawful s) (id : MessageId) where
@@ -49,43 +52,39 @@ module _ (s : State) (ph : Phase) (law : Lawful s) (id : MessageId) where
     acked-words = releasedLabels (take (ackCount (ackOn s g)) (s .queue)) (s .table .words)
 
     abbrev acked-table : Table
-    acked-table = tableOf acked-words (s .table .ids)
+    acked-table = tableOf acked-words (s .table .ids) (s .table .index)
 
-    b : Beside acked-words (s .table .ids)
-    b = acked-keeps (s .table .ids) (take (ackCount (ackOn s g)) (s .queue)) (s .table .words) (table-lawful s law .beside)
+    b : Beside acked-words (s .table .ids) (s .table .index)
+    b = acked-keeps (s .table .ids) (s .table .index) (take (ackCount (ackOn s g)) (s .queue)) (s .table .words) (table-lawful s law .beside)
+
+    abbrev met : Meets
+    met = meets (s .table .words) acked-table g
 
     -- the event of the message, and where it ends a Request
-    abbrev message-event : LabelEffect → Found → LabelEvent
-    message-event LabelEffect.Nothing f = Ended f
-    message-event (LabelEffect.Change x t) f = Received f x (isProtected (g .protection)) t
+    abbrev message-event : LabelEffect → LabelEvent
+    message-event x = effectEvent acked-table met (isProtected (g .protection)) x
 
-    event-ends : (x : LabelEffect) (f : Found) → endsAt (message-event x f) ≡ f
-    event-ends LabelEffect.Nothing f = refl
-    event-ends (LabelEffect.Change x t) f = refl
+    event-ends : (x : LabelEffect) → endsAt (message-event x) ≡ answeredAt acked-table g
+    event-ends LabelEffect.Nothing = refl
+    event-ends (LabelEffect.Change x t) = refl
 
-    event-other : (x : LabelEffect) (f : Found) → message-event x f ≢ Asked
-    event-other LabelEffect.Nothing f z = no cc
-    event-other (LabelEffect.Change x t) f z = no cc
+    event-other : (x : LabelEffect) → message-event x ≢ Asked
+    event-other LabelEffect.Nothing z = no cc
+    event-other (LabelEffect.Change x t) z = no cc
 
-    effect-is : (x : LabelEffect) (f : Found) → effectLabels acked-words f (isProtected (g .protection)) x ≡ afterEvent acked-words (message-event x f)
-    unfolding afterEvent
-    effect-is LabelEffect.Nothing f = refl
-    effect-is (LabelEffect.Change x t) f = refl
+    abbrev ending : LabelEvent
+    ending = message-event (labelEffect g)
 
-    abbrev ending : Found → LabelEvent
-    ending f = message-event (labelEffect g) f
-
-    -- the table that the message leaves, by where it ends a Request
-    received-is : (f : Found) → answeredAt acked-table g ≡ f
-        → isOpen (receivedState s g) id ≡ opensIn (tableOf (afterEvent acked-words (ending f)) (openIds acked-words (s .table .ids))) id
+    -- the table that the message leaves
+    received-is : isOpen (receivedState s g) id ≡ opensOf (afterEvent acked-words ending) (openIds acked-words (s .table .ids)) id
     unfolding receivedState taken acked
-    received-is f e = rw (e, effect-is (labelEffect g) f)
+    received-is = ap (λ (ws : List ℕ). opensOf ws (openIds acked-words (s .table .ids)) id) (effect-event acked-table met (isProtected (g .protection)) (labelEffect g))
 
     -- in the words after the ACK, beside the IDs as they were
-    left-by : (f : Found) → answeredAt acked-table g ≡ f → isOpen (receivedState s g) id ≡ opensIn (tableOf (afterEvent acked-words (ending f)) (s .table .ids)) id
-    left-by f e =
-        received-is f e
-        ∙ ap (λ (l : List ℕ). isFound (openAt id (afterEvent acked-words (ending f)) l)) (step-ids acked-words (s .table .ids) (ending f) (event-other (labelEffect g) f))
+    left-by : isOpen (receivedState s g) id ≡ opensOf (afterEvent acked-words ending) (s .table .ids) id
+    left-by =
+        received-is
+        ∙ ap (λ (l : List ℕ). isFound (openAt id (afterEvent acked-words ending) l)) (step-ids acked-words (s .table .ids) ending (event-other (labelEffect g)))
 
     before-is : isFound (openAt id acked-words (s .table .ids)) ≡ isOpen s id
     before-is = acked-open (s .table .ids) id (take (ackCount (ackOn s g)) (s .queue)) (s .table .words)
@@ -93,9 +92,9 @@ module _ (s : State) (ph : Phase) (law : Lawful s) (id : MessageId) where
     -- one that ends none
     none-moves : answeredAt acked-table g ≡ Nowhere → isOpen (receivedState s g) id ≡ isOpen s id
     none-moves e =
-        left-by Nowhere e
-        ∙ kept-by s law id acked-words (ending Nowhere) (b .words) (event-other (labelEffect g) Nowhere)
-        (λ i at r. let z : Nowhere ≡ At i = sym (event-ends (labelEffect g) Nowhere) ∙ at in no cc)
+        left-by
+        ∙ kept-by s law id acked-words ending (b .words) (event-other (labelEffect g))
+        (λ i at r. let z : Nowhere ≡ At i = sym e ∙ sym (event-ends (labelEffect g)) ∙ at in no cc)
         ∙ before-is
 
     abbrev upDeed : Step
@@ -110,16 +109,16 @@ module _ (s : State) (ph : Phase) (law : Lawful s) (id : MessageId) where
       named-moves : (f : Found) → openAt q acked-words (s .table .ids) ≡ f → isUpFT ph ≡ true → RequestFrom s ph id (receives m) upDeed
       named-moves Nowhere o up = inl (none-moves (place ∙ o))
       named-moves (At i) o up =
-          let at : endsAt (ending (At i)) ≡ openAt q acked-words (s .table .ids) = event-ends (labelEffect g) (At i) ∙ sym o in
-          let other : ending (At i) ≢ Asked = event-other (labelEffect g) (At i) in
+          let at : endsAt ending ≡ openAt q acked-words (s .table .ids) = event-ends (labelEffect g) ∙ place in
+          let other : ending ≢ Asked = event-other (labelEffect g) in
           by-test (eqb (q .0) (id .0))
           (λ z.
           let same : q ≡ id = id-same q id (eqb-true (q .0) (id .0) z) in
           let before : isOpen s id ≡ true = sym before-is ∙ rw same at (ap isFound o) in
           let after : isOpen (receivedState s g) id ≡ false =
-          left-by (At i) (place ∙ o) ∙ ended-same s law id acked-words b (ending (At i)) other q at (ap (λ (x : MessageId). x .0) same) i o in
+          left-by ∙ ended-same s law id acked-words b ending other q at (ap (λ (x : MessageId). x .0) same) i o in
           inr (rw (before, after) (answered (record { done = refl; up = up; read = read }) (rw same at named))))
-          (λ z. inl (left-by (At i) (place ∙ o) ∙ ended-other s law id acked-words b (ending (At i)) other q at (eqb-false (q .0) (id .0) z) ∙ before-is))
+          (λ z. inl (left-by ∙ ended-other s law id acked-words b ending other q at (eqb-false (q .0) (id .0) z) ∙ before-is))
 
     unnamed : answers g ≡ IdField.Absent → answeredAt acked-table g ≡ Nowhere
     unfolding answeredAt
@@ -141,7 +140,7 @@ module _ (s : State) (ph : Phase) (law : Lawful s) (id : MessageId) where
     where
       by : (f : Found) → openAt id (acked-words m u g read) (s .table .ids) ≡ f → isOpen (receivedState s g) id ≡ false
       by (At i) o =
-          left-by m u g read (At i) (place m u g read id named ∙ o)
-          ∙ ended-same s law id (acked-words m u g read) (b m u g read) (ending m u g read (At i)) (event-other m u g read (labelEffect g) (At i)) id
-          (event-ends m u g read (labelEffect g) (At i) ∙ sym o) refl i o
+          left-by m u g read
+          ∙ ended-same s law id (acked-words m u g read) (b m u g read) (ending m u g read) (event-other m u g read (labelEffect g)) id
+          (event-ends m u g read (labelEffect g) ∙ place m u g read id named) refl i o
       by Nowhere o = none-moves m u g read (place m u g read id named ∙ o) ∙ sym (before-is m u g read) ∙ ap isFound o

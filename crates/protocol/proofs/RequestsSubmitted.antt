@@ -44,7 +44,7 @@ use Rattle.protocol.specs.Submit.{submitDeed, submitted, submitRule, sub
 use Rattle.protocol.proofs.Answered.{submit-does}
 use Rattle.protocol.proofs.KeepingLabels.{Beside}
 use Rattle.protocol.proofs.KeepingStates.{table-lawful}
-use Rattle.protocol.proofs.OpenRequests.{kept-by, same-words, masked-open, ended-same, ended-other}
+use Rattle.protocol.proofs.OpenRequests.{opensOf, kept-by, same-words, masked-open, ended-same, ended-other}
 use Rattle.protocol.proofs.Passing.{done-passes}
 use Rattle.protocol.proofs.Requests.{other-asked, is-found, id-same}
 use Rattle.protocol.proofs.SubmitCases.{done-last}
@@ -52,9 +52,9 @@ use Rattle.protocol.proofs.SubmitCases.{done-last}
 module _ (s : State) (ph : Phase) (law : Lawful s) (id : MessageId) where
   -- ---- Submit
   abbrev Left : Kind → ℕ → Type 0
-  Left kind label = opensIn (tableOf (acceptedAs (s .table) kind label .1) (idsAccepted (s .table) kind)) id ≡ isOpen s id
+  Left kind label = opensOf (acceptedAs (s .table) kind label .1) (idsAccepted (s .table) kind) id ≡ isOpen s id
 
-  accepted-is : (message : LabelMessage) (label : ℕ) → opensIn (tableOf (afterEvent (s .table .words) (Event.Accepted message label)) (s .table .ids)) id ≡ isOpen s id
+  accepted-is : (message : LabelMessage) (label : ℕ) → opensOf (afterEvent (s .table .words) (Event.Accepted message label)) (s .table .ids) id ≡ isOpen s id
   accepted-is message label = kept-by s law id (s .table .words) (Event.Accepted message label) (law .words) (λ z. no cc) (λ i at r. no cc)
 
   -- every kind but a Request and an Abort of that ID leaves it; of these two see below
@@ -87,7 +87,7 @@ module _ (s : State) (ph : Phase) (law : Lawful s) (id : MessageId) where
 
   module _ (q : MessageId) (label : ℕ) (taken : acceptedAs (s .table) (Kind.Request q) label .0 ≡ Acceptance.Taken) where
     abbrev asked-table : Table
-    asked-table = tableOf (acceptedAs (s .table) (Kind.Request q) label .1) (idsAccepted (s .table) (Kind.Request q))
+    asked-table = tableOf (acceptedAs (s .table) (Kind.Request q) label .1) (idsAccepted (s .table) (Kind.Request q)) (s .table .index)
 
     -- the words and the IDs then
     asked-is : (i : ℕ) → findOf isFree (s .table .words) ≡ At i → opensIn asked-table id ≡ isFound (openAt id (set (s .table .words) i requestWord) (set (s .table .ids) i (q .0)))
@@ -130,7 +130,7 @@ module _ (s : State) (ph : Phase) (law : Lawful s) (id : MessageId) where
     deed = submitDeed s ph m
 
     left-is : (kind : Kind) (label : ℕ) → submissionOf m ≡ Submission.Accepted kind label
-        → isOpen (submitted s m) id ≡ opensIn (tableOf (acceptedAs (s .table) kind label .1) (idsAccepted (s .table) kind)) id
+        → isOpen (submitted s m) id ≡ opensOf (acceptedAs (s .table) kind label .1) (idsAccepted (s .table) kind) id
     unfolding submitted
     left-is kind label e = rw e
 
@@ -152,8 +152,8 @@ module _ (s : State) (ph : Phase) (law : Lawful s) (id : MessageId) where
         let words = s .table .words in
         let ids = s .table .ids in
         let o = aborted-done q label t in
-        let b : Beside words ids = table-lawful s law .beside in
-        let is : isOpen (submitted s m) id ≡ opensIn (tableOf (afterEvent words (Ended (openAt q words ids))) ids) id =
+        let b : Beside words ids (s .table .index) = table-lawful s law .beside in
+        let is : isOpen (submitted s m) id ≡ opensOf (afterEvent words (Ended (openAt q words ids))) ids id =
         left-is (Kind.Abort q) label e ∙ rw (aborted-event words ids q) in
         by-test (eqb (q .0) (id .0))
         (λ z.

@@ -11,10 +11,10 @@ use Rattle.label_events.specs.declared.Acceptance.{Acceptance}
 use Rattle.message.specs.declared.Kind.{Kind}
 use Rattle.message.specs.declared.Submission.{Submission}
 use Rattle.message.specs.Storable.{shortest, longest, Storable}
-use Rattle.message.specs.Submission.{submissionOf}
+use Rattle.message.specs.Submission.{submissionOf, entryIn}
 use Rattle.protocol.specs.declared.Answer.{Answer}
 use Rattle.protocol.specs.declared.Phase.{Phase}
-use Rattle.protocol.specs.Accepting.{isBarred, acceptedAs, asks}
+use Rattle.protocol.specs.Accepting.{isBarred, changesEntry, acceptedAs, asks}
 use Rattle.protocol.specs.Answers.{effectOf}
 use Rattle.protocol.specs.Phases.{isUpFT}
 use Rattle.protocol.specs.State.{State, held, capacity}
@@ -53,16 +53,17 @@ harmless-acceptance s ph kind Acceptance.Taken = harmless-ask s ph kind (roomRul
 harmless-acceptance s ph kind Acceptance.NotAllowed = λ n. refl
 harmless-acceptance s ph kind Acceptance.NoRoom = harmless-ask s ph kind Answer.NoLabelWord (λ n. refl)
 
-harmless-submission : (s : State) (ph : Phase) (j : Submission) → Harmless (submissionRule s ph j)
+harmless-submission : (s : State) (ph : Phase) (j : Submission) (entry : ℕ) → Harmless (submissionRule s ph j entry)
 unfolding kindRule effectOf
-harmless-submission s ph Submission.Malformed = λ n. refl
-harmless-submission s ph Submission.Refused = λ n. refl
-harmless-submission s ph (Submission.Accepted kind label) =
-    pick-all Harmless (isBarred (s .queue) kind label) (λ n. refl) (harmless-acceptance s ph kind (acceptedAs (s .table) kind label .0))
+harmless-submission s ph Submission.Malformed entry = λ n. refl
+harmless-submission s ph Submission.Refused entry = λ n. refl
+harmless-submission s ph (Submission.Accepted kind label) entry =
+    pick-all Harmless (isBarred (s .queue) kind label) (λ n. refl)
+    (pick-all Harmless (changesEntry (s .table) kind label entry) (λ n. refl) (harmless-acceptance s ph kind (acceptedAs (s .table) kind label .0)))
 
 pub submit-harmless : (s : State) (ph : Phase) (m : List ℕ) → Harmless (submitRule s ph m)
 unfolding submitRule effectOf
 submit-harmless s ph m =
     pick-all Harmless (not (s .kept)) (λ n. refl)
     (pick-all Harmless (ltb (length m) shortest) (λ n. refl)
-    (pick-all Harmless (ltb longest (length m)) (λ n. refl) (harmless-submission s ph (submissionOf m))))
+    (pick-all Harmless (ltb longest (length m)) (λ n. refl) (harmless-submission s ph (submissionOf m) (entryIn m))))

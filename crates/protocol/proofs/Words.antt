@@ -14,6 +14,7 @@ use Rattle.label_list.specs.Requests.{openAt}
 use Rattle.label_list.specs.Sweep.{sweptOf}
 use Rattle.label_list.specs.Valid.{validOf, validWord}
 use Rattle.label_list.specs.Word.{isFree}
+use Rattle.label_events.specs.declared.Meets.{Meets}
 use Rattle.label_events.specs.Accept.{acceptedBy}
 use Rattle.label_events.specs.Requests.{askedPlan}
 use Rattle.message.specs.declared.Kind.{Kind}
@@ -28,7 +29,7 @@ use Rattle.label_meaning.proofs.Step.{step-valid}
 use Rattle.protocol.specs.declared.LabelEffect.{LabelEffect}
 use Rattle.protocol.specs.Accepting.{acceptedAs}
 use Rattle.protocol.specs.Acked.{releasedKind, releasedLabels}
-use Rattle.protocol.specs.Labels.{effectLabels}
+use Rattle.protocol.specs.Labels.{effectLabels, reached}
 use Rattle.protocol.specs.State.{noTable, Table}
 use Rattle.protocol.specs.Submit.{acceptedLabels}
 
@@ -89,12 +90,12 @@ none-valid = refl
 pub accepted-valid : (t : Table) → Valid (t .words) → (j : Submission) → Valid (acceptedLabels t j)
 accepted-valid t valid j = accepted-keeps Valid t valid (λ e. step-valid (t .words) e valid) j
 
-module _ (words : List ℕ) (valid : Valid words) where
-  pub received-valid : (request : Found) (protected : Bool) (e : LabelEffect) → Valid (effectLabels words request protected e)
-  unfolding afterEvent
-  received-valid request protected LabelEffect.Nothing = step-valid words (Ended request) valid
-  received-valid request protected (LabelEffect.Change m t) = step-valid words (Received request m protected t) valid
+pub received-valid : (t : Table) → Valid (t .words) → (x : Meets) (protected : Bool) (e : LabelEffect) → Valid (effectLabels t x protected e)
+unfolding afterEvent
+received-valid t valid x protected LabelEffect.Nothing = step-valid (t .words) (Ended (x .request)) valid
+received-valid t valid x protected (LabelEffect.Change m touched) = step-valid (t .words) (Received x m protected (reached t m touched)) valid
 
+module _ (words : List ℕ) (valid : Valid words) where
   pub broken-valid : Valid (sweptOf words AfterBreak)
   unfolding afterEvent
   broken-valid = step-valid words Broken valid

@@ -1,10 +1,17 @@
--- What Submit asks of a label or a Request, and what it makes of the label words and the IDs.
+-- What Submit asks of a label or a Request, and what it makes of the label words, the IDs and the index.
 use Prim.Native.Nat.{ℕ}
-use mathlib.Core.Bool.{Bool, true, false}
+use mathlib.Core.Bool.{Bool, true, false, not}
 use mathlib.Core.List.{List}
+use lib.Dec.{eqb}
+use Rattle.octets.specs.Pick.{both}
 use Rattle.label_list.specs.declared.LabelMessage.{LabelMessage}
+use Rattle.label_list.specs.declared.Side.{Side}
+use Rattle.label_list.specs.Beside.{entryOn}
+use Rattle.label_list.specs.Find.{findOf, isFound}
+use Rattle.label_list.specs.Word.{standsFor}
 use Rattle.label_events.specs.declared.Acceptance.{Acceptance}
-use Rattle.label_events.specs.Accept.{acceptedBy, acceptedOf, planChange}
+use Rattle.label_events.specs.Accept.{acceptedBy, acceptedOf, planChange, planOf}
+use Rattle.label_events.specs.Change.{takenAt, putAt}
 use Rattle.label_events.specs.Requests.{askedPlan, abortedPlan, idsPut}
 use Rattle.message.specs.declared.Kind.{Kind}
 use Rattle.message.specs.Kinds.{kindNumber}
@@ -23,6 +30,21 @@ isBarred queue (Kind.Request id) label = false
 isBarred queue (Kind.Abort id) label = false
 isBarred queue Kind.NoResources label = false
 isBarred queue Kind.NoKind label = false
+
+-- 02: "A .. Mapping that would change a listed label's entry": "6 for submitting such a Mapping". The label is given, and its entry is
+-- another than that of the message's FEC
+abbrev pub changesEntry : Table → Kind → ℕ → ℕ → Bool
+changesEntry t Kind.Mapping label entry =
+    both (isFound (findOf (standsFor Side.Given label) (t .words))) (not (eqb (entryOn (t .words) (t .index) Side.Given label) entry))
+changesEntry t Kind.Withdraw label entry = false
+changesEntry t Kind.Release label entry = false
+changesEntry t Kind.Address label entry = false
+changesEntry t Kind.AddressWithdraw label entry = false
+changesEntry t Kind.ResourcesAvailable label entry = false
+changesEntry t (Kind.Request id) label entry = false
+changesEntry t (Kind.Abort id) label entry = false
+changesEntry t Kind.NoResources label entry = false
+changesEntry t Kind.NoKind label entry = false
 
 -- "Accepted for sending": kinds 1 to 3 by the label's code, kinds 4 to 6 and 9 without a label, kinds 7 and 8 by the open Requests; the words then.
 -- A message of no kind does not come here
@@ -50,6 +72,20 @@ idsAccepted t (Kind.Request id) = idsPut (t .ids) (planChange (askedPlan (t .wor
 idsAccepted t (Kind.Abort id) = t .ids
 idsAccepted t Kind.NoResources = t .ids
 idsAccepted t Kind.NoKind = t .ids
+
+-- 02: the index then: a Mapping that takes a word puts the entry of its FEC at its place
+unfoldable pub indexAccepted : Table → Kind → ℕ → ℕ → List ℕ
+indexAccepted t Kind.Mapping label entry =
+    putAt (takenAt (findOf (standsFor Side.Given label) (t .words)) (planChange (planOf (t .words) LabelMessage.Mapping label))) entry (t .index)
+indexAccepted t Kind.Withdraw label entry = t .index
+indexAccepted t Kind.Release label entry = t .index
+indexAccepted t Kind.Address label entry = t .index
+indexAccepted t Kind.AddressWithdraw label entry = t .index
+indexAccepted t Kind.ResourcesAvailable label entry = t .index
+indexAccepted t (Kind.Request id) label entry = t .index
+indexAccepted t (Kind.Abort id) label entry = t .index
+indexAccepted t Kind.NoResources label entry = t .index
+indexAccepted t Kind.NoKind label entry = t .index
 
 -- it is a Request
 abbrev pub asks : Kind → Bool

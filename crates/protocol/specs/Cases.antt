@@ -16,7 +16,7 @@ use Rattle.protocol.specs.declared.Answer.{Answer}
 use Rattle.protocol.specs.declared.Phase.{Phase}
 use Rattle.protocol.specs.declared.Progress.{Progress}
 use Rattle.protocol.specs.Acked.{releasedLabels}
-use Rattle.protocol.specs.Labels.{answeredAt, labelEffect, isProtected, protectionRule, effectReception}
+use Rattle.protocol.specs.Labels.{labelEffect, isProtected, protectionRule, effectReception, meets}
 use Rattle.protocol.specs.Receive.{ackOn, isFatal, isZero, turnBorne}
 use Rattle.protocol.specs.Received.{isInit}
 use Rattle.protocol.specs.State.{State, Table, tableOf}
@@ -35,7 +35,7 @@ wordsAfter s k = releasedLabels (take k (s .queue)) (s .table .words)
 
 -- with the IDs beside them
 abbrev pub tableAfter : State → ℕ → Table
-tableAfter s k = tableOf (wordsAfter s k) (s .table .ids)
+tableAfter s k = tableOf (wordsAfter s k) (s .table .ids) (s .table .index)
 
 -- 22 and 36 are passed
 pub record Heard (g : Message) : Type 0 where
@@ -51,7 +51,7 @@ pub record AckRight (s : State) (g : Message) (k : ℕ) : Type 0 where
 -- 33 and 32 are passed too
 pub record ProtectionRight (s : State) (g : Message) (k : ℕ) : Type 0 where
   pub ack : AckRight s g k
-  pub right : protectionRule (wordsAfter s k) g ≡ Protection.Right
+  pub right : protectionRule (tableAfter s k) g ≡ Protection.Right
 
 -- 20 is passed too, with so many left out
 pub record TurnRight (s : State) (resumed : Bool) (g : Message) (k : ℕ) : Type 0 where
@@ -62,7 +62,8 @@ pub record TurnRight (s : State) (resumed : Bool) (g : Message) (k : ℕ) : Type
 -- 21 is passed too: the message is taken
 pub record Takes (s : State) (resumed : Bool) (g : Message) (k : ℕ) : Type 0 where
   pub turn : TurnRight s resumed g k
-  pub room : effectReception (wordsAfter s k) (answeredAt (tableAfter s k) g) (isProtected (g .protection)) (labelEffect g) ≡ Reception.Taken
+  pub room : effectReception (tableAfter s k) (meets (s .table .words) (tableAfter s k) g) (isProtected (g .protection)) (labelEffect g)
+      ≡ Reception.Taken
 
 pub data Case (s : State) : Phase → Reading → Answer → Type 0 where
   -- "1: wrong phase"
@@ -82,15 +83,15 @@ pub data Case (s : State) : Phase → Reading → Answer → Type 0 where
   wrong-ack : {u : Progress} {g : Message} → Heard g → isZero (g .protection) ≡ false → ackOn s g ≡ Ack.SequenceError
       → Case s (Phase.UpFT u) (Reading.Whole g) Answer.AckSequenceError
   -- "32, 33: protection wrong, missing"
-  missing : {u : Progress} {k : ℕ} {g : Message} → AckRight s g k → protectionRule (wordsAfter s k) g ≡ Protection.Missing
+  missing : {u : Progress} {k : ℕ} {g : Message} → AckRight s g k → protectionRule (tableAfter s k) g ≡ Protection.Missing
       → Case s (Phase.UpFT u) (Reading.Whole g) Answer.ProtectionMissing
-  wrong : {u : Progress} {k : ℕ} {g : Message} → AckRight s g k → protectionRule (wordsAfter s k) g ≡ Protection.Wrong
+  wrong : {u : Progress} {k : ℕ} {g : Message} → AckRight s g k → protectionRule (tableAfter s k) g ≡ Protection.Wrong
       → Case s (Phase.UpFT u) (Reading.Whole g) Answer.ProtectionWrong
   -- "20: number out of turn"
   out-of-turn : {u : Progress} {k : ℕ} {g : Message} → ProtectionRight s g k → turnBorne (u .resumed) (s .secured .0) (g .protection) ≡ Turn.OutOfTurn
       → Case s (Phase.UpFT u) (Reading.Whole g) Answer.OutOfTurn
   -- "21: Mapping received that needs a word, none free"
   no-word : {u : Progress} {k : ℕ} {g : Message} → TurnRight s (u .resumed) g k
-      → effectReception (wordsAfter s k) (answeredAt (tableAfter s k) g) (isProtected (g .protection)) (labelEffect g) ≡ Reception.NoRoom
+      → effectReception (tableAfter s k) (meets (s .table .words) (tableAfter s k) g) (isProtected (g .protection)) (labelEffect g) ≡ Reception.NoRoom
       → Case s (Phase.UpFT u) (Reading.Whole g) Answer.NoWordForMapping
   taken : {u : Progress} {k : ℕ} {g : Message} → Takes s (u .resumed) g k → Case s (Phase.UpFT u) (Reading.Whole g) Answer.Done

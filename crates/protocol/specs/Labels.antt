@@ -2,19 +2,26 @@
 use Prim.Native.Nat.{ℕ}
 use mathlib.Core.Bool.{Bool, true, false, not}
 use mathlib.Core.List.{List}
+use lib.Dec.{eqb}
 use Rattle.octets.specs.Pick.{pick, both}
 use Rattle.label_list.specs.declared.Found.{Found}
 use Rattle.label_list.specs.declared.LabelMessage.{LabelMessage}
 use Rattle.label_list.specs.declared.Protection.{Protection}
+use Rattle.label_list.specs.Beside.{entryAt}
+use Rattle.label_list.specs.Find.{spareIn}
 use Rattle.label_list.specs.Requests.{openAt}
+use Rattle.label_list.specs.Rules.{receivedSide}
 use Rattle.tlv.specs.declared.Fec.{Fec}
 use Rattle.tlv.specs.declared.Field.{Field}
 use Rattle.tlv.specs.declared.FtField.{FtField}
 use Rattle.tlv.specs.declared.IdField.{IdField}
+use Rattle.tlv.specs.Element.{entryOf, entryBy}
+use Rattle.label_events.specs.declared.Meets.{Meets}
 use Rattle.label_events.specs.declared.Reception.{Reception}
 use Rattle.label_events.specs.declared.Touched.{Touched}
 use Rattle.label_events.specs.Protect.{protectionOf}
-use Rattle.label_events.specs.Receive.{receivedPlace, receivedOf}
+use Rattle.label_events.specs.Reach.{Reach, reachOf}
+use Rattle.label_events.specs.Receive.{receivedPlace, takesAt, receivedOf}
 use Rattle.label_events.specs.Requests.{endedAt}
 use Rattle.message.specs.declared.Kind.{Kind}
 use Rattle.message.specs.declared.Message.{Message}
@@ -23,11 +30,14 @@ use Rattle.message.specs.Kinds.{kindOf}
 use Rattle.protocol.specs.declared.LabelEffect.{LabelEffect}
 use Rattle.protocol.specs.State.{Table}
 
--- 01: "With no Label TLV, Withdraw or Release of the wildcard FEC (one element of type 1) acts on every label; of another FEC it is accepted and changes no label here."
+-- 01: "With no Label TLV, Withdraw or Release of the wildcard FEC (one element of type 1) acts on every label; of another FEC it is
+-- accepted and changes no label here." 02: "FEC-only Withdraw and Release then act on exactly the labels of that prefix .. Only a FEC of
+-- one well-formed IPv4 prefix element is indexed; others stay as in 01."
 abbrev pub touchedBy : Field → Fec → Touched
 touchedBy (Field.Value l) fec = Touched.Label l
 touchedBy Field.Absent Fec.Absent = Touched.Nothing
 touchedBy Field.Absent Fec.Wildcard = Touched.Every
+touchedBy Field.Absent (Fec.Prefix p) = Touched.Prefix (entryOf p)
 touchedBy Field.Absent Fec.Other = Touched.Nothing
 
 -- "Absent labels and other message types change nothing otherwise."
@@ -96,22 +106,42 @@ alwaysProtected (Kind.Abort id) = false
 alwaysProtected Kind.NoResources = false
 alwaysProtected Kind.NoKind = false
 
--- ".. and on a message touching codes 1 to 5 on its own side .. It is wrong (32) on a Mapping or Withdraw that names a label of code 6."; 02: a Release touching 8 or 9 too
-abbrev pub effectProtection : List ℕ → Bool → LabelEffect → Protection
-effectProtection ls protected LabelEffect.Nothing = Protection.Right
-effectProtection ls protected (LabelEffect.Change m t) = protectionOf ls m protected t
+-- the labels that a message reaches, by the entries beside the words
+abbrev pub reached : Table → LabelMessage → Touched → Reach
+reached t m touched = reachOf (receivedSide m) (t .words) (t .index) touched
 
-unfoldable pub protectionRule : List ℕ → Message → Protection
-protectionRule ls g =
+-- 02: "would change a listed label's entry": the message's FEC has another entry than the label that it names
+abbrev pub bringsAnother : Table → Message → Bool
+bringsAnother t g = not (eqb (entryAt (t .index) (effectPlace (t .words) (labelEffect g))) (entryBy (g .fec)))
+
+-- what a message meets beside the words: the Request that it answers; 02: "the first that is free in the old block 0 too", where `old` are
+-- the words before the call; and whether its label moves
+abbrev pub meets : List ℕ → Table → Message → Meets
+meets old t g = record { request = answeredAt t g; spare = spareIn old (t .words); another = bringsAnother t g }
+
+-- ".. and on a message touching codes 1 to 5 on its own side .. It is wrong (32) on a Mapping or Withdraw that names a label of code 6.";
+-- 02: a Release touching 8 or 9 too; "the labels of that prefix, which 33 reads as touched"
+abbrev pub effectProtection : Table → Bool → LabelEffect → Protection
+effectProtection t protected LabelEffect.Nothing = Protection.Right
+effectProtection t protected (LabelEffect.Change m touched) = protectionOf (t .words) m protected (reached t m touched)
+
+unfoldable pub protectionRule : Table → Message → Protection
+protectionRule t g =
     pick (both (not (isProtected (g .protection))) (alwaysProtected (kindOf g))) Protection.Missing
-    (effectProtection ls (isProtected (g .protection)) (labelEffect g))
+    (effectProtection t (isProtected (g .protection)) (labelEffect g))
 
--- "21: Mapping received that needs a word, none free"; one that ends the Request at `request` has that one's word
-abbrev pub effectReception : List ℕ → Found → Bool → LabelEffect → Reception
-effectReception ls request protected LabelEffect.Nothing = Reception.Taken
-effectReception ls request protected (LabelEffect.Change m t) = receivedOf ls request m protected t .0
+-- "21: Mapping received that needs a word, none free"; 02: it "takes its Request's word or the first that is free in the old block 0 too (13
+-- and 21 read free so)"
+abbrev pub effectReception : Table → Meets → Bool → LabelEffect → Reception
+effectReception t x protected LabelEffect.Nothing = Reception.Taken
+effectReception t x protected (LabelEffect.Change m touched) = receivedOf (t .words) x m protected (reached t m touched) .0
 
 -- what the label words become
-abbrev pub effectLabels : List ℕ → Found → Bool → LabelEffect → List ℕ
-effectLabels ls request protected LabelEffect.Nothing = endedAt request ls
-effectLabels ls request protected (LabelEffect.Change m t) = receivedOf ls request m protected t .1
+abbrev pub effectLabels : Table → Meets → Bool → LabelEffect → List ℕ
+effectLabels t x protected LabelEffect.Nothing = endedAt (x .request) (t .words)
+effectLabels t x protected (LabelEffect.Change m touched) = receivedOf (t .words) x m protected (reached t m touched) .1
+
+-- where the message takes a word for its label
+abbrev pub effectTakes : Table → Meets → Bool → LabelEffect → Found
+effectTakes t x protected LabelEffect.Nothing = Found.Nowhere
+effectTakes t x protected (LabelEffect.Change m touched) = takesAt (t .words) x m protected touched

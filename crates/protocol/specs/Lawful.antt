@@ -7,9 +7,10 @@ use mathlib.Core.Path.{_≡_}
 use lib.ListN.{length, getD}
 use Rattle.ft_number.specs.declared.Steps.the-variants.{Count}
 use Rattle.ft_number.specs.Circle.{stepsOf}
+use Rattle.label_list.specs.Counting.{counting}
 use Rattle.label_list.specs.Requests.{onceOf, openIds}
 use Rattle.label_list.specs.Valid.{validOf}
-use Rattle.label_list.specs.Word.{wordCount}
+use Rattle.label_list.specs.Word.{wordCount, listsLabel}
 use Rattle.message.specs.Storable.{Storable}
 use Rattle.protocol.specs.declared.Terms.{Terms}
 use Rattle.protocol.specs.State.{State, capacity, held, releasedState}
@@ -42,6 +43,10 @@ pub record Lawful (s : State) : Type 0 where
   pub width : (i : ℕ) → getD (s .table .ids) i 0 < 4294967296
   pub counted : openIds (s .table .words) (s .table .ids) ≡ s .table .ids
   pub once : onceOf (s .table .words) (s .table .ids) ≡ true
+  -- 02: "An entry is looked at only where the word lists a label": those that count are all there are, and each is one
+  pub index : length (s .table .index) ≡ wordCount
+  pub indexed : counting 0 listsLabel (s .table .words) (s .table .index) ≡ s .table .index
+  pub entries : (i : ℕ) → getD (s .table .index) i 0 < 18446744073709551616
   -- what is held passes Submit's 3, 4 and 5
   pub storable : (i : ℕ) → i < held s → Storable (getD (s .queue) i [])
   -- "With kept 0, bytes 4 to 507 are zero."

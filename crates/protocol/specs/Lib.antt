@@ -45,3 +45,5 @@ pub mod MeaningSend
 pub mod MeaningReceive
 pub mod MeaningRequests
 pub mod MeaningLife
+pub mod MeaningEntries
+pub mod MeaningExact

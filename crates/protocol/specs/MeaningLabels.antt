@@ -5,15 +5,19 @@ use mathlib.Core.Path.{_≡_}
 use Rattle.ft_number.specs.declared.FtNumber.{FtNumber}
 use Rattle.label_list.specs.declared.LabelMessage.{LabelMessage}
 use Rattle.label_list.specs.declared.Side.{Side}
+use Rattle.label_list.specs.Beside.{entryOn}
 use Rattle.label_list.specs.Rules.{receivedSide}
 use Rattle.tlv.specs.declared.Fec.{Fec}
 use Rattle.tlv.specs.declared.Field.{Field}
 use Rattle.tlv.specs.declared.FtField.{FtField}
+use Rattle.tlv.specs.declared.Ipv4Prefix.{Ipv4Prefix}
+use Rattle.tlv.specs.Element.{entryOf}
 use Rattle.label_events.specs.Change.{codeAt}
 use Rattle.message.specs.declared.Kind.{Kind}
 use Rattle.message.specs.declared.Message.{Message}
 use Rattle.message.specs.declared.MessageType.{MessageType}
 use Rattle.message.specs.Kinds.{kindOf}
+use Rattle.protocol.specs.State.{Table}
 
 -- the three types that touch labels
 pub data LabelType : MessageType → LabelMessage → Type 0 where
@@ -22,9 +26,11 @@ pub data LabelType : MessageType → LabelMessage → Type 0 where
   is-release : LabelType MessageType.Release LabelMessage.Release
 
 -- a message touches the label that it names; "With no Label TLV, .. of the wildcard FEC .. acts on every label"
-pub data Touching (g : Message) : LabelMessage → ℕ → Type 0 where
-  names : {m : LabelMessage} {l : ℕ} → LabelType (g .typename) m → g .label ≡ Field.Value l → Touching g m l
-  under-wildcard : {m : LabelMessage} {l : ℕ} → LabelType (g .typename) m → g .label ≡ Field.Absent → g .fec ≡ Fec.Wildcard → Touching g m l
+pub data Touching (t : Table) (g : Message) : LabelMessage → ℕ → Type 0 where
+  names : {m : LabelMessage} {l : ℕ} → LabelType (g .typename) m → g .label ≡ Field.Value l → Touching t g m l
+  under-prefix : {m : LabelMessage} {l : ℕ} {p : Ipv4Prefix} → LabelType (g .typename) m → g .label ≡ Field.Absent → g .fec ≡ Fec.Prefix p
+      → entryOn (t .words) (t .index) (receivedSide m) l ≡ entryOf p → Touching t g m l
+  under-wildcard : {m : LabelMessage} {l : ℕ} → LabelType (g .typename) m → g .label ≡ Field.Absent → g .fec ≡ Fec.Wildcard → Touching t g m l
 
 -- "Protection is missing (33) on Address, Address Withdraw and Resources Available"
 pub data NeverBare : Kind → Type 0 where
@@ -40,9 +46,9 @@ pub data Guarded : LabelMessage → ℕ → Type 0 where
   to-second : {code : ℕ} → 8 ≤ code → code ≤ 9 → Guarded LabelMessage.Release code
 
 -- ".., a named label or any under a wildcard"
-pub data Demands (ls : List ℕ) (g : Message) : Type 0 where
-  by-kind : NeverBare (kindOf g) → Demands ls g
-  by-label : {m : LabelMessage} {l : ℕ} → Touching g m l → Guarded m (codeAt ls (receivedSide m) l) → Demands ls g
+pub data Demands (t : Table) (g : Message) : Type 0 where
+  by-kind : NeverBare (kindOf g) → Demands t g
+  by-label : {m : LabelMessage} {l : ℕ} → Touching t g m l → Guarded m (codeAt (t .words) (receivedSide m) l) → Demands t g
 
 -- "It is wrong (32) on a Mapping or Withdraw that names a label of code 6."
 pub record WronglyProtected (ls : List ℕ) (g : Message) : Type 0 where

@@ -10,6 +10,7 @@ use Rattle.octets.specs.Pick.{pick}
 use Rattle.label_list.specs.declared.Found.{Found}
 use Rattle.label_list.specs.declared.LabelMessage.{LabelMessage}
 use Rattle.label_list.specs.declared.Side.{Side}
+use Rattle.label_events.specs.declared.Meets.{Meets}
 use Rattle.label_events.specs.Change.{codeAt}
 use Rattle.message.specs.declared.Kind.{Kind}
 use Rattle.message.specs.declared.Message.{Message}
@@ -23,11 +24,12 @@ use Rattle.protocol.specs.declared.Answer.{Answer}
 use Rattle.protocol.specs.declared.LabelEffect.{LabelEffect}
 use Rattle.protocol.specs.declared.Phase.{Phase}
 use Rattle.protocol.specs.Calls.{Call, submits, greets, receives}
-use Rattle.protocol.specs.Labels.{labelEffect, isProtected}
+use Rattle.protocol.specs.Cases.{tableAfter}
+use Rattle.protocol.specs.Labels.{labelEffect, isProtected, reached, meets}
 use Rattle.protocol.specs.MeaningLabels.{SentKind}
 use Rattle.protocol.specs.MeaningRequests.{TakenUp}
 use Rattle.protocol.specs.Receive.{ackCount, ackOn}
-use Rattle.protocol.specs.State.{State, noTable}
+use Rattle.protocol.specs.State.{State, noTable, Table}
 use Rattle.protocol.specs.Step.{Step}
 
 -- ---- the events of a call
@@ -42,10 +44,14 @@ abbrev pub ackEvents : List (List ℕ) → List LabelEvent
 ackEvents [] = []
 ackEvents (m ∷ ms) = ackEvent (kindIn (submissionOf m)) (labelIn (submissionOf m)) ++ ackEvents ms
 
--- a message is received that ends the Request at `request`
-abbrev pub messageEvent : LabelEffect → Bool → Found → LabelEvent
-messageEvent LabelEffect.Nothing protected request = Ended request
-messageEvent (LabelEffect.Change message touched) protected request = Received request message protected touched
+-- a message that has that effect on the labels is received, over that table, and meets `x` beside the words
+abbrev pub effectEvent : Table → Meets → Bool → LabelEffect → LabelEvent
+effectEvent t x protected LabelEffect.Nothing = Ended (x .request)
+effectEvent t x protected (LabelEffect.Change message touched) = Received x message protected (reached t message touched)
+
+-- `old` are the words before the call, `t` the table as the message's ACK leaves it
+abbrev pub messageEvent : List ℕ → Table → Message → LabelEvent
+messageEvent old t g = effectEvent t (meets old t g) (isProtected (g .protection)) (labelEffect g)
 
 pub data Events (s : State) (ph : Phase) : Call → Step → List LabelEvent → Type 0 where
   -- a call that leaves the labels
@@ -60,8 +66,9 @@ pub data Events (s : State) (ph : Phase) : Call → Step → List LabelEvent →
   -- the peer's Init acknowledges the oldest k
   resumed : {m : List ℕ} {x : Step} (k : ℕ) → x .answer ≡ Answer.Done → Events s ph (greets m) x (ackEvents (take k (s .queue)))
   -- a message is received: its ACK first
-  received : {m : List ℕ} {x : Step} {g : Message} (request : Found) → TakenUp ph m g x
-      → Events s ph (receives m) x (ackEvents (take (ackCount (ackOn s g)) (s .queue)) ++ (messageEvent (labelEffect g) (isProtected (g .protection)) request ∷ []))
+  received : {m : List ℕ} {x : Step} {g : Message} → TakenUp ph m g x
+      → Events s ph (receives m) x
+      (ackEvents (take (ackCount (ackOn s g)) (s .queue)) ++ (messageEvent (s .table .words) (tableAfter s (ackCount (ackOn s g))) g ∷ []))
 
 -- what a call leaves of the label words: nothing with the state, or what its events make of them
 pub data LabelsFrom (s : State) (ph : Phase) : Call → Step → Type 0 where

@@ -7,7 +7,9 @@ use lib.ListN.{drop}
 use Rattle.ft_number.specs.declared.FtNumber.{FtNumber}
 use Rattle.ft_number.specs.Circle.{next, after}
 use Rattle.ft_number.specs.Turn.{farthest}
+use Rattle.label_list.specs.Counting.{counting}
 use Rattle.label_list.specs.Requests.{openIds}
+use Rattle.label_list.specs.Word.{listsLabel}
 use Rattle.tlv.specs.declared.FtField.{FtField}
 use Rattle.message.specs.declared.Message.{Message}
 use Rattle.message.specs.Kinds.{kindOf}
@@ -15,10 +17,9 @@ use Rattle.protocol.specs.declared.Answer.{Answer}
 use Rattle.protocol.specs.declared.Progress.{Progress}
 use Rattle.protocol.specs.Accepting.{stopAfter}
 use Rattle.protocol.specs.Acked.{ackBorne}
-use Rattle.protocol.specs.Cases.{wordsAfter, tableAfter}
-use Rattle.protocol.specs.Labels.{labelEffect, isProtected, effectLabels, answeredAt}
+use Rattle.protocol.specs.Cases.{tableAfter}
 use Rattle.protocol.specs.Phases.{upWith}
-use Rattle.protocol.specs.Receive.{securedBy, receivedState}
+use Rattle.protocol.specs.Receive.{securedBy, receivedState, messageLabels, messageIndex}
 use Rattle.protocol.specs.State.{State, held}
 use Rattle.protocol.specs.Step.{Step}
 
@@ -38,9 +39,11 @@ pub record AckThenMessage (s : State) (g : Message) (k : ℕ) (t : State) : Type
   pub fewer : held t ≡ held s - k
   pub kept : t .kept ≡ s .kept
   pub terms : t .terms ≡ s .terms
-  pub labels : t .table .words ≡ effectLabels (wordsAfter s k) (answeredAt (tableAfter s k) g) (isProtected (g .protection)) (labelEffect g)
+  pub labels : t .table .words ≡ messageLabels (s .table .words) (tableAfter s k) g
   -- the IDs of the Requests that are open still
   pub ids : t .table .ids ≡ openIds (t .table .words) (tableAfter s k .ids)
+  -- the entries of the labels that are listed still, with that of the word that the message takes
+  pub index : t .table .index ≡ counting 0 listsLabel (t .table .words) (messageIndex (s .table .words) (tableAfter s k) g)
   -- kind 9 stops our Requests, kind 6 lets them go on; what we told the peer stays
   pub stopped : t .marks .stopped ≡ stopAfter (s .marks .stopped) (kindOf g)
   pub stopping : t .marks .stopping ≡ s .marks .stopping

@@ -11,10 +11,13 @@ use Rattle.ft_number.specs.declared.FtNumber.{FtNumber}
 use Rattle.ft_number.specs.declared.Turn.{Turn}
 use Rattle.ft_number.specs.Ack.{ackOf}
 use Rattle.ft_number.specs.Turn.{turnGap, numberTurn}
+use Rattle.label_list.specs.declared.Found.{Found}
 use Rattle.label_list.specs.declared.Protection.{Protection}
 use Rattle.tlv.specs.declared.Field.{Field}
 use Rattle.tlv.specs.declared.FtField.{FtField}
+use Rattle.tlv.specs.Element.{entryBy}
 use Rattle.label_events.specs.declared.Reception.{Reception}
+use Rattle.label_events.specs.Change.{putAt}
 use Rattle.message.specs.declared.Kind.{Kind}
 use Rattle.message.specs.declared.Message.{Message}
 use Rattle.message.specs.declared.Reading.{Reading}
@@ -25,10 +28,10 @@ use Rattle.protocol.specs.declared.Answer.{Answer}
 use Rattle.protocol.specs.declared.Phase.{Phase}
 use Rattle.protocol.specs.Accepting.{stopAfter}
 use Rattle.protocol.specs.Acked.{ackBorne, acked}
-use Rattle.protocol.specs.Labels.{effectLabels, effectReception, answeredAt, isProtected, labelEffect, protectionRule}
+use Rattle.protocol.specs.Labels.{effectLabels, effectReception, isProtected, labelEffect, protectionRule, meets, effectTakes}
 use Rattle.protocol.specs.Phases.{upWith, sentOf, resumedOf, isUpFT}
 use Rattle.protocol.specs.Received.{isInit}
-use Rattle.protocol.specs.State.{Marks, State, Table, withMarks, withSecured, withWords}
+use Rattle.protocol.specs.State.{Marks, State, Table, tableOf, withMarks, withSecured, withTable}
 use Rattle.protocol.specs.Step.{Step, admitted, settle, steppedPast, unchanged}
 
 -- "36: Status with E set"
@@ -64,15 +67,15 @@ abbrev pub receptionRule : Reception → Answer
 receptionRule Reception.Taken = Answer.Done
 receptionRule Reception.NoRoom = Answer.NoWordForMapping
 
--- "33 and later judge labels as the ACK leaves them": t has those; the turn of the message
-abbrev pub protectedRule : Table → Turn → Message → Protection → Answer
-protectedRule t turn g Protection.Missing = Answer.ProtectionMissing
-protectedRule t turn g Protection.Wrong = Answer.ProtectionWrong
-protectedRule t turn g Protection.Right =
-    turnRule turn (receptionRule (effectReception (t .words) (answeredAt t g) (isProtected (g .protection)) (labelEffect g)))
+-- "33 and later judge labels as the ACK leaves them": t has those, `old` the words before the call; the turn of the message
+abbrev pub protectedRule : List ℕ → Table → Turn → Message → Protection → Answer
+protectedRule old t turn g Protection.Missing = Answer.ProtectionMissing
+protectedRule old t turn g Protection.Wrong = Answer.ProtectionWrong
+protectedRule old t turn g Protection.Right =
+    turnRule turn (receptionRule (effectReception t (meets old t g) (isProtected (g .protection)) (labelEffect g)))
 
-unfoldable pub labelsRule : Table → Turn → Message → Answer
-labelsRule t turn g = protectedRule t turn g (protectionRule (t .words) g)
+unfoldable pub labelsRule : List ℕ → Table → Turn → Message → Answer
+labelsRule old t turn g = protectedRule old t turn g (protectionRule t g)
 
 abbrev pub readRule : Reading → (Message → Answer) → Answer
 readRule Reading.Malformed rule = Answer.MalformedReceived
@@ -90,7 +93,8 @@ ackCount Ack.SequenceError = 0
 
 -- "34: ACK sequence error"; "33 and later judge labels as the ACK leaves them"
 abbrev pub ackRule : State → Bool → Message → Ack → Answer
-ackRule s resumed g (Ack.Releases k) = labelsRule (acked s k (ackBorne s (g .ack)) .table) (turnBorne resumed (s .secured .0) (g .protection)) g
+ackRule s resumed g (Ack.Releases k) =
+    labelsRule (s .table .words) (acked s k (ackBorne s (g .ack)) .table) (turnBorne resumed (s .secured .0) (g .protection)) g
 ackRule s resumed g Ack.SequenceError = Answer.AckSequenceError
 
 -- the ACK that the message bears, against R and I
@@ -111,22 +115,33 @@ receiveRule s Phase.Failed r = Answer.WrongPhase
 abbrev pub afterAck : State → Message → State
 afterAck s g = acked s (ackCount (ackOn s g)) (ackBorne s (g .ack))
 
--- the label words that a message leaves
-abbrev pub messageLabels : Table → Message → List ℕ
-messageLabels t g = effectLabels (t .words) (answeredAt t g) (isProtected (g .protection)) (labelEffect g)
+-- the label words that a message leaves; `old` are the words before the call
+abbrev pub messageLabels : List ℕ → Table → Message → List ℕ
+messageLabels old t g = effectLabels t (meets old t g) (isProtected (g .protection)) (labelEffect g)
+
+-- where it takes a word for its label
+abbrev pub messageTakes : List ℕ → Table → Message → Found
+messageTakes old t g = effectTakes t (meets old t g) (isProtected (g .protection)) (labelEffect g)
+
+-- 02: the index then: the entry of the message's FEC at that place; no other entry is another
+abbrev pub messageIndex : List ℕ → Table → Message → List ℕ
+messageIndex old t g = putAt (messageTakes old t g) (entryBy (g .fec)) (t .index)
+
+abbrev pub messageTable : List ℕ → Table → Message → Table
+messageTable old t g = tableOf (messageLabels old t g) (t .ids) (messageIndex old t g)
 
 -- 02: "2 if told so": by kind 9, until kind 6
 abbrev pub heardMarks : Marks → Kind → Marks
 heardMarks m kind = record { stopped = stopAfter (m .stopped) kind; stopping = m .stopping }
 
 -- then the message: S moves to the number of a protected one
-unfoldable pub taken : State → Message → State
-taken s g =
-    withMarks (withWords (withSecured s (securedBy (s .secured) (g .protection))) (messageLabels (s .table) g))
+unfoldable pub taken : List ℕ → State → Message → State
+taken old s g =
+    withMarks (withTable (withSecured s (securedBy (s .secured) (g .protection))) (messageTable old (s .table) g))
     (heardMarks (s .marks) (kindOf g))
 
 unfoldable pub receivedState : State → Message → State
-receivedState s g = taken (afterAck s g) g
+receivedState s g = taken (s .table .words) (afterAck s g) g
 
 -- "An ACK lowers that count by the messages it releases, not below 0."
 abbrev pub receivedPhase : State → Phase → Message → Phase

@@ -5,18 +5,21 @@ use mathlib.Core.Bool.{Bool, true, false}
 use mathlib.Core.List.{List, []}
 use lib.ListN.{length, replicate}
 use Rattle.ft_number.specs.declared.FtNumber.{FtNumber}
+use Rattle.label_list.specs.Counting.{counting}
 use Rattle.label_list.specs.Requests.{openIds}
-use Rattle.label_list.specs.Word.{wordCount}
+use Rattle.label_list.specs.Word.{wordCount, listsLabel}
 use Rattle.protocol.specs.declared.Terms.{Terms}
 
--- "The labels are lent to the rules as 120 numbers of 32 bits": the label words; 02: "its message ID at the same place of a further lent list of 120 numbers"
+-- "The labels are lent to the rules as 120 numbers of 32 bits": the label words; 02: "its message ID at the same place of a further lent
+-- list of 120 numbers"; "an index of IPv4 prefix and length beside the label words", an entry of 64 bits for each, 0 for other FECs
 pub record Table : Type 0 where
   pub words : List ℕ
   pub ids : List ℕ
+  pub index : List ℕ
 
--- 02: "an ID counts only under code 7": 0 stands in every other place
-abbrev pub tableOf : List ℕ → List ℕ → Table
-tableOf words ids = record { words = words; ids = openIds words ids }
+-- 02: "an ID counts only under code 7"; "An entry is looked at only where the word lists a label": 0 stands in every other place
+abbrev pub tableOf : List ℕ → List ℕ → List ℕ → Table
+tableOf words ids index = record { words = words; ids = openIds words ids; index = counting 0 listsLabel words index }
 
 -- 02: "That stops new Requests until a numbered 'Label Resources Available' comes; both ends remember this over a break":
 -- the peer has told us so, and we have told the peer so
@@ -54,7 +57,7 @@ noNumber = record { 0 = 0 }
 
 -- "0 is free"
 abbrev pub noTable : Table
-noTable = record { words = replicate wordCount 0; ids = replicate wordCount 0 }
+noTable = record { words = replicate wordCount 0; ids = replicate wordCount 0; index = replicate wordCount 0 }
 
 -- "Released means block 0 with kept 0": "With kept 0, bytes 4 to 507 are zero."; 02: "forget it when state is released"
 abbrev pub releasedState : State
@@ -144,9 +147,9 @@ withTable s t = record {
   queue = s .queue;
 }
 
--- the words are others; of the IDs those count still whose words are Requests'
+-- the words are others; of the IDs those count still whose words are Requests', of the entries those whose words list a label
 abbrev pub withWords : State → List ℕ → State
-withWords s words = withTable s (tableOf words (s .table .ids))
+withWords s words = withTable s (tableOf words (s .table .ids) (s .table .index))
 
 abbrev pub withMarks : State → Marks → State
 withMarks s m = record {

@@ -11,10 +11,10 @@ use Rattle.label_events.specs.declared.Acceptance.{Acceptance}
 use Rattle.message.specs.declared.Kind.{Kind}
 use Rattle.message.specs.declared.Submission.{Submission}
 use Rattle.message.specs.Storable.{shortest, longest, Storable}
-use Rattle.message.specs.Submission.{submissionOf}
+use Rattle.message.specs.Submission.{submissionOf, entryIn}
 use Rattle.protocol.specs.declared.Answer.{Answer}
 use Rattle.protocol.specs.declared.Phase.{Phase}
-use Rattle.protocol.specs.Accepting.{acceptedAs, asks, isBarred}
+use Rattle.protocol.specs.Accepting.{acceptedAs, asks, isBarred, changesEntry}
 use Rattle.protocol.specs.Phases.{isUpFT, phaseFits}
 use Rattle.protocol.specs.State.{State, capacity, held}
 
@@ -29,6 +29,7 @@ pub record Unbarred (s : State) (m : List ℕ) (kind : Kind) (label : ℕ) : Typ
   pub fitting : Fitting s m
   pub accepted : submissionOf m ≡ Submission.Accepted kind label
   pub free : isBarred (s .queue) kind label ≡ false
+  pub same : changesEntry (s .table) kind label (entryIn m) ≡ false
 
 -- 14 and 15 are passed: every kind but a Request passes, and a Request in UpFT, unless Requests are stopped
 pub record MayAsk (s : State) (ph : Phase) (kind : Kind) : Type 0 where
@@ -48,6 +49,9 @@ pub data SubmitCase (s : State) (ph : Phase) (m : List ℕ) : Answer → Type 0 
   -- "6: .. same label's Withdraw/Release of that kind still held"; "label code doesn't allow it, label below 16"; 02: "6 also for an ID already open or an Abort of none"
   still-held : {kind : Kind} {label : ℕ} → Fitting s m → submissionOf m ≡ Submission.Accepted kind label → isBarred (s .queue) kind label ≡ true
       → SubmitCase s ph m Answer.LabelNotAllowed
+  -- 02: "6 for submitting such a Mapping"
+  another-entry : {kind : Kind} {label : ℕ} → Fitting s m → submissionOf m ≡ Submission.Accepted kind label → isBarred (s .queue) kind label ≡ false
+      → changesEntry (s .table) kind label (entryIn m) ≡ true → SubmitCase s ph m Answer.LabelNotAllowed
   code-forbids : {kind : Kind} {label : ℕ} → Unbarred s m kind label → acceptedAs (s .table) kind label .0 ≡ Acceptance.NotAllowed
       → SubmitCase s ph m Answer.LabelNotAllowed
   -- 02: "14, Requests stopped, after 6": of a Request, whether a word is free or not
@@ -74,6 +78,7 @@ pub record Passes (s : State) (ph : Phase) (m : List ℕ) : Type 0 where
   pub storable : Storable m
   -- 6 and 13: nothing held bars the message, and its label's code or the open Requests allow it
   pub free : isBarred (s .queue) (storable .kind) (storable .label) ≡ false
+  pub same : changesEntry (s .table) (storable .kind) (storable .label) (entryIn m) ≡ false
   pub allowed : acceptedAs (s .table) (storable .kind) (storable .label) .0 ≡ Acceptance.Taken
   -- 14 and 15
   pub may : MayAsk s ph (storable .kind)

@@ -1,4 +1,6 @@
 pub mod Messages
+pub mod Takes
+pub mod Prefixed
 pub mod Answered
 pub mod Judged
 pub mod Taken

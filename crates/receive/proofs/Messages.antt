@@ -10,17 +10,17 @@ use Rattle.message.specs.declared.Kind.{Kind}
 use Rattle.message.specs.declared.Message.{Message}
 use Rattle.message.specs.Kinds.{kindOf}
 use Rattle.protocol.specs.declared.LabelEffect.{LabelEffect}
-use Rattle.protocol.specs.Labels.{touchedBy, effectOn, labelEffect, isProtected, alwaysProtected, effectProtection, protectionRule}
+use Rattle.protocol.specs.Labels.{touchedBy, effectOn, labelEffect, isProtected, alwaysProtected}
+use Rattle.receive.specs.Words.{protectionJudged, protectionLent}
 
-pub effect-is : (g : Message) {t : Touched} {e : LabelEffect} → t ≡ touchedBy (g .label) (g .fec) → e ≡ effectOn (g .typename) t → e ≡ labelEffect g
+pub effect-is : (g : Message) {x : Touched} {e : LabelEffect} → x ≡ touchedBy (g .label) (g .fec) → e ≡ effectOn (g .typename) x → e ≡ labelEffect g
 unfolding labelEffect
 effect-is g p q = q ∙ ap (effectOn (g .typename)) p
 
-module _ (ls : List ℕ) (g : Message) {p : Bool} {k : Kind} {b : Bool} (ep : p ≡ isProtected (g .protection)) (ek : k ≡ kindOf g) (eb : b ≡ both (not p) (alwaysProtected k)) where
-  pub protection-missing : b ≡ true → Protection.Missing ≡ protectionRule ls g
-  unfolding protectionRule
+module _ (words entries : List ℕ) (effect : LabelEffect) (g : Message) {p : Bool} {k : Kind} {b : Bool} (ep : p ≡ isProtected (g .protection)) (ek : k ≡ kindOf g)
+    (eb : b ≡ both (not p) (alwaysProtected k)) where
+  pub protection-missing : b ≡ true → Protection.Missing ≡ protectionJudged words entries effect g
   protection-missing t = rw (← ep, ← ek, ← eb, t)
 
-  pub protection-by : {e : LabelEffect} {r : Protection} → b ≡ false → e ≡ labelEffect g → r ≡ effectProtection ls p e → r ≡ protectionRule ls g
-  unfolding protectionRule
-  protection-by t q r = rw (← ep, ← ek, ← eb, t, ← q) r
+  pub protection-by : {r : Protection} → b ≡ false → r ≡ protectionLent words entries p effect → r ≡ protectionJudged words entries effect g
+  protection-by n r = rw (← ep, ← ek, ← eb, n) r

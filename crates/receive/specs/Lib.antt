@@ -1,2 +1,3 @@
 pub mod Speed
+pub mod Words
 pub mod Call

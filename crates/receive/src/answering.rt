@@ -6,7 +6,7 @@ ghost use Rattle.label_list.specs.Word.{wordCount};
 ghost use Rattle.image.specs.Sizes.{imageSize};
 ghost use Rattle.image.specs.State.{storedIds};
 ghost use Rattle.protocol.specs.Labels.{answeredBy, answers, answeredAt};
-ghost use Rattle.protocol.specs.State.{tableOf};
+ghost use Rattle.receive.specs.Words.{tableOn};
 use ft_number::MessageId;
 use label_list::Found;
 use message::IdField;
@@ -47,7 +47,7 @@ fn find_open(image: &[u8], words: &[u32], id: MessageId) -> Found
     requires { ⌜ length (now image) ≡ imageSize ⌝ }
     ensures { λ r. ⌜ r ≡ openAt id (now (words .entry)) (storedIds (now (image .entry))) ⌝ }
 {
-    let mut ids = [0u32; request_ids::ID_COUNT];
+    let mut ids = [0u32; word_block::PLACE_COUNT];
     image::ids_of(image, &mut ids);
     label_list::find_request(words, &ids, id)
 }
@@ -55,7 +55,7 @@ fn find_open(image: &[u8], words: &[u32], id: MessageId) -> Found
 // The place of the open Request that a message answers; of one that names none the IDs are not read.
 pub fn answered_place(image: &[u8], words: &[u32], g: Message) -> Found
     requires { ⌜ (length (now image) ≡ imageSize) × (length (now words) ≡ wordCount) ⌝ }
-    ensures { λ r. ⌜ r ≡ answeredAt (tableOf (now (words .entry)) (storedIds (now (image .entry)))) g ⌝ }
+    ensures { λ r. ⌜ r ≡ answeredAt (tableOn (now (image .entry)) (now (words .entry))) g ⌝ }
 {
     match answered_id(g) {
         IdField::Absent => Found::Nowhere,

@@ -5,11 +5,14 @@ ghost use mathlib.Core.Path.{_≡_};
 ghost use Rattle.octets.specs.Pick.{both};
 ghost use Rattle.image.specs.State.{decode};
 ghost use Rattle.image.specs.Verdict.{IsSound};
-ghost use Rattle.protocol.specs.Labels.{touchedBy, effectOn, labelEffect, effectPlace, alwaysProtected, effectProtection, protectionRule, effectReception, effectLabels};
+ghost use Rattle.protocol.specs.Labels.{touchedBy, effectOn, labelEffect, effectPlace, alwaysProtected};
 ghost use Rattle.calls.specs.State.{stateOf};
 ghost use Rattle.receive.specs.Speed.{leavesWords, labelsStay};
+ghost use Rattle.receive.specs.Words.{namesPrefix, asksEntries, protectionLent, protectionJudged, receivedLent, takesLent};
 use crate::answering::answered_id;
 use crate::reading::is_protected;
+use label_events::Meets;
+use label_events::Receipt;
 use label_events::Reception;
 use label_events::Touched;
 use label_list::Found;
@@ -32,8 +35,20 @@ fn touched_by(label: Field, fec: Fec) -> Touched
         Field::Absent => match fec {
             Fec::Absent => Touched::Nothing,
             Fec::Wildcard => Touched::Every,
+            Fec::Prefix(_) => Touched::Prefix(tlv::element::entry_by(fec)),
             Fec::Other => Touched::Nothing,
         },
+    }
+}
+
+fn names_prefix(touched: Touched) -> bool
+    ensures { λ r. ⌜ r ≡ namesPrefix touched ⌝ }
+{
+    match touched {
+        Touched::Label(_) => false,
+        Touched::Every => false,
+        Touched::Prefix(_) => true,
+        Touched::Nothing => false,
     }
 }
 
@@ -127,46 +142,87 @@ fn lacks_protection(protected: bool, kind: Kind) -> bool
     always_protected(kind)
 }
 
-fn judge_effect(words: &[u32], place: Found, protected: bool, effect: LabelEffect) -> Protection
-    requires { ⌜ place ≡ effectPlace (now words) effect ⌝ }
-    ensures { λ r. ⌜ r ≡ effectProtection (now (words .entry)) protected effect ⌝ }
+// Whether only the entries tell which labels a message touches.
+pub fn asks_entries(effect: LabelEffect) -> bool
+    ensures { λ r. ⌜ r ≡ asksEntries effect ⌝ }
 {
     match effect {
-        LabelEffect::Nothing => Protection::Right,
-        LabelEffect::Change(m, t) => label_events::judge_protection(words, place, m, protected, t),
+        LabelEffect::Nothing => false,
+        LabelEffect::Change(_, t) => names_prefix(t),
     }
 }
 
-// Whether a message, whose label was found at that place, is protected as it must be.
-pub fn judge_protection(words: &[u32], place: Found, g: Message) -> Protection
-    requires { ⌜ place ≡ effectPlace (now words) (labelEffect g) ⌝ }
-    ensures { λ r. ⌜ r ≡ protectionRule (now (words .entry)) g ⌝ }
+fn judge_effect(
+    words: &[u32],
+    entries: &[u64],
+    place: Found,
+    protected: bool,
+    effect: LabelEffect,
+) -> Protection
+    requires { ⌜ place ≡ effectPlace (now words) effect ⌝ }
+    ensures { λ r. ⌜ r ≡ protectionLent (now (words .entry)) (now (entries .entry)) protected effect ⌝ }
+{
+    match effect {
+        LabelEffect::Nothing => Protection::Right,
+        LabelEffect::Change(m, t) => label_events::judge_protection(
+            words,
+            entries,
+            place,
+            m,
+            protected,
+            t,
+        ),
+    }
+}
+
+// Whether a message, whose label was found at that place, is protected as it must be; the entries are read for a prefix alone.
+pub fn judge_protection(
+    words: &[u32],
+    entries: &[u64],
+    place: Found,
+    effect: LabelEffect,
+    g: Message,
+) -> Protection
+    requires { ⌜ place ≡ effectPlace (now words) effect ⌝ }
+    ensures { λ r. ⌜ r ≡ protectionJudged (now (words .entry)) (now (entries .entry)) effect g ⌝ }
 {
     let number = g.protection;
     let protected = is_protected(number);
     if lacks_protection(protected, message::kind_of(g)) {
         return Protection::Missing;
     }
-    judge_effect(words, place, protected, label_effect(g))
+    judge_effect(words, entries, place, protected, effect)
 }
 
-// The label words after the message, whose label was found at that place and which answers the Request at the place `request`, and whether there was
-// a word for what it lists.
+// Changes the label words as the message does, whose label was found at that place: whether there was a word for what it lists, and which its label took.
 pub fn change_labels(
     words: &mut [u32],
+    entries: &[u64],
     place: Found,
-    request: Found,
+    meets: Meets,
     protected: bool,
     effect: LabelEffect,
-) -> Reception
+) -> Receipt
     requires { ⌜ place ≡ effectPlace (now words) effect ⌝ }
-    ensures { λ r. ⌜ (r ≡ effectReception (now (words .entry)) request protected effect) × (now (words .exit) ≡ effectLabels (now (words .entry)) request protected effect) ⌝ }
+    ensures { λ r. ⌜ (r .reception ≡ receivedLent (now (words .entry)) (now (entries .entry)) meets protected effect .0) × (r .taken ≡ takesLent (now (words .entry)) meets protected effect) × (now (words .exit) ≡ receivedLent (now (words .entry)) (now (entries .entry)) meets protected effect .1) ⌝ }
 {
+    let request = meets.request;
     match effect {
         LabelEffect::Nothing => {
             label_events::end_request(words, request);
-            Reception::Taken
+            Receipt {
+                reception: Reception::Taken,
+                taken: Found::Nowhere,
+            }
         }
-        LabelEffect::Change(m, t) => label_events::receive(words, place, request, m, protected, t),
+        LabelEffect::Change(m, t) => label_events::receive(
+            words,
+            entries,
+            place,
+            meets,
+            m,
+            protected,
+            t,
+        ),
     }
 }

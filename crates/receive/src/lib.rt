@@ -3,6 +3,7 @@ mod answering;
 mod judging;
 mod labels;
 mod reading;
+mod room;
 mod taking;
 
 pub use taking::receive;

@@ -3,14 +3,15 @@ ghost use Prim.Native.Nat.{_-_, _≤_, _<_};
 ghost use mathlib.Core.List.{[]};
 ghost use mathlib.Core.Path.{_≡_};
 ghost use Rattle.octets.specs.Differ.{differ};
+ghost use Rattle.tlv.specs.Element.{entryBy};
 ghost use Rattle.message.specs.Reading.{readingOf};
 ghost use Rattle.image.specs.Sizes.{block};
 ghost use Rattle.image.specs.State.{decode};
 ghost use Rattle.image.specs.Verdict.{IsSound};
-ghost use Rattle.protocol.specs.Receive.{ackOn, ackCount, securedBy, receivedState, readRule, ftRule, plainRule};
+ghost use Rattle.protocol.specs.Receive.{ackOn, ackCount, afterAck, messageTakes, securedBy, receivedState, readRule, ftRule, plainRule};
 ghost use Rattle.calls.specs.Outcomes.{afterWith, settleOf};
 ghost use Rattle.calls.specs.State.{stateOf, stateOfNumbers};
-ghost use Rattle.calls.specs.Storing.{fewer, stored};
+ghost use Rattle.calls.specs.Storing.{fewer, same, stored};
 ghost use Rattle.receive.specs.Call.{Taken, headerTaken, takenFt, receiveOf, takenOn};
 use crate::judging::judge_ft;
 use crate::judging::judge_plain;
@@ -25,6 +26,7 @@ use calls::Phase;
 use calls::Progress;
 use ft_number::Ack;
 use ft_number::FtNumber;
+use label_list::Found;
 use message::FtField;
 use message::Message;
 use message::Reading;
@@ -73,10 +75,10 @@ fn next_header(h: Header, k: u32, g: Message) -> Header
     next
 }
 
-// Stores what a message leaves whose ACK releases so many: the numbers alone where the label words stay. Whether block 0 changed.
-fn store_taken(image: &mut [u8], h: Header, k: u32, g: Message, words: &[u32]) -> bool
+// Stores block 0 as a message leaves it whose ACK releases so many: the numbers alone where the label words stay. Whether it changed.
+fn store_zeroth(image: &mut [u8], h: Header, k: u32, g: Message, words: &[u32]) -> bool
     requires { ⌜ Taken (now image) g (now words) × (h ≡ decode (now image) .header) × (k ≡ ackCount (ackOn (stateOf (now image)) g)) ⌝ }
-    ensures { λ r. ⌜ (now (image .exit) ≡ stored (now (image .entry)) (fewer (ackCount (ackOn (stateOf (now (image .entry))) g))) (receivedState (stateOf (now (image .entry))) g)) × (r ≡ differ (block (now (image .entry)) 0) (block (now (image .exit)) 0)) ⌝ }
+    ensures { λ r. ⌜ (now (image .exit) ≡ stored (now (image .entry)) (fewer (ackCount (ackOn (stateOf (now (image .entry))) g))) same (receivedState (stateOf (now (image .entry))) g)) × (r ≡ differ (block (now (image .entry)) 0) (block (now (image .exit)) 0)) ⌝ }
 {
     let next = next_header(h, k, g);
     if labels_stay(image, k, g) {
@@ -85,16 +87,19 @@ fn store_taken(image: &mut [u8], h: Header, k: u32, g: Message, words: &[u32]) -
     calls::store_changed(image, next, words)
 }
 
-// A message that was judged Done in UpFT: the words are those that its ACK and the message leave.
-fn take_ft(image: &mut [u8], u: Progress, g: Message, words: &[u32]) -> Outcome
-    requires { ⌜ Taken (now image) g (now words) ⌝ }
+// A message that was judged Done in UpFT: the words are those that its ACK and the message leave. The entry of its FEC is stored at the word that its
+// label takes, before block 0.
+fn take_ft(image: &mut [u8], u: Progress, g: Message, words: &[u32], taken: Found) -> Outcome
+    requires { ⌜ Taken (now image) g (now words) × (taken ≡ messageTakes (stateOf (now image) .table .words) (afterAck (stateOf (now image)) g .table) g) × (entryBy (g .fec) < 18446744073709551616) ⌝ }
     ensures { λ r. ⌜ afterWith r (now (image .exit)) [] ≡ takenFt (now (image .entry)) u g ⌝ }
 {
     let h = image::header_of(image);
     let k = ack_count(h, g);
     let number = g.protection;
     let turn = turn_borne(h.secured, number, u.resumed);
-    let changed = store_taken(image, h, k, g, words);
+    let fec = g.fec;
+    let further = calls::store_taken(image, taken, tlv::element::entry_by(fec));
+    let changed = store_zeroth(image, h, k, g, words);
     Outcome {
         answer: Answer::Done,
         phase: Phase::UpFT(Progress {
@@ -104,22 +109,24 @@ fn take_ft(image: &mut [u8], u: Progress, g: Message, words: &[u32]) -> Outcome
         written: 0,
         slot: 0,
         block0: changed,
-        further: 0,
+        further: further,
         leftout: turn_gap(turn),
     }
 }
 
 // A well-formed message in UpFT.
 fn receive_ft(image: &mut [u8], u: Progress, g: Message) -> Outcome
-    requires { ⌜ IsSound (now image) ⌝ }
+    requires { ⌜ IsSound (now image) × (entryBy (g .fec) < 18446744073709551616) ⌝ }
     ensures { λ r. ⌜ afterWith r (now (image .exit)) [] ≡ settleOf (ftRule (stateOf (now (image .entry))) (u .resumed) g) (Phase.UpFT u) (now (image .entry)) [] (takenFt (now (image .entry)) u g) ⌝ }
 {
     let mut words = [0u32; label_list::WORD_COUNT];
-    let a = judge_ft(image, image::header_of(image), u.resumed, g, &mut words);
+    let judged = judge_ft(image, image::header_of(image), u.resumed, g, &mut words);
+    let a = judged.answer;
+    let taken = judged.taken;
     if !calls::is_done(a) {
         return calls::settle(image, a, Phase::UpFT(u));
     }
-    take_ft(image, u, g, &words)
+    take_ft(image, u, g, &words, taken)
 }
 
 fn receive_up(image: &mut [u8], u: Progress, msg: &[u8]) -> Outcome

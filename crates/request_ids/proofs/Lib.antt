@@ -1,3 +1,2 @@
-pub mod Written
+pub mod Good
 pub mod Counted
-pub mod Same

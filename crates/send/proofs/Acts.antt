@@ -35,10 +35,10 @@ use Rattle.protocol.specs.Step.{Step, roomFor}
 use Rattle.calls.specs.declared.Outcome.{Outcome}
 use Rattle.calls.specs.Outcomes.{After, afterWith, refusal, admittedOn, settleOf, stepStored}
 use Rattle.calls.specs.State.{stateOf, stateOfNumbers}
-use Rattle.calls.specs.Storing.{stay, stored}
+use Rattle.calls.specs.Storing.{stay, stored, same}
 use Rattle.calls.proofs.Called.{call-is}
 use Rattle.calls.proofs.Ends.{settle-done}
-use Rattle.calls.proofs.Further.{further-none}
+use Rattle.calls.proofs.FurtherBits.{further-none}
 use Rattle.calls.proofs.Putting.{header-same, put-same}
 use Rattle.call_meaning.proofs.Calling.{own-refused}
 use Rattle.send.specs.Send.{sendOf}
@@ -76,13 +76,13 @@ module _ (im : List ℕ) (sent : ℕ) (s : IsSound im) {h : Header} {k : ℕ} (e
   unfolding issuedCount
   issued = ek ∙ (rw eh)
 
-  pub has-number : Bytes im → sent < k → (false ≡ differ (block im 0) (block im 0)) × (im ≡ stored im stay (sentState (stateOf im) sent))
+  pub has-number : Bytes im → sent < k → (false ≡ differ (block im 0) (block im 0)) × (im ≡ stored im stay same (sentState (stateOf im) sent))
   unfolding sentState
   has-number byte l = (sym (differ-self (block im 0)), rw (← issued, lt-ltb sent k l) (sym (put-same im s byte)))
 
   pub has-none : {im′ : List ℕ} {n : FtNumber} {b : Bool} → k ≤ sent → n ≡ queueNumber (stateOfNumbers h) sent
       → (im′ ≡ store0 im (headerIssued h n) (decode im .labels)) × (b ≡ differ (block im 0) (block im′ 0))
-      → (b ≡ differ (block im 0) (block im′ 0)) × (im′ ≡ stored im stay (sentState (stateOf im) sent))
+      → (b ≡ differ (block im 0) (block im′ 0)) × (im′ ≡ stored im stay same (sentState (stateOf im) sent))
   unfolding sentState numbered queueNumber
   has-none l en e =
       (e .1, e .0 ∙ (rw (← issued, le-ltb sent k l, en, eh) (ap (λ (x : Header). store0 im (headerIssued x (queueNumber (stateOf im) sent)) (decode im .labels)) (sym (header-same im s)))))
@@ -95,13 +95,13 @@ module _ (im : List ℕ) (ph : Phase) (ask : Bool) (o : List ℕ) where
   abbrev step : Step
   step = sendDeed (stateOf im) ph ask
 
-  send-settles : settleOf (admittedOn im ph (sendRule (stateOf im) ph (roomFor bytes (length o)))) ph im o (stepStored im stay step o) ≡ sendOf im ph ask o
+  send-settles : settleOf (admittedOn im ph (sendRule (stateOf im) ph (roomFor bytes (length o)))) ph im o (stepStored im stay same step o) ≡ sendOf im ph ask o
   unfolding sendOf sendNext
-  send-settles = sym (call-is im ph o stay (sendRule (stateOf im) ph (roomFor bytes (length o))) step refl)
+  send-settles = sym (call-is im ph o stay same (sendRule (stateOf im) ph (roomFor bytes (length o))) step refl)
 
   pub send-refused : {r : Answer} {x : Outcome} → r ≡ admittedOn im ph (sendRule (stateOf im) ph Answer.Done) → isDone r ≡ false → x ≡ refusal r ph
       → afterWith x im o ≡ sendOf im ph ask o
-  send-refused e n ex = judged-refused im ph (roomFor bytes (length o)) o (stepStored im stay step o) e n ex ∙ send-settles
+  send-refused e n ex = judged-refused im ph (roomFor bytes (length o)) o (stepStored im stay same step o) e n ex ∙ send-settles
 
   module _ (d : Sendable im ph) {sent left : ℕ} {w : Written} {o′ : List ℕ} (es : sent ≡ sentOf ph) (el : left ≡ leftOutFrom (stateOf im) sent)
       (ew : (w, o′) ≡ writtenOf o (sendBytes (stateOf im) (sent + left) ask)) where
@@ -113,17 +113,17 @@ module _ (im : List ℕ) (ph : Phase) (ask : Bool) (o : List ℕ) where
     written = rw place at ew
 
     -- the answer that the room leads to
-    answered : (a : Answer) {x : After} → roomFor bytes (length o) ≡ a → x ≡ settleOf a ph im o (stepStored im stay step o) → x ≡ sendOf im ph ask o
+    answered : (a : Answer) {x : After} → roomFor bytes (length o) ≡ a → x ≡ settleOf a ph im o (stepStored im stay same step o) → x ≡ sendOf im ph ask o
     answered a e p = p ∙ (rw (← e, ← sendable-rule d (roomFor bytes (length o))) send-settles)
 
     pub send-short : {x : Outcome} → w ≡ Written.TooShort → x ≡ refusal Answer.OutputTooShort ph → afterWith x im o′ ≡ sendOf im ph ask o
     unfolding effectOf
     send-short t ex =
         let p : (ltb (length o) (length bytes) ≡ true) × (o′ ≡ o) = too-short o bytes written t in
-        rw (p .1) (answered Answer.OutputTooShort (rw (p .0)) (own-refused Answer.OutputTooShort ph im o (stepStored im stay step o) refl ex))
+        rw (p .1) (answered Answer.OutputTooShort (rw (p .0)) (own-refused Answer.OutputTooShort ph im o (stepStored im stay same step o) refl ex))
 
     pub send-acts : {n : ℕ} {b resumed : Bool} {im′ : List ℕ} → w ≡ Written.Bytes n → resumed ≡ resumedOf ph
-        → (b ≡ differ (block im 0) (block im′ 0)) × (im′ ≡ stored im stay (sentState (stateOf im) (sent + left)))
+        → (b ≡ differ (block im 0) (block im′ 0)) × (im′ ≡ stored im stay same (sentState (stateOf im) (sent + left)))
         → afterWith (record { answer = Answer.Done; phase = upWith resumed (sent + left + 1); written = n; slot = 0; block0 = b; further = 0; leftout = left }) im′ o′ ≡ sendOf im ph ask o
     send-acts {n} {b} {resumed} {im′} t er q =
         let p : (ltb (length o) (length bytes) ≡ false) × ((n ≡ length bytes) × (o′ ≡ laid o 0 bytes)) = long-enough o bytes written t in

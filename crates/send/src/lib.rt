@@ -10,7 +10,7 @@ ghost use Rattle.protocol.specs.Phases.{isUpFT, resumedOf, sentOf};
 ghost use Rattle.protocol.specs.Send.{queueNumber, ackAsked, sendBytes, sendRule, sentState};
 ghost use Rattle.calls.specs.Outcomes.{afterWith, admittedOn};
 ghost use Rattle.calls.specs.State.{stateOf, stateOfNumbers};
-ghost use Rattle.calls.specs.Storing.{stay, stored};
+ghost use Rattle.calls.specs.Storing.{stay, stored, same};
 ghost use Rattle.send.specs.Send.{sendOf};
 use block0::Header;
 use calls::Answer;
@@ -112,7 +112,7 @@ fn write_next(image: &[u8], place: u32, ack: bool, out: &mut [u8]) -> Written
 // Numbers the message at a place of the queue, if it has no number. Whether block 0 changed.
 fn issue(image: &mut [u8], place: u32) -> bool
     requires { ⌜ IsSound (now image) × (place < 65536) ⌝ }
-    ensures { λ r. ⌜ (r ≡ differ (block (now (image .entry)) 0) (block (now (image .exit)) 0)) × (now (image .exit) ≡ stored (now (image .entry)) stay (sentState (stateOf (now (image .entry))) place)) ⌝ }
+    ensures { λ r. ⌜ (r ≡ differ (block (now (image .entry)) 0) (block (now (image .exit)) 0)) × (now (image .exit) ≡ stored (now (image .entry)) stay same (sentState (stateOf (now (image .entry))) place)) ⌝ }
 {
     let h = image::header_of(image);
     if place < calls::issued_count(h) {

@@ -19,7 +19,7 @@ use Rattle.call_meaning.specs.Ended.{ReleasedIdle, Unapplied}
 use Rattle.call_meaning.specs.Standing.{Standing}
 use Rattle.call_meaning.proofs.Answered.{answered-failed, answered-nothing, answered-released, failed-unapplied, released-idle, settled-says}
 use Rattle.connect.specs.Start.{formatted}
-use Rattle.session.specs.Call.{given, leaves, lent, makesImage, slotsLeft}
+use Rattle.session.specs.Call.{furtherPut, given, leaves, lent, makesImage, slotsLeft}
 use Rattle.session.proofs.Settles.{answerOn, doneOn, ends, settles-on}
 
 -- what is done is answered Done
@@ -27,7 +27,7 @@ done-says : (c : Call) (im : List ℕ) (ph : Phase) (out : List ℕ) → doneOn 
 unfolding doneOn
 done-says c im ph out = by (makesImage c)
   where
-    by : (b : Bool) → pick b formatted (stepStored im (slotsLeft c (stateOf im) ph) (done c (stateOf im) ph) (lent c out)) .outcome .answer ≡ Answer.Done
+    by : (b : Bool) → pick b formatted (stepStored im (slotsLeft c (stateOf im) ph) (furtherPut c (stateOf im) ph) (done c (stateOf im) ph) (lent c out)) .outcome .answer ≡ Answer.Done
     by true = refl
     by false = done-answer c (stateOf im) ph
 

@@ -6,16 +6,18 @@ use mathlib.Core.Path.{_≡_, refl, ap, _∙_}
 use native.Mathlib.Omega.{arith}
 use lib.ListN.{length, length-append, take, length-take}
 use borrow.Author.Tests.{le-leb, le-ltb, lt-leb}
+use Rattle.octets.proofs.Fill.{zeros-at}
 use Rattle.ft_number.specs.Circle.{stepsOf}
 use Rattle.label_list.specs.Find.{any}
 use Rattle.label_list.specs.Word.{wordCount}
 use Rattle.block0.specs.Layout.{noLabels}
+use Rattle.fec_index.proofs.Counted.{none-right}
 use Rattle.message.specs.Storable.{Storable}
 use Rattle.message_writer.specs.Forms.{ftTlvs}
 use Rattle.message_writer.proofs.Puts.{length-raised}
 use Rattle.image.specs.Events.{newImage}
-use Rattle.image.specs.State.{storedIds}
-use Rattle.image.proofs.Changes.{new-sound}
+use Rattle.image.specs.State.{storedIds, storedIndex}
+use Rattle.image.proofs.Changes.{new-sound, in-range-released, new-decodes, none-indexed}
 use Rattle.image.proofs.Requests.{no-ids}
 use Rattle.protocol.specs.declared.Phase.{Phase}
 use Rattle.protocol.specs.Calls.{submits, sends, step}
@@ -32,7 +34,7 @@ use Rattle.protocol.proofs.PassedOver.{none-passed}
 use Rattle.protocol.proofs.Settles.{step-does}
 use Rattle.protocol.proofs.Settling.{admitted-is}
 use Rattle.calls.specs.State.{stateOf}
-use Rattle.calls.specs.Storing.{empty, stored}
+use Rattle.calls.specs.Storing.{same, empty, stored}
 use Rattle.call_meaning.specs.Seen.{seen}
 use Rattle.call_meaning.specs.Standing.{Standing}
 use Rattle.call_meaning.proofs.Putting.{Puts, lawful-image, put-state}
@@ -43,20 +45,24 @@ use Rattle.session.proofs.Sample.{address, address-bytes, address-taken
 
 -- ---- the session that a first Init leads to
 unfoldable pub begun : List ℕ
-begun = stored newImage empty (fresh terms)
+begun = stored newImage empty same (fresh terms)
 
-begun-puts : Puts newImage empty (fresh terms)
+begun-puts : Puts newImage empty same (fresh terms)
 unfolding fresh any
 begun-puts = record {
   lawful = lawful-fresh terms (record { timeout = omega arith; keepalive = omega arith; maxpdu = omega arith });
   queue = refl;
+  fits = tt;
+  widths = rw new-decodes (in-range-released .ids);
   ids = no-ids noLabels refl wordCount refl (storedIds newImage);
+  index = none-indexed (storedIndex newImage);
+  right = λ i. rw (zeros-at wordCount i) none-right;
   first = λ f. refl;
 }
 
 pub begun-state : stateOf begun ≡ fresh terms
 unfolding begun
-begun-state = put-state newImage new-sound empty (fresh terms) begun-puts
+begun-state = put-state newImage new-sound empty same (fresh terms) begun-puts
 
 pub begun-stands : (r : Bool) → Standing begun (upWith r 0)
 unfolding begun phaseFits fresh

@@ -1,8 +1,11 @@
 -- each call is the protocol's step: what its answer leaves, what it keeps, what it stands for
 pub mod Settles
 pub mod Answers
+pub mod Listed
+pub mod Taking
 pub mod Told
 pub mod Ids
+pub mod Index
 pub mod Puts
 pub mod Begin
 pub mod Lent

@@ -34,14 +34,14 @@ module _ (c : Call) (im : List ℕ) (ph : Phase) (out : List ℕ) (other : makes
 
   -- with all of them stored the medium is the call's image
   pub all-stored : allStored im x ≡ x .image
-  all-stored = every c im ph out other (λ (y : After). allStored im y ≡ y .image) (λ a q o. refl) (λ slots y o s f. stored-all im s slots f y o)
+  all-stored = every c im ph out other (λ (y : After). allStored im y ≡ y .image) (λ a q o. refl) (λ slots f y o s sf ff. stored-all im s slots f sf ff y o)
 
   -- with fewer "restore gives the state before the call": the same checks are passed, and the state is the same
   pub fewer-same : (n : ℕ) → n < length (stores (x .outcome)) → Same im (committed n im x)
   fewer-same =
       every c im ph out other (λ (y : After). (n : ℕ) → n < length (stores (y .outcome)) → Same im (committed n im y))
       (λ a q o n less. absurd (omega arith))
-      (λ slots y o s f. stored-fewer im s slots f y o (st .range .ids))
+      (λ slots f y o s sf ff. stored-fewer im s slots f sf ff y o (st .range .ids))
 
   -- ".. code 6 words freed", in the phase without a connection
   pub cut-restores : (n : ℕ) → n < length (stores (x .outcome))

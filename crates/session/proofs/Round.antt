@@ -6,6 +6,8 @@ use mathlib.Core.Path.{_≡_, refl, ap, _∙_}
 use native.Mathlib.Omega.{arith}
 use lib.ListN.{length}
 use Rattle.octets.specs.Bytes.{Bytes}
+use Rattle.octets.proofs.Fill.{zeros-at}
+use Rattle.block.specs.Run.{Words}
 use Rattle.ft_number.specs.declared.Ack.{Ack}
 use Rattle.ft_number.specs.declared.Steps.the-variants.{Count}
 use Rattle.ft_number.specs.Ack.{ackOf}
@@ -14,6 +16,7 @@ use Rattle.label_list.specs.Find.{any}
 use Rattle.label_list.specs.Word.{wordCount}
 use Rattle.tlv.specs.declared.FtField.{FtField}
 use Rattle.block0.specs.Layout.{slotCount, noLabels}
+use Rattle.fec_index.proofs.Counted.{none-right}
 use Rattle.message.specs.declared.Message.{Message}
 use Rattle.message.specs.declared.Reading.{Reading}
 use Rattle.message.specs.Kinds.{kindOf}
@@ -21,9 +24,9 @@ use Rattle.message.specs.Reading.{readingOf}
 use Rattle.message_writer.specs.ReadBack.{keepaliveMessage}
 use Rattle.message_writer.proofs.Own.{keepalive-reads}
 use Rattle.image.specs.Events.{newImage}
-use Rattle.image.specs.State.{decode}
+use Rattle.image.specs.State.{decode, storedIds, storedIndex}
 use Rattle.image.specs.Verdict.{IsSound}
-use Rattle.image.proofs.Changes.{new-sound}
+use Rattle.image.proofs.Changes.{new-sound, in-range-released, new-decodes, none-indexed}
 use Rattle.image.proofs.Queue.{queue-length}
 use Rattle.image.proofs.Requests.{no-ids}
 use Rattle.protocol.specs.declared.Answer.{Answer}
@@ -43,7 +46,7 @@ use Rattle.protocol.proofs.Settling.{admitted-is}
 use Rattle.calls.specs.State.{stateOf}
 use Rattle.calls.specs.Storing.{Slots, empty, one-more, stored, same}
 use Rattle.call_meaning.specs.Standing.{Standing}
-use Rattle.call_meaning.proofs.Putting.{Puts, QueueAfter, put-sound, put-state, idsAfter}
+use Rattle.call_meaning.proofs.Putting.{Puts, QueueAfter, put-sound, put-state, put-range}
 use Rattle.call_meaning.proofs.Stands.{puts-stands}
 use Rattle.session.specs.Call.{leaves}
 use Rattle.session.proofs.Refines.{refines}
@@ -76,21 +79,33 @@ lawful-round i n q issued few each =
       width = law .width;
       counted = law .counted;
       once = law .once;
+      index = law .index;
+      indexed = law .indexed;
+      entries = law .entries;
       storable = each;
       idle = λ z. absurd (true≢false z);
     }
 
 module _ (i n : ℕ) (q : List (List ℕ)) (issued : Issued i n q) (few : length q ≤ capacity) (each : AllStorable q) where
   -- stored over an image that leads there
-  puts : (im : List ℕ) (slots : Slots) → QueueAfter im slots q → Puts im slots (round i q)
+  puts : (im : List ℕ) → Words wordCount (decode im .ids) → (slots : Slots) → QueueAfter im slots q → Puts im slots same (round i q)
   unfolding fresh any
-  puts im slots after = record { lawful = lawful-round i n q issued few each; queue = after; ids = no-ids noLabels refl wordCount refl (idsAfter im slots); first = λ z. absurd (true≢false z) }
+  puts im widths slots after = record {
+    lawful = lawful-round i n q issued few each;
+    queue = after;
+    fits = tt;
+    widths = widths;
+    ids = no-ids noLabels refl wordCount refl (storedIds im);
+    index = none-indexed (storedIndex im);
+    right = λ j. rw (zeros-at wordCount j) none-right;
+    first = λ z. absurd (true≢false z);
+  }
 
 -- one message more
-one-behind : (im : List ℕ) (i : ℕ) (q : List (List ℕ)) → stateOf im ≡ round i q → length q < slotCount → QueueAfter im (one-more address same) (q ++ (address ∷ []))
+one-behind : (im : List ℕ) (i : ℕ) (q : List (List ℕ)) → stateOf im ≡ round i q → length q < slotCount → QueueAfter im (one-more address) (q ++ (address ∷ []))
 one-behind im i q e room =
     let is : decode im .queue ≡ q = ap (λ (t : State). t .queue) e in
-    (rw is, address-storable, omega (arith, queue-length im, ap length is), tt)
+    (rw is, address-storable, omega (arith, queue-length im, ap length is))
 
 none-each : AllStorable []
 none-each i l = absurd (omega arith)
@@ -99,41 +114,50 @@ one-each : AllStorable (address ∷ [])
 one-each = queued-storable [] address none-each address-storable
 
 -- ---- none held, one, two; with two both are issued
-puts₀ : Puts newImage empty (round 0xFFFFFFFE [])
+new-widths : Words wordCount (decode newImage .ids)
+new-widths = rw new-decodes (in-range-released .ids)
+
+puts₀ : Puts newImage empty same (round 0xFFFFFFFE [])
 unfolding stepsOf
-puts₀ = puts 0xFFFFFFFE 0 [] (record { low = omega arith; reaches = refl; within = omega arith }) (omega arith) none-each newImage empty refl
+puts₀ = puts 0xFFFFFFFE 0 [] (record { low = omega arith; reaches = refl; within = omega arith }) (omega arith) none-each newImage new-widths empty refl
 
 abbrev image₀ : List ℕ
-image₀ = stored newImage empty (round 0xFFFFFFFE [])
+image₀ = stored newImage empty same (round 0xFFFFFFFE [])
 
 sound₀ : IsSound image₀
-sound₀ = put-sound newImage new-sound empty (round 0xFFFFFFFE []) puts₀
+sound₀ = put-sound newImage new-sound empty same (round 0xFFFFFFFE []) puts₀
 
-puts₁ : Puts image₀ (one-more address same) (round 0xFFFFFFFE (address ∷ []))
+widths₀ : Words wordCount (decode image₀ .ids)
+widths₀ = put-range newImage new-sound empty same (round 0xFFFFFFFE []) puts₀ .ids
+
+puts₁ : Puts image₀ (one-more address) same (round 0xFFFFFFFE (address ∷ []))
 unfolding stepsOf
 puts₁ =
-    puts 0xFFFFFFFE 0 (address ∷ []) (record { low = omega arith; reaches = refl; within = omega arith }) (omega arith) one-each image₀ (one-more address same)
-    (one-behind image₀ 0xFFFFFFFE [] (put-state newImage new-sound empty (round 0xFFFFFFFE []) puts₀) (omega arith))
+    puts 0xFFFFFFFE 0 (address ∷ []) (record { low = omega arith; reaches = refl; within = omega arith }) (omega arith) one-each image₀ widths₀ (one-more address)
+    (one-behind image₀ 0xFFFFFFFE [] (put-state newImage new-sound empty same (round 0xFFFFFFFE []) puts₀) (omega arith))
 
 abbrev image₁ : List ℕ
-image₁ = stored image₀ (one-more address same) (round 0xFFFFFFFE (address ∷ []))
+image₁ = stored image₀ (one-more address) same (round 0xFFFFFFFE (address ∷ []))
 
 sound₁ : IsSound image₁
-sound₁ = put-sound image₀ sound₀ (one-more address same) (round 0xFFFFFFFE (address ∷ [])) puts₁
+sound₁ = put-sound image₀ sound₀ (one-more address) same (round 0xFFFFFFFE (address ∷ [])) puts₁
 
-puts₂ : Puts image₁ (one-more address same) (round 1 (address ∷ address ∷ []))
+widths₁ : Words wordCount (decode image₁ .ids)
+widths₁ = put-range image₀ sound₀ (one-more address) same (round 0xFFFFFFFE (address ∷ [])) puts₁ .ids
+
+puts₂ : Puts image₁ (one-more address) same (round 1 (address ∷ address ∷ []))
 unfolding stepsOf
 puts₂ =
     puts 1 2 (address ∷ address ∷ []) (record { low = omega arith; reaches = refl; within = omega arith }) (omega arith)
-    (queued-storable (address ∷ []) address one-each address-storable) image₁ (one-more address same)
-    (one-behind image₁ 0xFFFFFFFE (address ∷ []) (put-state image₀ sound₀ (one-more address same) (round 0xFFFFFFFE (address ∷ [])) puts₁) (omega arith))
+    (queued-storable (address ∷ []) address one-each address-storable) image₁ widths₁ (one-more address)
+    (one-behind image₁ 0xFFFFFFFE (address ∷ []) (put-state image₀ sound₀ (one-more address) same (round 0xFFFFFFFE (address ∷ [])) puts₁) (omega arith))
 
 unfoldable pub rounded : List ℕ
-rounded = stored image₁ (one-more address same) (round 1 (address ∷ address ∷ []))
+rounded = stored image₁ (one-more address) same (round 1 (address ∷ address ∷ []))
 
 pub rounded-state : stateOf rounded ≡ round 1 (address ∷ address ∷ [])
 unfolding rounded
-rounded-state = put-state image₁ sound₁ (one-more address same) (round 1 (address ∷ address ∷ [])) puts₂
+rounded-state = put-state image₁ sound₁ (one-more address) same (round 1 (address ∷ address ∷ [])) puts₂
 
 pub rounded-stands : Standing rounded (upWith false 2)
 unfolding rounded phaseFits fresh issuedCount stepsOf

@@ -28,11 +28,11 @@ use Rattle.receive.specs.Call.{receiveOf}
 use Rattle.send.specs.Send.{sendOf}
 use Rattle.submit.specs.Call.{submitOf}
 use Rattle.timers.specs.Events.{connectionFailedOf, timePassedOf}
-use Rattle.session.specs.Call.{given, leaves, lent, makesImage, slotsLeft}
+use Rattle.session.specs.Call.{furtherPut, given, leaves, lent, makesImage, slotsLeft}
 
 -- ---- nine calls are the protocol's step on what the image stands for; Format makes an image
 pub called : (c : Call) (im : List ℕ) (ph : Phase) (out : List ℕ) → makesImage c ≡ false
-    → leaves c im ph out ≡ callOf im (given c ph) (lent c out) (slotsLeft c (stateOf im) ph) (step c (stateOf im) ph (length out))
+    → leaves c im ph out ≡ callOf im (given c ph) (lent c out) (slotsLeft c (stateOf im) ph) (furtherPut c (stateOf im) ph) (step c (stateOf im) ph (length out))
 unfolding leaves step restoreOf connectionFailedOf openOf initReceivedOf timePassedOf submitOf sendOf keepaliveOf receiveOf
 called formats im ph out other = absurd (true≢false other)
 called restores im ph out other = refl
@@ -50,12 +50,12 @@ unfoldable pub answerOn : Call → List ℕ → Phase → List ℕ → Answer
 answerOn c im ph out = pick (makesImage c) (pick (not (eqb (length im) imageSize)) Answer.WrongSize Answer.Done) (checked (verdict im) (judged c (stateOf im) ph (length out)))
 
 unfoldable pub doneOn : Call → List ℕ → Phase → List ℕ → After
-doneOn c im ph out = pick (makesImage c) formatted (stepStored im (slotsLeft c (stateOf im) ph) (done c (stateOf im) ph) (lent c out))
+doneOn c im ph out = pick (makesImage c) formatted (stepStored im (slotsLeft c (stateOf im) ph) (furtherPut c (stateOf im) ph) (done c (stateOf im) ph) (lent c out))
 
 -- the phase that it is given matters only to the tests
 given-settle : (c : Call) (im : List ℕ) (ph : Phase) (out : List ℕ) → makesImage c ≡ false
-    → callOf im (given c ph) (lent c out) (slotsLeft c (stateOf im) ph) (settle (judged c (stateOf im) ph (length out)) (stateOf im) ph (done c (stateOf im) ph))
-    ≡ callOf im (given c ph) (lent c out) (slotsLeft c (stateOf im) ph) (settle (judged c (stateOf im) ph (length out)) (stateOf im) (given c ph) (done c (stateOf im) ph))
+    → callOf im (given c ph) (lent c out) (slotsLeft c (stateOf im) ph) (furtherPut c (stateOf im) ph) (settle (judged c (stateOf im) ph (length out)) (stateOf im) ph (done c (stateOf im) ph))
+    ≡ callOf im (given c ph) (lent c out) (slotsLeft c (stateOf im) ph) (furtherPut c (stateOf im) ph) (settle (judged c (stateOf im) ph (length out)) (stateOf im) (given c ph) (done c (stateOf im) ph))
 unfolding judged settle effectOf
 given-settle formats im ph out other = absurd (true≢false other)
 given-settle restores im ph out other = refl
@@ -70,12 +70,12 @@ given-settle (receives m) im ph out other = refl
 
 settles-other : (c : Call) (im : List ℕ) (ph : Phase) (out : List ℕ) → makesImage c ≡ false
     → leaves c im ph out
-    ≡ settleOf (checked (verdict im) (judged c (stateOf im) ph (length out))) (given c ph) im (lent c out) (stepStored im (slotsLeft c (stateOf im) ph) (done c (stateOf im) ph) (lent c out))
+    ≡ settleOf (checked (verdict im) (judged c (stateOf im) ph (length out))) (given c ph) im (lent c out) (stepStored im (slotsLeft c (stateOf im) ph) (furtherPut c (stateOf im) ph) (done c (stateOf im) ph) (lent c out))
 settles-other c im ph out other =
     called c im ph out other
-    ∙ ap (callOf im (given c ph) (lent c out) (slotsLeft c (stateOf im) ph)) (settles c (stateOf im) ph (length out))
+    ∙ ap (callOf im (given c ph) (lent c out) (slotsLeft c (stateOf im) ph) (furtherPut c (stateOf im) ph)) (settles c (stateOf im) ph (length out))
     ∙ given-settle c im ph out other
-    ∙ call-settles im (given c ph) (lent c out) (slotsLeft c (stateOf im) ph) (judged c (stateOf im) ph (length out)) (stateOf im) (done c (stateOf im) ph) (done-answer c (stateOf im) ph)
+    ∙ call-settles im (given c ph) (lent c out) (slotsLeft c (stateOf im) ph) (furtherPut c (stateOf im) ph) (judged c (stateOf im) ph (length out)) (stateOf im) (done c (stateOf im) ph) (done-answer c (stateOf im) ph)
 
 -- every call is the answer of its tests, settled
 pub settles-on : (c : Call) (im : List ℕ) (ph : Phase) (out : List ℕ) → leaves c im ph out ≡ settleOf (answerOn c im ph out) (given c ph) im (lent c out) (doneOn c im ph out)

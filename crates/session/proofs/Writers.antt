@@ -11,7 +11,7 @@ use Rattle.ft_number.specs.declared.MessageId.{MessageId}
 use Rattle.ft_number.specs.declared.Proposal.{Proposal}
 use Rattle.message_writer.specs.declared.OwnParameters.{OwnParameters}
 use Rattle.image.specs.declared.Verdict.{Verdict}
-use Rattle.image.specs.Sizes.{block, requestBlock}
+use Rattle.image.specs.Sizes.{block}
 use Rattle.image.specs.Verdict.{verdict}
 use Rattle.image.proofs.Sound.{sound-parts}
 use Rattle.protocol.specs.declared.Answer.{Answer}
@@ -26,10 +26,11 @@ use Rattle.protocol.proofs.Hearing.{harmless}
 use Rattle.protocol.proofs.Settling.{Harmless}
 use Rattle.calls.specs.Outcomes.{checked}
 use Rattle.calls.specs.State.{stateOf}
-use Rattle.calls.specs.Storing.{stay, stored}
+use Rattle.calls.specs.Storing.{same, stay, stored}
+use Rattle.calls.proofs.FurtherBits.{further-self}
 use Rattle.calls.proofs.Putting.{put-same}
 use Rattle.calls.proofs.Settled.{checked-all}
-use Rattle.session.specs.Call.{leaves, makesImage, slotsLeft}
+use Rattle.session.specs.Call.{furtherPut, leaves, makesImage, slotsLeft}
 use Rattle.session.specs.Writers.{LeftAlone}
 use Rattle.session.proofs.Settles.{answerOn, doneOn, ends}
 
@@ -49,7 +50,7 @@ checked-sound (Verdict.BadBlock b) a e = no cc
 checked-sound (Verdict.BadField b) a e = no cc
 
 module _ (c : Call) (im : List ℕ) (ph : Phase) (out : List ℕ) (byte : Bytes im) (quiet : hears c ≡ false) (other : makesImage c ≡ false)
-    (stays : slotsLeft c (stateOf im) ph ≡ stay) (same : done c (stateOf im) ph .state ≡ stateOf im) where
+    (stays : slotsLeft c (stateOf im) ph ≡ stay) (none : furtherPut c (stateOf im) ph ≡ same) (still : done c (stateOf im) ph .state ≡ stateOf im) where
   -- restore's checks refuse and do no more, and so does the call
   harmless-on : Harmless (answerOn c im ph out)
   unfolding answerOn
@@ -59,8 +60,8 @@ module _ (c : Call) (im : List ℕ) (ph : Phase) (out : List ℕ) (byte : Bytes 
   unfolding answerOn doneOn
   kept-whole d =
       let sound = sound-parts im (checked-sound (verdict im) (judged c (stateOf im) ph (length out)) (rw other at d)) in
-      let whole : stored im stay (stateOf im) ≡ im = put-same im sound byte in
-      rw (other, stays, same, whole) (record { image = refl; slot = refl; block0 = differ-self (block im 0); further = rw (differ-self (block im requestBlock)) })
+      let whole : stored im stay same (stateOf im) ≡ im = put-same im sound byte in
+      rw (other, stays, none, still, whole) (record { image = refl; slot = refl; block0 = differ-self (block im 0); further = further-self im })
 
   left-alone : LeftAlone im (leaves c im ph out)
   left-alone =
@@ -73,8 +74,8 @@ module _ (c : Call) (im : List ℕ) (ph : Phase) (out : List ℕ) (byte : Bytes 
 module _ (im : List ℕ) (ph : Phase) (out : List ℕ) (byte : Bytes im) where
   pub open-leaves : (id : MessageId) (own : OwnParameters) (proposal : Proposal) → LeftAlone im (leaves (opens id own proposal) im ph out)
   unfolding done
-  open-leaves id own proposal = left-alone (opens id own proposal) im ph out byte refl refl refl refl
+  open-leaves id own proposal = left-alone (opens id own proposal) im ph out byte refl refl refl refl refl
 
   pub keepalive-leaves : (id : MessageId) → LeftAlone im (leaves (keeps-alive id) im ph out)
   unfolding done
-  keepalive-leaves id = left-alone (keeps-alive id) im ph out byte refl refl refl refl
+  keepalive-leaves id = left-alone (keeps-alive id) im ph out byte refl refl refl refl refl

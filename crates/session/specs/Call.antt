@@ -10,13 +10,13 @@ use Rattle.protocol.specs.Init.{initStart}
 use Rattle.protocol.specs.State.{State}
 use Rattle.protocol.specs.TimePassed.{expired}
 use Rattle.calls.specs.Outcomes.{After}
-use Rattle.calls.specs.Storing.{Slots, stay, empty}
+use Rattle.calls.specs.Storing.{Further, same, Slots, stay, empty, one-more}
 use Rattle.connect.specs.Start.{formatOf, restoreOf}
 use Rattle.connect.specs.Writers.{openOf, keepaliveOf}
 use Rattle.init.specs.Received.{initReceivedOf, startSlots}
-use Rattle.receive.specs.Call.{receiveOf, receivedSlots}
+use Rattle.receive.specs.Call.{receiveOf, receivedFurther, receivedSlots}
 use Rattle.send.specs.Send.{sendOf}
-use Rattle.submit.specs.Call.{submitOf, submittedSlots}
+use Rattle.submit.specs.Call.{submitOf, submittedFurther}
 use Rattle.timers.specs.Events.{connectionFailedOf, timePassedOf}
 
 -- what a call leaves of an image and a phase: outcome, image and output; `out` are the bytes lent for its output
@@ -71,7 +71,7 @@ lent (sends ask) out = out
 lent (keeps-alive id) out = out
 lent (receives m) out = []
 
--- what becomes of the ring of slots where it is done, and of block 65
+-- what becomes of the ring of slots where it is done
 abbrev pub slotsLeft : Call → State → Phase → Slots
 slotsLeft formats s ph = empty
 slotsLeft restores s ph = stay
@@ -79,7 +79,20 @@ slotsLeft fails s ph = stay
 slotsLeft (opens id own proposal) s ph = stay
 slotsLeft (greets m) s ph = startSlots (initStart s ph m)
 slotsLeft (passes elapsed) s ph = pick (expired s elapsed) empty stay
-slotsLeft (submits m) s ph = submittedSlots (s .table) m
+slotsLeft (submits m) s ph = one-more m
 slotsLeft (sends ask) s ph = stay
 slotsLeft (keeps-alive id) s ph = stay
 slotsLeft (receives m) s ph = receivedSlots s ph (readingOf m)
+
+-- and of the further blocks: Submit and Receive alone write one
+abbrev pub furtherPut : Call → State → Phase → Further
+furtherPut formats s ph = same
+furtherPut restores s ph = same
+furtherPut fails s ph = same
+furtherPut (opens id own proposal) s ph = same
+furtherPut (greets m) s ph = same
+furtherPut (passes elapsed) s ph = same
+furtherPut (submits m) s ph = submittedFurther (s .table) m
+furtherPut (sends ask) s ph = same
+furtherPut (keeps-alive id) s ph = same
+furtherPut (receives m) s ph = receivedFurther s ph (readingOf m)

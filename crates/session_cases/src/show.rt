@@ -68,16 +68,27 @@ fn show_check(image: &[u8], block: usize) {
     hex(&image[at..end]);
 }
 
-// What the owner has to store, each block with its check: the slot, block 65, block 0.
+// The checks of the further blocks that are named by their bits, in their order.
+fn show_further(image: &[u8], further: u32) {
+    let mut left = further;
+    let mut b = image::REQUEST_BLOCK;
+    while b < image::BLOCK_COUNT {
+        if left % 2 == 1 {
+            show_check(image, b);
+        }
+        left = left / 2;
+        b += 1;
+    }
+}
+
+// What the owner has to store, each block with its check: the slot, the further blocks, block 0.
 fn show_stores(image: &[u8], slot: usize, further: u32, block0: bool) {
     number(b", slot ", slot as u64);
     if slot != 0 {
         show_check(image, slot);
     }
     number(b", further ", further as u64);
-    if further != 0 {
-        show_check(image, image::REQUEST_BLOCK);
-    }
+    show_further(image, further);
     if !block0 {
         say(b", block0 false");
         return;

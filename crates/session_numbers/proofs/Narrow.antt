@@ -17,7 +17,7 @@ use Rattle.protocol.specs.Calls.{Call, step}
 use Rattle.protocol.proofs.Effects.{act-done}
 use Rattle.calls.specs.Outcomes.{After, untouched, failedOn, releasedOn, leftBy, settleOf, checked, callOf, stepStored}
 use Rattle.calls.specs.State.{stateOf}
-use Rattle.calls.specs.Storing.{Slots, stay, empty, one-more, fewer, slotNamed}
+use Rattle.calls.specs.Storing.{Further, Slots, stay, empty, one-more, fewer, slotNamed}
 use Rattle.session_numbers.specs.Outcome.{Narrow}
 use Rattle.session_numbers.proofs.Lengths.{step-short}
 use Rattle.session_numbers.proofs.Named.{Named, checked-named}
@@ -46,7 +46,7 @@ module _ (a : Answer) (ph : Phase) (im o : List ℕ) (n : Named a) where
 slot-low : (im : List ℕ) (slots : Slots) → slotNamed im slots ≤ slotCount
 slot-low im stay = omega arith
 slot-low im empty = omega arith
-slot-low im (one-more m ids) = omega arith
+slot-low im (one-more m) = omega arith
 slot-low im (fewer k) = omega arith
 
 -- ---- each call: the protocol's step on what an image stands for that passed restore's checks
@@ -56,10 +56,11 @@ passed Verdict.WrongSize a t = absurd (false≢true t)
 passed (Verdict.BadBlock b) a t = absurd (false≢true t)
 passed (Verdict.BadField b) a t = absurd (false≢true t)
 
-pub call-narrow : (c : Call) (im : List ℕ) (ph : Phase) (o : List ℕ) (slots : Slots) (room : ℕ) → Narrow (callOf im ph o slots (step c (stateOf im) ph room) .outcome)
+pub call-narrow : (c : Call) (im : List ℕ) (ph : Phase) (o : List ℕ) (slots : Slots) (f : Further) (room : ℕ)
+    → Narrow (callOf im ph o slots f (step c (stateOf im) ph room) .outcome)
 unfolding callOf
-call-narrow c im ph o slots room =
+call-narrow c im ph o slots f room =
     let x = step c (stateOf im) ph room in
     let n = step-named c (stateOf im) ph room in
-    settled-narrow (checked (verdict im) (x .answer)) ph im o (checked-named im (x .answer) n) (stepStored im slots x o)
+    settled-narrow (checked (verdict im) (x .answer)) ph im o (checked-named im (x .answer) n) (stepStored im slots f x o)
     (λ t. record { block = n; written = step-short im ph (sound-parts im (passed (verdict im) (x .answer) t)) c room; slot = slot-low im slots })

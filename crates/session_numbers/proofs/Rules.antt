@@ -21,7 +21,7 @@ use Rattle.protocol.specs.Phases.{connected, waiting, mayOpen, awaits, isUp, is
 use Rattle.protocol.specs.Send.{sendBytes, sendRule, placeSent}
 use Rattle.protocol.specs.State.{State, held}
 use Rattle.protocol.specs.Step.{whereOpen, roomFor}
-use Rattle.protocol.specs.SubmitCases.{SubmitCase, not-kept, too-short, too-long, malformed-submission, not-sent, still-held, code-forbids, stopped, outside, no-free-word, store-full, queues}
+use Rattle.protocol.specs.SubmitCases.{SubmitCase, not-kept, too-short, too-long, malformed-submission, not-sent, still-held, another-entry, code-forbids, stopped, outside, no-free-word, store-full, queues}
 use Rattle.protocol.proofs.Cases.{cases}
 use Rattle.protocol.proofs.InitCases.{start-cases}
 use Rattle.protocol.proofs.Settles.{step-answer}
@@ -45,6 +45,7 @@ submit-named (too-long k l) = none
 submit-named (malformed-submission f e) = none
 submit-named (not-sent f e) = none
 submit-named (still-held f e b) = none
+submit-named (another-entry f e b o) = none
 submit-named (code-forbids u e) = none
 submit-named (stopped u e t o) = none
 submit-named (outside u e t o p) = none

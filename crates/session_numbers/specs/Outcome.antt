@@ -1,8 +1,8 @@
 -- An outcome as numbers, and what a call of the boundary leaves.
-use Prim.Native.Nat.{ℕ, _≤_}
+use Prim.Native.Nat.{ℕ, _≤_, _<_}
 use mathlib.Core.List.{List}
 use Rattle.block0.specs.Layout.{slotCount}
-use Rattle.image.specs.Sizes.{requestBlock}
+use Rattle.image.specs.Sizes.{blockCount}
 use Rattle.image.specs.Verdict.{verdict}
 use Rattle.protocol.specs.declared.Answer.{Answer}
 use Rattle.protocol.specs.declared.Phase.{Phase}
@@ -31,9 +31,9 @@ outcomeNumbers s o = record {
 abbrev pub longestWritten : ℕ
 longestWritten = 496
 
--- an outcome whose numbers have 32 bits: what is written is such a message, and an image has block 0, those of its slots and block 65
+-- an outcome whose numbers have 32 bits: what is written is such a message, and what is named a block of the image, what is stored one of its slots'
 pub record Narrow (o : Outcome) : Type 0 where
-  pub block : answerBlock (o .answer) ≤ requestBlock
+  pub block : answerBlock (o .answer) < blockCount
   pub written : o .written ≤ longestWritten
   pub slot : o .slot ≤ slotCount
 

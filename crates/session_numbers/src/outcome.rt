@@ -1,7 +1,7 @@
 // An outcome as numbers.
-ghost use Prim.Native.Nat.{_≤_};
+ghost use Prim.Native.Nat.{_<_};
 ghost use mathlib.Core.Path.{_≡_};
-ghost use Rattle.image.specs.Sizes.{requestBlock};
+ghost use Rattle.image.specs.Sizes.{blockCount};
 ghost use Rattle.protocol.specs.Answers.{answerBlock};
 ghost use Rattle.session_numbers.specs.Outcome.{Narrow, outcomeNumbers, unknownPhase};
 use crate::OutcomeNumbers;
@@ -14,7 +14,7 @@ use calls::Phase;
 
 // The block that an answer names.
 fn answer_block(a: Answer) -> u32
-    requires { ⌜ answerBlock a ≤ requestBlock ⌝ }
+    requires { ⌜ answerBlock a < blockCount ⌝ }
     ensures { λ r. ⌜ r ≡ answerBlock a ⌝ }
 {
     match a {

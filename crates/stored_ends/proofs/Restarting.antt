@@ -9,7 +9,7 @@ use Rattle.protocol.specs.Judged.{done}
 use Rattle.protocol.specs.Step.{Step, broken}
 use Rattle.calls.specs.Outcomes.{After}
 use Rattle.calls.specs.State.{stateOf}
-use Rattle.calls.specs.Storing.{stay, stored}
+use Rattle.calls.specs.Storing.{same, stay, stored}
 use Rattle.calls.proofs.Putting.{put-same}
 use Rattle.call_meaning.specs.Standing.{Standing}
 use Rattle.session.specs.Call.{leaves}
@@ -28,5 +28,5 @@ module _ (z : Pair) (medium : List ℕ) (st : Standing medium (z .world .a .phas
   restart-leaves byte still =
       all-stored restores medium (z .world .a .phase) [] refl st
       ∙ ap (λ (x : After). x .image) (leaves-stored restores medium (z .world .a .phase) [] refl passes)
-      ∙ ap (stored medium stay) still
+      ∙ ap (stored medium stay same) still
       ∙ put-same medium (st .sound) byte

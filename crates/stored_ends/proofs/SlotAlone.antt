@@ -5,14 +5,11 @@ use mathlib.Core.List.{List, [], _∷_, _++_}
 use mathlib.Core.Logic.{_≢_}
 use mathlib.Core.Path.{_≡_, refl, sym, ap, _∙_}
 use native.Mathlib.Omega.{arith}
-use lib.Dec.{eqb}
-use lib.ListN.{length}
+use lib.ListN.{length, length-append}
 use borrow.Author.Tests.{ne-eqb, lt-ltb}
 use Rattle.octets.specs.Bytes.{Bytes}
-use Rattle.octets.specs.Pick.{pick}
-use Rattle.octets.proofs.Choice.{pick-all}
 use Rattle.block0.specs.Layout.{slotCount}
-use Rattle.image.specs.Sizes.{blockOf, requestBlock}
+use Rattle.image.specs.Sizes.{blockOf, further}
 use Rattle.image.specs.State.{decode, storeSlot}
 use Rattle.image.proofs.Stored.{slot-other, slots-put}
 use Rattle.protocol.specs.declared.Answer.{Answer}
@@ -25,20 +22,20 @@ use Rattle.protocol.specs.Step.{Step}
 use Rattle.protocol.specs.Submit.{submit}
 use Rattle.calls.specs.Outcomes.{After}
 use Rattle.calls.specs.State.{stateOf}
-use Rattle.calls.specs.Storing.{nextSlot, Slots}
-use Rattle.calls.proofs.Slots.{SlotFits, slot-alone}
+use Rattle.calls.specs.Storing.{Further, nextSlot, one-more, Slots}
+use Rattle.calls.proofs.Slots.{SlotFits, fits-place, slot-alone}
 use Rattle.two_ends.specs.Runs.{act, restarts, submits}
 use Rattle.two_ends.specs.Start.{Afresh}
 use Rattle.two_ends.specs.World.{Lasts, World}
-use Rattle.call_meaning.specs.Medium.{Same, committed, stores}
+use Rattle.call_meaning.specs.Medium.{Same, committed, stores, withBits}
 use Rattle.call_meaning.specs.Standing.{Standing}
 use Rattle.call_meaning.proofs.Slots.{slot-same}
-use Rattle.submit.specs.Call.{submittedSlots}
+use Rattle.submit.specs.Call.{submittedFurther}
 use Rattle.session.specs.Call.{leaves}
 use Rattle.session.proofs.Medium.{fewer-same}
 use Rattle.session.proofs.Queued.{block0-stored, slot-stored}
 use Rattle.session.proofs.Refines.{refines}
-use Rattle.session.proofs.Told.{slots-fit}
+use Rattle.session.proofs.Told.{further-fits, slots-fit}
 use Rattle.stored_ends.specs.Pair.{AllProperHappenings, Happening, Pair, happen, cut, left, runStored}
 use Rattle.stored_ends.specs.SlotAlone.{CutInSubmit, SlotAlone, atCut}
 use Rattle.stored_ends.specs.Start.{Holder, Sound, begins, openerOf}
@@ -54,17 +51,20 @@ module _ (im : List ℕ) (ph : Phase) (st : Standing im ph) (m : List ℕ) (byte
   abbrev x : After
   x = leaves (Calls.submits m) im ph []
 
-  -- the stores are told: the slot behind the newest, block 65 where it changed, then block 0
-  pub submit-told : stores (x .outcome) ≡ blockOf k ∷ (pick (eqb (x .outcome .further) 1) (requestBlock ∷ []) [] ++ (0 ∷ []))
+  -- the stores are told: the slot behind the newest, a further block that changed, then block 0
+  pub submit-told : stores (x .outcome) ≡ blockOf k ∷ (withBits (x .outcome .further) further ++ (0 ∷ []))
   submit-told =
       let some : blockOf k ≢ 0 = omega arith in
       rw (slot-stored im ph st m [] byte d, block0-stored im ph st m [] byte d, ne-eqb (blockOf k) 0 some)
 
   more-told : 1 < length (stores (x .outcome))
-  more-told = rw submit-told (pick-all (λ (l : List ℕ). 1 < length (blockOf k ∷ (l ++ (0 ∷ [])))) (eqb (x .outcome .further) 1) (omega arith) (omega arith))
+  more-told = rw submit-told (omega (arith, length-append (withBits (x .outcome .further) further) (0 ∷ [])))
 
   abbrev slots : Slots
-  slots = submittedSlots (stateOf im .table) m
+  slots = one-more m
+
+  abbrev further-put : Further
+  further-put = submittedFurther (stateOf im .table) m
 
   fits : SlotFits im slots
   fits = slots-fit (Calls.submits m) im ph 0 (judged-done (Calls.submits m) im ph [] refl d st)
@@ -73,7 +73,7 @@ module _ (im : List ℕ) (ph : Phase) (st : Standing im ph) (m : List ℕ) (byte
   slot-committed =
       let some : blockOf k ≢ 0 = omega arith in
       rw (submit-told, leaves-stored (Calls.submits m) im ph [] refl d)
-      (slot-alone im (st .sound .size) (done (Calls.submits m) (stateOf im) ph .state) slots fits some)
+      (slot-alone im (st .sound .size) (done (Calls.submits m) (stateOf im) ph .state) slots further-put fits (fits-place im further-put (further-fits (Calls.submits m) im ph)) some)
 
   pub slot-alone-is : SlotAlone im (committed 1 im x) m
   slot-alone-is =

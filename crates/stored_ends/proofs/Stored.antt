@@ -17,13 +17,13 @@ use Rattle.calls.specs.State.{stateOf}
 use Rattle.calls.specs.Storing.{firstAfter, slotNamed}
 use Rattle.call_meaning.specs.Standing.{Standing}
 use Rattle.call_meaning.proofs.Putting.{put-decodes}
-use Rattle.session.specs.Call.{given, leaves, lent, makesImage, slotsLeft}
+use Rattle.session.specs.Call.{furtherPut, given, leaves, lent, makesImage, slotsLeft}
 use Rattle.session.proofs.Answers.{answer-is}
 use Rattle.session.proofs.Puts.{done-keeps}
 use Rattle.session.proofs.Settles.{answerOn, doneOn, settles-on}
 
 module _ (c : Call) (im : List ℕ) (ph : Phase) (out : List ℕ) (other : makesImage c ≡ false) (d : leaves c im ph out .outcome .answer ≡ Answer.Done) where
-  pub leaves-stored : leaves c im ph out ≡ stepStored im (slotsLeft c (stateOf im) ph) (done c (stateOf im) ph) (lent c out)
+  pub leaves-stored : leaves c im ph out ≡ stepStored im (slotsLeft c (stateOf im) ph) (furtherPut c (stateOf im) ph) (done c (stateOf im) ph) (lent c out)
   unfolding settleOf effectOf doneOn
   leaves-stored =
       settles-on c im ph out
@@ -43,4 +43,4 @@ module _ (c : Call) (im : List ℕ) (ph : Phase) (out : List ℕ) (other : makes
     first-stored p =
         let keeps = done-keeps im ph st c (length out) other p judged-done in
         ap (λ (x : After). decode (x .image) .header .first) leaves-stored
-        ∙ ap (λ (s : Contents). s .header .first) (put-decodes im (st .sound) (slotsLeft c (stateOf im) ph) (done c (stateOf im) ph .state) (keeps .puts))
+        ∙ ap (λ (s : Contents). s .header .first) (put-decodes im (st .sound) (slotsLeft c (stateOf im) ph) (furtherPut c (stateOf im) ph) (done c (stateOf im) ph .state) (keeps .puts))

@@ -1,5 +1,5 @@
 -- What is stored in an image of bytes leaves it one of bytes. Assumes nothing.
-use Prim.Native.Nat.{ℕ, _-_, _*_}
+use Prim.Native.Nat.{ℕ, _-_, _*_, _%_}
 use mathlib.Core.List.{List, [], _∷_, _++_}
 use native.Mathlib.Omega.{arith}
 use lib.ListN.{drop, getD, length, replicate, set}
@@ -9,20 +9,21 @@ use Rattle.octets.proofs.Fill.{zeros-at}
 use Rattle.block.specs.Check.{blockSize, checkAt, checkOf, sealed}
 use Rattle.block.specs.Run.{spelled, wordBytes}
 use Rattle.label_list.specs.Word.{wordCount}
+use Rattle.word_block.specs.Layout.{blockWords, wordBlock, placeCount, wordsEnd, noWords}
 use Rattle.block0.specs.declared.Header.{Header}
 use Rattle.block0.specs.declared.Version.the-variants.{Two}
 use Rattle.block0.specs.Layout.{block0, blockBy, values, widths, releasedHeader, noLabels}
+use Rattle.fec_index.specs.Entries.{entryCount, pairPut}
 use Rattle.message.specs.declared.Submission.{Submission}
 use Rattle.message.specs.Storable.{kindIn, labelIn}
 use Rattle.message.specs.Submission.{submissionOf}
-use Rattle.request_ids.specs.Layout.{idBlock, idCount, idsEnd, noIds}
 use Rattle.slot.specs.Held.{slotFor}
 use Rattle.slot.specs.Layout.{headWidths, messageAt, slotBlock}
 use Rattle.image.specs.Events.{newImage}
-use Rattle.image.specs.Sizes.{blockOf, slotAt, requestBlock, imageSize, withBlock}
-use Rattle.image.specs.State.{decode, store0, storeSlot, storeId, storedIds}
+use Rattle.image.specs.Sizes.{block, blockOf, cleared, further, requestBlock, imageSize, withBlock}
+use Rattle.image.specs.State.{decode, entryBlock, store0, storeEntry, storeSlot, storeId, storedIds}
 use Rattle.protocol.specs.State.{State}
-use Rattle.calls.specs.Storing.{Slots, empty, fewer, headerFor, nextSlot, one-more, stay, stored, Ids, same, put, putIds}
+use Rattle.calls.specs.Storing.{Further, same, put-id, put-entry, Slots, empty, fewer, firstAfter, furtherStored, headerFor, nextSlot, one-more, slotStored, stay, stored}
 use Rattle.two_ends.proofs.Octets.{append-each, laid-each, number-octets}
 
 -- ---- numbers one after the other, and zeros
@@ -64,37 +65,41 @@ bytes-storeSlot im k m byte letters =
     let j : Submission = submissionOf m in
     laid-each im (blockOf k * blockSize) (slotBlock m (kindIn j) (labelIn j)) byte (bytes-slot m (kindIn j) (labelIn j) letters)
 
-bytes-ids : (ids : List ℕ) → Bytes (idBlock ids)
-unfolding idBlock wordBytes
-bytes-ids ids =
-    bytes-sealed (spelled (replicate idCount 4) ids ++ replicate (checkAt - idsEnd) 0)
-    (append-each (spelled (replicate idCount 4) ids) (replicate (checkAt - idsEnd) 0) (bytes-spelled (replicate idCount 4) ids) (bytes-zeros (checkAt - idsEnd)))
+bytes-words : (words : List ℕ) → Bytes (wordBlock words)
+unfolding wordBlock wordBytes
+bytes-words words =
+    bytes-sealed (spelled (replicate placeCount 4) words ++ replicate (checkAt - wordsEnd) 0)
+    (append-each (spelled (replicate placeCount 4) words) (replicate (checkAt - wordsEnd) 0) (bytes-spelled (replicate placeCount 4) words) (bytes-zeros (checkAt - wordsEnd)))
 
 -- a new image
+bytes-cleared : (im : List ℕ) (bs : List ℕ) → Bytes im → Bytes (cleared im bs)
+bytes-cleared im [] byte = byte
+bytes-cleared im (b ∷ bs) byte = bytes-cleared (withBlock im b (wordBlock noWords)) bs (laid-each im (b * blockSize) (wordBlock noWords) byte (bytes-words noWords))
+
 pub bytes-new : Bytes newImage
 unfolding newImage
-bytes-new =
-    bytes-store0 (withBlock (replicate imageSize 0) requestBlock (idBlock noIds)) releasedHeader noLabels
-    (laid-each (replicate imageSize 0) (requestBlock * blockSize) (idBlock noIds) (bytes-zeros imageSize) (bytes-ids noIds))
+bytes-new = bytes-store0 (cleared (replicate imageSize 0) further) releasedHeader noLabels (bytes-cleared (replicate imageSize 0) further (bytes-zeros imageSize))
 
-bytes-put : (im : List ℕ) (ids : Ids) → Bytes im → Bytes (putIds im ids)
-unfolding storeId
-bytes-put im same byte = byte
-bytes-put im (put place id) byte =
-    let xs : List ℕ = set (storedIds im) place (id .0) in
-    laid-each im (requestBlock * blockSize) (idBlock xs) byte (bytes-ids xs)
+bytes-further : (im : List ℕ) (f : Further) → Bytes im → Bytes (furtherStored im f)
+unfolding storeId storeEntry
+bytes-further im same byte = byte
+bytes-further im (put-id place id) byte = laid-each im (requestBlock * blockSize) _ byte (bytes-words (set (storedIds im) place (id .0)))
+bytes-further im (put-entry place entry) byte =
+    laid-each im (entryBlock place * blockSize) _ byte (bytes-words (pairPut (blockWords (block im (entryBlock place))) (place % entryCount) entry))
 
 abbrev pub SlotBytes : Slots → Type 0
 SlotBytes stay = Unit {0}
 SlotBytes empty = Unit {0}
-SlotBytes (one-more m ids) = Bytes m
+SlotBytes (one-more m) = Bytes m
 SlotBytes (fewer k) = Unit {0}
 
-pub bytes-stored : (im : List ℕ) (slots : Slots) (s : State) → Bytes im → SlotBytes slots → Bytes (stored im slots s)
-bytes-stored im stay s byte letters = bytes-store0 im (headerFor (decode im .header .first) s) (s .table .words) byte
-bytes-stored im empty s byte letters = bytes-store0 im (headerFor 0 s) (s .table .words) byte
-bytes-stored im (one-more m ids) s byte letters =
-    let k : ℕ = nextSlot (decode im .header) in
-    bytes-store0 (putIds (storeSlot im k m) ids) (headerFor (decode im .header .first) s) (s .table .words)
-    (bytes-put (storeSlot im k m) ids (bytes-storeSlot im k m byte letters))
-bytes-stored im (fewer k) s byte letters = bytes-store0 im (headerFor (slotAt (decode im .header .first) k) s) (s .table .words) byte
+bytes-slotted : (im : List ℕ) (slots : Slots) → Bytes im → SlotBytes slots → Bytes (slotStored im slots)
+bytes-slotted im stay byte letters = byte
+bytes-slotted im empty byte letters = byte
+bytes-slotted im (one-more m) byte letters = bytes-storeSlot im (nextSlot (decode im .header)) m byte letters
+bytes-slotted im (fewer k) byte letters = byte
+
+pub bytes-stored : (im : List ℕ) (slots : Slots) (f : Further) (s : State) → Bytes im → SlotBytes slots → Bytes (stored im slots f s)
+bytes-stored im slots f s byte letters =
+    bytes-store0 (furtherStored (slotStored im slots) f) (headerFor (firstAfter (decode im .header) slots) s) (s .table .words)
+    (bytes-further (slotStored im slots) f (bytes-slotted im slots byte letters))

@@ -1,48 +1,50 @@
--- What accepting a message changes: the label words, which are as many and valid again, and a Request's ID. Assumes nothing.
-use Prim.Native.Nat.{_<_, ℕ}
-use mathlib.Core.Bool.{true}
+-- What accepting a message is answered and changes: one label word, or none; the words are as many and valid again. Assumes nothing.
+use Prim.Native.Nat.{ℕ}
+use mathlib.Core.Bool.{Bool, false, not, true}
 use mathlib.Core.List.{List}
 use mathlib.Core.Path.{_∙_, _≡_, ap, refl}
 use native.Mathlib.Omega.{arith}
+use lib.Dec.{eqb}
 use lib.ListN.{getD, length}
-use Rattle.octets.specs.Bytes.{Bytes}
+use Rattle.octets.specs.Pick.{both, pick}
 use Rattle.octets.proofs.Choice.{pick-all}
 use Rattle.block.specs.Run.{Words}
 use Rattle.ft_number.specs.declared.MessageId.{MessageId}
 use Rattle.label_list.specs.declared.Found.{Found}
 use Rattle.label_list.specs.declared.Found.the-variants.{At, Nowhere}
 use Rattle.label_list.specs.declared.LabelMessage.{LabelMessage}
-use Rattle.label_list.specs.Find.{findOf, isFound}
+use Rattle.label_list.specs.declared.Next.{Next}
+use Rattle.label_list.specs.declared.Side.{Side}
+use Rattle.label_list.specs.Beside.{entryAt}
+use Rattle.label_list.specs.Find.{FoundIn, findOf, isFound}
 use Rattle.label_list.specs.Requests.{openAt}
+use Rattle.label_list.specs.Rules.{codeAccepted, sentSide}
 use Rattle.label_list.specs.Valid.{validOf}
-use Rattle.label_list.specs.Word.{isFree, requestWord, wordCount}
+use Rattle.label_list.specs.Word.{isFree, listable, listsLabel, requestWord, standsFor, wordCount, wordOf}
 use Rattle.label_list.proofs.OpenIds.{open-counting}
+use Rattle.label_list.proofs.Reached.{found-in, found-passes}
+use Rattle.fec_index.proofs.Counted.{listed-at}
 use Rattle.label_events.specs.declared.Acceptance.{Acceptance}
 use Rattle.label_events.specs.declared.Change.{Change}
-use Rattle.label_events.specs.declared.Change.the-variants.{Keep, NoRoom, Put}
 use Rattle.label_events.specs.declared.Plan.{Plan}
-use Rattle.label_events.specs.Accept.{acceptedBy, acceptedOf, planChange, planOf}
-use Rattle.label_events.specs.Change.{ChangeIn, changed, takeFree}
-use Rattle.label_events.specs.Requests.{abortedPlan, askedPlan}
+use Rattle.label_events.specs.Accept.{acceptedBy, acceptedOf, planBy, planChange, planOf}
+use Rattle.label_events.specs.Change.{ChangeIn, changeAt, changed, codeAt, takeFree}
+use Rattle.label_events.specs.Requests.{abortedAt, abortedPlan, askedPlan}
 use Rattle.label_events.proofs.Asked.{aborted-change, asked-change}
 use Rattle.label_events.proofs.Planned.{told-change}
 use Rattle.message.specs.declared.Kind.{Kind}
 use Rattle.message.specs.declared.Submission.{Submission}
-use Rattle.message.specs.Submission.{submissionOf}
-use Rattle.label_meaning.proofs.Effect.{FreeAt, free-first}
 use Rattle.label_meaning.proofs.Kept.{step-length}
-use Rattle.label_meaning.proofs.Requests.{free-plain}
-use Rattle.image.specs.State.{decode, storedIds}
+use Rattle.label_meaning.proofs.Listed.{stands-lists}
+use Rattle.image.specs.State.{decode, storedIds, storedIndex}
 use Rattle.image.proofs.Ranges.{labels-count, stored-count, valid-words}
-use Rattle.protocol.specs.Accepting.{acceptedAs}
+use Rattle.protocol.specs.Accepting.{acceptedAs, changesEntry}
 use Rattle.protocol.specs.State.{Table}
 use Rattle.protocol.specs.Submit.{acceptedLabels}
-use Rattle.protocol.proofs.KeepingLabels.{id-fits}
 use Rattle.protocol.proofs.Words.{accepted-keeps, accepted-valid}
 use Rattle.calls.specs.State.{stateOf}
-use Rattle.calls.specs.Storing.{Ids, put, same}
-use Rattle.calls.proofs.Slots.{IdsFit}
-use Rattle.submit.specs.Change.{acceptedChange, idChanged, idsBy}
+use Rattle.submit.specs.Change.{acceptedChange}
+use Rattle.submit.specs.Mapping.{MovesNone, acceptedFor, changeFor}
 
 -- ---- only the IDs that count are found
 module _ (im : List ℕ) (id : MessageId) where
@@ -58,20 +60,51 @@ module _ (im : List ℕ) (id : MessageId) where
   unfolding abortedPlan
   aborted-stored = rw open-stored
 
--- what the searches over the image's words, and over its IDs, answered
-module _ (im : List ℕ) {words : List ℕ} (ew : words ≡ decode im .labels) {x : Acceptance} {y : Change} where
-  pub label-is : (message : LabelMessage) (label : ℕ) → x ≡ acceptedOf words message label .0 → y ≡ planChange (planOf words message label)
-      → (x ≡ acceptedOf (decode im .labels) message label .0) × (y ≡ planChange (planOf (decode im .labels) message label))
-  label-is message label p q = rw (← ew) (p, q)
+-- ---- where a label is listed, the entry that counts is the one that is stored
+module _ (im : List ℕ) (label : ℕ) where
+  listed-entry : (f : Found) → f ≡ findOf (standsFor Side.Given label) (decode im .labels) → entryAt (decode im .index) f ≡ entryAt (storedIndex im) f
+  unfolding decode entryAt
+  listed-entry (At i) e =
+      let lists : listsLabel (getD (decode im .labels) i 0) ≡ true =
+      stands-lists Side.Given label (getD (decode im .labels) i 0) (found-passes (standsFor Side.Given label) (decode im .labels) i e refl) in
+      listed-at (decode im .labels) (storedIndex im) i ∙ ap (λ (b : Bool). pick b (getD (storedIndex im) i 0) 0) lists
+  listed-entry Nowhere e = refl
 
-  module _ {ids : List ℕ} (ei : ids ≡ storedIds im) (id : MessageId) where
-    pub request-is : x ≡ acceptedBy words (askedPlan words ids id) .0 → y ≡ planChange (askedPlan words ids id)
-        → (x ≡ acceptedBy (decode im .labels) (askedPlan (decode im .labels) (decode im .ids) id) .0) × (y ≡ planChange (askedPlan (decode im .labels) (decode im .ids) id))
-    request-is p q = rw (asked-stored im id, ← ei, ← ew) (p, q)
+-- what the searches over the image's words, over its IDs and at the label's place answered
+module _ (im : List ℕ) {words : List ℕ} (ew : words ≡ decode im .labels) where
+  module _ (label entry : ℕ) {f : Found} (ef : f ≡ findOf (standsFor Side.Given label) words) where
+    pub found-inside : FoundIn (decode im .labels) f
+    found-inside = found-in (standsFor Side.Given label) (decode im .labels) (rw ew at ef)
 
-    pub abort-is : x ≡ acceptedBy words (abortedPlan words ids id) .0 → y ≡ planChange (abortedPlan words ids id)
-        → (x ≡ acceptedBy (decode im .labels) (abortedPlan (decode im .labels) (decode im .ids) id) .0) × (y ≡ planChange (abortedPlan (decode im .labels) (decode im .ids) id))
-    abort-is p q = rw (aborted-stored im id, ← ei, ← ew) (p, q)
+    module _ {b : Bool} (eb : b ≡ both (isFound f) (not (eqb (entryAt (storedIndex im) f) entry))) where
+      changes-is : b ≡ changesEntry (stateOf im .table) Kind.Mapping label entry
+      changes-is =
+          let e : f ≡ findOf (standsFor Side.Given label) (decode im .labels) = rw ew at ef in
+          eb ∙ rw (← listed-entry im label f e, e)
+
+      pub mapping-other : {x : Acceptance} {y : Change} → b ≡ true → x ≡ Acceptance.NotAllowed → y ≡ Change.Keep
+          → (x ≡ acceptedFor (stateOf im .table) Kind.Mapping label entry) × (y ≡ changeFor (stateOf im .table) Kind.Mapping label entry)
+      unfolding acceptedFor changeFor
+      mapping-other t p q = rw (← changes-is, t) (p, q)
+
+      pub mapping-is : {x : Acceptance} {y : Change} → b ≡ false → x ≡ acceptedOf words LabelMessage.Mapping label .0 → y ≡ planChange (planOf words LabelMessage.Mapping label)
+          → (x ≡ acceptedFor (stateOf im .table) Kind.Mapping label entry) × (y ≡ changeFor (stateOf im .table) Kind.Mapping label entry)
+      unfolding acceptedFor changeFor acceptedAs acceptedChange
+      mapping-is n p q = rw (← changes-is, n, ← ew) (p, q)
+
+  module _ {x : Acceptance} {y : Change} where
+    pub label-is : (message : LabelMessage) (label : ℕ) → x ≡ acceptedOf words message label .0 → y ≡ planChange (planOf words message label)
+        → (x ≡ acceptedOf (decode im .labels) message label .0) × (y ≡ planChange (planOf (decode im .labels) message label))
+    label-is message label p q = rw (← ew) (p, q)
+
+    module _ {ids : List ℕ} (ei : ids ≡ storedIds im) (id : MessageId) where
+      pub request-is : x ≡ acceptedBy words (askedPlan words ids id) .0 → y ≡ planChange (askedPlan words ids id)
+          → (x ≡ acceptedBy (decode im .labels) (askedPlan (decode im .labels) (decode im .ids) id) .0) × (y ≡ planChange (askedPlan (decode im .labels) (decode im .ids) id))
+      request-is p q = rw (asked-stored im id, ← ei, ← ew) (p, q)
+
+      pub abort-is : x ≡ acceptedBy words (abortedPlan words ids id) .0 → y ≡ planChange (abortedPlan words ids id)
+          → (x ≡ acceptedBy (decode im .labels) (abortedPlan (decode im .labels) (decode im .ids) id) .0) × (y ≡ planChange (abortedPlan (decode im .labels) (decode im .ids) id))
+      abort-is p q = rw (aborted-stored im id, ← ei, ← ew) (p, q)
 
 -- ---- the change makes the label words, and writes inside them
 pub change-made : (t : Table) (kind : Kind) (label : ℕ)
@@ -94,46 +127,44 @@ labels-fit t valid j count =
     accepted-keeps (λ (ws : List ℕ). length ws ≡ length (t .words)) t refl (λ e. step-length (t .words) e) j in
     valid-words (acceptedLabels t j) (same ∙ count) (accepted-valid t valid j)
 
--- ---- a Request's ID: no other kind puts one
-pub ids-all : (P : Ids → Type 0) (kind : Kind) (change : Change) → P same → ((id : MessageId) → kind ≡ Kind.Request id → P (idChanged change id)) → P (idsBy kind change)
-ids-all P Kind.Mapping change none asked = none
-ids-all P Kind.Withdraw change none asked = none
-ids-all P Kind.Release change none asked = none
-ids-all P Kind.Address change none asked = none
-ids-all P Kind.AddressWithdraw change none asked = none
-ids-all P Kind.ResourcesAvailable change none asked = none
-ids-all P (Kind.Request id) change none asked = asked id refl
-ids-all P (Kind.Abort id) change none asked = none
-ids-all P Kind.NoResources change none asked = none
-ids-all P Kind.NoKind change none asked = none
+-- ---- a message of ours moves no label
+take-none : (g : Found) (w : ℕ) → MovesNone (takeFree g w)
+take-none (At i) w = tt
+take-none Nowhere w = tt
 
--- it is put inside block 65, and has its width
-abbrev pub IdsIn : Ids → Type 0
-IdsIn same = Unit {0}
-IdsIn (put place id) = (place < wordCount) × (id .0 < 4294967296)
+change-none : (f g : Found) (label code : ℕ) → MovesNone (changeAt f g label code)
+unfolding changeAt
+change-none (At i) g label code = tt
+change-none Nowhere g label code = pick-all MovesNone (eqb code 0) tt (take-none g (wordOf label code))
 
--- .. at a free word, so that no ID counted there
-module _ (im : List ℕ) where
-  free-fits : (f : Found) → FreeAt (decode im .labels) f → (id : MessageId) → IdsFit im (idChanged (takeFree f requestWord) id)
-  free-fits (At i) free id = free-plain (getD (decode im .labels) i 0) (free .1)
-  free-fits Nowhere free id = tt
+by-none : (n : Next) (words : List ℕ) (side : Side) (label : ℕ) → MovesNone (planChange (planBy n words side label))
+by-none (Next.Code code) words side label = change-none (findOf (standsFor side label) words) (findOf isFree words) label code
+by-none Next.NotAllowed words side label = tt
 
-  asked-fits : (id : MessageId) → IdsFit im (idChanged (planChange (askedPlan (decode im .labels) (decode im .ids) id)) id)
-  unfolding askedPlan
-  asked-fits id =
-      pick-all (λ (p : Plan). IdsFit im (idChanged (planChange p) id)) (isFound (openAt id (decode im .labels) (decode im .ids))) tt
-      (free-fits (findOf isFree (decode im .labels)) (free-first (decode im .labels) (findOf isFree (decode im .labels)) refl) id)
+plan-none : (words : List ℕ) (message : LabelMessage) (label : ℕ) → MovesNone (planChange (planOf words message label))
+unfolding planOf
+plan-none words message label =
+    pick-all (λ (p : Plan). MovesNone (planChange p)) (not (listable label)) tt
+    (by-none (codeAccepted message (codeAt words (sentSide message) label)) words (sentSide message) label)
 
-  pub ids-fit : (kind : Kind) (label : ℕ) → IdsFit im (idsBy kind (acceptedChange (stateOf im .table) kind label))
-  unfolding acceptedChange
-  ids-fit kind label = ids-all (IdsFit im) kind (acceptedChange (stateOf im .table) kind label) tt (λ id e. rw e (asked-fits id))
+asked-none : (words ids : List ℕ) (id : MessageId) → MovesNone (planChange (askedPlan words ids id))
+unfolding askedPlan
+asked-none words ids id =
+    pick-all (λ (p : Plan). MovesNone (planChange p)) (isFound (openAt id words ids)) tt (take-none (findOf isFree words) requestWord)
 
-  change-inside : (change : Change) (id : MessageId) → ChangeIn (decode im .labels) change → id .0 < 4294967296 → IdsIn (idChanged change id)
-  change-inside Keep id inside small = tt
-  change-inside (Put place word) id inside small = (omega (arith, labels-count im), small)
-  change-inside NoRoom id inside small = tt
+aborted-none : (f : Found) → MovesNone (planChange (abortedAt f))
+aborted-none (At i) = tt
+aborted-none Nowhere = tt
 
-  pub ids-in : (m : List ℕ) (kind : Kind) (label : ℕ) (change : Change) → Bytes m → submissionOf m ≡ Submission.Accepted kind label → ChangeIn (decode im .labels) change
-      → IdsIn (idsBy kind change)
-  ids-in m kind label change bytes j inside =
-      ids-all IdsIn kind change tt (λ id e. change-inside change id inside (id-fits m bytes id label (j ∙ ap (λ (k : Kind). Submission.Accepted k label) e)))
+pub moves-none : (t : Table) (kind : Kind) (label : ℕ) → MovesNone (acceptedChange t kind label)
+unfolding acceptedChange abortedPlan
+moves-none t Kind.Mapping label = plan-none (t .words) LabelMessage.Mapping label
+moves-none t Kind.Withdraw label = plan-none (t .words) LabelMessage.Withdraw label
+moves-none t Kind.Release label = plan-none (t .words) LabelMessage.Release label
+moves-none t Kind.Address label = tt
+moves-none t Kind.AddressWithdraw label = tt
+moves-none t Kind.ResourcesAvailable label = tt
+moves-none t (Kind.Request id) label = asked-none (t .words) (t .ids) id
+moves-none t (Kind.Abort id) label = aborted-none (openAt id (t .words) (t .ids))
+moves-none t Kind.NoResources label = tt
+moves-none t Kind.NoKind label = tt

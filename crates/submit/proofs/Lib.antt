@@ -1,5 +1,6 @@
 pub mod Barring
 pub mod Accepted
+pub mod Taking
 pub mod Queueing
 pub mod Answered
 pub mod Settling

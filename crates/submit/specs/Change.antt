@@ -1,20 +1,21 @@
--- What accepting a message changes: one label word, so that block 0 gets that one and not all of them anew; of a Request its ID in block 65; and block 0's numbers.
+-- What accepting a message changes: one label word, so that block 0 gets that one and not all of them anew; of a
+-- Request its ID in block 65, of a Mapping that takes a word its entry in block 66 or 67; and block 0's numbers.
 use Prim.Native.Nat.{ℕ, _+_}
-use mathlib.Core.List.{List}
-use lib.Dec.{eqb}
-use lib.ListN.{getD}
-use Rattle.octets.specs.Pick.{pick}
 use Rattle.ft_number.specs.declared.MessageId.{MessageId}
 use Rattle.label_list.specs.declared.LabelMessage.{LabelMessage}
+use Rattle.label_list.specs.declared.Side.{Side}
+use Rattle.label_list.specs.Find.{findOf}
+use Rattle.label_list.specs.Word.{standsFor}
 use Rattle.block0.specs.declared.Header.{Header}
 use Rattle.label_events.specs.declared.Change.{Change}
 use Rattle.label_events.specs.Accept.{planChange, planOf}
+use Rattle.label_events.specs.Change.{takenAt}
 use Rattle.label_events.specs.Requests.{askedPlan, abortedPlan}
 use Rattle.message.specs.declared.Kind.{Kind}
 use Rattle.protocol.specs.Accepting.{stopAfter}
 use Rattle.protocol.specs.State.{Table}
 use Rattle.calls.specs.State.{marksOf}
-use Rattle.calls.specs.Storing.{Ids, same, put, marksByte}
+use Rattle.calls.specs.Storing.{Further, same, put-id, entryPut, marksByte}
 
 -- kinds 1 to 3 by the label's code, kinds 7 and 8 by the open Requests; the others change no word
 unfoldable pub acceptedChange : Table → Kind → ℕ → Change
@@ -30,28 +31,25 @@ acceptedChange t Kind.NoResources label = Change.Keep
 acceptedChange t Kind.NoKind label = Change.Keep
 
 -- 02: "its message ID at the same place": that of the word which the change writes
-abbrev pub idChanged : Change → MessageId → Ids
-idChanged Change.Keep id = same
-idChanged (Change.Put place word) id = put place id
-idChanged Change.NoRoom id = same
+abbrev pub idPut : Change → MessageId → Further
+idPut Change.Keep id = same
+idPut (Change.Put place word) id = put-id place id
+idPut (Change.Move from place word) id = same
+idPut Change.NoRoom id = same
 
--- what becomes of the IDs in block 65: a Request puts its own there
-abbrev pub idsBy : Kind → Change → Ids
-idsBy Kind.Mapping change = same
-idsBy Kind.Withdraw change = same
-idsBy Kind.Release change = same
-idsBy Kind.Address change = same
-idsBy Kind.AddressWithdraw change = same
-idsBy Kind.ResourcesAvailable change = same
-idsBy (Kind.Request id) change = idChanged change id
-idsBy (Kind.Abort id) change = same
-idsBy Kind.NoResources change = same
-idsBy Kind.NoKind change = same
-
--- whether block 65 is another then: not where the ID that is put stood there already
-abbrev pub furtherBy : List ℕ → Ids → ℕ
-furtherBy ids same = 0
-furtherBy ids (put place id) = pick (eqb (getD ids place 0) (id .0)) 0 1
+-- what becomes of the further blocks: a Mapping that takes a word puts the entry of its FEC there, a Request its ID
+unfoldable pub acceptedFurther : Table → Kind → ℕ → ℕ → Further
+acceptedFurther t Kind.Mapping label entry =
+    entryPut (takenAt (findOf (standsFor Side.Given label) (t .words)) (acceptedChange t Kind.Mapping label)) entry
+acceptedFurther t Kind.Withdraw label entry = same
+acceptedFurther t Kind.Release label entry = same
+acceptedFurther t Kind.Address label entry = same
+acceptedFurther t Kind.AddressWithdraw label entry = same
+acceptedFurther t Kind.ResourcesAvailable label entry = same
+acceptedFurther t (Kind.Request id) label entry = idPut (acceptedChange t (Kind.Request id) label) id
+acceptedFurther t (Kind.Abort id) label entry = same
+acceptedFurther t Kind.NoResources label entry = same
+acceptedFurther t Kind.NoKind label entry = same
 
 -- one more message held; 02: "4 from accepting kind 9 until kind 6"
 abbrev pub headerQueued : Header → Kind → Header

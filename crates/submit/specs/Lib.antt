@@ -1,2 +1,4 @@
 pub mod Change
 pub mod Call
+pub mod Mapping
+pub mod Queueing

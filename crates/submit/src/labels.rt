@@ -1,24 +1,32 @@
-// Answers 6 and 13: what a message's kind and label are asked.
+// Answers 6 and 13: what a message's kind, its label and the entry of its FEC are asked.
 ghost use Prim.Native.Nat.{_<_};
+ghost use mathlib.Core.Bool.{not};
 ghost use mathlib.Core.List.{[]};
 ghost use mathlib.Core.Path.{_≡_};
+ghost use lib.Dec.{eqb};
 ghost use lib.ListN.{getD, length};
+ghost use Rattle.octets.specs.Pick.{both};
+ghost use Rattle.label_list.specs.Beside.{entryAt};
+ghost use Rattle.label_list.specs.Find.{FoundIn, isFound};
 ghost use Rattle.label_events.specs.Accept.{acceptedBy, acceptedOf, planChange, planOf};
 ghost use Rattle.label_events.specs.Requests.{abortedPlan, askedPlan};
+ghost use Rattle.message.specs.declared.Kind.the-variants.{Mapping};
 ghost use Rattle.message.specs.Storable.{bears};
-ghost use Rattle.message.specs.Submission.{submissionOf};
+ghost use Rattle.message.specs.Submission.{entryIn, submissionOf};
 ghost use Rattle.image.specs.Sizes.{imageSize};
-ghost use Rattle.image.specs.State.{decode};
+ghost use Rattle.image.specs.State.{decode, storedIndex};
 ghost use Rattle.image.specs.Verdict.{IsSound};
-ghost use Rattle.protocol.specs.Accepting.{isBarred, acceptedAs};
+ghost use Rattle.protocol.specs.Accepting.{isBarred};
 ghost use Rattle.protocol.specs.Held.{isHeld};
 ghost use Rattle.calls.specs.State.{stateOf};
-ghost use Rattle.submit.specs.Change.{acceptedChange};
+ghost use Rattle.submit.specs.Mapping.{acceptedFor, changeFor, entryFor};
 use ft_number::MessageId;
 use label_events::Acceptance;
 use label_events::Accepted;
 use label_events::Change;
+use label_list::Found;
 use label_list::LabelMessage;
+use label_list::Side;
 use message::Kind;
 
 // Whether the i-th message held is of that kind and label.
@@ -67,7 +75,61 @@ pub fn is_barred(image: &[u8], kind: Kind, label: u32) -> bool
     }
 }
 
-// Accepts a message of a label for sending; what it makes of the label words is told, and nothing is stored.
+// The entry of a Mapping's FEC. Of no other kind is it asked, so no other message is read again.
+pub fn entry_of(msg: &[u8], kind: Kind) -> u64
+    ensures { λ r. ⌜ r ≡ entryFor kind (entryIn (now (msg .entry))) ⌝ }
+{
+    match kind {
+        Kind::Mapping => message::entry_in(msg),
+        Kind::Withdraw => 0,
+        Kind::Release => 0,
+        Kind::Address => 0,
+        Kind::AddressWithdraw => 0,
+        Kind::ResourcesAvailable => 0,
+        Kind::Request(_) => 0,
+        Kind::Abort(_) => 0,
+        Kind::NoResources => 0,
+        Kind::NoKind => 0,
+    }
+}
+
+// Whether another entry than that one stands at the place where a label was found.
+fn has_other_entry(image: &[u8], place: Found, entry: u64) -> bool
+    requires { ⌜ (length (now image) ≡ imageSize) × FoundIn (decode (now image) .labels) place ⌝ }
+    ensures { λ r. ⌜ r ≡ both (isFound place) (not (eqb (entryAt (storedIndex (now (image .entry))) place) entry)) ⌝ }
+{
+    match place {
+        Found::At(i) => image::entry_at(image, i) != entry,
+        Found::Nowhere => false,
+    }
+}
+
+// An answer that changes no label word.
+fn without_change(acceptance: Acceptance) -> Accepted
+    ensures { λ r. ⌜ (r .acceptance ≡ acceptance) × (r .change ≡ Change.Keep) ⌝ }
+{
+    Accepted {
+        acceptance: acceptance,
+        change: Change::Keep,
+    }
+}
+
+// Accepts a Mapping for sending, unless its label is given under another entry. What it makes of the label words is
+// told, and nothing is stored.
+fn accept_mapping(image: &[u8], label: u32, entry: u64) -> Accepted
+    requires { ⌜ length (now image) ≡ imageSize ⌝ }
+    ensures { λ r. ⌜ (r .acceptance ≡ acceptedFor (stateOf (now (image .entry)) .table) Mapping label entry) × (r .change ≡ changeFor (stateOf (now (image .entry)) .table) Mapping label entry) ⌝ }
+{
+    let mut words = [0u32; label_list::WORD_COUNT];
+    image::labels_of(image, &mut words);
+    let place = label_list::find_label(&words, Side::Given, label);
+    if has_other_entry(image, place, entry) {
+        return without_change(Acceptance::NotAllowed);
+    }
+    label_events::accept(&mut words, LabelMessage::Mapping, label)
+}
+
+// The same of a Withdraw or a Release.
 fn accept_label(image: &[u8], message: LabelMessage, label: u32) -> Accepted
     requires { ⌜ length (now image) ≡ imageSize ⌝ }
     ensures { λ r. ⌜ (r .acceptance ≡ acceptedOf (decode (now (image .entry)) .labels) message label .0) × (r .change ≡ planChange (planOf (decode (now (image .entry)) .labels) message label)) ⌝ }
@@ -77,13 +139,13 @@ fn accept_label(image: &[u8], message: LabelMessage, label: u32) -> Accepted
     label_events::accept(&mut words, message, label)
 }
 
-// The same of a Request. The IDs of block 65 are read for Requests and Aborts alone; those that do not count are not found.
+// Of a Request. The IDs of block 65 are read for Requests and Aborts alone; those that do not count are not found.
 fn accept_request(image: &[u8], id: MessageId) -> Accepted
     requires { ⌜ length (now image) ≡ imageSize ⌝ }
     ensures { λ r. ⌜ (r .acceptance ≡ acceptedBy (decode (now (image .entry)) .labels) (askedPlan (decode (now (image .entry)) .labels) (decode (now (image .entry)) .ids) id) .0) × (r .change ≡ planChange (askedPlan (decode (now (image .entry)) .labels) (decode (now (image .entry)) .ids) id)) ⌝ }
 {
     let mut words = [0u32; label_list::WORD_COUNT];
-    let mut ids = [0u32; request_ids::ID_COUNT];
+    let mut ids = [0u32; word_block::PLACE_COUNT];
     image::labels_of(image, &mut words);
     image::ids_of(image, &mut ids);
     label_events::ask(&mut words, &mut ids, id)
@@ -95,37 +157,27 @@ fn accept_abort(image: &[u8], id: MessageId) -> Accepted
     ensures { λ r. ⌜ (r .acceptance ≡ acceptedBy (decode (now (image .entry)) .labels) (abortedPlan (decode (now (image .entry)) .labels) (decode (now (image .entry)) .ids) id) .0) × (r .change ≡ planChange (abortedPlan (decode (now (image .entry)) .labels) (decode (now (image .entry)) .ids) id)) ⌝ }
 {
     let mut words = [0u32; label_list::WORD_COUNT];
-    let mut ids = [0u32; request_ids::ID_COUNT];
+    let mut ids = [0u32; word_block::PLACE_COUNT];
     image::labels_of(image, &mut words);
     image::ids_of(image, &mut ids);
     label_events::abort(&mut words, &ids, id)
 }
 
-// The answer to a message that names neither label nor Request: no word is another.
-fn without_label(acceptance: Acceptance) -> Accepted
-    ensures { λ r. ⌜ (r .acceptance ≡ acceptance) × (r .change ≡ Change.Keep) ⌝ }
-{
-    Accepted {
-        acceptance: acceptance,
-        change: Change::Keep,
-    }
-}
-
-// Accepts a message of that kind and label for sending.
-pub fn accept_as(image: &[u8], kind: Kind, label: u32) -> Accepted
+// Accepts a message of that kind, label and entry for sending.
+pub fn accept_as(image: &[u8], kind: Kind, label: u32, entry: u64) -> Accepted
     requires { ⌜ length (now image) ≡ imageSize ⌝ }
-    ensures { λ r. ⌜ (r .acceptance ≡ acceptedAs (stateOf (now (image .entry)) .table) kind label .0) × (r .change ≡ acceptedChange (stateOf (now (image .entry)) .table) kind label) ⌝ }
+    ensures { λ r. ⌜ (r .acceptance ≡ acceptedFor (stateOf (now (image .entry)) .table) kind label entry) × (r .change ≡ changeFor (stateOf (now (image .entry)) .table) kind label entry) ⌝ }
 {
     match kind {
-        Kind::Mapping => accept_label(image, LabelMessage::Mapping, label),
+        Kind::Mapping => accept_mapping(image, label, entry),
         Kind::Withdraw => accept_label(image, LabelMessage::Withdraw, label),
         Kind::Release => accept_label(image, LabelMessage::Release, label),
-        Kind::Address => without_label(Acceptance::Taken),
-        Kind::AddressWithdraw => without_label(Acceptance::Taken),
-        Kind::ResourcesAvailable => without_label(Acceptance::Taken),
+        Kind::Address => without_change(Acceptance::Taken),
+        Kind::AddressWithdraw => without_change(Acceptance::Taken),
+        Kind::ResourcesAvailable => without_change(Acceptance::Taken),
         Kind::Request(id) => accept_request(image, id),
         Kind::Abort(id) => accept_abort(image, id),
-        Kind::NoResources => without_label(Acceptance::Taken),
-        Kind::NoKind => without_label(Acceptance::NotAllowed),
+        Kind::NoResources => without_change(Acceptance::Taken),
+        Kind::NoKind => without_change(Acceptance::NotAllowed),
     }
 }

@@ -5,7 +5,7 @@ ghost use mathlib.Core.Path.{_≡_};
 ghost use lib.ListN.{length};
 ghost use Rattle.message.specs.declared.Submission.the-variants.{Accepted};
 ghost use Rattle.message.specs.Storable.{shortest, longest};
-ghost use Rattle.message.specs.Submission.{submissionOf};
+ghost use Rattle.message.specs.Submission.{entryIn, submissionOf};
 ghost use Rattle.image.specs.State.{decode};
 ghost use Rattle.image.specs.Verdict.{IsSound};
 ghost use Rattle.protocol.specs.Submit.{kindRule};
@@ -25,19 +25,20 @@ mod storing;
 // A message that passes 3, 4 and 5, with its kind and label: 6, 14, 15, 13 and 7 are asked, and it is queued.
 fn submit_accepted(image: &mut [u8], phase: Phase, msg: &[u8], kind: Kind, label: u32) -> Outcome
     requires { ⌜ IsSound (now image) × (decode (now image) .header .kept ≡ 1) × (shortest ≤ length (now msg)) × (length (now msg) ≤ longest) × (submissionOf (now msg) ≡ Accepted kind label) ⌝ }
-    ensures { λ r. ⌜ afterWith r (now (image .exit)) [] ≡ settleOf (kindRule (stateOf (now (image .entry))) phase kind label) phase (now (image .entry)) [] (queued (now (image .entry)) phase (now (msg .entry))) ⌝ }
+    ensures { λ r. ⌜ afterWith r (now (image .exit)) [] ≡ settleOf (kindRule (stateOf (now (image .entry))) phase kind label (entryIn (now (msg .entry)))) phase (now (image .entry)) [] (queued (now (image .entry)) phase (now (msg .entry))) ⌝ }
 {
     if labels::is_barred(image, kind, label) {
         return calls::refuse(Answer::LabelNotAllowed, phase);
     }
-    let accepted = labels::accept_as(image, kind, label);
+    let entry = labels::entry_of(msg, kind);
+    let accepted = labels::accept_as(image, kind, label, entry);
     let acceptance = accepted.acceptance;
     let change = accepted.change;
     let answer = judging::judge(image, phase, kind, acceptance);
     if !calls::is_done(answer) {
         return calls::refuse(answer, phase);
     }
-    storing::queue_message(image, phase, msg, kind, label, change)
+    storing::queue_message(image, phase, msg, kind, label, entry, change)
 }
 
 // Submits a message: 12, 1, 3, 4, 5, then what its kind and label say. A refusal changes nothing.

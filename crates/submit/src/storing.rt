@@ -1,28 +1,27 @@
-// The stores of Submit: the message's slot, a Request's ID, then block 0.
-ghost use Prim.Native.Nat.{_≤_, _<_};
+// The stores of Submit: the message's slot, a Request's ID or the entry of a Mapping that takes a word, then block 0.
+ghost use Prim.Native.Nat.{_<_};
 ghost use mathlib.Core.List.{[]};
 ghost use mathlib.Core.Path.{_≡_};
 ghost use lib.ListN.{length};
-ghost use Rattle.label_list.specs.Word.{wordCount};
+ghost use Rattle.label_list.specs.Find.{FoundIn};
 ghost use Rattle.block0.specs.Layout.{slotCount};
 ghost use Rattle.label_events.specs.Change.{ChangeIn, changed};
-ghost use Rattle.message.specs.declared.Submission.the-variants.{Accepted};
-ghost use Rattle.message.specs.Storable.{shortest, longest};
-ghost use Rattle.message.specs.Submission.{submissionOf};
 ghost use Rattle.image.specs.Sizes.{imageSize};
-ghost use Rattle.image.specs.State.{decode, storeId, store0, storedIds};
-ghost use Rattle.image.specs.Verdict.{IsSound};
+ghost use Rattle.image.specs.State.{decode, store0};
+ghost use Rattle.calls.specs.Further.{furtherTold};
 ghost use Rattle.calls.specs.Outcomes.{afterWith};
-ghost use Rattle.calls.specs.State.{stateOf};
-ghost use Rattle.calls.specs.Storing.{nextSlot, put, putIds};
+ghost use Rattle.calls.specs.Storing.{entryPut, furtherStored, nextSlot};
 ghost use Rattle.submit.specs.Call.{queued};
-ghost use Rattle.submit.specs.Change.{acceptedChange, furtherBy, headerQueued, idChanged, idsBy};
+ghost use Rattle.submit.specs.Change.{headerQueued, idPut};
+ghost use Rattle.submit.specs.Mapping.{MovesNone, furtherBy, changeTakes};
+ghost use Rattle.submit.specs.Queueing.{Queueable};
 use block0::Header;
 use calls::Answer;
 use calls::Outcome;
 use calls::Phase;
 use ft_number::MessageId;
 use label_events::Change;
+use label_list::Found;
 use message::Kind;
 
 // The slot after that of the newest held.
@@ -43,38 +42,53 @@ fn queued_header(h: Header, kind: Kind) -> Header
     next
 }
 
-// Stores an ID at its place of block 65; 1 where another stood there, and 0 where it did itself.
-fn store_id(image: &mut [u8], place: usize, id: MessageId) -> u32
-    requires { ⌜ (length (now image) ≡ imageSize) × (place < wordCount) ⌝ }
-    ensures { λ r. ⌜ (now (image .exit) ≡ storeId (now (image .entry)) place id) × (r ≡ furtherBy (storedIds (now (image .entry))) (put place id)) ⌝ }
-{
-    let before = image::id_at(image, place);
-    image::store_id(image, place, id);
-    if before == id.0 {
-        return 0;
-    }
-    1
-}
-
 // Stores a Request's ID at the place of its word, if its change writes one.
 fn store_request(image: &mut [u8], id: MessageId, change: Change) -> u32
     requires { ⌜ (length (now image) ≡ imageSize) × ChangeIn (decode (now image) .labels) change ⌝ }
-    ensures { λ r. ⌜ (now (image .exit) ≡ putIds (now (image .entry)) (idChanged change id)) × (r ≡ furtherBy (storedIds (now (image .entry))) (idChanged change id)) ⌝ }
+    ensures { λ r. ⌜ (now (image .exit) ≡ furtherStored (now (image .entry)) (idPut change id)) × (r ≡ furtherTold (now (image .entry)) (idPut change id)) ⌝ }
 {
     match change {
         Change::Keep => 0,
-        Change::Put(place, _) => store_id(image, place, id),
+        Change::Put(place, _) => calls::store_id(image, place, id),
+        Change::Move(_, _, _) => 0,
         Change::NoRoom => 0,
     }
 }
 
-// Stores what a message of that kind makes of block 65; the bit of that block in `further`.
-fn store_ids(image: &mut [u8], kind: Kind, change: Change) -> u32
+// The place of the word that a change takes: a word that is written in place was not free.
+fn taken_by(image: &[u8], change: Change) -> Found
     requires { ⌜ (length (now image) ≡ imageSize) × ChangeIn (decode (now image) .labels) change ⌝ }
-    ensures { λ r. ⌜ (now (image .exit) ≡ putIds (now (image .entry)) (idsBy kind change)) × (r ≡ furtherBy (storedIds (now (image .entry))) (idsBy kind change)) ⌝ }
+    ensures { λ r. ⌜ (r ≡ changeTakes (decode (now (image .entry)) .labels) change) × FoundIn (decode (now (image .entry)) .labels) r ⌝ }
+{
+    match change {
+        Change::Keep => Found::Nowhere,
+        Change::Put(place, _) => {
+            if image::label_at(image, place) != 0 {
+                return Found::Nowhere;
+            }
+            Found::At(place)
+        }
+        Change::Move(_, to, _) => Found::At(to),
+        Change::NoRoom => Found::Nowhere,
+    }
+}
+
+// Stores the entry of a Mapping at the word that it takes, if it takes one.
+fn store_mapping(image: &mut [u8], entry: u64, change: Change) -> u32
+    requires { ⌜ (length (now image) ≡ imageSize) × ChangeIn (decode (now image) .labels) change ⌝ }
+    ensures { λ r. ⌜ (now (image .exit) ≡ furtherStored (now (image .entry)) (entryPut (changeTakes (decode (now (image .entry)) .labels) change) entry)) × (r ≡ furtherTold (now (image .entry)) (entryPut (changeTakes (decode (now (image .entry)) .labels) change) entry)) ⌝ }
+{
+    let place = taken_by(image, change);
+    calls::store_taken(image, place, entry)
+}
+
+// Stores what a message of that kind makes of the further blocks; the bit in `further` of the one that is another.
+fn store_further(image: &mut [u8], kind: Kind, entry: u64, change: Change) -> u32
+    requires { ⌜ (length (now image) ≡ imageSize) × ChangeIn (decode (now image) .labels) change ⌝ }
+    ensures { λ r. ⌜ (now (image .exit) ≡ furtherStored (now (image .entry)) (furtherBy (decode (now (image .entry)) .labels) kind change entry)) × (r ≡ furtherTold (now (image .entry)) (furtherBy (decode (now (image .entry)) .labels) kind change entry)) ⌝ }
 {
     match kind {
-        Kind::Mapping => 0,
+        Kind::Mapping => store_mapping(image, entry, change),
         Kind::Withdraw => 0,
         Kind::Release => 0,
         Kind::Address => 0,
@@ -89,12 +103,14 @@ fn store_ids(image: &mut [u8], kind: Kind, change: Change) -> u32
 
 // Stores block 0 with that header and that change of its label words: only the word that is another is written.
 fn store_change(image: &mut [u8], h: Header, change: Change)
-    requires { ⌜ (length (now image) ≡ imageSize) × ChangeIn (decode (now image) .labels) change ⌝ }
+    requires { ⌜ (length (now image) ≡ imageSize) × ChangeIn (decode (now image) .labels) change × MovesNone change ⌝ }
     ensures { λ _. ⌜ now (image .exit) ≡ store0 (now (image .entry)) h (changed (decode (now (image .entry)) .labels) change) ⌝ }
 {
     match change {
         Change::Keep => image::store_header(image, h),
         Change::Put(place, word) => image::store_label(image, h, place, word),
+        // Ruled out: a message of ours moves no label.
+        Change::Move(_, _, _) => {}
         Change::NoRoom => image::store_header(image, h),
     }
 }
@@ -106,15 +122,16 @@ pub fn queue_message(
     msg: &[u8],
     kind: Kind,
     label: u32,
+    entry: u64,
     change: Change,
 ) -> Outcome
-    requires { ⌜ IsSound (now image) × (decode (now image) .header .held < slotCount) × (shortest ≤ length (now msg)) × (length (now msg) ≤ longest) × (submissionOf (now msg) ≡ Accepted kind label) × (change ≡ acceptedChange (stateOf (now image) .table) kind label) ⌝ }
+    requires { ⌜ Queueable (now image) (now msg) kind label entry change ⌝ }
     ensures { λ r. ⌜ afterWith r (now (image .exit)) [] ≡ queued (now (image .entry)) phase (now (msg .entry)) ⌝ }
 {
     let h = image::header_of(image);
     let k = next_slot(h);
     image::store_slot(image, k, msg, kind, label);
-    let further = store_ids(image, kind, change);
+    let further = store_further(image, kind, entry, change);
     store_change(image, queued_header(h, kind), change);
     // The count of held messages is another, so block 0 changed.
     Outcome {

@@ -11,7 +11,7 @@ use Rattle.octets.specs.Pick.{pick}
 use Rattle.octets.proofs.Choice.{pick-all}
 use Rattle.octets.proofs.Differ.{differ-self}
 use Rattle.block0.specs.declared.Header.{Header}
-use Rattle.image.specs.Sizes.{block, requestBlock}
+use Rattle.image.specs.Sizes.{block}
 use Rattle.image.specs.State.{decode}
 use Rattle.image.specs.Verdict.{IsSound}
 use Rattle.protocol.specs.declared.Answer.{Answer}
@@ -26,8 +26,9 @@ use Rattle.protocol.proofs.Settling.{Harmless, done-harmless}
 use Rattle.calls.specs.declared.Outcome.{Outcome}
 use Rattle.calls.specs.Outcomes.{After, afterWith, refusal, releasedOn, failedOn, admittedOn, settleOf, stepStored}
 use Rattle.calls.specs.State.{stateOf, stateOfNumbers}
-use Rattle.calls.specs.Storing.{stay, empty}
+use Rattle.calls.specs.Storing.{stay, empty, same}
 use Rattle.calls.proofs.Called.{call-is}
+use Rattle.calls.proofs.FurtherBits.{further-self}
 use Rattle.calls.proofs.Putting.{put-same}
 use Rattle.calls.proofs.Settled.{admitted-done, admit-refused, admit-passed, admitted-is, admitted-sound}
 use Rattle.call_meaning.proofs.Calling.{own-refused}
@@ -76,7 +77,7 @@ module _ (im : List ℕ) (ph : Phase) (may : Bool) {m : Bool} {r : Answer} (em :
 -- ---- connection failed
 pub failed-settles : (im : List ℕ) (ph : Phase) → settleOf (admittedOn im ph (eventRule (connected ph))) ph im [] (failedOn Answer.Done im []) ≡ connectionFailedOf im ph
 unfolding connectionFailedOf connectionFailed failedOn eventRule
-failed-settles im ph = sym (call-is im ph [] stay (eventRule (connected ph)) (failedWith Answer.Done (stateOf im)) refl)
+failed-settles im ph = sym (call-is im ph [] stay same (eventRule (connected ph)) (failedWith Answer.Done (stateOf im)) refl)
 
 -- ---- time passed
 module _ (im : List ℕ) (ph : Phase) (elapsed : ℕ) where
@@ -84,12 +85,12 @@ module _ (im : List ℕ) (ph : Phase) (elapsed : ℕ) where
   step = pick (expired (stateOf im) elapsed) (releasedWith Answer.Done) (unchanged Answer.Done (stateOf im) ph)
 
   abbrev pub passedOn : After
-  passedOn = stepStored im (pick (expired (stateOf im) elapsed) empty stay) step []
+  passedOn = stepStored im (pick (expired (stateOf im) elapsed) empty stay) same step []
 
   pub passed-settles : settleOf (admittedOn im ph (eventRule (waiting ph))) ph im [] passedOn ≡ timePassedOf im ph elapsed
   unfolding timePassedOf timePassed eventRule
   passed-settles =
-      sym (call-is im ph [] (pick (expired (stateOf im) elapsed) empty stay) (eventRule (waiting ph)) step
+      sym (call-is im ph [] (pick (expired (stateOf im) elapsed) empty stay) same (eventRule (waiting ph)) step
       (pick-all (λ (x : Step). x .answer ≡ Answer.Done) (expired (stateOf im) elapsed) refl refl))
 
   module _ {h : Header} {t : Bool} (eh : h ≡ decode im .header) (et : t ≡ expired (stateOfNumbers h) elapsed) where
@@ -99,7 +100,7 @@ module _ (im : List ℕ) (ph : Phase) (elapsed : ℕ) where
 
     pub too-early : IsSound im → Bytes im → {x : Outcome} → t ≡ false → x ≡ refusal Answer.Done ph → afterWith x im [] ≡ passedOn
     unfolding laid
-    too-early s byte e p = rw (read e, put-same im s byte, differ-self (block im 0), differ-self (block im requestBlock), p)
+    too-early s byte e p = rw (read e, put-same im s byte, differ-self (block im 0), further-self im, p)
 
     pub late : {x : After} → t ≡ true → x ≡ releasedOn Answer.Done im [] → x ≡ passedOn
     unfolding releasedOn

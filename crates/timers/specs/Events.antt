@@ -10,16 +10,16 @@ use Rattle.protocol.specs.Step.{whereOpen}
 use Rattle.protocol.specs.TimePassed.{expired, timePassed}
 use Rattle.calls.specs.Outcomes.{After, callOf}
 use Rattle.calls.specs.State.{stateOf}
-use Rattle.calls.specs.Storing.{stay, empty}
+use Rattle.calls.specs.Storing.{same, stay, empty}
 
 -- "Connection failed (InitWait, UpFT, UpPlain): code 6 words are freed; Failed if kept, else Idle."
 unfoldable pub connectionFailedOf : List ℕ → Phase → After
-connectionFailedOf im ph = callOf im ph [] stay (connectionFailed (stateOf im) ph)
+connectionFailedOf im ph = callOf im ph [] stay same (connectionFailed (stateOf im) ph)
 
 -- "Time passed (Failed): releases, then Idle, if the timeout isn't zero and elapsed seconds are at least it; else nothing changes."
 -- 02: "Time passed counts milliseconds."
 unfoldable pub timePassedOf : List ℕ → Phase → ℕ → After
-timePassedOf im ph elapsed = callOf im ph [] (pick (expired (stateOf im) elapsed) empty stay) (timePassed (stateOf im) ph elapsed)
+timePassedOf im ph elapsed = callOf im ph [] (pick (expired (stateOf im) elapsed) empty stay) same (timePassed (stateOf im) ph elapsed)
 
 -- the tests of either event past the first two: whether it may come in the phase
 unfoldable pub eventRule : Bool → Answer

@@ -7,3 +7,5 @@ pub mod Standing
 pub mod Whole
 pub mod Split
 pub mod Values
+pub mod Elements
+pub mod Prefixes

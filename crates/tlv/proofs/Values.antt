@@ -1,22 +1,24 @@
 -- What a TLV's place says: its part lies within the message, its label is one, its numbers have their widths. Assumes nothing.
-use Prim.Native.Nat.{ℕ, _+_, _≤_, _<_}
+use Prim.Native.Nat.{ℕ, zero, suc, _+_, _-_, _*_, _/_, _^_, _≤_, _<_}
 use mathlib.Core.Bool.{Bool, true, false}
-use mathlib.Core.List.{List}
+use mathlib.Core.List.{List, [], _∷_}
 use mathlib.Core.Path.{_≡_, refl}
 use native.Mathlib.Omega.{arith}
 use lib.Dec.{eqb}
-use lib.ListN.{length, drop}
+use lib.ListN.{length, drop, take}
 use borrow.Author.Tests.{eqb-false}
 use Rattle.octets.specs.Be.{beAt}
 use Rattle.octets.specs.Bytes.{Bytes}
+use Rattle.octets.specs.Part.{part}
 use Rattle.octets.specs.Pick.{pick}
 use Rattle.octets.proofs.Be.{beAt-lt}
 use Rattle.octets.proofs.Bytes.{beAt-drop}
-use Rattle.octets.proofs.Choice.{cleared, pick-all}
+use Rattle.octets.proofs.Choice.{by-test, cleared, pick-all}
 use Rattle.ft_number.specs.declared.FtNumber.{FtNumber}
 use Rattle.ft_number.specs.declared.MessageId.{MessageId}
 use Rattle.ft_number.specs.declared.Timeout.{Timeout}
 use Rattle.ft_number.specs.Timeout.{TimeoutFits}
+use Rattle.tlv.specs.declared.Fec.{Fec}
 use Rattle.tlv.specs.declared.Field.{Field}
 use Rattle.tlv.specs.declared.FtField.{FtField}
 use Rattle.tlv.specs.declared.IdField.{IdField}
@@ -24,8 +26,10 @@ use Rattle.tlv.specs.declared.Parameters.{Parameters}
 use Rattle.tlv.specs.declared.Part.{Part}
 use Rattle.tlv.specs.declared.Session.{Session}
 use Rattle.tlv.specs.declared.walk.Tlv.{Tlv}
+use Rattle.tlv.specs.Element.{prefixLength, isWildcard, isPrefix, maskedTo, prefixOf, fecOf, entryOf, entryBy}
 use Rattle.tlv.specs.Tlv.{publishedLength, largestLabel}
-use Rattle.tlv.specs.Value.{Within, partAt, fieldAt, numberAt, idAt, parametersAt, topBit, timeoutAt, sessionAt}
+use Rattle.tlv.specs.Value.{Within, fecAt, partAt, fieldAt, numberAt, idAt, parametersAt, topBit, timeoutAt, sessionAt}
+use Rattle.tlv.proofs.Elements.{masked-le, prefix-length}
 use Rattle.tlv.proofs.Places.{Lies}
 
 -- the value's part lies within the message
@@ -85,3 +89,36 @@ module _ (m : List ℕ) (byte : Bytes m) (place : ℕ) where
       let p = cleared (eqb place 0) Session.Absent (Session.Given (topBit (beAt 4 m (place + 4))) (timeoutAt m place)) (Session.Given r t) (λ z. cc) e in
       let k : timeoutAt m place ≡ t = cc (p .1) in
       rw (← k) timeout-width
+
+-- ---- the entry of a FEC has 64 bits
+bytes-drop : (n : ℕ) (s : List ℕ) → Bytes s → Bytes (drop n s)
+bytes-drop zero s byte i = byte i
+bytes-drop (suc n) [] byte i = byte i
+bytes-drop (suc n) (x ∷ xs) byte i = bytes-drop n xs (λ j. byte (suc j)) i
+
+bytes-take : (n : ℕ) (s : List ℕ) → Bytes s → Bytes (take n s)
+bytes-take zero s byte i = omega arith
+bytes-take (suc n) [] byte i = byte i
+bytes-take (suc n) (x ∷ xs) byte zero = byte 0
+bytes-take (suc n) (x ∷ xs) byte (suc i) = bytes-take n xs (λ j. byte (suc j)) i
+
+prefix-width : (value : List ℕ) → Bytes value → isPrefix value ≡ true → entryOf (prefixOf value) < 18446744073709551616
+unfolding maskedTo
+prefix-width value byte e =
+    let n : prefixLength value ≤ 32 = prefix-length value e in
+    let v : beAt 4 value 4 < 4294967296 = beAt-lt 4 value 4 byte in
+    let b : beAt 4 value 4 / 2 ^ (32 - prefixLength value) * 2 ^ (32 - prefixLength value) ≤ beAt 4 value 4 = masked-le (32 - prefixLength value) (beAt 4 value 4) in
+    omega (arith, n, v, b)
+
+fec-width : (value : List ℕ) → Bytes value → entryBy (fecOf value) < 18446744073709551616
+unfolding fecOf
+fec-width value byte =
+    by-test (isWildcard value) (λ w. rw w (omega arith)) (λ w. rw w
+    (by-test (isPrefix value) (λ p. rw p (prefix-width value byte p)) (λ p. rw p (omega arith))))
+
+pub entry-width : (m : List ℕ) → Bytes m → (place : ℕ) → entryBy (fecAt m place) < 18446744073709551616
+unfolding fecAt
+entry-width m byte place =
+    pick-all (λ (f : Fec). entryBy f < 18446744073709551616) (eqb place 0) (omega arith)
+    (fec-width (part m (place + 4) (place + 4 + beAt 2 m (place + 2)))
+    (bytes-take (place + 4 + beAt 2 m (place + 2) - (place + 4)) (drop (place + 4) m) (bytes-drop (place + 4) m byte)))

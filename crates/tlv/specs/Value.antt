@@ -6,6 +6,7 @@ use mathlib.Core.Path.{_≡_}
 use lib.Dec.{eqb, leb}
 use lib.ListN.{length}
 use Rattle.octets.specs.Be.{beAt}
+use Rattle.octets.specs.Part.{part}
 use Rattle.octets.specs.Pick.{pick}
 use Rattle.ft_number.specs.declared.Timeout.{Timeout}
 use Rattle.tlv.specs.declared.Fec.{Fec}
@@ -16,6 +17,7 @@ use Rattle.tlv.specs.declared.IdField.{IdField}
 use Rattle.tlv.specs.declared.Parameters.{Parameters}
 use Rattle.tlv.specs.declared.Part.{Part}
 use Rattle.tlv.specs.declared.Session.{Session}
+use Rattle.tlv.specs.Element.{fecOf}
 use Rattle.tlv.specs.Tlv.{labelLength, statusLength, parametersLength, draftLength, publishedLength, protectionLength, ackLength, requestIdLength}
 use Rattle.tlv.specs.Walk.{headSize}
 
@@ -41,11 +43,9 @@ pub record Places (m : List ℕ) (f : Found) : Type 0 where
 unfoldable pub partAt : List ℕ → ℕ → Part
 partAt m place = pick (eqb place 0) (record { start = 0; end = 0 }) (record { start = place + 4; end = place + 4 + beAt 2 m (place + 2) })
 
--- 01: "the wildcard FEC (one element of type 1)": the value is the single byte 01
+-- the FEC of the value's bytes
 unfoldable pub fecAt : List ℕ → ℕ → Fec
-fecAt m place =
-    pick (eqb place 0) Fec.Absent
-    (pick (eqb (beAt 2 m (place + 2)) 1) (pick (eqb (beAt 1 m (place + 4)) 1) Fec.Wildcard Fec.Other) Fec.Other)
+fecAt m place = pick (eqb place 0) Fec.Absent (fecOf (part m (place + 4) (place + 4 + beAt 2 m (place + 2))))
 
 -- the first 32 bits: a label, a status
 unfoldable pub fieldAt : List ℕ → ℕ → Field

@@ -4,6 +4,7 @@ use ft_number::MessageId;
 use ft_number::Timeout;
 
 pub mod walk; // walk.rt: the walk over a message's TLVs
+pub mod element; // element.rt: the FEC by its bytes
 pub mod value; // value.rt: what the TLVs that were found say
 
 // The place of each listed TLV in a message; 0 where it does not stand.
@@ -24,10 +25,17 @@ pub struct Part {
     pub end: usize,
 }
 
-// The FEC: the wildcard alone, or any other.
+// One IPv4 prefix: its length in bits, and its bits from the highest on, zeros past the length.
+pub struct Ipv4Prefix {
+    pub length: u8,
+    pub bits: u32,
+}
+
+// The FEC: absent, the wildcard alone, one IPv4 prefix, or any other.
 pub enum Fec {
     Absent,
     Wildcard,
+    Prefix(Ipv4Prefix),
     Other,
 }
 

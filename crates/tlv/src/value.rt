@@ -30,7 +30,7 @@ pub fn part_at(m: &[u8], place: usize) -> Part
     }
 }
 
-// The FEC: absent, the wildcard (the value is the single byte 01), or another.
+// The FEC: absent, or that of the value.
 pub fn fec_at(m: &[u8], place: usize) -> Fec
     requires { ⌜ Within (now m) place (beAt 2 (now m) (place + 2)) ⌝ }
     ensures { λ r. ⌜ r ≡ fecAt (now (m .entry)) place ⌝ }
@@ -38,13 +38,9 @@ pub fn fec_at(m: &[u8], place: usize) -> Fec
     if place == 0 {
         return Fec::Absent;
     }
-    if octets::get_u16(m, place + 2) != 1 {
-        return Fec::Other;
-    }
-    if octets::get_u8(m, place + 4) != 1 {
-        return Fec::Other;
-    }
-    Fec::Wildcard
+    let start = place + 4;
+    let end = start + octets::get_u16(m, place + 2) as usize;
+    crate::element::fec_of(&m[start..end])
 }
 
 // The first 32 bits of the value (label, status), or absent.

@@ -10,7 +10,6 @@ use borrow.Author.Tests.{eqb-true, eq-eqb, leb-true, eqb-false}
 use Rattle.octets.specs.Pick.{pick}
 use Rattle.octets.proofs.Choice.{by-test, no}
 use Rattle.ft_number.specs.declared.MessageId.{MessageId}
-use Rattle.label_list.specs.declared.Found.{Found}
 use Rattle.label_list.specs.declared.LabelMessage.{LabelMessage}
 use Rattle.label_list.specs.declared.LabelMessage.the-variants.{Mapping, Withdraw, Release}
 use Rattle.label_list.specs.declared.Next.the-variants.{Code}
@@ -20,9 +19,10 @@ use Rattle.label_list.specs.Rules.{sentSide, receivedSide, codeAccepted, codeRe
 use Rattle.label_list.specs.Valid.{validOf}
 use Rattle.label_list.specs.Word.{listable}
 use Rattle.label_events.specs.declared.Acceptance.{Acceptance}
+use Rattle.label_events.specs.declared.Meets.{Meets}
 use Rattle.label_events.specs.declared.Reception.{Reception}
-use Rattle.label_events.specs.declared.Touched.{Touched}
 use Rattle.label_events.specs.Change.{codeAt}
+use Rattle.label_events.specs.Reach.{Reach, Label}
 use Rattle.label_events.proofs.Ended.{ended-code}
 use Rattle.message.specs.declared.Kind.{Kind}
 use Rattle.message.specs.declared.Submission.{Submission}
@@ -162,24 +162,24 @@ module _ (t : Table) (v : validOf (t .words) ≡ true) (l : ℕ) where
   used-step Kind.NoKind k taken = used-kept refl
 
 -- ---- a message received by the giver of l: a Release of it moves its code, and nothing else does
-unmoved-mapping : {r : Found} {t : Touched} {l c d : ℕ} → Moves (Received r Mapping true t) Given l c d → d ≡ c
+unmoved-mapping : {r : Meets} {t : Reach} {l c d : ℕ} → Moves (Received r Mapping true t) Given l c d → d ≡ c
 unmoved-mapping = elim [ ]
 
-unmoved-withdraw : {r : Found} {t : Touched} {l c d : ℕ} → Moves (Received r Withdraw true t) Given l c d → d ≡ c
+unmoved-withdraw : {r : Meets} {t : Reach} {l c d : ℕ} → Moves (Received r Withdraw true t) Given l c d → d ≡ c
 unmoved-withdraw = elim [ ]
 
-pub given-taken : (giver : List ℕ) → validOf giver ≡ true → (r : Found) (k : Kind) (n : ℕ) (e : LabelEffect) → Says k n e → effectReception giver r true e ≡ Reception.Taken → (l : ℕ)
-    → listable l ≡ true → codeAt (effectLabels giver r true e) Given l ≡ pick (bears (Submission.Accepted k n) 3 l) (codeReceived Release true (codeAt giver Given l)) (codeAt giver Given l)
+pub given-taken : (giver : Table) → validOf (giver .words) ≡ true → (r : Meets) (k : Kind) (n : ℕ) (e : LabelEffect) → Says k n e → effectReception giver r true e ≡ Reception.Taken → (l : ℕ)
+    → listable l ≡ true → codeAt (effectLabels giver r true e) Given l ≡ pick (bears (Submission.Accepted k n) 3 l) (codeReceived Release true (codeAt (giver .words) Given l)) (codeAt (giver .words) Given l)
 unfolding afterEvent receivedSide
 given-taken giver v r k n e says-mapping room l may =
     ⊎-elim
-    (λ (same : codeAt (afterEvent giver (Received r Mapping true (Touched.Label n))) Given l ≡ codeAt giver Given l). same)
-    (λ (move : Moves (Received r Mapping true (Touched.Label n)) Given l (codeAt giver Given l) (codeAt (afterEvent giver (Received r Mapping true (Touched.Label n))) Given l)). unmoved-mapping move)
-    (moved giver v (Received r Mapping true (Touched.Label n)) Given l)
+    (λ (same : codeAt (afterEvent (giver .words) (Received r Mapping true (Label n))) Given l ≡ codeAt (giver .words) Given l). same)
+    (λ (move : Moves (Received r Mapping true (Label n)) Given l (codeAt (giver .words) Given l) (codeAt (afterEvent (giver .words) (Received r Mapping true (Label n))) Given l)). unmoved-mapping move)
+    (moved (giver .words) v (Received r Mapping true (Label n)) Given l)
 given-taken giver v r k n e says-withdraw room l may =
     ⊎-elim
-    (λ (same : codeAt (afterEvent giver (Received r Withdraw true (Touched.Label n))) Given l ≡ codeAt giver Given l). same)
-    (λ (move : Moves (Received r Withdraw true (Touched.Label n)) Given l (codeAt giver Given l) (codeAt (afterEvent giver (Received r Withdraw true (Touched.Label n))) Given l)). unmoved-withdraw move)
-    (moved giver v (Received r Withdraw true (Touched.Label n)) Given l)
-given-taken giver v r k n e says-release room l may = code-received giver v r Release l may n room
-given-taken giver v r k n e (says-nothing stays others) room l may = ended-code giver Given l r ∙ rw (others l)
+    (λ (same : codeAt (afterEvent (giver .words) (Received r Withdraw true (Label n))) Given l ≡ codeAt (giver .words) Given l). same)
+    (λ (move : Moves (Received r Withdraw true (Label n)) Given l (codeAt (giver .words) Given l) (codeAt (afterEvent (giver .words) (Received r Withdraw true (Label n))) Given l)). unmoved-withdraw move)
+    (moved (giver .words) v (Received r Withdraw true (Label n)) Given l)
+given-taken giver v r k n e says-release room l may = code-received (giver .words) v r Release l may n room
+given-taken giver v r k n e (says-nothing stays others) room l may = ended-code (giver .words) Given l (r .request) ∙ rw (others l)

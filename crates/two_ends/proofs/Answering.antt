@@ -15,7 +15,7 @@ use Rattle.protocol.specs.declared.Phase.{Phase}
 use Rattle.protocol.specs.declared.Progress.{Progress}
 use Rattle.protocol.specs.declared.Start.{Start}
 use Rattle.protocol.specs.Acked.{acked}
-use Rattle.protocol.specs.Cases.{Case, wordsAfter, missing, wrong}
+use Rattle.protocol.specs.Cases.{tableAfter, Case, missing, wrong}
 use Rattle.protocol.specs.Init.{initStart}
 use Rattle.protocol.specs.Labels.{labelEffect, protectionRule}
 use Rattle.protocol.specs.Phases.{waitingFor}
@@ -45,12 +45,12 @@ use Rattle.two_ends.proofs.Tidy.{Tidy, tidy-acked}
 use Rattle.two_ends.proofs.Worlds.{at-swap}
 
 -- protection is neither missing nor wrong, as an ACK leaves the labels
-pub rightly : (s : State) (g : Message) (n : FtNumber) → Tidy s → g .protection ≡ FtField.Number n → (k : ℕ) → protectionRule (wordsAfter s k) g ≡ Protection.Right
+pub rightly : (s : State) (g : Message) (n : FtNumber) → Tidy s → g .protection ≡ FtField.Number n → (k : ℕ) → protectionRule (tableAfter s k) g ≡ Protection.Right
 unfolding protectionRule acked labelEffect
-rightly s g n t e k = rw e (protected-right (wordsAfter s k) (labelEffect g) (tidy-acked s t k 0 .sixless))
+rightly s g n t e k = rw e (protected-right (tableAfter s k) (labelEffect g) (tidy-acked s t k 0 .sixless))
 
 -- so of the answers that the core leaves open these do not come
-pub fair-comes : {s : State} {u : Progress} {g : Message} {a : Answer} → ((k : ℕ) → protectionRule (wordsAfter s k) g ≡ Protection.Right)
+pub fair-comes : {s : State} {u : Progress} {g : Message} {a : Answer} → ((k : ℕ) → protectionRule (tableAfter s k) g ≡ Protection.Right)
     → Case s (Phase.UpFT u) (Reading.Whole g) a → Fair a → Comes a
 fair-comes right c fair-done = taken
 fair-comes right c fair-full = no-word

@@ -21,7 +21,7 @@ use Rattle.protocol.specs.declared.Phase.{Phase}
 use Rattle.protocol.specs.declared.Progress.{Progress}
 use Rattle.protocol.specs.Acked.{acked}
 use Rattle.protocol.specs.Answers.{answerNumber}
-use Rattle.protocol.specs.Cases.{Case, fatal, missing, wrong, wordsAfter}
+use Rattle.protocol.specs.Cases.{tableAfter, Case, fatal, missing, wrong}
 use Rattle.protocol.specs.Init.{fresh, resumed}
 use Rattle.protocol.specs.Labels.{protectionRule}
 use Rattle.protocol.specs.Phases.{upWith, waitingFor}
@@ -54,7 +54,7 @@ given-same : {a b c d : ℕ} → Parameters.Given a b ≡ Parameters.Given c d �
 given-same e = (cc, cc)
 
 -- a message that bears no Status with E set, and whose protection is right
-fair-calm : {s : State} {u : Progress} {g : Message} {a : Answer} → ((k : ℕ) → protectionRule (wordsAfter s k) g ≡ Protection.Right) → isFatal (g .status) ≡ false
+fair-calm : {s : State} {u : Progress} {g : Message} {a : Answer} → ((k : ℕ) → protectionRule (tableAfter s k) g ≡ Protection.Right) → isFatal (g .status) ≡ false
     → Case s (Phase.UpFT u) (Reading.Whole g) a → Fair a → Calm a
 fair-calm right mild c fair-done = taken
 fair-calm right mild c fair-full = no-word

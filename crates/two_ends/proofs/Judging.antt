@@ -1,7 +1,6 @@
 -- How the messages of the two ends are judged in UpFT. Assumes nothing.
 use Prim.Native.Nat.{ℕ, _≤_}
 use mathlib.Core.Bool.{true, false, true≢false, Bool}
-use mathlib.Core.List.{List}
 use mathlib.Core.Path.{_≡_, refl, sym, _∙_}
 use native.Mathlib.Omega.{arith}
 use borrow.Author.Tests.{ne-eqb}
@@ -21,12 +20,12 @@ use Rattle.message.specs.declared.Reading.{Reading}
 use Rattle.message.specs.Kinds.{kindNumber, kindFor, kindOf}
 use Rattle.protocol.specs.declared.Answer.{Answer}
 use Rattle.protocol.specs.declared.LabelEffect.{LabelEffect}
-use Rattle.protocol.specs.Cases.{wordsAfter, Case, wrong-phase, an-init, fatal, zero-number, wrong-ack, missing, wrong, out-of-turn, no-word, taken, tableAfter}
-use Rattle.protocol.specs.Labels.{labelEffect, isProtected, protectionRule, effectReception, answeredAt}
+use Rattle.protocol.specs.Cases.{Case, wrong-phase, an-init, fatal, zero-number, wrong-ack, missing, wrong, out-of-turn, no-word, taken, tableAfter}
+use Rattle.protocol.specs.Labels.{meets, labelEffect, isProtected, protectionRule, effectReception}
 use Rattle.protocol.specs.Phases.{upWith}
 use Rattle.protocol.specs.Receive.{ackOn, isFatal, isZero, turnBorne}
 use Rattle.protocol.specs.Received.{isInit}
-use Rattle.protocol.specs.State.{State}
+use Rattle.protocol.specs.State.{Table, State}
 
 never : {P : Type 0} → true ≡ false → P
 never e = absurd (true≢false e)
@@ -77,7 +76,7 @@ pub record Plain (s : State) (g : Message) (j : ℕ) : Type 0 where
   pub bare : g .protection ≡ FtField.Absent
   pub acks : ackOn s g ≡ Ack.Releases j
   pub effect : labelEffect g ≡ LabelEffect.Nothing
-  pub free : (ls : List ℕ) → protectionRule ls g ≡ Protection.Right
+  pub free : (t : Table) → protectionRule t g ≡ Protection.Right
 
 pub plain-done : {s : State} {re : Bool} {sent : ℕ} {g : Message} {a : Answer} (j : ℕ) → Plain s g j → Case s (upWith re sent) (Reading.Whole g) a → a ≡ Answer.Done
 plain-done j p (wrong-phase e) = never e
@@ -85,11 +84,11 @@ plain-done j p (an-init r i) = never (sym i ∙ p .another)
 plain-done j p (fatal r i f) = never (sym f ∙ p .mild)
 plain-done j p (zero-number h z) = let e : isZero FtField.Absent ≡ true = rw (p .bare) at z in never (sym e)
 plain-done j p (wrong-ack h z e) = errs (sym (p .acks) ∙ e)
-plain-done {s = s} j p (missing {k = k} a e) = let q : Protection.Right ≡ Protection.Missing = sym (p .free (wordsAfter s k)) ∙ e in let z : _≡_ {A = ℕ} 0 1 = cc in absurd (omega arith)
-plain-done {s = s} j p (wrong {k = k} a e) = let q : Protection.Right ≡ Protection.Wrong = sym (p .free (wordsAfter s k)) ∙ e in let z : _≡_ {A = ℕ} 0 1 = cc in absurd (omega arith)
+plain-done {s = s} j p (missing {k = k} a e) = let q : Protection.Right ≡ Protection.Missing = sym (p .free (tableAfter s k)) ∙ e in let z : _≡_ {A = ℕ} 0 1 = cc in absurd (omega arith)
+plain-done {s = s} j p (wrong {k = k} a e) = let q : Protection.Right ≡ Protection.Wrong = sym (p .free (tableAfter s k)) ∙ e in let z : _≡_ {A = ℕ} 0 1 = cc in absurd (omega arith)
 plain-done {s = s} {re = re} j p (out-of-turn a e) = let f : turnBorne re (s .secured .0) FtField.Absent ≡ Turn.OutOfTurn = rw (p .bare) at e in strays f
 plain-done {s = s} {g = g} j p (no-word {k = k} t e) =
-    let f : effectReception (wordsAfter s k) (answeredAt (tableAfter s k) g) (isProtected (g .protection)) LabelEffect.Nothing ≡ Reception.NoRoom = rw (p .effect) at e in
+    let f : effectReception (tableAfter s k) (meets (s .table .words) (tableAfter s k) g) (isProtected (g .protection)) LabelEffect.Nothing ≡ Reception.NoRoom = rw (p .effect) at e in
     let z : _≡_ {A = ℕ} 0 1 = cc in
     absurd (omega arith)
 plain-done j p (taken t) = refl
@@ -114,7 +113,7 @@ not-init g l = init-else (g .typename) (g .status) (g .id) (g .requestid) l
 
 -- ---- a message that is taken has room
 pub has-room : {s : State} {re : Bool} {sent : ℕ} {g : Message} (j : ℕ) → ackOn s g ≡ Ack.Releases j → Case s (upWith re sent) (Reading.Whole g) Answer.Done
-    → effectReception (wordsAfter s j) (answeredAt (tableAfter s j) g) (isProtected (g .protection)) (labelEffect g) ≡ Reception.Taken
+    → effectReception (tableAfter s j) (meets (s .table .words) (tableAfter s j) g) (isProtected (g .protection)) (labelEffect g) ≡ Reception.Taken
 has-room {s} {g = g} j acks (taken {k = k} t) =
     let one : Ack.Releases k ≡ Ack.Releases j = sym (t .turn .protection .ack .acks) ∙ acks in
     let same : k ≡ j = cc in

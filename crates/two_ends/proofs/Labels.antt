@@ -4,10 +4,11 @@ use mathlib.Core.Bool.{false}
 use mathlib.Core.List.{[], _++_, List, _∷_}
 use mathlib.Core.Path.{_≡_}
 use lib.ListN.{take, length}
+use Rattle.label_events.specs.declared.Meets.{Meets}
 use Rattle.message.specs.declared.Message.{Message}
 use Rattle.message.specs.Submission.{submissionOf}
 use Rattle.protocol.specs.Acked.{acked}
-use Rattle.protocol.specs.Labels.{labelEffect, answeredAt}
+use Rattle.protocol.specs.Labels.{meets, labelEffect}
 use Rattle.protocol.specs.Receive.{taken}
 use Rattle.protocol.specs.State.{State, noTable, releasedState}
 use Rattle.protocol.specs.Step.{broken}
@@ -77,16 +78,16 @@ module _ {s : State} {h : History} {t : State} {k : History} (l : Labels s h t k
     theirs = shared-freed-peer (l .own .valid) (take n (s .queue)) (l .theirs);
   }
 
-  labels-taken : (n a : ℕ) (g : Message) (m : List ℕ) → CarriedTo (acked s n a) g m → Labels (taken (acked s n a) g) (takes (take n (s .queue)) (m ∷ []) h) t k
+  labels-taken : (n a : ℕ) (g : Message) (m : List ℕ) → CarriedTo (s .table .words) (acked s n a) g m → Labels (taken (s .table .words) (acked s n a) g) (takes (take n (s .queue)) (m ∷ []) h) t k
   unfolding taken acked
   labels-taken n a g m x =
       let gone = take n (s .queue) in
-      let request = answeredAt (acked s n a .table) g in
+      let met : Meets = meets (s .table .words) (acked s n a .table) g in
       record {
-        own = tidy-taken (acked s n a) (tidy-acked s (l .own) n a) g (x .protected);
+        own = tidy-taken (acked s n a) (tidy-acked s (l .own) n a) (s .table .words) g (x .protected);
         peer = l .peer;
-        ours = rw (x .protected) (shared-taken gone m request (x .kind) (x .label) (labelEffect g) (x .accepted) (x .effect) (l .own .valid) (l .ours));
-        theirs = rw (x .protected) (shared-taken-peer gone m request (x .kind) (x .label) (labelEffect g) (x .accepted) (x .effect) (l .own .valid) (x .room) (l .theirs));
+        ours = rw (x .protected) (shared-taken gone m (s .table .ids) (s .table .index) met (x .kind) (x .label) (labelEffect g) (x .accepted) (x .effect) (l .own .valid) (l .ours));
+        theirs = rw (x .protected) (shared-taken-peer gone m (s .table .ids) (s .table .index) met (x .kind) (x .label) (labelEffect g) (x .accepted) (x .effect) (l .own .valid) (x .room) (l .theirs));
       }
 
 pub labels-persist : Persists Labels

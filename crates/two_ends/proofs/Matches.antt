@@ -8,11 +8,12 @@ use native.Mathlib.Omega.{arith}
 use lib.ListN.{length, take}
 use Rattle.label_list.specs.declared.Side.the-variants.{Given, Used}
 use Rattle.label_list.specs.Word.{listable}
+use Rattle.label_events.specs.declared.Meets.{Meets}
 use Rattle.label_events.specs.Change.{codeAt}
 use Rattle.message.specs.declared.Message.{Message}
 use Rattle.message.specs.Submission.{submissionOf}
 use Rattle.protocol.specs.Acked.{acked}
-use Rattle.protocol.specs.Labels.{answeredAt, labelEffect}
+use Rattle.protocol.specs.Labels.{meets, labelEffect}
 use Rattle.protocol.specs.Receive.{taken}
 use Rattle.protocol.specs.State.{State, releasedState}
 use Rattle.protocol.specs.Step.{broken}
@@ -95,16 +96,16 @@ module _ (rule : Rule) (l : ℕ) (may : listable l ≡ true) where
           theirs = matched-freed-peer rule l v (take n (s .queue)) (x .theirs);
         }
 
-    match-carried : (n a : ℕ) (g : Message) (m : List ℕ) → CarriedTo (acked s n a) g m → Match rule l (taken (acked s n a) g) (takes (take n (s .queue)) (m ∷ []) h) t k
+    match-carried : (n a : ℕ) (g : Message) (m : List ℕ) → CarriedTo (s .table .words) (acked s n a) g m → Match rule l (taken (s .table .words) (acked s n a) g) (takes (take n (s .queue)) (m ∷ []) h) t k
     unfolding taken acked
     match-carried n a g m y =
         let v = x .labels .own .valid in
         let gone = take n (s .queue) in
-        let request = answeredAt (acked s n a .table) g in
+        let met : Meets = meets (s .table .words) (acked s n a .table) g in
         record {
           labels = labels-persist .carried (x .labels) n a g m y;
-          ours = rw (y .protected) (matched-taken rule l may gone m request (y .kind) (y .label) (labelEffect g) (y .accepted) (y .effect) v (y .room) (x .ours));
-          theirs = rw (y .protected) (matched-taken-peer rule l may gone m request (y .kind) (y .label) (labelEffect g) (y .accepted) (y .effect) v (y .room) (x .theirs));
+          ours = rw (y .protected) (matched-taken rule l may gone m (s .table .ids) (s .table .index) met (y .kind) (y .label) (labelEffect g) (y .accepted) (y .effect) v (y .room) (x .ours));
+          theirs = rw (y .protected) (matched-taken-peer rule l may gone m (s .table .ids) (s .table .index) met (y .kind) (y .label) (labelEffect g) (y .accepted) (y .effect) v (y .room) (x .theirs));
         }
 
   match-persists : PersistsWhere (Ruled rule l) (Match rule l)

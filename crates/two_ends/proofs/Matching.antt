@@ -6,13 +6,13 @@ use mathlib.Core.Logic.{_⊎_, inl, inr, ⊎-elim}
 use mathlib.Core.Path.{_≡_, refl, sym, ap, _∙_}
 use lib.ListN.{length}
 use Rattle.octets.proofs.Choice.{no}
-use Rattle.label_list.specs.declared.Found.{Found}
 use Rattle.label_list.specs.declared.LabelMessage.{LabelMessage}
 use Rattle.label_list.specs.declared.Side.the-variants.{Given, Used}
 use Rattle.label_list.specs.declared.SweepRule.the-variants.{AfterBreak}
 use Rattle.label_list.specs.Sweep.{sweptOf}
 use Rattle.label_list.specs.Valid.{validOf}
 use Rattle.label_list.specs.Word.{listable}
+use Rattle.label_events.specs.declared.Meets.{Meets}
 use Rattle.label_events.specs.declared.Reception.{Reception}
 use Rattle.label_events.specs.Change.{codeAt}
 use Rattle.message.specs.declared.Kind.{Kind}
@@ -23,7 +23,7 @@ use Rattle.label_meaning.proofs.Step.{step-valid}
 use Rattle.protocol.specs.declared.LabelEffect.{LabelEffect}
 use Rattle.protocol.specs.Acked.{releasedLabels}
 use Rattle.protocol.specs.Labels.{effectLabels, effectReception}
-use Rattle.protocol.specs.State.{State, noTable}
+use Rattle.protocol.specs.State.{tableOf, State, noTable}
 use Rattle.protocol.proofs.Words.{released-keeps, released-valid}
 use Rattle.two_ends.specs.Agree.{codeAfter}
 use Rattle.two_ends.specs.Calls.{accepts, takes}
@@ -105,22 +105,22 @@ module _ (rule : Rule) (l : ℕ) where
     matched-freed-peer v ms s = record { match = λ out back p q. ack-used out back (codeAt xl Given l) ms yl v (s .match out back (rw (append-nil (yh .secured)) at p) q) }
 
     -- ---- and a message is taken
-    module _ (may : listable l ≡ true) (ms : List (List ℕ)) (m : List ℕ) (r : Found) (k : Kind) (n : ℕ) (e : LabelEffect) (is : submissionOf m ≡ Submission.Accepted k n) (says : Says k n e) where
-      pub matched-taken : validOf xl ≡ true → effectReception (releasedLabels ms xl) r true e ≡ Reception.Taken → Matched xl xh yl yh
-          → Matched (effectLabels (releasedLabels ms xl) r true e) (takes ms (m ∷ []) xh) yl yh
+    module _ (may : listable l ≡ true) (ms : List (List ℕ)) (m : List ℕ) (ids index : List ℕ) (r : Meets) (k : Kind) (n : ℕ) (e : LabelEffect) (is : submissionOf m ≡ Submission.Accepted k n) (says : Says k n e) where
+      pub matched-taken : validOf xl ≡ true → effectReception (tableOf (releasedLabels ms xl) ids index) r true e ≡ Reception.Taken → Matched xl xh yl yh
+          → Matched (effectLabels (tableOf (releasedLabels ms xl) ids index) r true e) (takes ms (m ∷ []) xh) yl yh
       matched-taken v room s = record {
         match = λ out back p q.
             let f = s .match out (m ∷ back) p (q ∙ append-assoc (xh .secured) (m ∷ []) back) in
-            rw (given-taken (releasedLabels ms xl) (released-valid ms xl v) r k n e says room l may)
+            rw (given-taken (tableOf (releasedLabels ms xl) ids index) (released-valid ms xl v) r k n e says room l may)
             (rw is at (giver-takes m (ack-given out (m ∷ back) (codeAt yl Used l) ms xl v f)));
       }
 
-      pub matched-taken-peer : validOf yl ≡ true → effectReception (releasedLabels ms yl) r true e ≡ Reception.Taken → Matched xl xh yl yh
-          → Matched xl xh (effectLabels (releasedLabels ms yl) r true e) (takes ms (m ∷ []) yh)
+      pub matched-taken-peer : validOf yl ≡ true → effectReception (tableOf (releasedLabels ms yl) ids index) r true e ≡ Reception.Taken → Matched xl xh yl yh
+          → Matched xl xh (effectLabels (tableOf (releasedLabels ms yl) ids index) r true e) (takes ms (m ∷ []) yh)
       matched-taken-peer v room s = record {
         match = λ out back p q.
             let f = s .match (m ∷ out) back (p ∙ append-assoc (yh .secured) (m ∷ []) out) q in
-            rw (code-taken (releasedLabels ms yl) (released-valid ms yl v) r k n e says room l may)
+            rw (code-taken (tableOf (releasedLabels ms yl) ids index) (released-valid ms yl v) r k n e says room l may)
             (rw is at (user-takes m (ack-used (m ∷ out) back (codeAt xl Given l) ms yl v f)));
       }
 

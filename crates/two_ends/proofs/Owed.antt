@@ -8,12 +8,12 @@ use native.Mathlib.Omega.{arith}
 use borrow.Author.Tests.{eq-eqb}
 use Rattle.octets.specs.Pick.{pick}
 use Rattle.octets.proofs.Choice.{no, pick-all}
-use Rattle.label_list.specs.declared.Found.{Found}
 use Rattle.label_list.specs.declared.LabelMessage.{LabelMessage}
 use Rattle.label_list.specs.declared.LabelMessage.the-variants.{Mapping, Withdraw, Release}
 use Rattle.label_list.specs.declared.SweepRule.the-variants.{AfterBreak}
 use Rattle.label_list.specs.Sweep.{sweptOf}
 use Rattle.label_list.specs.Valid.{validOf}
+use Rattle.label_events.specs.declared.Meets.{Meets}
 use Rattle.label_events.specs.Change.{codeAt}
 use Rattle.message.specs.declared.Kind.{Kind}
 use Rattle.message.specs.declared.Submission.{Submission}
@@ -25,8 +25,8 @@ use Rattle.label_meaning.proofs.Meaning.{valid-means}
 use Rattle.label_meaning.proofs.Moved.{every-move}
 use Rattle.protocol.specs.declared.LabelEffect.{LabelEffect}
 use Rattle.protocol.specs.Held.{isHeld}
-use Rattle.protocol.specs.Labels.{effectLabels}
-use Rattle.protocol.specs.State.{noTable}
+use Rattle.protocol.specs.Labels.{reached, effectLabels}
+use Rattle.protocol.specs.State.{Table, noTable}
 use Rattle.two_ends.specs.Labels.{Due, withdrawal, release, dueSide, IsDue, dueMessage, dueKind, Owed}
 use Rattle.two_ends.proofs.Accepting.{AcceptedWords, mapping-accepted, withdraw-accepted, release-accepted, codes-kept}
 use Rattle.two_ends.proofs.Sixless.{none-code}
@@ -97,10 +97,10 @@ module _ (ls : List ℕ) (q : List (List ℕ)) (v : validOf ls ≡ true) (o : Ow
   unfolding afterEvent
   broken-owed = else-owed Broken (λ m l e. no cc)
 
-  pub received-owed : (request : Found) (p : Bool) (e : LabelEffect) → Owed (effectLabels ls request p e) q
-  unfolding afterEvent
-  received-owed request p LabelEffect.Nothing = else-owed (Ended request) (λ m l e. no cc)
-  received-owed request p (LabelEffect.Change message t) = else-owed (Received request message p t) (λ m l e. no cc)
+pub received-owed : (t : Table) (q : List (List ℕ)) → validOf (t .words) ≡ true → Owed (t .words) q → (y : Meets) (p : Bool) (e : LabelEffect) → Owed (effectLabels t y p e) q
+unfolding afterEvent
+received-owed t q v o y p LabelEffect.Nothing = else-owed (t .words) q v o (Ended (y .request)) (λ m l e. no cc)
+received-owed t q v o y p (LabelEffect.Change message x) = else-owed (t .words) q v o (Received y message p (reached t message x)) (λ m l e. no cc)
 
 -- ---- a message is accepted: it is the newest held
 accept-by : (ls : List ℕ) (q : List (List ℕ)) (m : List ℕ) → validOf ls ≡ true → Owed ls q → (message : LabelMessage) (label : ℕ)

@@ -36,13 +36,13 @@ paid : (ls : List ℕ) → validOf ls ≡ true → (due : Due) (l : ℕ) → IsD
 paid ls v withdrawal l was z =
     ⊎-elim
     (λ (two : codeAt ls Given l ≡ 2).
-    let eight = move-happens ls (valid-means ls v) withdraw-acked (λ e. omega arith) two in
+    let eight = move-happens ls (valid-means ls v) withdraw-acked (λ e. omega arith) two tt in
     neither (λ e. omega arith) (λ e. omega arith) z)
     (λ (nine : codeAt ls Given l ≡ 9).
-    let free = move-happens ls (valid-means ls v) back-acked (λ e. omega arith) nine in
+    let free = move-happens ls (valid-means ls v) back-acked (λ e. omega arith) nine tt in
     neither (λ e. omega arith) (λ e. omega arith) z)
     was
-paid ls v release l five z = let free = move-happens ls (valid-means ls v) release-acked (omega arith) five in omega arith
+paid ls v release l five z = let free = move-happens ls (valid-means ls v) release-acked (omega arith) five tt in omega arith
 
 -- ---- a message that is due was let go
 module _ (ls : List ℕ) (m : List ℕ) (q : List (List ℕ)) (v : validOf ls ≡ true) (o : Owed ls (m ∷ q)) where

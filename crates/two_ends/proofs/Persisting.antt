@@ -13,7 +13,7 @@ use Rattle.message.specs.Kinds.{kindOf}
 use Rattle.message.specs.Submission.{submissionOf}
 use Rattle.protocol.specs.Accepting.{acceptedAs}
 use Rattle.protocol.specs.Acked.{acked}
-use Rattle.protocol.specs.Labels.{answeredAt, effectReception, isProtected, labelEffect}
+use Rattle.protocol.specs.Labels.{meets, effectReception, isProtected, labelEffect}
 use Rattle.protocol.specs.Receive.{taken}
 use Rattle.protocol.specs.State.{State, releasedState}
 use Rattle.protocol.specs.Step.{broken}
@@ -25,14 +25,14 @@ use Rattle.two_ends.proofs.Getting.{Says}
 use Rattle.two_ends.proofs.NoRequests.{acceptedIn, noRequests, withLeft}
 
 -- a message that has its number, read as g by an end in the state s and submitted as m: it is of one kind there and here, and has room
-pub record CarriedTo (s : State) (g : Message) (m : List ℕ) : Type 0 where
+pub record CarriedTo (old : List ℕ) (s : State) (g : Message) (m : List ℕ) : Type 0 where
   pub kind : Kind
   pub label : ℕ
   pub accepted : submissionOf m ≡ Submission.Accepted kind label
   pub protected : isProtected (g .protection) ≡ true
   pub read : kindOf g ≡ kind
   pub effect : Says kind label (labelEffect g)
-  pub room : effectReception (s .table .words) (answeredAt (s .table) g) true (labelEffect g) ≡ Reception.Taken
+  pub room : effectReception (s .table) (meets old (s .table) g) true (labelEffect g) ≡ Reception.Taken
 
 -- a message that the state s takes
 pub record TakenIn (s : State) (m : List ℕ) : Type 0 where
@@ -59,8 +59,8 @@ pub record PersistsWhere (May : State → List ℕ → Type 0) (R : State → Hi
   -- the oldest n are let go
   pub freed : {s : State} {h : History} {t : State} {k : History} → R s h t k → (n a : ℕ) → R (acked s n a) (takes (take n (s .queue)) [] h) t k
   -- and a message is taken that has its number
-  pub carried : {s : State} {h : History} {t : State} {k : History} → R s h t k → (n a : ℕ) (g : Message) (m : List ℕ) → CarriedTo (acked s n a) g m
-      → R (taken (acked s n a) g) (takes (take n (s .queue)) (m ∷ []) h) t k
+  pub carried : {s : State} {h : History} {t : State} {k : History} → R s h t k → (n a : ℕ) (g : Message) (m : List ℕ) → CarriedTo (s .table .words) (acked s n a) g m
+      → R (taken (s .table .words) (acked s n a) g) (takes (take n (s .queue)) (m ∷ []) h) t k
 
 -- whatever they submit
 abbrev pub Any : State → List ℕ → Type 0

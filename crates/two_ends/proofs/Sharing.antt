@@ -5,11 +5,11 @@ use mathlib.Core.List.{List, [], _∷_, _++_, append-nil, append-assoc}
 use mathlib.Core.Path.{_≡_, refl, sym, ap, _∙_}
 use native.Mathlib.Omega.{arith}
 use lib.ListN.{length}
-use Rattle.label_list.specs.declared.Found.{Found}
 use Rattle.label_list.specs.declared.Side.the-variants.{Given, Used}
 use Rattle.label_list.specs.declared.SweepRule.the-variants.{AfterBreak}
 use Rattle.label_list.specs.Sweep.{sweptOf}
 use Rattle.label_list.specs.Valid.{validOf}
+use Rattle.label_events.specs.declared.Meets.{Meets}
 use Rattle.label_events.specs.declared.Reception.{Reception}
 use Rattle.label_events.specs.Change.{codeAt}
 use Rattle.message.specs.declared.Kind.{Kind}
@@ -19,7 +19,7 @@ use Rattle.protocol.specs.declared.LabelEffect.{LabelEffect}
 use Rattle.protocol.specs.Acked.{releasedLabels}
 use Rattle.protocol.specs.Held.{isHeld}
 use Rattle.protocol.specs.Labels.{effectReception, effectLabels}
-use Rattle.protocol.specs.State.{noTable}
+use Rattle.protocol.specs.State.{tableOf, noTable}
 use Rattle.protocol.proofs.Words.{released-valid}
 use Rattle.two_ends.specs.Agree.{Agree, codeAfter}
 use Rattle.two_ends.specs.Calls.{accepts, takes}
@@ -57,20 +57,20 @@ module _ {xl : List ℕ} {xh : History} {yl : List ℕ} {yh : History} where
   shared-freed-peer v ms s = record { agree = λ out back p q. ack-user xl yl out back (s .agree out back (rw (append-nil (yh .secured)) at p) q) ms v }
 
   -- ---- and a message is taken
-  module _ (ms : List (List ℕ)) (m : List ℕ) (r : Found) (k : Kind) (n : ℕ) (e : LabelEffect) (is : submissionOf m ≡ Submission.Accepted k n) (says : Says k n e) where
-    pub shared-taken : validOf xl ≡ true → Shared xl xh yl yh → Shared (effectLabels (releasedLabels ms xl) r true e) (takes ms (m ∷ []) xh) yl yh
+  module _ (ms : List (List ℕ)) (m : List ℕ) (ids index : List ℕ) (r : Meets) (k : Kind) (n : ℕ) (e : LabelEffect) (is : submissionOf m ≡ Submission.Accepted k n) (says : Says k n e) where
+    pub shared-taken : validOf xl ≡ true → Shared xl xh yl yh → Shared (effectLabels (tableOf (releasedLabels ms xl) ids index) r true e) (takes ms (m ∷ []) xh) yl yh
     shared-taken v s = record {
       agree = λ out back p q.
           let a : Agree xl yl out (m ∷ back) = s .agree out (m ∷ back) p (q ∙ append-assoc (xh .secured) (m ∷ []) back) in
-          take-giver (releasedLabels ms xl) yl out back m r (ack-giver xl yl out (m ∷ back) a ms v) (released-valid ms xl v) k n e is says;
+          take-giver (releasedLabels ms xl) yl out back m r (tableOf (releasedLabels ms xl) ids index) refl (ack-giver xl yl out (m ∷ back) a ms v) (released-valid ms xl v) k n e is says;
     }
 
-    pub shared-taken-peer : validOf yl ≡ true → effectReception (releasedLabels ms yl) r true e ≡ Reception.Taken → Shared xl xh yl yh
-        → Shared xl xh (effectLabels (releasedLabels ms yl) r true e) (takes ms (m ∷ []) yh)
+    pub shared-taken-peer : validOf yl ≡ true → effectReception (tableOf (releasedLabels ms yl) ids index) r true e ≡ Reception.Taken → Shared xl xh yl yh
+        → Shared xl xh (effectLabels (tableOf (releasedLabels ms yl) ids index) r true e) (takes ms (m ∷ []) yh)
     shared-taken-peer v room s = record {
       agree = λ out back p q.
           let a : Agree xl yl (m ∷ out) back = s .agree (m ∷ out) back (p ∙ append-assoc (yh .secured) (m ∷ []) out) q in
-          take-user xl (releasedLabels ms yl) out back m r (ack-user xl yl (m ∷ out) back a ms v) (released-valid ms yl v) k n e is says room;
+          take-user xl (tableOf (releasedLabels ms yl) ids index) out back m r (ack-user xl yl (m ∷ out) back a ms v) (released-valid ms yl v) k n e is says room;
     }
 
 -- ---- a message is accepted

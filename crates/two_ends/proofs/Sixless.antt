@@ -9,7 +9,6 @@ use lib.Dec.{eqb}
 use lib.ListN.{getD, replicate}
 use borrow.Author.Tests.{eqb-true}
 use Rattle.octets.proofs.Choice.{by-test}
-use Rattle.label_list.specs.declared.Found.{Found}
 use Rattle.label_list.specs.declared.LabelMessage.{LabelMessage}
 use Rattle.label_list.specs.declared.LabelMessage.the-variants.{Mapping, Withdraw, Release}
 use Rattle.label_list.specs.declared.Protection.{Protection}
@@ -22,6 +21,7 @@ use Rattle.label_list.specs.Sweep.{sweptOf}
 use Rattle.label_list.specs.Valid.{validOf}
 use Rattle.label_list.specs.Word.{wordCount, standsFor}
 use Rattle.label_list.proofs.Standing.{free-stands}
+use Rattle.label_events.specs.declared.Meets.{Meets}
 use Rattle.label_events.specs.declared.Touched.{Touched}
 use Rattle.label_events.specs.Change.{codeAt}
 use Rattle.label_events.specs.Protect.{protectionOf}
@@ -34,8 +34,8 @@ use Rattle.label_meaning.proofs.Step.{step-valid}
 use Rattle.label_meaning.proofs.View.{is-code}
 use Rattle.protocol.specs.declared.LabelEffect.{LabelEffect}
 use Rattle.protocol.specs.Acked.{releasedLabels}
-use Rattle.protocol.specs.Labels.{effectProtection, effectLabels}
-use Rattle.protocol.specs.State.{noTable}
+use Rattle.protocol.specs.Labels.{effectLabels, effectProtection, reached}
+use Rattle.protocol.specs.State.{Table, noTable}
 use Rattle.protocol.proofs.Words.{none-valid, released-keeps}
 use Rattle.two_ends.proofs.Accepting.{AcceptedWords, mapping-accepted, withdraw-accepted, release-accepted, codes-kept}
 
@@ -104,10 +104,10 @@ released-sixless ms ls v n =
     (λ ws p m l. (step-valid ws (Acked m l) (p .0), step-sixless ws (p .0) (p .1) (Acked m l) tt)) ms ls (v, n) .1
 
 -- ---- a protected message is received
-pub received-sixless : (ls : List ℕ) (request : Found) (e : LabelEffect) → validOf ls ≡ true → NoSix ls → NoSix (effectLabels ls request true e)
+pub received-sixless : (t : Table) (y : Meets) (e : LabelEffect) → validOf (t .words) ≡ true → NoSix (t .words) → NoSix (effectLabels t y true e)
 unfolding afterEvent
-received-sixless ls request LabelEffect.Nothing v n = step-sixless ls v n (Ended request) tt
-received-sixless ls request (LabelEffect.Change m t) v n = step-sixless ls v n (Received request m true t) tt
+received-sixless t y LabelEffect.Nothing v n = step-sixless (t .words) v n (Ended (y .request)) tt
+received-sixless t y (LabelEffect.Change m x) v n = step-sixless (t .words) v n (Received y m true (reached t m x)) tt
 
 -- then protection is not wrong
 bars-none : (m : LabelMessage) (ls : List ℕ) (l : ℕ) → NoSix ls → barsProtection m (codeAt ls (receivedSide m) l) ≡ false
@@ -116,9 +116,10 @@ bars-none Mapping ls l n = by-test (eqb (codeAt ls Used l) 6) (λ t. absurd (n l
 bars-none Withdraw ls l n = by-test (eqb (codeAt ls Used l) 6) (λ t. absurd (n l (eqb-true (codeAt ls Used l) 6 t))) (λ f. f)
 bars-none Release ls l n = refl
 
-pub protected-right : (ls : List ℕ) (e : LabelEffect) → NoSix ls → effectProtection ls true e ≡ Protection.Right
+pub protected-right : (t : Table) (e : LabelEffect) → NoSix (t .words) → effectProtection t true e ≡ Protection.Right
 unfolding protectionOf codeProtection
-protected-right ls LabelEffect.Nothing n = refl
-protected-right ls (LabelEffect.Change m (Touched.Label l)) n = rw (bars-none m ls l n)
-protected-right ls (LabelEffect.Change m Touched.Every) n = refl
-protected-right ls (LabelEffect.Change m Touched.Nothing) n = refl
+protected-right t LabelEffect.Nothing n = refl
+protected-right t (LabelEffect.Change m (Touched.Label l)) n = rw (bars-none m (t .words) l n)
+protected-right t (LabelEffect.Change m Touched.Every) n = refl
+protected-right t (LabelEffect.Change m (Touched.Prefix x)) n = refl
+protected-right t (LabelEffect.Change m Touched.Nothing) n = refl

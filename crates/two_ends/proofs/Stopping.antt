@@ -54,7 +54,7 @@ module _ {s : State} {h : History} (r : Remembers s h) where
   unfolding acked
   marks-freed n a = record { telling = r .telling; told = rw (append-nil (h .secured)) (r .told) }
 
-  marks-carried : (n a : ℕ) (g : Message) (m : List ℕ) → CarriedTo (acked s n a) g m → Remembers (taken (acked s n a) g) (takes (take n (s .queue)) (m ∷ []) h)
+  marks-carried : (n a : ℕ) (g : Message) (m : List ℕ) → CarriedTo (s .table .words) (acked s n a) g m → Remembers (taken (s .table .words) (acked s n a) g) (takes (take n (s .queue)) (m ∷ []) h)
   unfolding taken acked
   marks-carried n a g m x = record { telling = r .telling; told = rw (stop-newest false (h .secured) m, x .accepted, x .read, r .told) }
 

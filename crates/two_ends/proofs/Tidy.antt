@@ -5,10 +5,11 @@ use mathlib.Core.List.{List}
 use mathlib.Core.Path.{_≡_, refl}
 use lib.ListN.{take}
 use Rattle.label_list.specs.Valid.{validOf}
+use Rattle.label_events.specs.declared.Meets.{Meets}
 use Rattle.message.specs.declared.Message.{Message}
 use Rattle.message.specs.Submission.{submissionOf}
 use Rattle.protocol.specs.Acked.{acked}
-use Rattle.protocol.specs.Labels.{labelEffect, isProtected, answeredAt}
+use Rattle.protocol.specs.Labels.{meets, labelEffect, isProtected}
 use Rattle.protocol.specs.Receive.{taken}
 use Rattle.protocol.specs.State.{State, releasedState}
 use Rattle.protocol.specs.Step.{broken}
@@ -55,13 +56,13 @@ module _ (s : State) (t : Tidy s) where
   }
 
   -- a protected message is taken
-  pub tidy-taken : (g : Message) → isProtected (g .protection) ≡ true → Tidy (taken s g)
+  pub tidy-taken : (old : List ℕ) (g : Message) → isProtected (g .protection) ≡ true → Tidy (taken old s g)
   unfolding taken
-  tidy-taken g p =
-      let request = answeredAt (s .table) g in
+  tidy-taken old g p =
+      let y : Meets = meets old (s .table) g in
       rw p
       (record {
-        valid = received-valid (s .table .words) (t .valid) request true (labelEffect g);
-        sixless = received-sixless (s .table .words) request (labelEffect g) (t .valid) (t .sixless);
-        owed = received-owed (s .table .words) (s .queue) (t .valid) (t .owed) request true (labelEffect g);
+        valid = received-valid (s .table) (t .valid) y true (labelEffect g);
+        sixless = received-sixless (s .table) y (labelEffect g) (t .valid) (t .sixless);
+        owed = received-owed (s .table) (s .queue) (t .valid) (t .owed) y true (labelEffect g);
       })

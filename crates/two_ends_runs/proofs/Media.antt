@@ -29,7 +29,7 @@ use Rattle.protocol.specs.Proper.{Proper}
 use Rattle.protocol.specs.State.{State, held, releasedState}
 use Rattle.protocol.specs.Step.{Step}
 use Rattle.calls.specs.State.{stateOf}
-use Rattle.calls.specs.Storing.{empty, firstAfter, slotNamed}
+use Rattle.calls.specs.Storing.{empty, firstAfter, slotNamed, same}
 use Rattle.two_ends.specs.Runs.{AllProperEvents, Event, run}
 use Rattle.two_ends.specs.Start.{Afresh, Opener, firstInit, start}
 use Rattle.two_ends.specs.World.{Lasts, World}
@@ -135,7 +135,7 @@ up-slot j low =
 pub up-bytes : Bytes (up .own .image)
 up-bytes =
     rw (leaves-stored (Calls.greets init) newImage ph₀ [] refl greeted, emptied)
-    (bytes-stored newImage empty (done (Calls.greets init) (stateOf newImage) ph₀ .state) bytes-new tt)
+    (bytes-stored newImage empty same (done (Calls.greets init) (stateOf newImage) ph₀ .state) bytes-new tt)
 
 -- as many are held as the rules say
 pub held-is : {z : Pair} {w : World} → Tracks z w → decode (z .own .image) .header .held ≡ held (w .a .state)

@@ -19,11 +19,11 @@ use Rattle.protocol.specs.Judged.{done}
 use Rattle.protocol.specs.State.{State}
 use Rattle.protocol.specs.Step.{broken}
 use Rattle.calls.specs.State.{stateOf}
-use Rattle.calls.specs.Storing.{nextSlot}
+use Rattle.calls.specs.Storing.{nextSlot, one-more}
 use Rattle.two_ends.specs.Runs.{act, restarts, submits}
 use Rattle.two_ends.specs.World.{World}
 use Rattle.call_meaning.specs.Medium.{committed}
-use Rattle.submit.specs.Call.{submittedSlots}
+use Rattle.submit.specs.Call.{submittedFurther}
 use Rattle.session.specs.Call.{leaves}
 use Rattle.session.proofs.Queued.{slot-stored}
 use Rattle.session.proofs.Told.{others-kept}
@@ -100,7 +100,7 @@ medium-next = rw (on-medium, seven-next)
 medium-bytes : Bytes medium
 medium-bytes =
     rw (on-medium, leaves-stored (Calls.submits (address 7)) (up .own .image) (up .world .a .phase) [] refl takes-seven)
-    (bytes-stored (up .own .image) (submittedSlots (stateOf (up .own .image) .table) (address 7)) (done (Calls.submits (address 7)) (stateOf (up .own .image)) (up .world .a .phase) .state) up-bytes
+    (bytes-stored (up .own .image) (one-more (address 7)) (submittedFurther (stateOf (up .own .image) .table) (address 7)) (done (Calls.submits (address 7)) (stateOf (up .own .image)) (up .world .a .phase) .state) up-bytes
     (small-bytes (address 7) refl))
 
 -- no label word is to be freed

@@ -15,7 +15,7 @@ use Rattle.ft_number.specs.Turn.{numberTurn}
 use Rattle.ft_number.proofs.Circle.{after-is, after-none, after-suc, steps-after}
 use Rattle.ft_number.proofs.Turns.{means-turn}
 use Rattle.label_list.specs.Counting.{counting}
-use Rattle.label_list.specs.Word.{isRequest}
+use Rattle.label_list.specs.Word.{isRequest, listsLabel, onSide}
 use Rattle.tlv.specs.declared.FtField.{FtField}
 use Rattle.tlv.specs.declared.Parameters.{Parameters}
 use Rattle.tlv.specs.declared.Session.{Session}
@@ -36,7 +36,7 @@ use Rattle.message_writer.proofs.Kept.{protected-payload}
 use Rattle.message_writer.proofs.Own.{keepalive-reads}
 use Rattle.message_writer.proofs.Protected.{protected-reads}
 use Rattle.protocol.specs.declared.Answer.{Answer}
-use Rattle.protocol.specs.Accepting.{acceptedAs, isBarred, idsAccepted}
+use Rattle.protocol.specs.Accepting.{acceptedAs, isBarred, idsAccepted, indexAccepted}
 use Rattle.protocol.specs.Acked.{acked, releasedKind, releasedLabels}
 use Rattle.protocol.specs.Answers.{effectOf}
 use Rattle.protocol.specs.KeepAlive.{keepalive}
@@ -110,7 +110,7 @@ module _ (x : ℕ) (low : x ≤ circle) where
 
   -- ---- a accepts 7, and sends it
   submits-it : submit (keptWith x 0) (upWith false 0) (address 7) ≡ stepped Answer.Done (sender x x (address 7 ∷ [])) (upWith false 0) []
-  unfolding submit settle admitted phaseFits issuedCount effectOf submitRule kindRule isBarred acceptedAs idsAccepted submitted counting isRequest
+  unfolding submit settle admitted phaseFits issuedCount effectOf submitRule kindRule isBarred acceptedAs idsAccepted indexAccepted submitted counting isRequest listsLabel onSide
   submits-it = rw (steps-none, plain-submits)
 
   abbrev carried : List ℕ
@@ -138,7 +138,7 @@ module _ (x : ℕ) (low : x ≤ circle) where
   in-turn = means-turn false x 0 low (omega arith)
 
   takes-it : receive (keptWith 0 x) (upWith false 0) carried ≡ stepped Answer.Done (keptWith 0 y) (upWith false 0) []
-  unfolding receive settle admitted phaseFits issuedCount effectOf ftRule messageRule labelsRule protectionRule labelEffect kindOf ackOn ackOf stepsOf receivedState taken acked releasedLabels answers answeredAt endedAt counting isRequest
+  unfolding receive settle admitted phaseFits issuedCount effectOf ftRule messageRule labelsRule protectionRule labelEffect kindOf ackOn ackOf stepsOf receivedState taken acked releasedLabels answers answeredAt endedAt counting isRequest listsLabel onSide
   takes-it = rw (carried-reads, ne-eqb y 0 (omega arith), in-turn)
 
   -- ---- b acknowledges it, and a lets it go
@@ -153,7 +153,7 @@ module _ (x : ℕ) (low : x ≤ circle) where
   alive-reads = keepalive-reads id (FtField.Number (number y)) (omega arith) (omega arith)
 
   lets-go : receive (sender x y (address 7 ∷ [])) (upWith false 1) alive ≡ stepped Answer.Done (keptWith y 0) (upWith false 0) []
-  unfolding receive settle admitted phaseFits issuedCount effectOf ftRule messageRule labelsRule protectionRule labelEffect kindOf ackOn ackOf receivedState taken acked releasedLabels releasedKind answers answeredAt endedAt counting isRequest
+  unfolding receive settle admitted phaseFits issuedCount effectOf ftRule messageRule labelsRule protectionRule labelEffect kindOf ackOn ackOf receivedState taken acked releasedLabels releasedKind answers answeredAt endedAt counting isRequest listsLabel onSide
   lets-go = rw (alive-reads, steps-one, plain-submits)
 
   -- ---- the round, event by event

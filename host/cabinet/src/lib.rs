@@ -9,22 +9,33 @@
 pub const IMAGE_SIZE: usize = BLOCKS * BLOCK_SIZE;
 /// The size of each of its blocks.
 pub const BLOCK_SIZE: usize = 512;
-/// Block 0, 64 slots, and the block of the open Requests' message IDs.
-pub const BLOCKS: usize = 66;
+/// Block 0, 64 slots, and the further blocks.
+pub const BLOCKS: usize = 1 + SLOTS + FURTHER.len();
 /// The most messages that are held, each in a slot of its own.
 pub const SLOTS: usize = 64;
 /// The label words.
 pub const PLACES: usize = 119;
 /// The message IDs beside them: the last has no word, and may be anything.
 pub const ID_PLACES: usize = 120;
+/// The entries of the index beside them, as many, in two blocks.
+pub const ENTRY_PLACES: usize = INDEX_BLOCKS.len() * ENTRIES_IN_BLOCK;
+/// How many entries a block of the index has.
+pub const ENTRIES_IN_BLOCK: usize = 60;
+
+/// The blocks behind the slots, in the order in which they are stored and judged; the k-th is bit k of
+/// [`Outcome::further`].
+pub const FURTHER: [usize; 3] = [REQUEST_BLOCK, INDEX_BLOCKS[0], INDEX_BLOCKS[1]];
 /// The block of the open Requests' message IDs, by its number.
 pub const REQUEST_BLOCK: usize = 65;
-/// The size of an image that a release without Requests stored: it lacks the last block.
+/// The blocks of the index: the prefix of each listed label's FEC.
+pub const INDEX_BLOCKS: [usize; 2] = [66, 67];
+/// The size of an image that a release without Requests stored: it lacks all further blocks.
 pub const IMAGE_SIZE_WITHOUT_REQUESTS: usize = REQUEST_BLOCK * BLOCK_SIZE;
+/// The size of an image that a release without the index stored.
+pub const IMAGE_SIZE_WITHOUT_INDEX: usize = INDEX_BLOCKS[0] * BLOCK_SIZE;
 
-/// A byte of block 0 that says which end has told the other that it has no labels to give; it stays over a break.
+/// Bits that say which end has told the other that it has no labels to give; they stay over a break.
 pub mod marks {
-    pub const AT: usize = 23;
     /// The peer has told us: no new Requests.
     pub const STOPPED: u8 = 2;
     /// We have told the peer.
@@ -80,15 +91,40 @@ pub struct Outcome {
     pub length: u32,
     pub slot: u32,
     pub block0: u32,
-    /// The blocks after the slots whose bytes changed, a bit each; see [`further`].
+    /// The blocks behind the slots whose bytes changed, a bit each; see [`FURTHER`].
     pub further: u32,
     /// Receive: numbers that the peer left out before this one; Send next: messages of ours that were passed over.
     pub left_out: u32,
 }
 
-/// The bits of [`Outcome::further`].
+impl Outcome {
+    /// The further blocks whose bytes changed, in their order.
+    pub fn further_blocks(&self) -> impl Iterator<Item = usize> {
+        further::blocks(self.further)
+    }
+
+    /// What the owner stores, in this order: the slot, the further blocks, block 0. Output leaves after that.
+    pub fn stores(&self) -> impl Iterator<Item = usize> {
+        let slot = (self.slot != 0).then_some(self.slot as usize);
+        slot.into_iter().chain(self.further_blocks()).chain((self.block0 != 0).then_some(0))
+    }
+}
+
+/// The bits of [`Outcome::further`] and [`Extended::further`].
 pub mod further {
+    use super::FURTHER;
+
+    /// Block 65.
     pub const REQUESTS: u32 = 1;
+    /// Blocks 66 and 67.
+    pub const INDEX: [u32; 2] = [2, 4];
+    /// All of them, as after format.
+    pub const ALL: u32 = (1 << FURTHER.len()) - 1;
+
+    /// The blocks that are named by their bits.
+    pub fn blocks(bits: u32) -> impl Iterator<Item = usize> {
+        FURTHER.into_iter().enumerate().filter(move |(bit, _)| bits >> bit & 1 != 0).map(|(_, block)| block)
+    }
 }
 
 /// What the owner gives to [`Cabinet::open`]: our parameters, and a proposed timeout where it has one.
@@ -166,6 +202,15 @@ pub struct Request {
     pub id: u32,
 }
 
+/// The prefix of the label that a word lists: indexed 1, its length in bits, and the prefix with its first byte the
+/// highest; or 0, 0 and 0 for a label of another FEC, and for a word that lists none.
+#[derive(Clone, Copy, Debug, Default, PartialEq, Eq)]
+pub struct Prefix {
+    pub indexed: u32,
+    pub length: u32,
+    pub prefix: u32,
+}
+
 /// What an image holds: 0, or restore's refusal and all else 0.
 #[derive(Clone, Copy, Debug, Default, PartialEq, Eq)]
 pub struct Summary {
@@ -186,6 +231,18 @@ pub struct Summary {
     pub max_pdu_length: u32,
     /// Whether Requests are stopped, by the bits of [`marks`].
     pub marks: u32,
+}
+
+impl Summary {
+    /// The peer has told us that it has no labels to give: no new Requests.
+    pub fn is_stopped(&self) -> bool {
+        self.marks & u32::from(marks::STOPPED) != 0
+    }
+
+    /// We have told the peer so.
+    pub fn is_stopping(&self) -> bool {
+        self.marks & u32::from(marks::STOPPING) != 0
+    }
 }
 
 /// All label words written, and how many of them are not free; or a refusal, and no word written.
@@ -251,6 +308,7 @@ pub trait Cabinet {
     fn block_check(&self, block: &[u8]) -> u32;
     fn label(&self, image: &[u8], place: u32) -> u32;
     fn request_at(&self, image: &[u8], place: u32) -> Request;
+    fn prefix_at(&self, image: &[u8], place: u32) -> Prefix;
     fn summarize(&self, image: &[u8]) -> Summary;
     fn labels(&self, image: &[u8], words: &mut [u32]) -> Words;
     /// The message held at a place, 0 the oldest, as a part of the image.

@@ -2,7 +2,7 @@
 
 use crate::image::{failed_check, version};
 use crate::{complain, of_file, of_output, print, read_image, status, whole_file, Ended};
-use cabinet::{Cabinet, Converted, IMAGE_SIZE, IMAGE_SIZE_WITHOUT_REQUESTS};
+use cabinet::{Cabinet, Converted, IMAGE_SIZE, IMAGE_SIZE_WITHOUT_INDEX, IMAGE_SIZE_WITHOUT_REQUESTS};
 use ldp_ft::Library;
 use std::ffi::OsStr;
 use std::fs::{self, File, Metadata};
@@ -68,6 +68,7 @@ pub fn run(options: &Options) -> Ended {
     };
     let (way, to) = (Way::of(way)?, Target::of(to));
     let mut image = read_image(from)?;
+    let length = image.len();
     let extended = extend(way, &mut image);
     let mut converted = vec![0; IMAGE_SIZE];
     let result = way.convert(&image, &mut converted);
@@ -81,11 +82,7 @@ pub fn run(options: &Options) -> Ended {
         Target::File(file) => write(file, &converted, mode_of(from), options.is_given("overwrite"))?,
     }
     let (before, after) = way.versions();
-    let size = if extended {
-        format!(", which had {IMAGE_SIZE_WITHOUT_REQUESTS} bytes and was extended,")
-    } else {
-        String::new()
-    };
+    let size = if extended { format!(", which had {length} bytes and was extended,") } else { String::new() };
     to.tell(&format!("version {before}{size} converted to version {after}"))
 }
 
@@ -116,14 +113,16 @@ impl<'a> Target<'a> {
     }
 }
 
-/// An image of the base lacks its last block, which is made first. Version 1 is the only one that had so few.
+/// An image of an earlier release may lack further blocks, which are made first.
 fn extend(way: Way, image: &mut Vec<u8>) -> bool {
-    let is_of_the_base = matches!(way, Way::Forward) && image.len() == IMAGE_SIZE_WITHOUT_REQUESTS;
-    if is_of_the_base {
+    let length = image.len();
+    let is_short = [IMAGE_SIZE_WITHOUT_REQUESTS, IMAGE_SIZE_WITHOUT_INDEX].contains(&length);
+    let is_extended = matches!(way, Way::Forward) && is_short;
+    if is_extended {
         image.resize(IMAGE_SIZE, 0);
-        Library.extend(image, IMAGE_SIZE_WITHOUT_REQUESTS);
+        Library.extend(image, length);
     }
-    is_of_the_base
+    is_extended
 }
 
 /// The mode of the file that was read, also where it is standard input; none of a pipe.

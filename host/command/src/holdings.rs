@@ -1,18 +1,44 @@
 //! Everything that a stored image holds, as the library's calls show it.
 
-use cabinet::{marks, Cabinet, Summary, PLACES};
+use cabinet::{Cabinet, Prefix, Summary, PLACES};
 use ldp_ft::Library;
+use std::fmt;
+use std::net::Ipv4Addr;
 
 const CODE_SHIFT: u32 = 20;
 const LABEL_MASK: u32 = (1 << CODE_SHIFT) - 1;
 /// The code of an open Request's word.
 const REQUEST: u32 = 7;
 
-/// A label with its code.
+/// A label with its code, and with its prefix where it has one.
 #[derive(Clone, Copy, Debug, PartialEq, Eq, PartialOrd, Ord)]
 pub struct Listed {
     pub label: u32,
     pub code: u32,
+    pub prefix: Option<Ipv4Prefix>,
+}
+
+/// As it is told to people, who know labels by what they lead to: `16 of 10.0.16.0/24`.
+impl fmt::Display for Listed {
+    fn fmt(&self, f: &mut fmt::Formatter) -> fmt::Result {
+        match self.prefix {
+            Some(prefix) => write!(f, "{} of {prefix}", self.label),
+            None => write!(f, "{}", self.label),
+        }
+    }
+}
+
+/// An IPv4 address and how many of its bits count.
+#[derive(Clone, Copy, Debug, PartialEq, Eq, PartialOrd, Ord)]
+pub struct Ipv4Prefix {
+    pub address: Ipv4Addr,
+    pub length: u32,
+}
+
+impl fmt::Display for Ipv4Prefix {
+    fn fmt(&self, f: &mut fmt::Formatter) -> fmt::Result {
+        write!(f, "{}/{}", self.address, self.length)
+    }
 }
 
 /// A message in the send store, with its FT number, if it has one yet.
@@ -29,10 +55,6 @@ pub struct Holdings {
     pub labels: Vec<Listed>,
     /// The IDs of the open Requests.
     pub requests: Vec<u32>,
-    /// The peer has told us that it has no labels to give.
-    pub stopped: bool,
-    /// We have told the peer so.
-    pub stopping: bool,
     pub held: Vec<Held>,
 }
 
@@ -43,20 +65,12 @@ impl Holdings {
         if summary.answer != 0 {
             return Err(summary);
         }
-        let mark = |mark: u8| image.get(marks::AT).is_some_and(|marks| marks & mark != 0);
-        Ok(Holdings {
-            summary,
-            labels: labels(image),
-            requests: requests(image),
-            stopped: mark(marks::STOPPED),
-            stopping: mark(marks::STOPPING),
-            held: held(image),
-        })
+        Ok(Holdings { summary, labels: labels(image), requests: requests(image), held: held(image) })
     }
 
     /// The labels of a code, in order.
-    pub fn labels_of(&self, code: u32) -> Vec<u32> {
-        self.labels.iter().filter(|listed| listed.code == code).map(|listed| listed.label).collect()
+    pub fn labels_of(&self, code: u32) -> Vec<Listed> {
+        self.labels.iter().filter(|listed| listed.code == code).copied().collect()
     }
 }
 
@@ -64,10 +78,20 @@ impl Holdings {
 pub fn labels(image: &[u8]) -> Vec<Listed> {
     let mut words = [0; PLACES];
     Library.labels(image, &mut words);
-    let listed = words.iter().map(|word| Listed { label: word & LABEL_MASK, code: word >> CODE_SHIFT });
-    let mut labels: Vec<Listed> = listed.filter(|listed| listed.code != 0 && listed.code != REQUEST).collect();
+    let lists_label = |word: u32| word != 0 && word >> CODE_SHIFT != REQUEST;
+    let listed = (0..).zip(words).filter(|(_, word)| lists_label(*word)).map(|(place, word)| Listed {
+        label: word & LABEL_MASK,
+        code: word >> CODE_SHIFT,
+        prefix: prefix_at(image, place),
+    });
+    let mut labels: Vec<Listed> = listed.collect();
     labels.sort_unstable();
     labels
+}
+
+fn prefix_at(image: &[u8], place: u32) -> Option<Ipv4Prefix> {
+    let Prefix { indexed, length, prefix } = Library.prefix_at(image, place);
+    (indexed == 1).then_some(Ipv4Prefix { address: Ipv4Addr::from(prefix), length })
 }
 
 /// The IDs of the open Requests, in their own order.

@@ -4,7 +4,10 @@ use crate::holdings::{Held, Holdings, Listed};
 use crate::json::Value;
 use crate::message::{timeout, Described};
 use crate::names;
-use cabinet::{Cabinet, Summary, BLOCK_SIZE, IMAGE_SIZE, IMAGE_SIZE_WITHOUT_REQUESTS, REQUEST_BLOCK};
+use cabinet::{
+    Cabinet, Summary, BLOCK_SIZE, IMAGE_SIZE, IMAGE_SIZE_WITHOUT_INDEX, IMAGE_SIZE_WITHOUT_REQUESTS, INDEX_BLOCKS,
+    REQUEST_BLOCK,
+};
 use ldp_ft::Library;
 use std::fmt::Write;
 
@@ -52,7 +55,10 @@ fn advice(image: &[u8], answer: u32, block: u32) -> String {
                    ldp_ft_convert_forward)";
     match (answer, block) {
         (11, 0) if version(image) == Some(EARLIER) => convert.to_string(),
-        (12, _) if image.len() == IMAGE_SIZE_WITHOUT_REQUESTS => convert.to_string(),
+        (12, _) if image.len() == IMAGE_SIZE_WITHOUT_REQUESTS || is_of_66_blocks(image, EARLIER) => convert.to_string(),
+        (12, _) if is_of_66_blocks(image, PRESENT) => {
+            "a cabinet of this release makes it whole when it begins with it (ldp_ft_extend)".to_string()
+        }
         (12, _) => "see whether this is the right file, and whether it was copied whole".to_string(),
         _ => {
             "keep this file, and read the store again: it may pass. If no copy passes, all that is left is a new image \
@@ -64,6 +70,12 @@ fn advice(image: &[u8], answer: u32, block: u32) -> String {
 
 /// The version of images that the converter takes forward.
 pub const EARLIER: u32 = 1;
+const PRESENT: u32 = 2;
+
+/// An image of a release that kept no prefixes, by its size and its version.
+fn is_of_66_blocks(image: &[u8], wanted: u32) -> bool {
+    image.len() == IMAGE_SIZE_WITHOUT_INDEX && version(image) == Some(wanted)
+}
 
 /// The version that block 0 says it has, whether or not that is known.
 pub fn version(image: &[u8]) -> Option<u32> {
@@ -90,6 +102,7 @@ fn block_in_words(number: u32) -> String {
     let what = match number as usize {
         0 => "the session's numbers and its label list",
         REQUEST_BLOCK => "the message IDs of open Requests",
+        block if INDEX_BLOCKS.contains(&block) => "the prefixes of labels",
         _ => "a message held",
     };
     format!("block {number} ({what})")
@@ -99,6 +112,9 @@ fn size_in_words(length: usize) -> String {
     match length {
         IMAGE_SIZE_WITHOUT_REQUESTS => {
             format!("an image of {length} bytes is one of an earlier release, without its block of Requests")
+        }
+        IMAGE_SIZE_WITHOUT_INDEX => {
+            format!("an image of {length} bytes is one of an earlier release, without its prefixes")
         }
         _ if length > IMAGE_SIZE => format!("it has more than the {IMAGE_SIZE} bytes of an image"),
         _ => format!("it has {length} bytes, and an image has {IMAGE_SIZE}"),
@@ -126,9 +142,10 @@ fn words(holdings: &Holdings) -> String {
     }
     text += &agreed(holdings);
     // Writing to a String cannot fail.
-    for Listed { label, code } in &holdings.labels {
-        let waits = names::waits_for(*code).map_or(String::new(), |what| format!(": waits for {what}"));
-        let _ = writeln!(text, "label {label}: {} (code {code}){waits}", names::label_code(*code));
+    for listed in &holdings.labels {
+        let (code, meaning) = (listed.code, names::label_code(listed.code));
+        let waits = names::waits_for(code).map_or(String::new(), |what| format!(": waits for {what}"));
+        let _ = writeln!(text, "label {listed}: {meaning} (code {code}){waits}");
     }
     for id in &holdings.requests {
         let _ = writeln!(text, "Request {id} is open: waits for a Mapping or a Notification that names it");
@@ -143,7 +160,7 @@ fn words(holdings: &Holdings) -> String {
 /// What was agreed with the peer, and whether Requests are stopped.
 fn agreed(holdings: &Holdings) -> String {
     let Summary { timeout: milliseconds, keepalive_time, max_pdu_length, .. } = holdings.summary;
-    let stopped = match (holdings.stopped, holdings.stopping) {
+    let stopped = match (holdings.summary.is_stopped(), holdings.summary.is_stopping()) {
         (false, false) => "are not stopped",
         (true, false) => "are stopped: the peer has no label resources",
         (false, true) => "of the peer are stopped: it was told that we have no label resources",
@@ -169,9 +186,10 @@ fn refusal(summary: &Summary, reason: String, advice: String) -> Value {
 fn record(holdings: Holdings) -> Value {
     let Summary { answer, kept, released, issued, secured, held, pended, labels, .. } = holdings.summary;
     let Summary { timeout, keepalive_time, max_pdu_length, .. } = holdings.summary;
-    let listed = |Listed { label, code }: &Listed| {
+    let listed = |Listed { label, code, prefix }: &Listed| {
         Value::Record(vec![
             ("label", (*label).into()),
+            ("prefix", prefix.map(|prefix| prefix.to_string()).into()),
             ("code", (*code).into()),
             ("meaning", names::label_code(*code).into()),
             ("waits_for", names::waits_for(*code).into()),
@@ -194,8 +212,8 @@ fn record(holdings: Holdings) -> Value {
         ("timeout_milliseconds", timeout.into()),
         ("keepalive_time", keepalive_time.into()),
         ("max_pdu_length", max_pdu_length.into()),
-        ("stopped_by_peer", holdings.stopped.into()),
-        ("stopped_by_us", holdings.stopping.into()),
+        ("stopped_by_peer", holdings.summary.is_stopped().into()),
+        ("stopped_by_us", holdings.summary.is_stopping().into()),
         ("label_words", holdings.labels.iter().map(listed).collect()),
         ("open_requests", holdings.requests.iter().copied().collect()),
         ("messages", holdings.held.iter().map(message).collect()),

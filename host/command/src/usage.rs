@@ -13,10 +13,11 @@ where input is refused or the verdict is bad; 2 for wrong usage, and for what ca
 
 const IMAGE: &str = "\
 ldp-ft image [--json] FILE
-Says what a stored image holds: its six counts, what was agreed with the peer, every label and what it waits for, every
-open Request, and every message held with its FT number, or `pended` where it has none yet. Labels and Requests stand in
-the order of their numbers. An image that fails a check is refused: the answer's number, the block, which check, and
-what to do. So is one of version 1, which `ldp-ft convert forward` moves to version 2. FILE `-` is standard input.
+Says what a stored image holds: its six counts, what was agreed with the peer, every label with its prefix, if it has
+one, and what it waits for, every open Request, and every message held with its FT number, or `pended` where it has none
+yet. Labels and Requests stand in the order of their numbers. An image that fails a check is refused: the answer's
+number, the block, which check, and what to do. So is one of version 1, which `ldp-ft convert forward` moves to version
+2. FILE `-` is standard input.
   --json   one JSON object; its timeout is in milliseconds
 Exit status: 0; 1 where the image is refused; 2 for wrong usage, and for what cannot be read or written.
 ";
@@ -25,8 +26,9 @@ const CONVERT: &str = "\
 ldp-ft convert forward|back [--overwrite] IN OUT
 Reads a stored image from IN and writes it to OUT in another version: forward from version 1 to version 2, back from
 version 2 to version 1. Back and forth gives the same bytes. Block 0 alone differs: its timeout is in milliseconds in
-version 2, in seconds in version 1. An image of the first release, 33,280 bytes, is extended on the way forward. An
-image that is refused is not written: the answer's number, the block, and why.
+version 2, in seconds in version 1. An image of 33,280 or 33,792 bytes, as earlier releases stored it, is extended on
+the way forward; on the way back such a release reads the first so many bytes of OUT. An image that is refused is not
+written: the answer's number, the block, and why.
 IN `-` is standard input. OUT `-` is standard output, which then has the image alone; what was done is said on standard
 error. A file is written beside OUT, synced and renamed, and its directory synced: it is there whole or not at all. A
 new file has the mode of IN.

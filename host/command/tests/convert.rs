@@ -9,8 +9,9 @@ use std::path::{Path, PathBuf};
 use std::process::{Command, Output, Stdio};
 use support::store::Directory;
 use tool::{run_on, run_unread, stderr, stdout, tool};
-use trials::crafted::two_held;
-use trials::stored::{word, Stored, Version};
+use trials::crafted::{indexed, two_held};
+use trials::entries::NO_ENTRY;
+use trials::stored::{word, Stored, Version, ENTRY_PLACES};
 
 /// A folder with an image in a file, and the name of another file in it.
 struct Place {
@@ -53,15 +54,34 @@ fn forward_and_back() {
     assert_eq!(fs::read(&place.to).unwrap(), earlier().image(0xD1));
 }
 
-/// An image of the first release has 65 blocks.
+/// An image of the first release has 65 blocks, one of the others before this has 66.
 #[test]
-fn an_image_of_the_base_is_extended() {
-    let place = Place::with(&earlier().image(0xD1)[..33_280]);
-    let told = "version 1, which had 33280 bytes and was extended, converted to version 2\n";
-    assert_eq!(done(&place.convert("forward", &[])), told);
-    assert_eq!(fs::read(&place.to).unwrap(), two_held().image(0xD1));
-    let shown = run_on(&["image", "-"], &fs::read(&place.to).unwrap());
-    assert!(done(&shown).contains("state is kept over a break for 5 seconds"));
+fn an_image_of_an_earlier_release_is_extended() {
+    for length in [33_280, 33_792] {
+        let place = Place::with(&earlier().image(0xD1)[..length]);
+        let told = format!("version 1, which had {length} bytes and was extended, converted to version 2\n");
+        assert_eq!(done(&place.convert("forward", &[])), told);
+        assert_eq!(fs::read(&place.to).unwrap(), two_held().image(0xD1));
+        let shown = run_on(&["image", "-"], &fs::read(&place.to).unwrap());
+        assert!(done(&shown).contains("state is kept over a break for 5 seconds"));
+    }
+}
+
+/// Prefixes go both ways, and only what was extended has none.
+#[test]
+fn prefixes_are_moved() {
+    let stored = indexed();
+    let place = Place::with(&stored.image(0));
+    done(&place.convert("back", &[]));
+    let back = fs::read(&place.to).unwrap();
+    assert_eq!(back, stored.moved(Version::One).unwrap().image(0));
+    let place = Place::with(&back);
+    done(&place.convert("forward", &[]));
+    assert_eq!(fs::read(&place.to).unwrap(), stored.image(0));
+    let place = Place::with(&back[..33_792]);
+    done(&place.convert("forward", &[]));
+    let without = Stored { entries: [NO_ENTRY; ENTRY_PLACES], ..stored };
+    assert_eq!(fs::read(&place.to).unwrap(), without.image(0));
 }
 
 /// A refusal in a line, and nothing is written.
@@ -99,9 +119,12 @@ fn refusals_in_words() {
     assert!(
         refusal("forward", &spoilt).starts_with("refused 10 block 64: the check of block 64 (a message held) is wrong")
     );
-    assert_eq!(refusal("forward", b"abc"), "refused 12 block 0: it has 3 bytes, and an image has 33792\n");
+    assert_eq!(refusal("forward", b"abc"), "refused 12 block 0: it has 3 bytes, and an image has 34816\n");
     assert!(refusal("forward", &[0; IMAGE_SIZE + 1]).starts_with("refused 12 block 0: it has more than"));
-    assert!(refusal("back", &[0; 33_280]).starts_with("refused 12 block 0: "), "only version 1 had so few");
+    for length in [33_280, 33_792] {
+        assert!(refusal("back", &two_held().image(0)[..length]).starts_with("refused 12 block 0: an image of"));
+    }
+    assert_eq!(refusal("forward", &two_held().image(0)[..33_792]), "refused 11 block 0: it has version 2 already\n");
 }
 
 /// A file that is there is not lost by mistake; where it is meant, it is replaced, also the one that was read.

@@ -2,14 +2,15 @@
 
 mod tool;
 
-use cabinet::{IMAGE_SIZE, REQUEST_BLOCK};
+use cabinet::{IMAGE_SIZE, INDEX_BLOCKS, REQUEST_BLOCK};
 use command::image::report;
 use std::fs;
 use tool::{is_json, repository, run_on, run_unread, stderr, stdout};
 use trials::crafted::{self, asking, two_held};
+use trials::entries::{entry, NO_ENTRY};
 use trials::generate::{damage, states};
 use trials::random::Random;
-use trials::stored::{seal, Stored, Version, STOPPED, STOPPING};
+use trials::stored::{seal, word, Stored, Version, ENTRY_PLACES, REQUEST, STOPPED, STOPPING};
 
 /// The text of a sound image.
 fn words(stored: &Stored) -> String {
@@ -80,7 +81,7 @@ fn requests_and_both_marks() {
 fn every_label_code_and_a_second() {
     let mut stored = Stored { timeout: 1_000, ..two_held() };
     for code in [1, 2, 3, 4, 5, 6, 8, 9] {
-        stored.labels[code] = trials::stored::word(100 + code as u32, code as u32);
+        stored.labels[code] = word(100 + code as u32, code as u32);
     }
     let text = words(&stored);
     for line in [
@@ -98,12 +99,42 @@ fn every_label_code_and_a_second() {
     }
 }
 
+/// Each label with the prefix that its own word has; what earlier labels left beside a free word, or a Request's, is
+/// not shown.
+#[test]
+fn labels_with_their_prefixes() {
+    let mut stored = two_held();
+    stored.entries = [entry(8, 0x0A00_0000); ENTRY_PLACES];
+    for (place, word, entry) in [
+        (0, word(16, 1), entry(24, 0x0A00_10FF)),
+        (1, word(16, 3), entry(0, 0)),
+        (60, word(18, 2), entry(32, u32::MAX)),
+        (118, word(19, 3), NO_ENTRY),
+        (70, REQUEST, entry(24, 0)),
+    ] {
+        (stored.labels[place], stored.entries[place]) = (word, entry);
+    }
+    let text = words(&stored);
+    let shown: Vec<&str> = text.lines().filter(|line| line.starts_with("label ")).collect();
+    assert_eq!(
+        shown,
+        [
+            "label 16 of 10.0.16.0/24: ours, given (code 1)",
+            "label 16 of 0.0.0.0/0: the peer's, using (code 3)",
+            "label 17 of 10.0.0.0/8: the peer's, using without protection (code 6)",
+            "label 18 of 255.255.255.255/32: ours, withdrawing (code 2): waits for the peer's acknowledgement of our \
+             Withdraw, and its Release",
+            "label 19: the peer's, using (code 3)",
+        ]
+    );
+}
+
 /// In the order of their numbers, wherever they stand; one that is ours and the peer's stands twice.
 #[test]
 fn labels_are_sorted() {
     let mut stored = two_held();
     for (place, label, code) in [(2, 900, 3), (9, 16, 3), (40, 21, 3), (118, 17, 1)] {
-        stored.labels[place] = trials::stored::word(label, code);
+        stored.labels[place] = word(label, code);
     }
     let text = words(&stored);
     let label = |line: &str| line.strip_prefix("label ")?.split(':').next()?.parse().ok();
@@ -139,6 +170,7 @@ what to do: keep this file, and read the store again: it may pass. If no copy pa
 const CONVERT: &str = "\
 what to do: `ldp-ft convert forward` makes it one of version 2 (in a cabinet ldp_ft_extend, if it is shorter, and \
 ldp_ft_convert_forward)\n";
+const EXTEND: &str = "what to do: a cabinet of this release makes it whole when it begins with it (ldp_ft_extend)\n";
 const OTHER_SIZE: &str = "what to do: see whether this is the right file, and whether it was copied whole\n";
 
 #[test]
@@ -163,19 +195,37 @@ fn refusals_in_words() {
     bad_ids[REQUEST_BLOCK * 512 + 500] = 1;
     seal(&mut bad_ids, REQUEST_BLOCK);
     assert!(refusal(&bad_ids).contains("a field of block 65 (the message IDs of open Requests)"));
+    for block in INDEX_BLOCKS {
+        let mut bad_prefixes = sound.clone();
+        bad_prefixes[block * 512 + 480] = 1;
+        seal(&mut bad_prefixes, block);
+        assert!(refusal(&bad_prefixes).contains(&format!("a field of block {block} (the prefixes of labels)")));
+    }
     for length in [100, 0] {
         let told = format!("refused 12 block 0: it has {length} bytes, and an image has {IMAGE_SIZE}\n{OTHER_SIZE}");
         assert_eq!(refusal(&sound[..length]), told);
     }
-    assert!(refusal(&sound[..33_280]).contains("earlier release"));
-    assert!(refusal(&sound[..33_280]).ends_with(CONVERT));
+    assert!(refusal(&[sound, vec![0; 5]].concat()).contains("more than the 34816 bytes"));
+}
+
+#[test]
+fn images_of_earlier_releases() {
+    let (sound, earlier) = (two_held().image(0xD1), two_held().moved(Version::One).unwrap().image(0xD1));
     for stored in [two_held(), Stored::idle()] {
         assert_eq!(
             refusal(&stored.moved(Version::One).unwrap().image(0xD1)),
             format!("refused 11 block 0: block 0 has version 1, as an earlier release stores it\n{CONVERT}")
         );
     }
-    assert!(refusal(&[sound, vec![0; 5]].concat()).contains("more than the 33792 bytes"));
+    for (image, lacks, advice) in [
+        (&earlier[..33_280], "its block of Requests", CONVERT),
+        (&earlier[..33_792], "its prefixes", CONVERT),
+        (&sound[..33_792], "its prefixes", EXTEND),
+    ] {
+        let length = image.len();
+        let told = format!("an image of {length} bytes is one of an earlier release, without {lacks}");
+        assert_eq!(refusal(image), format!("refused 12 block 0: {told}\n{advice}"));
+    }
 }
 
 /// The image printer's cases, made from the paper's words: each with the lines that stand under its name.
@@ -211,14 +261,16 @@ fn it_says_what_the_image_printer_says() {
 
 #[test]
 fn for_scripts() {
-    let output = run_on(&["image", "--json", "-"], &two_held().image(0xD1));
+    let mut stored = two_held();
+    stored.entries[0] = entry(32, 0x0A00_0001);
+    let output = run_on(&["image", "--json", "-"], &stored.image(0xD1));
     assert_eq!(
         stdout(&output),
         "{\"answer\":0,\"kept\":true,\"released\":4294967294,\"issued\":4294967295,\"secured\":7,\"held\":2,\
          \"pended\":1,\"labels\":2,\"timeout_milliseconds\":5000,\"keepalive_time\":30,\"max_pdu_length\":4096,\
          \"stopped_by_peer\":false,\"stopped_by_us\":false,\"label_words\":[\
-         {\"label\":16,\"code\":1,\"meaning\":\"ours, given\",\"waits_for\":null},\
-         {\"label\":17,\"code\":6,\"meaning\":\"the peer's, using without protection\",\"waits_for\":null}],\
+         {\"label\":16,\"prefix\":\"10.0.0.1/32\",\"code\":1,\"meaning\":\"ours, given\",\"waits_for\":null},\
+         {\"label\":17,\"prefix\":null,\"code\":6,\"meaning\":\"the peer's, using without protection\",\"waits_for\":null}],\
          \"open_requests\":[],\
          \"messages\":[{\"number\":4294967295,\"type\":1024,\"name\":\"Label Mapping\",\"id\":1,\"malformed\":false,\
          \"fec\":[\"10.0.0.1/32\"],\"label\":16,\

@@ -97,6 +97,9 @@ fn a_quiet_pair() {
     assert!(text.contains("\n0 cuts, 0 kills, 0 sent again, "));
     assert!(text.starts_with("held: ") && text.contains("; secured: ") && text.contains("; let go: "));
     assert!(!text.contains("re-sends") && !text.contains("broken"), "{text}");
+    for line in ["north gives", "south uses "] {
+        assert!(text.contains(&format!("\n{line} 17 of 10.0.0.17/32, 18 of 10.0.0.18/32, 20 of ")), "{text}");
+    }
 }
 
 /// Each of the two may write either form: they come to terms, resume over cuts and kills, and keep their state equally
@@ -213,6 +216,7 @@ fn stores_that_are_kept() {
         let shown = run_on(&["image", kept.join(name).to_str().unwrap()], b"");
         assert_eq!(shown.status.code(), Some(0), "{}", stdout(&shown));
         assert!(stdout(&shown).contains("\nlabels 4: "), "{}", stdout(&shown));
+        assert!(stdout(&shown).contains("\nlabel 17 of 10.0.0.17/32: "), "{}", stdout(&shown));
     }
     assert!(!kept.join("port").exists());
     let output = run_on(&options, b"");

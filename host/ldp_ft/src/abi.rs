@@ -69,6 +69,14 @@ pub struct ldp_ft_request {
     pub id: u32,
 }
 
+/// The prefix of the label that a word lists.
+#[repr(C)]
+pub struct ldp_ft_prefix {
+    pub indexed: u32,
+    pub length: u32,
+    pub prefix: u32,
+}
+
 /// An image of an earlier size made one of this size.
 #[repr(C)]
 pub struct ldp_ft_extended {
@@ -193,6 +201,7 @@ extern "C" {
     pub fn ldp_ft_block_check(block: *const u8, block_len: usize) -> u32;
     pub fn ldp_ft_label(image: *const u8, image_len: usize, place: u32) -> u32;
     pub fn ldp_ft_request_at(image: *const u8, image_len: usize, place: u32) -> ldp_ft_request;
+    pub fn ldp_ft_prefix_at(image: *const u8, image_len: usize, place: u32) -> ldp_ft_prefix;
     pub fn ldp_ft_summarize(image: *const u8, image_len: usize) -> ldp_ft_summary;
     pub fn ldp_ft_labels(image: *const u8, image_len: usize, words: *mut u32, words_len: usize) -> ldp_ft_words;
     pub fn ldp_ft_held(image: *const u8, image_len: usize, place: u32) -> ldp_ft_part;

@@ -1,7 +1,9 @@
 //! Results as C has them and as Rust has them, both ways, field by field.
 
 use crate::abi::*;
-use cabinet::{Converted, Distance, Extended, Message, Next, Outcome, Part, Pdu, Request, Session, Summary, Words};
+use cabinet::{
+    Converted, Distance, Extended, Message, Next, Outcome, Part, Pdu, Prefix, Request, Session, Summary, Words,
+};
 
 /// Conversions between two structs with the same fields.
 macro_rules! same_fields {
@@ -26,6 +28,7 @@ same_fields!(Part, ldp_ft_part: answer, start, end);
 same_fields!(Next, ldp_ft_next: answer, left_out);
 same_fields!(Distance, ldp_ft_distance_result: answer, steps);
 same_fields!(Request, ldp_ft_request: open, id);
+same_fields!(Prefix, ldp_ft_prefix: indexed, length, prefix);
 same_fields!(Extended, ldp_ft_extended: answer, further);
 same_fields!(Converted, ldp_ft_converted: answer, block, length);
 same_fields!(Words, ldp_ft_words: answer, block, count);

@@ -5,8 +5,8 @@ mod convert;
 
 use abi::*;
 use cabinet::{
-    Cabinet, Converted, Distance, Extended, Message, Next, Opening, Outcome, Part, Pdu, Request, Session, Summary,
-    Words,
+    Cabinet, Converted, Distance, Extended, Message, Next, Opening, Outcome, Part, Pdu, Prefix, Request, Session,
+    Summary, Words,
 };
 use core::ptr::{null, null_mut};
 
@@ -161,6 +161,11 @@ impl Cabinet for Library {
     fn request_at(&self, image: &[u8], place: u32) -> Request {
         // SAFETY: as for `label`.
         unsafe { ldp_ft_request_at(start(image), image.len(), place) }.into()
+    }
+
+    fn prefix_at(&self, image: &[u8], place: u32) -> Prefix {
+        // SAFETY: as for `label`.
+        unsafe { ldp_ft_prefix_at(start(image), image.len(), place) }.into()
     }
 
     fn summarize(&self, image: &[u8]) -> Summary {

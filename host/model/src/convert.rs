@@ -17,7 +17,7 @@ pub fn convert(from: Layout, to: Layout, image: &[u8], out: &mut [u8]) -> Conver
 #[inline(always)]
 fn moved(from: Layout, to: Layout, image: &[u8], out: &mut [u8]) -> Result<(), Refusal> {
     image::examine_as(from, image)?;
-    let draft = Draft::moved(image::slot(image, 0), from, to).ok_or(Refusal::of(16))?;
+    let draft = Draft::moved(image::block(image, 0), from, to).ok_or(Refusal::of(16))?;
     let out = out.get_mut(..IMAGE_SIZE).ok_or(Refusal::of(9))?;
     out.copy_from_slice(image);
     draft.store(out);

@@ -1,7 +1,7 @@
 //! Block 0 while it is rewritten.
 
 use crate::check::{self, COVERED};
-use crate::image::{self, slot, slot_kind, slot_label, Head};
+use crate::image::{self, block, slot_kind, slot_label, Head};
 use crate::labels;
 use crate::layout::{at, Layout, TWO};
 use crate::message::kinds;
@@ -77,7 +77,8 @@ impl Draft {
         put16(&mut self.0, at::HELD, held as u16);
     }
 
-    /// A message tells whether there are labels to be had: the mark stands from one that says no until one that says yes.
+    /// A message tells whether there are labels to be had: the mark stands from one that says no until one that says
+    /// yes.
     pub fn mark_resources(&mut self, kind: u32, mark: u8) {
         match kind {
             kinds::NO_RESOURCES => self.0[at::MARKS] |= mark,
@@ -89,7 +90,7 @@ impl Draft {
     /// Lets go of the oldest held through the number acknowledged, which stands so many steps after the released one.
     pub fn let_go(&mut self, image: &[u8], head: &Head, ack: u32, steps: usize) {
         for after in 0..steps {
-            let slot = slot(image, head.block_of(after));
+            let slot = block(image, head.block_of(after));
             labels::acknowledged(self.list_mut(), slot_kind(slot), slot_label(slot));
         }
         put32(&mut self.0, at::RELEASED, ack);
@@ -109,9 +110,9 @@ impl Draft {
     }
 }
 
-/// Writes a new image: kept 0, 64 slots of zeros, and no IDs.
-pub fn format(image: &mut [u8; IMAGE_SIZE]) {
+/// Writes a new image: kept 0, 64 slots of zeros, no IDs and no entries. The bits of the further blocks.
+pub fn format(image: &mut [u8; IMAGE_SIZE]) -> u32 {
     image.fill(0);
-    image::write_no_ids(image);
     Draft::released().store(image);
+    image::clear_further(image, 0)
 }

@@ -3,9 +3,11 @@
 use crate::check::{self, COVERED};
 use crate::layout::{at, Layout, TWO};
 use crate::message;
-use crate::octets::{all_zero, be16, be32, put16, put32};
-use crate::{labels, number, requests};
-use cabinet::{further, marks, BLOCK_SIZE, ID_PLACES, IMAGE_SIZE, REQUEST_BLOCK, SLOTS};
+use crate::octets::{all_zero, be16, be32, put16, put32, put64};
+use crate::{index, labels, number, requests};
+use cabinet::{
+    further, marks, BLOCK_SIZE, ENTRIES_IN_BLOCK, FURTHER, ID_PLACES, IMAGE_SIZE, INDEX_BLOCKS, REQUEST_BLOCK, SLOTS,
+};
 use core::ops::Range;
 
 pub const SHORTEST: usize = 8;
@@ -21,8 +23,9 @@ mod slot_at {
     pub const MESSAGE: usize = 8;
 }
 
-/// The bytes of the Requests' IDs in their block.
+/// The bytes of the Requests' IDs in their block, as many as those of the entries in each of theirs.
 const IDS: usize = 4 * ID_PLACES;
+const _: () = assert!(IDS == index::ENTRIES);
 
 /// An answer that changes nothing, with the block it names.
 #[derive(Clone, Copy, Debug)]
@@ -85,8 +88,8 @@ pub fn examine(image: &[u8]) -> Result<Head, Refusal> {
     examine_as(TWO, image)
 }
 
-/// Restore's checks of an image of a version: size, block 0, its fields, each live slot in ring order, then the Requests'
-/// IDs. The version is known where it is called, and this is compiled for it.
+/// Restore's checks of an image of a version: size, block 0, its fields, each live slot in ring order, then the further
+/// blocks. The version is known where it is called, and this is compiled for it.
 #[inline(always)]
 pub fn examine_as(layout: Layout, image: &[u8]) -> Result<Head, Refusal> {
     let image: &[u8; IMAGE_SIZE] = image.try_into().map_err(|_| Refusal::of(12))?;
@@ -98,10 +101,12 @@ pub fn examine_as(layout: Layout, image: &[u8]) -> Result<Head, Refusal> {
     let head = Head::read(block, layout, numbered);
     for after in 0..head.held {
         let number = head.block_of(after);
-        judge_slot(slot(image, number)).map_err(|answer| Refusal { answer, block: number as u32 })?;
+        judge_slot(self::block(image, number)).map_err(|answer| Refusal { answer, block: number as u32 })?;
     }
-    judge_requests(slot(image, REQUEST_BLOCK), layout.list(block))
-        .map_err(|answer| Refusal { answer, block: REQUEST_BLOCK as u32 })?;
+    for number in FURTHER {
+        judge_further(number, self::block(image, number), layout.list(block))
+            .map_err(|answer| Refusal { answer, block: number as u32 })?;
+    }
     Ok(head)
 }
 
@@ -139,14 +144,23 @@ fn judge_slot(slot: &[u8]) -> Result<(), u32> {
     }
 }
 
-/// Answers 10 or 11 for a block of Requests' IDs whose check or fields are wrong.
-fn judge_requests(block: &[u8], list: &[u8]) -> Result<(), u32> {
+/// Answers 10 or 11 for a further block whose check or fields are wrong. Zeros need no summing.
+fn judge_further(number: usize, block: &[u8], list: &[u8]) -> Result<(), u32> {
     let padded = all_zero(&block[IDS..COVERED]);
-    let summed = if padded { IDS } else { COVERED };
+    let empty = padded && all_zero(&block[..IDS]);
+    let summed = match (empty, padded) {
+        (true, _) => 0,
+        (_, true) => IDS,
+        _ => COVERED,
+    };
     if check::stored(block) != check::sums(&block[..summed]) {
         return Err(10);
     }
-    if padded && requests::stand_once(list, &block[..IDS]) {
+    let sound = match number {
+        REQUEST_BLOCK => requests::stand_once(list, &block[..IDS]),
+        _ => empty || index::is_sound(list, number - INDEX_BLOCKS[0], block),
+    };
+    if padded && sound {
         Ok(())
     } else {
         Err(11)
@@ -161,8 +175,12 @@ fn message_fits(slot: &[u8], msg: &[u8]) -> bool {
 }
 
 /// A block by its number.
-pub fn slot(image: &[u8], block: usize) -> &[u8] {
-    &image[block * BLOCK_SIZE..][..BLOCK_SIZE]
+pub fn block(image: &[u8], number: usize) -> &[u8] {
+    &image[number * BLOCK_SIZE..][..BLOCK_SIZE]
+}
+
+fn block_mut(image: &mut [u8], number: usize) -> &mut [u8] {
+    &mut image[number * BLOCK_SIZE..][..BLOCK_SIZE]
 }
 
 pub fn slot_kind(slot: &[u8]) -> u32 {
@@ -186,7 +204,7 @@ pub fn slot_message(slot: &[u8]) -> &[u8] {
 
 /// Writes a message of at most 480 bytes to a slot, whole.
 pub fn write_slot(image: &mut [u8], block: usize, msg: &[u8], kind: u32, label: u32) {
-    let slot = &mut image[block * BLOCK_SIZE..][..BLOCK_SIZE];
+    let slot = block_mut(image, block);
     let end = slot_at::MESSAGE + msg.len();
     put16(slot, slot_at::LENGTH, msg.len() as u16);
     slot[slot_at::KIND] = kind as u8;
@@ -200,7 +218,7 @@ pub fn write_slot(image: &mut [u8], block: usize, msg: &[u8], kind: u32, label: 
 
 /// The bytes of the Requests' IDs.
 pub fn ids(image: &[u8]) -> &[u8] {
-    &slot(image, REQUEST_BLOCK)[..IDS]
+    &block(image, REQUEST_BLOCK)[..IDS]
 }
 
 /// Puts a Request's ID beside its word; tells the block where its bytes change.
@@ -208,19 +226,38 @@ pub fn write_id(image: &mut [u8], place: usize, id: u32) -> u32 {
     if labels::word(ids(image), place) == id {
         return 0;
     }
-    let block = &mut image[REQUEST_BLOCK * BLOCK_SIZE..][..BLOCK_SIZE];
+    let block = block_mut(image, REQUEST_BLOCK);
     labels::set_word(block, place, id);
-    let sums = check::sums(&block[..IDS]);
-    check::store(block, sums);
+    seal_further(block);
     further::REQUESTS
 }
 
-/// Makes a new block of Requests' IDs: zeros with their check.
-pub fn write_no_ids(image: &mut [u8; IMAGE_SIZE]) -> u32 {
-    let block = &mut image[REQUEST_BLOCK * BLOCK_SIZE..][..BLOCK_SIZE];
-    block.fill(0);
-    check::store(block, check::sums(&[]));
-    further::REQUESTS
+/// Puts the entry of a label's FEC beside its word; tells the block where its bytes change.
+pub fn write_entry(image: &mut [u8], place: usize, entry: u64) -> u32 {
+    if index::entry_at(image, place) == entry {
+        return 0;
+    }
+    let k = place / ENTRIES_IN_BLOCK;
+    let block = block_mut(image, INDEX_BLOCKS[k]);
+    put64(block, index::ENTRY * (place % ENTRIES_IN_BLOCK), entry);
+    seal_further(block);
+    further::INDEX[k]
+}
+
+/// Stores the check of a further block of a sound image, which ends with zeros.
+fn seal_further(block: &mut [u8]) {
+    let sums = check::sums(&block[..IDS]);
+    check::store(block, sums);
+}
+
+/// Makes the further blocks behind those that are there new: zeros with their check. Their bits.
+pub fn clear_further(image: &mut [u8; IMAGE_SIZE], there: usize) -> u32 {
+    for number in &FURTHER[there..] {
+        let block = block_mut(image, *number);
+        block.fill(0);
+        check::store(block, check::sums(&[]));
+    }
+    further::ALL & !0 << there
 }
 
 /// The bytes of the label list in block 0.

@@ -1,5 +1,5 @@
-//! The label list: words of label + 1,048,576 x code in block 0, 119 of them, 120 in version 1; read and rewritten word by
-//! word.
+//! The label list: words of label + 1,048,576 x code in block 0, 119 of them, 120 in version 1; read and rewritten word
+//! by word.
 //!
 //! Codes: 1 given, 2 withdrawing, 8 withdrawn and the ACK has come, 9 withdrawn and the Release has come (our side);
 //! 3 using, 4 asked back, 5 releasing, 6 using without protection (theirs). Code 7 is an open Request: it has no label
@@ -16,6 +16,8 @@ pub const RELEASING: u32 = 5;
 pub const UNPROTECTED: u32 = 6;
 pub const ACKED: u32 = 8;
 pub const RELEASED: u32 = 9;
+/// The code of a label that has no word, and of a free word.
+const FREE: u32 = 0;
 
 /// The word of an open Request: code 7, and 0 for a label.
 pub const REQUEST: u32 = 7 << CODE_SHIFT;
@@ -36,8 +38,13 @@ pub fn is_listed(label: u32) -> bool {
     label >= FIRST_LISTED
 }
 
+/// The word of a label with a code; a free one for no code.
 fn compose(label: u32, code: u32) -> u32 {
-    label | code << CODE_SHIFT
+    if code == FREE {
+        0
+    } else {
+        label | code << CODE_SHIFT
+    }
 }
 
 /// The side of a label with this code; none for a word that lists no label.
@@ -47,6 +54,11 @@ fn side_of(code: u32) -> Option<Side> {
         USING..=UNPROTECTED => Some(Side::Theirs),
         _ => None,
     }
+}
+
+/// True where a word lists a label: it is neither free nor an open Request's.
+pub fn lists_label(word: u32) -> bool {
+    side_of(word >> CODE_SHIFT).is_some()
 }
 
 /// The word at a place; the bytes given are those of the list.
@@ -121,58 +133,45 @@ impl Seen {
     }
 }
 
-/// What the list says of a label on a side.
+/// How a label stands on a side.
 #[derive(Clone, Copy)]
-pub struct Entry {
+pub struct Standing {
     pub label: u32,
     /// Its code, 0 where it is absent.
     pub code: u32,
-    /// Its word's place, or else the first free one; none where it is absent and no word is free.
-    place: Option<usize>,
+    /// Its word's place, if it has one.
+    pub place: Option<usize>,
+    /// The place of a word for a label that has none, or is to move: the first that is free, also in the old list.
+    pub room: Option<usize>,
 }
 
-impl Entry {
-    /// Looks a label up on a side, in one pass.
-    pub fn find(list: &[u8], label: u32, side: Side) -> Self {
-        let mut free = None;
-        for (place, word) in words(list).enumerate() {
+impl Standing {
+    /// Looks a label up on a side, in one pass. The old list is that before the call, of which an ACK may have freed
+    /// words.
+    pub fn find(old: &[u8], list: &[u8], label: u32, side: Side) -> Self {
+        let mut standing = Standing { label, code: FREE, place: None, room: None };
+        for (place, (word, old)) in words(list).zip(words(old)).enumerate() {
             let code = word >> CODE_SHIFT;
             if word == 0 {
-                free = free.or(Some(place));
+                standing.room = standing.room.or((old == 0).then_some(place));
             } else if word & LABEL_MASK == label && side_of(code) == Some(side) {
-                return Entry { label, code, place: Some(place) };
+                (standing.code, standing.place) = (code, Some(place));
             }
         }
-        Entry { label, code: 0, place: free }
+        standing
     }
 
-    /// The entry with a word that is kept for the label, where it has none of its own.
-    pub fn or_in(self, kept: Option<usize>) -> Self {
-        if self.code == 0 {
-            Entry { place: kept.or(self.place), ..self }
-        } else {
-            self
-        }
-    }
-
-    /// True where the label is absent and no word is free for it.
-    pub fn is_without_word(&self) -> bool {
-        self.place.is_none()
-    }
-
-    /// Gives the label a code; false where there is no word for it.
-    pub fn set(&self, list: &mut [u8], code: u32) -> bool {
+    /// Gives the label, which has a word, another code; 0 frees the word.
+    fn recode(&self, list: &mut [u8], code: u32) {
         if let Some(place) = self.place {
             set_word(list, place, compose(self.label, code));
         }
-        self.place.is_some()
     }
 
-    /// Frees the label's word, if it has one.
-    pub fn free(&self, list: &mut [u8]) {
-        if let Some(place) = self.place {
-            set_word(list, place, 0);
-        }
+    /// Puts the label at a place, and frees the word that it had.
+    fn put(&self, list: &mut [u8], place: usize, code: u32) {
+        self.recode(list, FREE);
+        set_word(list, place, compose(self.label, code));
     }
 }
 
@@ -209,6 +208,11 @@ pub fn any_protected(list: &[u8], side: Side) -> bool {
     words(list).fold(false, |any, word| any | is_protected(word >> CODE_SHIFT, side))
 }
 
+/// True where any word of a side with this entry beside it is not to be touched without protection.
+pub fn any_protected_beside(list: &[u8], entries: impl Iterator<Item = u64>, entry: u64, side: Side) -> bool {
+    words(list).zip(entries).any(|(word, beside)| beside == entry && is_protected(word >> CODE_SHIFT, side))
+}
+
 /// Frees every word of a code.
 pub fn free_all(list: &mut [u8], code: u32) {
     for bytes in list.chunks_exact_mut(4) {
@@ -224,81 +228,79 @@ pub fn acknowledged(list: &mut [u8], kind: u32, label: u32) {
     if !matches!(kind, kinds::WITHDRAW | kinds::RELEASE) {
         return;
     }
-    let entry = Entry::find(list, label, side_sending(kind));
-    match (kind, entry.code) {
-        (kinds::WITHDRAW, WITHDRAWING) => _ = entry.set(list, ACKED),
-        (kinds::WITHDRAW, RELEASED) | (kinds::RELEASE, RELEASING) => entry.free(list),
+    let standing = Standing::find(list, list, label, side_sending(kind));
+    match (kind, standing.code) {
+        (kinds::WITHDRAW, WITHDRAWING) => standing.recode(list, ACKED),
+        (kinds::WITHDRAW, RELEASED) | (kinds::RELEASE, RELEASING) => standing.recode(list, FREE),
         _ => {}
     }
 }
 
-/// True where a message of ours may be sent about a label with this entry.
-pub fn may_send(kind: u32, entry: &Entry) -> bool {
-    is_listed(entry.label)
+/// True where a message of ours may be sent about a label that stands so.
+pub fn may_send(kind: u32, standing: &Standing) -> bool {
+    is_listed(standing.label)
         && match kind {
-            kinds::MAPPING => matches!(entry.code, 0 | GIVEN),
-            kinds::WITHDRAW => entry.code == GIVEN,
-            _ => matches!(entry.code, USING | ASKED_BACK),
+            kinds::MAPPING => matches!(standing.code, FREE | GIVEN),
+            kinds::WITHDRAW => standing.code == GIVEN,
+            _ => matches!(standing.code, USING | ASKED_BACK),
         }
 }
 
-/// A message of ours was accepted for sending.
-pub fn accepted(list: &mut [u8], kind: u32, entry: &Entry) {
-    match (kind, entry.code) {
-        (kinds::MAPPING, _) => _ = entry.set(list, GIVEN),
-        (kinds::WITHDRAW, _) => _ = entry.set(list, WITHDRAWING),
-        (_, ASKED_BACK) => entry.free(list),
-        _ => _ = entry.set(list, RELEASING),
+/// A message of ours was accepted for sending about a label that has a word.
+pub fn accepted(list: &mut [u8], kind: u32, standing: &Standing) {
+    let code = match (kind, standing.code) {
+        (kinds::MAPPING, _) => GIVEN,
+        (kinds::WITHDRAW, _) => WITHDRAWING,
+        (_, ASKED_BACK) => FREE,
+        _ => RELEASING,
+    };
+    standing.recode(list, code);
+}
+
+/// A Mapping of ours was accepted for a label that has no word: it takes the one at a place.
+pub fn given(list: &mut [u8], standing: &Standing, place: usize) {
+    standing.put(list, place, GIVEN);
+}
+
+/// The code that a Mapping makes of a listed label's.
+fn mapped(code: u32, protected: bool) -> u32 {
+    match code {
+        ASKED_BACK | UNPROTECTED => code,
+        _ if protected => USING,
+        _ => UNPROTECTED,
     }
 }
 
-/// A Mapping came in: false where it needs a word and none is free.
-pub fn mapping_received(list: &mut [u8], entry: &Entry, protected: bool) -> bool {
-    match entry.code {
-        _ if !is_listed(entry.label) => true,
-        ASKED_BACK | UNPROTECTED => true,
-        _ => entry.set(list, if protected { USING } else { UNPROTECTED }),
+/// A Mapping of a label that keeps its word came in.
+pub fn mapping_received(list: &mut [u8], standing: &Standing, protected: bool) {
+    standing.recode(list, mapped(standing.code, protected));
+}
+
+/// A Mapping came in of a label that takes the word at a place, and leaves the one that it has.
+pub fn mapping_taken(list: &mut [u8], standing: &Standing, place: usize, protected: bool) {
+    standing.put(list, place, mapped(standing.code, protected));
+}
+
+/// The code that a Withdraw or a Release makes of a label's, on the side that it acts on.
+fn undone(kind: u32, code: u32) -> u32 {
+    match (kind, code) {
+        (kinds::WITHDRAW, USING) => ASKED_BACK,
+        (kinds::WITHDRAW, UNPROTECTED) => FREE,
+        (kinds::RELEASE, GIVEN | ACKED) => FREE,
+        (kinds::RELEASE, WITHDRAWING) => RELEASED,
+        _ => code,
     }
 }
 
-/// A Withdraw of a label came in.
-pub fn withdraw_received(list: &mut [u8], entry: &Entry) {
-    match entry.code {
-        USING => _ = entry.set(list, ASKED_BACK),
-        UNPROTECTED => entry.free(list),
-        _ => {}
-    }
+/// A Withdraw or a Release of a label came in.
+pub fn undo(list: &mut [u8], kind: u32, standing: &Standing) {
+    standing.recode(list, undone(kind, standing.code));
 }
 
-/// A Withdraw of every label came in.
-pub fn withdraw_all_received(list: &mut [u8]) {
-    for bytes in list.chunks_exact_mut(4) {
+/// A Withdraw or a Release came in of those labels that are reached, which is told for each word.
+pub fn undo_each(list: &mut [u8], kind: u32, reached: impl Iterator<Item = bool>) {
+    for (bytes, _) in list.chunks_exact_mut(4).zip(reached).filter(|(_, reached)| *reached) {
         let word = be32(bytes, 0);
-        match word >> CODE_SHIFT {
-            USING => put32(bytes, 0, compose(word & LABEL_MASK, ASKED_BACK)),
-            UNPROTECTED => bytes.fill(0),
-            _ => {}
-        }
-    }
-}
-
-/// A Release of a label came in: one that is withdrawing waits for the ACK.
-pub fn release_received(list: &mut [u8], entry: &Entry) {
-    match entry.code {
-        GIVEN | ACKED => entry.free(list),
-        WITHDRAWING => _ = entry.set(list, RELEASED),
-        _ => {}
-    }
-}
-
-/// A Release of every label came in.
-pub fn release_all_received(list: &mut [u8]) {
-    for bytes in list.chunks_exact_mut(4) {
-        let word = be32(bytes, 0);
-        match word >> CODE_SHIFT {
-            GIVEN | ACKED => bytes.fill(0),
-            WITHDRAWING => put32(bytes, 0, compose(word & LABEL_MASK, RELEASED)),
-            _ => {}
-        }
+        put32(bytes, 0, compose(word & LABEL_MASK, undone(kind, word >> CODE_SHIFT)));
     }
 }

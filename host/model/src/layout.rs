@@ -14,7 +14,7 @@ pub mod at {
     /// Version 1 has its timeout here, two bytes; version 2 has zeros.
     pub const SECONDS: usize = 20;
     pub const KEPT: usize = 22;
-    pub const MARKS: usize = cabinet::marks::AT;
+    pub const MARKS: usize = 23;
     pub const KEEPALIVE_TIME: usize = 24;
     pub const MAX_PDU_LENGTH: usize = 26;
     /// From here on the versions differ.

@@ -9,6 +9,7 @@ mod check;
 mod convert;
 mod draft;
 mod image;
+mod index;
 mod labels;
 mod layout;
 mod message;
@@ -23,8 +24,8 @@ mod session;
 mod write;
 
 use cabinet::{
-    Cabinet, Converted, Distance, Extended, Message, Next, Opening, Outcome, Part, Pdu, Request, Session, Summary,
-    Words,
+    Cabinet, Converted, Distance, Extended, Message, Next, Opening, Outcome, Part, Pdu, Prefix, Request, Session,
+    Summary, Words,
 };
 
 /// True where the model was compiled with no vector instructions.
@@ -113,6 +114,10 @@ impl Cabinet for Model {
 
     fn request_at(&self, image: &[u8], place: u32) -> Request {
         reading::request_at(image, place)
+    }
+
+    fn prefix_at(&self, image: &[u8], place: u32) -> Prefix {
+        reading::prefix_at(image, place)
     }
 
     fn summarize(&self, image: &[u8]) -> Summary {

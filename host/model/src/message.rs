@@ -182,6 +182,11 @@ pub fn may_be_queued(message: &Message) -> bool {
         && (!kind_names_label(message.kind) || message.has & has::LABEL != 0)
 }
 
+/// The value of the FEC TLV; empty where there is none.
+pub fn fec<'a>(message: &Message, msg: &'a [u8]) -> &'a [u8] {
+    &msg[message.fec_start as usize..message.fec_end as usize]
+}
+
 /// The message ID of the Request that a received message answers: a Mapping names it, or a Notification in its Status.
 pub fn answered(message: &Message) -> Option<u32> {
     let (bit, id) = match message.message_type {

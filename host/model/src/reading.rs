@@ -1,13 +1,14 @@
-//! What an image holds, for those who only look: its numbers, its label words, its open Requests, its held messages.
+//! What an image holds, for those who only look: its numbers, its label words with their prefixes, its open Requests,
+//! its held messages.
 
 use crate::image::{self, Refusal};
-use crate::labels;
 use crate::layout::at;
-use cabinet::{Part, Request, Summary, Words, BLOCK_SIZE, PLACES};
+use crate::{index, labels};
+use cabinet::{Part, Prefix, Request, Summary, Words, BLOCK_SIZE, PLACES};
 
 /// The bytes of the label list of an image that passes the checks.
 fn list_of(image: &[u8]) -> &[u8] {
-    image::list(image::slot(image, 0))
+    image::list(image::block(image, 0))
 }
 
 /// The label word at a place of an image that passes the checks; none where there is no such place.
@@ -21,6 +22,14 @@ pub fn request_at(image: &[u8], place: u32) -> Request {
     match word_at(image, place) {
         Some(labels::REQUEST) => Request { open: 1, id: labels::word(image::ids(image), place as usize) },
         _ => Request { open: 0, id: 0 },
+    }
+}
+
+/// The prefix of the label that the word at a place lists.
+pub fn prefix_at(image: &[u8], place: u32) -> Prefix {
+    match word_at(image, place) {
+        Some(word) if labels::lists_label(word) => index::shown(index::entry_at(image, place as usize)),
+        _ => Prefix::default(),
     }
 }
 
@@ -71,7 +80,7 @@ pub fn held(image: &[u8], place: u32) -> Part {
         return Part { answer: 8, start: 0, end: 0 };
     }
     let block = head.block_of(place as usize);
-    let message = image::message_place(image::slot(image, block));
+    let message = image::message_place(image::block(image, block));
     let at = |byte: usize| (block * BLOCK_SIZE + byte) as u32;
     Part { answer: 0, start: at(message.start), end: at(message.end) }
 }

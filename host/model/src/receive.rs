@@ -2,10 +2,10 @@
 
 use crate::draft::Draft;
 use crate::image::{self, Head, Refusal};
-use crate::labels::{self, Entry};
+use crate::labels::{self, Standing};
 use crate::message::{self, kinds, types};
 use crate::session::{apply_ack, break_off, enter, release_state, up};
-use crate::{number, requests};
+use crate::{index, number, requests};
 use cabinet::{has, marks, phase, Message, Outcome, Session};
 
 pub fn receive(image: &mut [u8], session: Session, msg: &[u8]) -> Result<Outcome, Refusal> {
@@ -22,10 +22,11 @@ pub fn receive(image: &mut [u8], session: Session, msg: &[u8]) -> Result<Outcome
     let mut draft = Draft::of(image);
     let resumed = session.is_resumed();
     Ok(match accept(&mut draft, image, &head, resumed, &read, msg) {
-        Ok(Accepted { released, left_out }) => {
+        Ok(Accepted { released, left_out, taken }) => {
             let sent = session.value.saturating_sub(released);
+            let further = taken.map_or(0, |Taken { place, entry }| image::write_entry(image, place, entry));
             let block0 = draft.store(image);
-            Outcome { session: up(sent, resumed), block0, left_out, ..Outcome::default() }
+            Outcome { session: up(sent, resumed), block0, further, left_out, ..Outcome::default() }
         }
         Err(answer) if answer < 30 => break_off(image, head.kept, answer),
         Err(answer) => release_state(image, answer, phase::IDLE),
@@ -43,30 +44,46 @@ fn receive_plain(image: &mut [u8], read: &Message) -> Outcome {
 
 /// The labels that a received message is about.
 enum Target {
-    Named(Entry),
+    /// The label of a Mapping, and the entry of its FEC.
+    Mapped(Standing, u64),
+    /// The label of a Withdraw or a Release.
+    Named(Standing),
     All,
+    /// Those of a prefix, by its entry.
+    OfPrefix(u64),
     None,
 }
 
 impl Target {
     /// A named label is looked up on the side that the message acts on.
-    fn of(read: &Message, msg: &[u8], list: &[u8]) -> Self {
-        let names = message::kind_names_label(read.kind);
-        let fec = &msg[read.fec_start as usize..read.fec_end as usize];
-        if names && read.has & has::LABEL != 0 {
-            Target::Named(Entry::find(list, read.label, labels::side_receiving(read.kind)))
-        } else if names && fec == [1] {
-            Target::All
-        } else {
-            Target::None
+    fn of(read: &Message, msg: &[u8], old: &[u8], list: &[u8]) -> Self {
+        if !message::kind_names_label(read.kind) {
+            return Target::None;
+        }
+        let fec = message::fec(read, msg);
+        let standing = || Standing::find(old, list, read.label, labels::side_receiving(read.kind));
+        match index::entry_of(fec) {
+            entry if read.kind == kinds::MAPPING => Target::Mapped(standing(), entry),
+            _ if read.has & has::LABEL != 0 => Target::Named(standing()),
+            _ if fec == [1] => Target::All,
+            index::OTHER => Target::None,
+            entry => Target::OfPrefix(entry),
         }
     }
 }
 
-/// Of a message that was accepted: how many of ours it released, and how many the peer left out before it.
+/// Of a message that was accepted: how many of ours it released, how many the peer left out before it, and the word
+/// that it took.
 struct Accepted {
     released: u32,
     left_out: u32,
+    taken: Option<Taken>,
+}
+
+/// A word that a Mapping took, and the entry of its FEC.
+struct Taken {
+    place: usize,
+    entry: u64,
 }
 
 /// Applies ACK and message to the draft; or gives the answer that refuses it.
@@ -86,9 +103,10 @@ fn accept(
     if read.has & has::FT_ACK != 0 {
         released = apply_ack(draft, image, head, read.ack).ok_or(34u32)?;
     }
-    let target = Target::of(read, msg, draft.list());
+    let old = image::list(image::block(image, 0));
+    let target = Target::of(read, msg, old, draft.list());
     let protected = number.is_some();
-    if !protected && needs_protection(draft.list(), read.kind, &target) {
+    if !protected && needs_protection(draft.list(), image, read.kind, &target) {
         return Err(33);
     }
     if protected && forbids_protection(read.kind, &target) {
@@ -97,11 +115,8 @@ fn accept(
     let left_out = number.map_or(Ok(0), |number| secure(draft, head.secured, number, resumed))?;
     draft.mark_resources(read.kind, marks::STOPPED);
     let ended = end_request(draft.list_mut(), image, read);
-    if take_labels(draft.list_mut(), read.kind, target, ended, protected) {
-        Ok(Accepted { released, left_out })
-    } else {
-        Err(21)
-    }
+    let taken = take_labels(draft.list_mut(), image, read.kind, target, ended, protected)?;
+    Ok(Accepted { released, left_out, taken })
 }
 
 /// Moves the secured number to one that may come next; how many were left out before it, or 20.
@@ -122,14 +137,15 @@ fn end_request(list: &mut [u8], image: &[u8], read: &Message) -> Option<usize> {
 }
 
 /// Answer 33: the message touches something that is protected.
-fn needs_protection(list: &[u8], kind: u32, target: &Target) -> bool {
+fn needs_protection(list: &[u8], image: &[u8], kind: u32, target: &Target) -> bool {
     if matches!(kind, kinds::ADDRESS | kinds::ADDRESS_WITHDRAW | kinds::RESOURCES_AVAILABLE) {
         return true;
     }
     let side = labels::side_receiving(kind);
     match target {
-        Target::Named(entry) => labels::is_protected(entry.code, side),
+        Target::Mapped(standing, _) | Target::Named(standing) => labels::is_protected(standing.code, side),
         Target::All => labels::any_protected(list, side),
+        Target::OfPrefix(entry) => labels::any_protected_beside(list, index::entries(image), *entry, side),
         Target::None => false,
     }
 }
@@ -137,23 +153,50 @@ fn needs_protection(list: &[u8], kind: u32, target: &Target) -> bool {
 /// Answer 32: a Mapping or Withdraw names a label that is used without protection.
 fn forbids_protection(kind: u32, target: &Target) -> bool {
     match target {
-        Target::Named(entry) => kind != kinds::RELEASE && entry.code == labels::UNPROTECTED,
+        Target::Mapped(standing, _) | Target::Named(standing) => {
+            kind != kinds::RELEASE && standing.code == labels::UNPROTECTED
+        }
         _ => false,
     }
 }
 
-/// The label list after the message; false where a Mapping needs a word and none is free. A Mapping that has ended a
-/// Request takes that one's word.
-fn take_labels(list: &mut [u8], kind: u32, target: Target, ended: Option<usize>, protected: bool) -> bool {
-    match (kind, target) {
-        (kinds::MAPPING, Target::Named(entry)) => {
-            return labels::mapping_received(list, &entry.or_in(ended), protected)
-        }
-        (kinds::WITHDRAW, Target::Named(entry)) => labels::withdraw_received(list, &entry),
-        (kinds::WITHDRAW, Target::All) => labels::withdraw_all_received(list),
-        (kinds::RELEASE, Target::Named(entry)) => labels::release_received(list, &entry),
-        (kinds::RELEASE, Target::All) => labels::release_all_received(list),
-        _ => {}
+/// The label list after the message; the word that a Mapping took, or 21.
+fn take_labels(
+    list: &mut [u8],
+    image: &[u8],
+    kind: u32,
+    target: Target,
+    ended: Option<usize>,
+    protected: bool,
+) -> Result<Option<Taken>, u32> {
+    match target {
+        Target::Mapped(standing, entry) => return take_mapping(list, image, &standing, entry, ended, protected),
+        Target::Named(standing) => labels::undo(list, kind, &standing),
+        Target::All => labels::undo_each(list, kind, core::iter::repeat(true)),
+        Target::OfPrefix(entry) => labels::undo_each(list, kind, index::entries(image).map(|beside| beside == entry)),
+        Target::None => {}
     }
-    true
+    Ok(None)
+}
+
+/// A Mapping of a label: one without a word, or with another entry than the Mapping's, takes the word of the Request
+/// that has ended, or else a free one; 21 where there is none.
+fn take_mapping(
+    list: &mut [u8],
+    image: &[u8],
+    standing: &Standing,
+    entry: u64,
+    ended: Option<usize>,
+    protected: bool,
+) -> Result<Option<Taken>, u32> {
+    if !labels::is_listed(standing.label) {
+        return Ok(None);
+    }
+    if standing.place.is_some_and(|place| index::entry_at(image, place) == entry) {
+        labels::mapping_received(list, standing, protected);
+        return Ok(None);
+    }
+    let place = ended.or(standing.room).ok_or(21u32)?;
+    labels::mapping_taken(list, standing, place, protected);
+    Ok(Some(Taken { place, entry }))
 }

@@ -16,7 +16,7 @@ pub fn send_next(image: &mut [u8], session: Session, ack: bool, out: &mut [u8]) 
     }
     let left_out = left_out(image, &head, sent);
     let place = sent + left_out;
-    let msg = image::slot_message(image::slot(image, head.block_of(place as usize)));
+    let msg = image::slot_message(image::block(image, head.block_of(place as usize)));
     let length = msg.len() + write::FT_TLV * if ack { 2 } else { 1 };
     let out = out.get_mut(..length).ok_or(Refusal::of(9))?;
     let number = number::advance(head.released, place + 1);
@@ -34,7 +34,7 @@ pub fn send_next(image: &mut [u8], session: Session, ack: bool, out: &mut [u8]) 
 
 /// How many of those with a number are left out from the count sent on, one after another.
 fn left_out(image: &[u8], head: &Head, sent: u32) -> u32 {
-    let next = image::slot(image, head.block_of(sent as usize));
+    let next = image::block(image, head.block_of(sent as usize));
     if sent == head.numbered || image::slot_kind(next) != kinds::REQUEST {
         return 0;
     }
@@ -42,12 +42,13 @@ fn left_out(image: &[u8], head: &Head, sent: u32) -> u32 {
     ahead.trailing_ones().min(head.numbered - sent)
 }
 
-/// The places, from one on, of the Requests that an Abort behind them undoes, a bit each: the newest is looked at first.
+/// The places, from one on, of the Requests that an Abort behind them undoes, a bit each: the newest is looked at
+/// first.
 fn undone(image: &[u8], head: &Head, from: usize) -> u64 {
     let mut aborted = [0; SLOTS];
     let (mut aborts, mut undone) = (0, 0);
     for place in (from..head.held).rev() {
-        let slot = image::slot(image, head.block_of(place));
+        let slot = image::block(image, head.block_of(place));
         let msg = image::slot_message(slot);
         match image::slot_kind(slot) {
             kinds::ABORT => {

@@ -2,15 +2,17 @@
 
 use crate::draft::{self, Draft};
 use crate::image::{self, Head, Refusal};
-use crate::labels::{self, Entry};
+use crate::labels::{self, Standing};
 use crate::message::{self, kinds, types, SECOND};
 use crate::write::{self, Proposal};
-use crate::{number, requests};
+use crate::{index, number, requests};
 use cabinet::{
-    further, has, marks, phase, Extended, Message, Opening, Outcome, Session, IMAGE_SIZE, IMAGE_SIZE_WITHOUT_REQUESTS,
-    SLOTS,
+    has, marks, phase, Extended, Message, Opening, Outcome, Session, IMAGE_SIZE, IMAGE_SIZE_WITHOUT_INDEX,
+    IMAGE_SIZE_WITHOUT_REQUESTS, SLOTS,
 };
 
+/// The sizes of images of earlier releases, by how many further blocks they have.
+const EARLIER: [usize; 2] = [IMAGE_SIZE_WITHOUT_REQUESTS, IMAGE_SIZE_WITHOUT_INDEX];
 /// Seconds that are proposed where the owner gives none.
 const DEFAULT_PROPOSAL: u16 = 30;
 
@@ -64,7 +66,7 @@ fn is_possible(session: Session, head: &Head) -> bool {
 pub fn break_off(image: &mut [u8], kept: bool, answer: u32) -> Outcome {
     let phase = if kept { phase::FAILED } else { phase::IDLE };
     let mut outcome = Outcome { answer, session: Session::new(phase, 0), ..Outcome::default() };
-    if labels::any_code(image::list(image::slot(image, 0)), labels::UNPROTECTED) {
+    if labels::any_code(image::list(image::block(image, 0)), labels::UNPROTECTED) {
         let mut draft = Draft::of(image);
         labels::free_all(draft.list_mut(), labels::UNPROTECTED);
         outcome.block0 = draft.store(image);
@@ -87,20 +89,16 @@ pub fn apply_ack(draft: &mut Draft, image: &[u8], head: &Head, ack: u32) -> Opti
 
 pub fn format(image: &mut [u8]) -> Outcome {
     match <&mut [u8; IMAGE_SIZE]>::try_from(image) {
-        Ok(image) => {
-            draft::format(image);
-            Outcome { block0: 1, further: further::REQUESTS, ..Outcome::default() }
-        }
+        Ok(image) => Outcome { block0: 1, further: draft::format(image), ..Outcome::default() },
         Err(_) => Refusal::of(12).outcome(Session::default()),
     }
 }
 
 /// Makes the blocks that a stored image of an earlier size lacks; looks at no other byte.
 pub fn extend(image: &mut [u8], stored_len: usize) -> Extended {
-    match <&mut [u8; IMAGE_SIZE]>::try_from(image) {
-        Ok(image) if stored_len == IMAGE_SIZE_WITHOUT_REQUESTS => {
-            Extended { answer: 0, further: image::write_no_ids(image) }
-        }
+    let there = EARLIER.iter().position(|size| *size == stored_len);
+    match (<&mut [u8; IMAGE_SIZE]>::try_from(image), there) {
+        (Ok(image), Some(there)) => Extended { answer: 0, further: image::clear_further(image, there) },
         _ => Extended { answer: 12, further: 0 },
     }
 }
@@ -199,20 +197,16 @@ pub fn submit(image: &mut [u8], session: Session, msg: &[u8]) -> Result<Outcome,
     if !message::may_be_queued(&read) {
         return Err(Refusal::of(5));
     }
-    let change = judge_submission(image, &head, session.phase, &read)?;
+    let change = judge_submission(image, &head, session.phase, &read, msg)?;
     let mut draft = Draft::of(image);
-    match &change {
-        Change::None => {}
-        Change::Label(entry) => labels::accepted(draft.list_mut(), read.kind, entry),
-        Change::Ask(place) => labels::set_word(draft.list_mut(), *place, labels::REQUEST),
-        Change::Abort(place) => labels::set_word(draft.list_mut(), *place, 0),
-    }
+    change.make(draft.list_mut(), read.kind);
     draft.mark_resources(read.kind, marks::STOPPING);
     draft.set_held(head.held + 1);
     let block = head.block_of(head.held);
     image::write_slot(image, block, msg, read.kind, message::slot_label(&read));
     let further = match change {
         Change::Ask(place) => image::write_id(image, place, read.message_id),
+        Change::Give(_, place, entry) => image::write_entry(image, place, entry),
         _ => 0,
     };
     let block0 = draft.store(image);
@@ -222,18 +216,33 @@ pub fn submit(image: &mut [u8], session: Session, msg: &[u8]) -> Result<Outcome,
 /// What a message that is accepted makes of the label words.
 enum Change {
     None,
-    Label(Entry),
+    /// A label with a word gets another code.
+    Label(Standing),
+    /// A label takes the word at a place, with the entry of its FEC beside it.
+    Give(Standing, usize, u64),
     /// The word at a place becomes an open Request.
     Ask(usize),
     /// The open Request at a place ends.
     Abort(usize),
 }
 
+impl Change {
+    fn make(&self, list: &mut [u8], kind: u32) {
+        match self {
+            Change::None => {}
+            Change::Label(standing) => labels::accepted(list, kind, standing),
+            Change::Give(standing, place, _) => labels::given(list, standing, *place),
+            Change::Ask(place) => labels::set_word(list, *place, labels::REQUEST),
+            Change::Abort(place) => labels::set_word(list, *place, 0),
+        }
+    }
+}
+
 /// Answers 6, 14, 15, 13 and 7 of a message that may be queued; what it makes of the label words.
-fn judge_submission(image: &[u8], head: &Head, phase: u32, read: &Message) -> Result<Change, Refusal> {
-    let list = image::list(image::slot(image, 0));
+fn judge_submission(image: &[u8], head: &Head, phase: u32, read: &Message, msg: &[u8]) -> Result<Change, Refusal> {
+    let list = image::list(image::block(image, 0));
     let change = match read.kind {
-        kinds::MAPPING | kinds::WITHDRAW | kinds::RELEASE => Change::Label(judge_label(image, head, read, list)?),
+        kinds::MAPPING | kinds::WITHDRAW | kinds::RELEASE => judge_label(image, head, read, msg, list)?,
         kinds::REQUEST => Change::Ask(judge_request(image, head, phase, read, list)?),
         kinds::ABORT => Change::Abort(requests::find(list, image::ids(image), read.request_id).ok_or(Refusal::of(6))?),
         _ => Change::None,
@@ -244,16 +253,21 @@ fn judge_submission(image: &[u8], head: &Head, phase: u32, read: &Message) -> Re
     Ok(change)
 }
 
-/// Answers 6 and 13 of a message about a label; the label's entry.
-fn judge_label(image: &[u8], head: &Head, read: &Message, list: &[u8]) -> Result<Entry, Refusal> {
-    let entry = Entry::find(list, read.label, labels::side_sending(read.kind));
-    if !labels::may_send(read.kind, &entry) || is_held(image, head, read) {
+/// Answers 6 and 13 of a message about a label. A Mapping of a label that is given has to have its entry.
+fn judge_label(image: &[u8], head: &Head, read: &Message, msg: &[u8], list: &[u8]) -> Result<Change, Refusal> {
+    let standing = Standing::find(list, list, read.label, labels::side_sending(read.kind));
+    if !labels::may_send(read.kind, &standing) || is_held(image, head, read) {
         return Err(Refusal::of(6));
     }
-    if entry.is_without_word() {
-        return Err(Refusal::of(13));
+    if read.kind != kinds::MAPPING {
+        return Ok(Change::Label(standing));
     }
-    Ok(entry)
+    let entry = index::entry_of(message::fec(read, msg));
+    match standing.place {
+        Some(place) if index::entry_at(image, place) == entry => Ok(Change::Label(standing)),
+        Some(_) => Err(Refusal::of(6)),
+        None => standing.room.map(|place| Change::Give(standing, place, entry)).ok_or(Refusal::of(13)),
+    }
 }
 
 /// Answers 6, 14, 15 and 13 of a Request; the place of its word.
@@ -274,7 +288,7 @@ fn judge_request(image: &[u8], head: &Head, phase: u32, read: &Message, list: &[
 fn is_held(image: &[u8], head: &Head, read: &Message) -> bool {
     read.kind != kinds::MAPPING
         && (0..head.held).any(|after| {
-            let slot = image::slot(image, head.block_of(after));
+            let slot = image::block(image, head.block_of(after));
             image::slot_kind(slot) == read.kind && image::slot_label(slot) == read.label
         })
 }

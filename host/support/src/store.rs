@@ -1,6 +1,6 @@
 //! A cabinet's store in a file: whole blocks are written, and only those that a call names.
 
-use cabinet::{further, Outcome, BLOCK_SIZE, IMAGE_SIZE, REQUEST_BLOCK};
+use cabinet::{Outcome, BLOCK_SIZE, IMAGE_SIZE};
 use std::fs::{self, File, OpenOptions};
 use std::io;
 use std::os::unix::fs::FileExt;
@@ -42,12 +42,9 @@ impl Store {
         self.write_block(image, outcome.slot as usize)
     }
 
-    /// Writes the block of the Requests' IDs where a call changed it.
+    /// Writes the further blocks that a call changed, in their order.
     pub fn write_further(&self, image: &[u8], outcome: &Outcome) -> io::Result<()> {
-        if outcome.further & further::REQUESTS == 0 {
-            return Ok(());
-        }
-        self.write_block(image, REQUEST_BLOCK)
+        outcome.further_blocks().try_for_each(|block| self.write_block(image, block))
     }
 
     /// Writes block 0 where a call changed it.

@@ -2,8 +2,8 @@
 
 use crate::guarded::Guarded;
 use cabinet::{
-    flags, further, phase, Cabinet, Converted, Distance, Extended, Message, Next, Opening, Outcome, Part, Pdu, Request,
-    Session, Summary, Words, PLACES, REQUEST_BLOCK,
+    flags, phase, Cabinet, Converted, Distance, Extended, Message, Next, Opening, Outcome, Part, Pdu, Prefix, Request,
+    Session, Summary, Words, FURTHER, PLACES,
 };
 
 /// A call and what its owner gives, but the image.
@@ -29,6 +29,7 @@ pub enum Call {
     BlockCheck { block: Vec<u8> },
     Label { place: u32 },
     RequestAt { place: u32 },
+    PrefixAt { place: u32 },
     Summarize,
     Labels { room: usize },
     Held { place: u32 },
@@ -60,6 +61,7 @@ impl Call {
             Call::BlockCheck { .. } => "block_check",
             Call::Label { .. } => "label",
             Call::RequestAt { .. } => "request_at",
+            Call::PrefixAt { .. } => "prefix_at",
             Call::Summarize => "summarize",
             Call::Labels { .. } => "labels",
             Call::Held { .. } => "held",
@@ -115,6 +117,7 @@ pub enum Returned {
     Number(u32),
     NumberOrRefused(u32),
     Request(Request),
+    Prefix(Prefix),
     Summary(Summary),
     Words(Words),
     Extended(Extended),
@@ -122,7 +125,8 @@ pub enum Returned {
 }
 
 impl Returned {
-    /// The answer; for the calls that return a bare number 0, or 1 where that number says "refused"; 1 for no Request.
+    /// The answer; for the calls that return a bare number 0, or 1 where that number says "refused"; 1 for no Request
+    /// and for no prefix.
     pub fn answer(&self) -> u32 {
         match self {
             Returned::Outcome(outcome) => outcome.answer,
@@ -134,6 +138,7 @@ impl Returned {
             Returned::Number(_) => 0,
             Returned::NumberOrRefused(number) => u32::from(*number == u32::MAX),
             Returned::Request(request) => u32::from(request.open != 1),
+            Returned::Prefix(prefix) => u32::from(prefix.indexed != 1),
             Returned::Summary(summary) => summary.answer,
             Returned::Words(words) => words.answer,
             Returned::Extended(extended) => extended.answer,
@@ -206,6 +211,7 @@ pub fn invoke(cabinet: &dyn Cabinet, call: &Call, lent: Lent) -> Returned {
         Call::BlockCheck { .. } => Returned::NumberOrRefused(cabinet.block_check(input)),
         Call::Label { place } => Returned::NumberOrRefused(cabinet.label(image, place)),
         Call::RequestAt { place } => Returned::Request(cabinet.request_at(image, place)),
+        Call::PrefixAt { place } => Returned::Prefix(cabinet.prefix_at(image, place)),
         Call::Summarize => Returned::Summary(cabinet.summarize(image)),
         Call::Labels { .. } => Returned::Words(cabinet.labels(image, words)),
         Call::Held { place } => Returned::Part(cabinet.held(image, place)),
@@ -243,6 +249,9 @@ pub fn misconduct(before: &[u8], call: &Call, seen: &Observed) -> Option<&'stati
     if !formatted && changed_unnamed(before, seen.image.content(), &outcome, extended) {
         return Some("block0, further or slot does not tell what changed");
     }
+    if names_several(call, &outcome) {
+        return Some("more than one further block is named");
+    }
     told_in_vain(call, &outcome)
 }
 
@@ -258,17 +267,21 @@ fn told_in_vain(call: &Call, outcome: &Outcome) -> Option<&'static str> {
     (!leaves_out && left_out != 0).then_some("messages left out where none can be")
 }
 
+/// Further blocks beside each other: a call names one at most, but for format and an extension.
+fn names_several(call: &Call, outcome: &Outcome) -> bool {
+    !matches!(call, Call::Format | Call::Extend { .. }) && outcome.further_blocks().count() > 1
+}
+
 /// Slots and what an extension makes are named whether or not their bytes were the same.
 fn changed_unnamed(before: &[u8], after: &[u8], outcome: &Outcome, extended: bool) -> bool {
     let blocks = before.chunks(512).zip(after.chunks(512));
     blocks.enumerate().any(|(number, (before, after))| {
         let changed = before != after;
-        let further = outcome.further == further::REQUESTS;
-        match number {
-            0 => changed != (outcome.block0 == 1),
-            REQUEST_BLOCK if extended => changed && !further,
-            REQUEST_BLOCK => changed != further,
-            _ => changed && number as u32 != outcome.slot,
+        let named = outcome.stores().any(|block| block == number);
+        if number == 0 || FURTHER.contains(&number) && !extended {
+            changed != named
+        } else {
+            changed && !named
         }
     })
 }

@@ -1,13 +1,15 @@
-//! Which answer of which call a run reached, which answers each call has, how many messages calls left out, which Inits were
-//! written, and why an image was not moved to another version.
+//! Which answer of which call a run reached, which answers each call has, how many messages calls left out, which Inits
+//! were written, why an image was not moved to another version, and what messages did by their FEC.
 
-use crate::calls::{Call, Returned};
+use crate::by_fec::{self, ByFec};
+use crate::calls::{Call, Observed, Returned};
 use crate::stored::{Stored, Version};
+use cabinet::phase;
 use std::collections::BTreeMap;
 use std::fmt;
 
 /// Every call with every answer it can give. Of the calls that return a bare number 1 stands for "refused", of
-/// request_at for "no Request".
+/// request_at for "no Request", of prefix_at for "no prefix".
 pub const ANSWERS: &[(&str, &[u32])] = &[
     ("format", &[0, 12]),
     ("restore", &[0, 10, 11, 12]),
@@ -29,6 +31,7 @@ pub const ANSWERS: &[(&str, &[u32])] = &[
     ("block_check", &[0, 1]),
     ("label", &[0, 1]),
     ("request_at", &[0, 1]),
+    ("prefix_at", &[0, 1]),
     ("summarize", &[0, 10, 11, 12]),
     ("labels", &[0, 9, 10, 11, 12]),
     ("held", &[0, 8, 10, 11, 12]),
@@ -75,12 +78,19 @@ pub struct Coverage {
     left_out: BTreeMap<(&'static str, u32), u64>,
     inits: BTreeMap<(bool, u32), u64>,
     unmovable: BTreeMap<Unmovable, u64>,
+    by_fec: BTreeMap<ByFec, u64>,
 }
 
 impl Coverage {
-    /// Notes what a call on an image returned.
-    pub fn note(&mut self, image: &[u8], call: &Call, returned: &Returned) {
+    /// Notes what was seen of a call on an image.
+    pub fn note(&mut self, image: &[u8], call: &Call, seen: &Observed) {
+        let returned = &seen.returned;
         let (name, answer) = (call.name(), returned.answer());
+        if let Call::Receive { session, msg } = call {
+            let judged = session.phase == phase::UP_FT && matches!(answer, 0 | 21 | 33);
+            let did = judged.then(|| by_fec::of(image, msg, seen)).flatten();
+            did.into_iter().for_each(|did| *self.by_fec.entry(did).or_default() += 1);
+        }
         *self.answers.entry((name, answer)).or_default() += 1;
         match (call, returned) {
             (_, Returned::Converted(_)) if answer == 16 => {
@@ -111,6 +121,11 @@ impl Coverage {
     /// How often an image was not moved for this reason.
     pub fn unmovable(&self, why: Unmovable) -> u64 {
         self.unmovable.get(&why).copied().unwrap_or(0)
+    }
+
+    /// How often a received message did this by its FEC.
+    pub fn by_fec(&self, did: ByFec) -> u64 {
+        self.by_fec.get(&did).copied().unwrap_or(0)
     }
 
     pub fn total(&self) -> u64 {
@@ -151,6 +166,9 @@ impl fmt::Display for Coverage {
         writeln!(f, "{:>18}  {fresh}  {resuming}  published {published}  {published_resuming}", "Inits by length")?;
         let [last_word, part, long] = UNMOVABLE.map(|why| self.unmovable(why));
         writeln!(f, "{:>18}  last word {last_word}, part of a second {part}, too long {long}", "not moved")?;
+        for (did, count) in &self.by_fec {
+            writeln!(f, "{:>18}  {did:?}: {count}", "by FEC")?;
+        }
         write!(f, "{:>18}  {} calls", "in all", self.total())
     }
 }

@@ -1,15 +1,20 @@
-//! Crafted images of both versions that every call must refuse, each with the answer and the block that is due. Images of
-//! version 1 are given to the converter alone: every other call refuses them all.
+//! Crafted images of both versions that every call must refuse, each with the answer and the block that is due. Images
+//! of version 1 are given to the converter alone: every other call refuses them all.
 
 use crate::calls::{Call, Returned};
 use crate::differential::Run;
+use crate::entries::entry;
 use crate::generate::damage::{
-    apply, FieldFault, ABORT_FAULTS, ADDRESS_FAULTS, IDLE_FAULTS, ID_FAULTS, KEPT_FAULTS, MAPPING_FAULTS,
+    apply, FieldFault, ABORT_FAULTS, ADDRESS_FAULTS, ENTRY_FAULTS, IDLE_FAULTS, ID_FAULTS, KEPT_FAULTS, MAPPING_FAULTS,
     NO_RESOURCES_FAULTS, SECONDS_FAULTS, ZERO_FAULTS,
 };
-use crate::stored::{check, seal, word, Queued, Stored, Version, ID_PLACES, NO_LABEL, REQUEST, STOPPED, STOPPING};
+use crate::stored::{
+    check, seal, word, Queued, Stored, Version, ENTRY_PLACES, ID_PLACES, NO_LABEL, REQUEST, STOPPED, STOPPING,
+};
 use crate::wire::{prefix, types, Message, NO_RESOURCES};
-use cabinet::{phase, Converted, Opening, Part, Session, Summary, Words, IMAGE_SIZE, PLACES, REQUEST_BLOCK};
+use cabinet::{
+    phase, Converted, Opening, Part, Session, Summary, Words, FURTHER, IMAGE_SIZE, INDEX_BLOCKS, PLACES, REQUEST_BLOCK,
+};
 
 /// An image and how it is refused.
 pub struct Crafted {
@@ -58,8 +63,8 @@ pub fn two_held() -> Stored {
     stored
 }
 
-/// A kept state with four open Requests, that holds an Abort and then 'No label resources'; IDs of Requests that are over
-/// are beside them, equal to an open one's, also at the place that has no word.
+/// A kept state with four open Requests, that holds an Abort and then 'No label resources'; IDs of Requests that are
+/// over are beside them, equal to an open one's, also at the place that has no word.
 pub fn asking() -> Stored {
     let abort = Message::new(types::ABORT, 8).fec(&prefix(1)).request_id(4).bytes();
     let no_resources = Message::new(types::NOTIFICATION, 9).status_of(NO_RESOURCES, 77).bytes();
@@ -77,12 +82,27 @@ pub fn asking() -> Stored {
     stored
 }
 
+/// A kept state whose labels have every code and prefixes of every length, three of them the same; beside free words,
+/// an open Request and the place that has no word there is what is no entry.
+pub fn indexed() -> Stored {
+    let codes = [1, 2, 3, 4, 5, 6, 8, 9];
+    let mut stored = Stored { kept: true, entries: [u64::MAX; ENTRY_PLACES], ..Stored::idle() };
+    for place in (0..PLACES).filter(|place| *place < 40 || *place > 57) {
+        stored.labels[place] = word(100 + place as u32, codes[place % 8]);
+        stored.entries[place] = entry((place % 33) as u8, 0x0A00_0000 + place as u32 * 0x0001_0101);
+    }
+    (stored.entries[0], stored.entries[3], stored.entries[118]) = (entry(8, 0), entry(8, 0), entry(8, 0));
+    (stored.entries[1], stored.entries[60]) = (0, 0);
+    (stored.labels[45], stored.ids[45]) = (REQUEST, 5);
+    stored
+}
+
 /// Sound states that are near to being refused.
 pub fn sound() -> Vec<Stored> {
     let marked = [0, STOPPED, STOPPING, STOPPED | STOPPING].map(|marks| Stored { marks, ..two_held() });
-    let left_over = Stored { ids: [7; ID_PLACES], ..Stored::idle() };
+    let left_over = Stored { ids: [7; ID_PLACES], entries: [u64::MAX; ENTRY_PLACES], ..Stored::idle() };
     let for_long = Stored { timeout: u32::MAX, ..two_held() };
-    marked.into_iter().chain([asking(), Stored::idle(), left_over, for_long]).collect()
+    marked.into_iter().chain([asking(), indexed(), Stored::idle(), left_over, for_long]).collect()
 }
 
 /// Every call that examines an image of a version, with inputs that a sound image would take.
@@ -112,6 +132,7 @@ fn calls_on_version_2(kept: bool) -> Vec<Call> {
         Call::Receive { session: up, msg: address },
         Call::Label { place: 0 },
         Call::RequestAt { place: 0 },
+        Call::PrefixAt { place: 0 },
         Call::Summarize,
         Call::Labels { room: PLACES },
         Call::Held { place: 0 },
@@ -131,7 +152,8 @@ fn of(version: Version, stored: Stored) -> Stored {
 
 /// The crafted images of a version.
 fn images_of(version: Version) -> Vec<Crafted> {
-    let [stored, asking, idle] = [two_held(), asking(), Stored::idle()].map(|stored| of(version, stored));
+    let states = [two_held(), asking(), indexed(), Stored::idle()];
+    let [stored, asking, indexed, idle] = states.map(|stored| of(version, stored));
     let mut all = Vec::new();
     all.extend(with_field_faults(&stored, 0, KEPT_FAULTS));
     all.extend(with_field_faults(&idle, 0, IDLE_FAULTS));
@@ -143,7 +165,10 @@ fn images_of(version: Version) -> Vec<Crafted> {
     all.extend(with_field_faults(&asking, asking.block_of(0), ABORT_FAULTS));
     all.extend(with_field_faults(&asking, asking.block_of(1), NO_RESOURCES_FAULTS));
     all.extend(with_field_faults(&asking, REQUEST_BLOCK, ID_FAULTS));
-    all.extend([&asking, &idle].into_iter().flat_map(|stored| with_field_faults(stored, REQUEST_BLOCK, ZERO_FAULTS)));
+    all.extend(INDEX_BLOCKS.into_iter().flat_map(|block| with_field_faults(&indexed, block, ENTRY_FAULTS)));
+    for block in FURTHER {
+        all.extend([&asking, &indexed, &idle].into_iter().flat_map(|s| with_field_faults(s, block, ZERO_FAULTS)));
+    }
     all.extend(with_other_marks(&stored));
     all.extend(with_other_marks(&idle));
     all.extend(with_the_other_zero(&stored));
@@ -193,17 +218,22 @@ fn with_the_other_zero(stored: &Stored) -> Vec<Crafted> {
     [508, 510].into_iter().filter_map(&mut with_zero_at).collect()
 }
 
-/// Bad IDs after a bad slot, two bad slots, a bad field before a bad block, a bad block 0 before all: the first in order
-/// is named.
+/// Bad further blocks one before the other and after a bad slot, two bad slots, a bad field before a bad block, a bad
+/// block 0 before all: the first in order is named.
 fn with_several_faults(stored: &Stored) -> Vec<Crafted> {
     let (first, second) = (stored.block_of(0), stored.block_of(1));
     let crafted =
         |why: &str, image: &[u8], answer, block| refused(stored, why.to_string(), image.to_vec(), (answer, block));
     let mut image = stored.image(0xD1);
-    image[REQUEST_BLOCK * 512 + 507] = 1;
-    let mut all = vec![crafted("bad IDs and bad zeros", &image, 10, REQUEST_BLOCK)];
+    let mut all = Vec::new();
+    for block in FURTHER.into_iter().rev() {
+        image[block * 512 + 507] = 1;
+        all.push(crafted("a further block before those behind it", &image, 10, block));
+        seal(&mut image, block);
+        all.push(crafted("its zeros before the blocks behind it", &image, 11, block));
+    }
     image[second * 512] ^= 1;
-    all.push(crafted("a bad slot before bad IDs", &image, 10, second));
+    all.push(crafted("a bad slot before the further blocks", &image, 10, second));
     image[first * 512 + 2] = 9;
     all.push(crafted("two bad slots", &image, 10, first));
     seal(&mut image, first);
@@ -218,7 +248,7 @@ fn with_several_faults(stored: &Stored) -> Vec<Crafted> {
 }
 
 fn of_wrong_sizes(stored: &Stored) -> Vec<Crafted> {
-    let sizes = [0, 1, 511, 512, 33_280, 33_791, 33_793, 34_816, 67_584];
+    let sizes = [0, 1, 511, 512, 33_280, 33_792, 34_304, 34_815, 34_817, 35_328, 69_632];
     let crafted = |size: usize| {
         let mut image = stored.image(0xD1);
         image.resize(size, 0);

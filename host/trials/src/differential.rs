@@ -105,13 +105,14 @@ impl<'a> Run<'a> {
     pub fn call(&mut self, image: &[u8], call: &Call) -> Result<Observed, Box<Difference>> {
         let alignment = self.random.below(8);
         let seen = compare(self.reference, self.tested, image, call, alignment)?;
-        self.coverage.note(image, call, &seen.returned);
+        self.coverage.note(image, call, &seen);
         Ok(seen)
     }
 }
 
 /// True where it is not known that the image passes the checks: a call refused it, or does not tell.
 fn may_be_unsound(call: &Call, seen: &Observed) -> bool {
-    let tells_nothing = matches!(call, Call::Label { .. } | Call::RequestAt { .. } | Call::Extend { .. });
+    let tells_nothing =
+        matches!(call, Call::Label { .. } | Call::RequestAt { .. } | Call::PrefixAt { .. } | Call::Extend { .. });
     tells_nothing || (10..=12).contains(&seen.returned.answer())
 }

@@ -2,11 +2,13 @@
 
 pub use support::{store, wire};
 
+pub mod by_fec;
 pub mod calls;
 pub mod coverage;
 pub mod crafted;
 pub mod crash;
 pub mod differential;
+pub mod entries;
 pub mod generate;
 pub mod guarded;
 pub mod inits;

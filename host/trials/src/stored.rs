@@ -1,10 +1,11 @@
 //! Stored images as the trials write and read them: plain records laid out and read back by the paper's words.
 
 pub use cabinet::marks::{STOPPED, STOPPING};
-pub use cabinet::{ID_PLACES, PLACES, SLOTS};
+pub use cabinet::{ENTRY_PLACES, ID_PLACES, PLACES, SLOTS};
 
+use crate::entries::NO_ENTRY;
 use crate::wire::{message_id, request_id};
-use cabinet::{BLOCK_SIZE, IMAGE_SIZE, REQUEST_BLOCK};
+use cabinet::{BLOCK_SIZE, ENTRIES_IN_BLOCK, IMAGE_SIZE, INDEX_BLOCKS, REQUEST_BLOCK};
 use std::ops::Range;
 
 pub const NO_LABEL: u32 = u32::MAX;
@@ -87,6 +88,8 @@ pub struct Stored {
     pub labels: Vec<u32>,
     /// The message IDs beside the words; one counts only where its word is an open Request's.
     pub ids: [u32; ID_PLACES],
+    /// The entries of the index beside the words; one counts only where its word lists a label.
+    pub entries: [u64; ENTRY_PLACES],
     pub queue: Vec<Queued>,
 }
 
@@ -106,12 +109,13 @@ impl Stored {
             max_pdu_length: 0,
             labels: vec![0; PLACES],
             ids: [0; ID_PLACES],
+            entries: [NO_ENTRY; ENTRY_PLACES],
             queue: Vec::new(),
         }
     }
 
-    /// The same state in another version, as 02's fifth ticket moves it; none where that has no room for it: a word that it
-    /// lacks is in use, or the timeout is none of its own.
+    /// The same state in another version, as 02's fifth ticket moves it; none where that has no room for it: a word
+    /// that it lacks is in use, or the timeout is none of its own.
     pub fn moved(&self, to: Version) -> Option<Self> {
         let milliseconds = u64::from(self.timeout) * u64::from(self.version.unit());
         let (timeout, rest) = (milliseconds / u64::from(to.unit()), milliseconds % u64::from(to.unit()));
@@ -144,10 +148,11 @@ impl Stored {
         for (after, queued) in self.queue.iter().enumerate() {
             write_slot(&mut image, self.block_of(after), queued);
         }
-        let block = &mut image[REQUEST_BLOCK * BLOCK_SIZE..];
-        block.fill(0);
-        put_words(block, &self.ids);
-        seal(&mut image, REQUEST_BLOCK);
+        write_words(&mut image, REQUEST_BLOCK, &self.ids);
+        for (block, entries) in INDEX_BLOCKS.into_iter().zip(self.entries.chunks(ENTRIES_IN_BLOCK)) {
+            let halves = entries.iter().flat_map(|entry| [(entry >> 32) as u32, *entry as u32]);
+            write_words(&mut image, block, &halves.collect::<Vec<u32>>());
+        }
         seal(&mut image, 0);
         image
     }
@@ -158,8 +163,19 @@ impl Stored {
         beside.filter(|(word, _)| **word == REQUEST).map(|(_, id)| id).collect()
     }
 
-    /// The state that the record stands for: IDs that do not count are 0, also the one that has no word.
+    /// The labels with their codes and the entries that count beside them.
+    pub fn listed(&self) -> impl Iterator<Item = (u32, u32, u64)> + '_ {
+        let beside = self.labels.iter().zip(self.entries).filter(|(word, _)| word_lists_label(**word));
+        beside.map(|(word, entry)| (word & 0xF_FFFF, word >> 20, entry))
+    }
+
+    /// The state that the record stands for: IDs and entries that do not count are 0, also those that have no word.
     pub fn state(mut self) -> Self {
+        for (place, entry) in self.entries.iter_mut().enumerate() {
+            if !self.labels.get(place).is_some_and(|word| word_lists_label(*word)) {
+                *entry = NO_ENTRY;
+            }
+        }
         for (place, id) in self.ids.iter_mut().enumerate() {
             if self.labels.get(place) != Some(&REQUEST) {
                 *id = 0;
@@ -215,6 +231,7 @@ impl Stored {
             max_pdu_length: u16_at(image, 26),
             labels: (0..version.places()).map(word).collect(),
             ids: std::array::from_fn(|place| u32_at(image, REQUEST_BLOCK * BLOCK_SIZE + 4 * place)),
+            entries: std::array::from_fn(|place| u64_at(image, entry_at(place))),
             queue: Vec::new(),
         };
         let held = usize::from(u16_at(image, 18));
@@ -229,6 +246,23 @@ pub fn u16_at(bytes: &[u8], at: usize) -> u16 {
 
 pub fn u32_at(bytes: &[u8], at: usize) -> u32 {
     u32::from_be_bytes([bytes[at], bytes[at + 1], bytes[at + 2], bytes[at + 3]])
+}
+
+pub fn u64_at(bytes: &[u8], at: usize) -> u64 {
+    u64::from(u32_at(bytes, at)) << 32 | u64::from(u32_at(bytes, at + 4))
+}
+
+/// Where the entry of a place stands in an image.
+pub fn entry_at(place: usize) -> usize {
+    INDEX_BLOCKS[place / ENTRIES_IN_BLOCK] * BLOCK_SIZE + 8 * (place % ENTRIES_IN_BLOCK)
+}
+
+/// A block of words, zeros behind them, and its check.
+fn write_words(image: &mut [u8], block: usize, words: &[u32]) {
+    let bytes = &mut image[block * BLOCK_SIZE..][..BLOCK_SIZE];
+    bytes.fill(0);
+    put_words(bytes, words);
+    seal(image, block);
 }
 
 fn put_words(bytes: &mut [u8], words: &[u32]) {
@@ -274,6 +308,11 @@ pub fn seal(image: &mut [u8], block: usize) {
 /// A label word.
 pub fn word(label: u32, code: u32) -> u32 {
     label + 1_048_576 * code
+}
+
+/// True where a word lists a label: neither a free word nor an open Request's does.
+pub fn word_lists_label(word: u32) -> bool {
+    matches!(word >> 20, 1..=6 | 8 | 9)
 }
 
 /// The number that stands so many steps after another on the circle 1 to 0xFFFFFFFF.

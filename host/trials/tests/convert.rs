@@ -1,12 +1,13 @@
-//! The converter, as 02's fifth ticket has it: every answer, and the same bytes back and forth, on the library and on the model.
+//! The converter, as 02's fifth ticket has it: every answer, and the same bytes back and forth, on the library and on
+//! the model.
 
-use cabinet::{Cabinet, Converted, BLOCK_SIZE, IMAGE_SIZE, REQUEST_BLOCK};
+use cabinet::{Cabinet, Converted, BLOCK_SIZE, FURTHER, IMAGE_SIZE, INDEX_BLOCKS, REQUEST_BLOCK};
 use model::Model;
 use trials::calls::{Call, Observed, Returned};
-use trials::crafted::{asking, two_held};
+use trials::crafted::{asking, indexed, two_held};
 use trials::differential::Run;
 use trials::generate::states;
-use trials::stored::{seal, word, Stored, Version, ID_PLACES, REQUEST};
+use trials::stored::{seal, word, Stored, Version, ENTRY_PLACES, ID_PLACES, REQUEST};
 use trials::under_test::UnderTest;
 use trials::wire::{types, Message};
 
@@ -127,9 +128,12 @@ fn the_order_of_the_answers() {
         let sound = stored.image(0xD1);
         assert_eq!(seen(&mut run, from, &sound, 0).0.answer, 16, "before 9");
         let mut image = sound.clone();
-        image[REQUEST_BLOCK * BLOCK_SIZE + 490] = 1;
-        seal(&mut image, REQUEST_BLOCK);
-        assert_eq!(answer(&mut run, from, &image), (11, REQUEST_BLOCK as u32));
+        for block in FURTHER.into_iter().rev() {
+            image[block * BLOCK_SIZE + 490] = 1;
+            assert_eq!(answer(&mut run, from, &image), (10, block as u32));
+            seal(&mut image, block);
+            assert_eq!(answer(&mut run, from, &image), (11, block as u32));
+        }
         image[stored.block_of(1) * BLOCK_SIZE + 9] ^= 1;
         assert_eq!(answer(&mut run, from, &image), (10, stored.block_of(1) as u32));
         image[22] = 2;
@@ -156,12 +160,13 @@ fn the_output_has_room_for_an_image() {
     }
 }
 
-/// It frees nothing and opens nothing: code 6, open Requests, what they left beside other words, and kept 0 move as they are.
+/// It frees nothing and opens nothing: code 6, open Requests, what they left beside other words, and kept 0 move as
+/// they are.
 #[test]
 fn what_is_moved_is_moved_as_it_is() {
     let mut run = run();
-    let left_over = Stored { ids: [7; ID_PLACES], ..Stored::idle() };
-    for stored in [two_held(), asking(), Stored::idle(), left_over] {
+    let left_over = Stored { ids: [7; ID_PLACES], entries: [u64::MAX; ENTRY_PLACES], ..Stored::idle() };
+    for stored in [two_held(), asking(), indexed(), Stored::idle(), left_over] {
         let there = moved(&mut run, Version::Two, &stored.image(0xD1));
         assert_eq!(Stored::read(&there), stored.moved(Version::One).unwrap());
         assert_eq!(moved(&mut run, Version::One, &there), stored.image(0xD1));
@@ -191,6 +196,22 @@ fn the_last_id_counts_in_version_1_alone() {
         let again = moved(&mut run, Version::Two, &image);
         assert_eq!(moved(&mut run, Version::One, &again), image, "the ID stays");
     }
+}
+
+/// The entry at place 119 too.
+#[test]
+fn the_last_entry_counts_in_version_1_alone() {
+    let mut run = run();
+    let mut stored = indexed().moved(Version::One).unwrap();
+    (stored.labels[119], stored.entries[119]) = (word(700, 1), 0);
+    assert_eq!(answer(&mut run, Version::One, &stored.image(0)), (16, 0));
+    stored.entries[119] = u64::MAX;
+    assert_eq!(answer(&mut run, Version::One, &stored.image(0)), (11, INDEX_BLOCKS[1] as u32));
+    stored.labels[119] = 0;
+    let image = moved(&mut run, Version::One, &stored.image(0));
+    assert_eq!(Stored::read(&image).entries, stored.entries, "it stays");
+    assert_eq!(run.call(&image, &Call::Restore).unwrap().returned.answer(), 0);
+    assert_eq!(run.call(&image, &Call::PrefixAt { place: 119 }).unwrap().returned.answer(), 1, "no prefix there");
 }
 
 /// The state before and after is the same, as every call shows it that reads an image.

@@ -1,10 +1,11 @@
 //! The library against the model, byte for byte, over generated calls and over every field of an image wrong in turn.
 
-use cabinet::{Cabinet, IMAGE_SIZE, REQUEST_BLOCK};
+use cabinet::{Cabinet, FURTHER, IMAGE_SIZE};
 use model::Model;
+use trials::by_fec;
 use trials::calls::{Call, Returned};
 use trials::coverage::{INITS, UNMOVABLE};
-use trials::crafted::{self, asking, calls_on_images, two_held};
+use trials::crafted::{self, asking, calls_on_images, indexed, two_held};
 use trials::differential::Run;
 use trials::stored::{check, Stored, Version};
 use trials::under_test::UnderTest;
@@ -29,6 +30,9 @@ fn generated_calls_are_answered_alike_and_reach_every_answer() {
     }
     for why in UNMOVABLE {
         assert!(run.coverage.unmovable(why) > 0, "16 for {why:?}");
+    }
+    for did in by_fec::all() {
+        assert!(run.coverage.by_fec(did) > 0, "{did:?}");
     }
 }
 
@@ -59,7 +63,7 @@ fn a_sound_image_is_refused_by_no_call() {
 /// 02: "version 2, the only one outside the converter": a sound image of the other version is 11 in block 0.
 #[test]
 fn a_sound_image_of_the_other_version_is_refused_by_every_call() {
-    for stored in [two_held(), asking(), Stored::idle()] {
+    for stored in [two_held(), asking(), indexed(), Stored::idle()] {
         for (version, other) in [(Version::One, Version::Two), (Version::Two, Version::One)] {
             let image = stored.moved(other).unwrap().image(0xD1);
             let kept = stored.kept;
@@ -81,7 +85,7 @@ fn restored(run: &mut Run, image: &[u8]) -> (u32, u32) {
 fn every_bit_of_a_live_block_is_checked_and_no_bit_of_a_dead_one() {
     let stored = two_held();
     let sound = stored.image(0xD1);
-    for block in [0, stored.block_of(0), stored.block_of(1), REQUEST_BLOCK] {
+    for block in [0, stored.block_of(0), stored.block_of(1)].into_iter().chain(FURTHER) {
         for bit in (0..512 * 8).step_by(29) {
             let mut image = sound.clone();
             image[block * 512 + bit / 8] ^= 1 << (bit % 8);
@@ -95,14 +99,14 @@ fn every_bit_of_a_live_block_is_checked_and_no_bit_of_a_dead_one() {
     assert_eq!(run.call(&image, &Call::Restore).unwrap().returned.answer(), 0);
 }
 
-/// With kept 0 too the block of the IDs is looked at: its check, and the zeros after the IDs.
+/// With kept 0 too the further blocks are looked at: their checks, and the zeros after their places.
 #[test]
-fn every_bit_of_the_ids_is_checked_where_nothing_is_kept() {
-    for bit in (0..512 * 8).step_by(29) {
+fn every_bit_of_the_further_blocks_is_checked_where_nothing_is_kept() {
+    for (block, bit) in FURTHER.into_iter().flat_map(|block| (0..512 * 8).step_by(29).map(move |bit| (block, bit))) {
         let mut image = Stored::idle().image(0xD1);
-        image[REQUEST_BLOCK * 512 + bit / 8] ^= 1 << (bit % 8);
+        image[block * 512 + bit / 8] ^= 1 << (bit % 8);
         let mut run = Run::new(&Model, &UnderTest, bit as u64);
-        assert_eq!(restored(&mut run, &image), (10, REQUEST_BLOCK as u32), "bit {bit}");
+        assert_eq!(restored(&mut run, &image), (10, block as u32), "bit {bit}");
     }
 }
 

@@ -2,7 +2,8 @@
 
 use cabinet::{phase, Cabinet, Outcome, Session};
 use model::Model;
-use trials::stored::{word, Queued, Stored};
+use trials::entries::entry_of;
+use trials::stored::{word, Queued, Stored, ENTRY_PLACES};
 use trials::under_test::UnderTest;
 use trials::wire::{prefix, types, Message, WILDCARD};
 
@@ -23,9 +24,11 @@ fn both() -> [&'static dyn Cabinet; 2] {
     [&UnderTest, &Model]
 }
 
-/// A kept state that lists the label with a code, beside the same label on the other side.
+/// A kept state that lists the label with a code, beside the same label on the other side; both of the FEC that the
+/// messages have.
 fn listing(code: u32) -> Stored {
-    let mut stored = Stored { secured: 10, kept: true, ..Stored::idle() };
+    let entries = [entry_of(&prefix(1)); ENTRY_PLACES];
+    let mut stored = Stored { secured: 10, kept: true, entries, ..Stored::idle() };
     stored.labels[3] = if code == FREE { 0 } else { word(LABEL, code) };
     stored.labels[0] = word(LABEL, if OURS.contains(&code) { USING } else { GIVEN });
     stored
@@ -132,8 +135,8 @@ fn received(cabinet: &dyn Cabinet, stored: Stored, message: Message, protected: 
     (outcome.answer, code_after(&stored, &image))
 }
 
-/// The ACK of a held Withdraw and a Release of its label in one message: the ACK acts first, and 33 judges the label as it
-/// leaves it.
+/// The ACK of a held Withdraw and a Release of its label in one message: the ACK acts first, and 33 judges the label as
+/// it leaves it.
 #[test]
 fn ack_and_release_in_one_message() {
     for cabinet in both() {
@@ -242,10 +245,11 @@ fn wildcards_act_on_every_label() {
     }
 }
 
+/// A prefix that no label has among them.
 #[test]
 fn another_fec_without_a_label_changes_nothing() {
     let all = [1, 2, 3, 4, 5, 6, 8, 9];
-    for fec in [&prefix(1)[..], &[], &[1, 1], &[2]] {
+    for fec in [&prefix(2)[..], &[], &[1, 1], &[2]] {
         for message_type in [types::WITHDRAW, types::RELEASE] {
             for protected in [true, false] {
                 assert_eq!(codes_after(message_type, fec, &all, protected), (0, all.to_vec()), "{fec:?}");

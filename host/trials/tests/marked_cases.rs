@@ -1,6 +1,6 @@
 //! The paper's marked cases and its examples to run, on the library and on the model.
 
-use cabinet::{further, has, phase, Cabinet, Opening, Session, IMAGE_SIZE, IMAGE_SIZE_WITHOUT_REQUESTS};
+use cabinet::{has, phase, Cabinet, Opening, Session, IMAGE_SIZE};
 use model::Model;
 use trials::stored::{word, Queued, Stored};
 use trials::under_test::UnderTest;
@@ -169,7 +169,7 @@ fn a_fresh_session_from_a_new_image() {
         let mut image = vec![0xFF; IMAGE_SIZE];
         let mut out = [0; 64];
         let formatted = cabinet.format(&mut image);
-        assert_eq!((formatted.block0, formatted.further, formatted.slot), (1, further::REQUESTS, 0));
+        assert_eq!((formatted.block0, formatted.further, formatted.slot), (1, 0b111, 0));
         let opened = cabinet.open(&image, Session::default(), &Opening::default(), &mut out);
         assert_eq!((opened.answer, opened.length, opened.session.value), (0, 34, 30_000));
         let init = Message::new(types::INITIALIZATION, 1).parameters(30, 4096).ft_session(true, 0).ack(8).bytes();
@@ -241,26 +241,30 @@ fn on_demand_is_bit_a_of_our_init() {
     }
 }
 
-/// 02: an image that an earlier release stored, with a sealed zero block behind it, stands for the same state.
+/// 02: an image that an earlier release stored, with sealed zero blocks behind it, stands for the same state.
 #[test]
-fn an_image_of_65_blocks_is_extended() {
+fn an_image_of_65_or_66_blocks_is_extended() {
     for cabinet in both() {
-        let stored = holding(3, 7, 9);
-        let earlier = stored.image(0xD1)[..IMAGE_SIZE_WITHOUT_REQUESTS].to_vec();
-        let mut image = earlier.clone();
-        image.resize(IMAGE_SIZE, 0x77);
-        let junk = image.clone();
-        for (length, stored_len) in [(IMAGE_SIZE, IMAGE_SIZE), (IMAGE_SIZE, 33_279), (33_280, 33_280), (0, 0)] {
-            let refused = cabinet.extend(&mut image[..length], stored_len);
-            assert_eq!((refused.answer, refused.further), (12, 0));
-            assert_eq!(image, junk);
+        for (size, bits) in [(33_280, 0b111), (33_792, 0b110)] {
+            let stored = holding(3, 7, 9);
+            let earlier = stored.image(0xD1)[..size].to_vec();
+            let mut image = earlier.clone();
+            image.resize(IMAGE_SIZE, 0x77);
+            let junk = image.clone();
+            let refused = [(IMAGE_SIZE, IMAGE_SIZE), (IMAGE_SIZE, 33_279), (IMAGE_SIZE, 34_304), (size, size), (0, 0)];
+            for (length, stored_len) in refused {
+                let refused = cabinet.extend(&mut image[..length], stored_len);
+                assert_eq!((refused.answer, refused.further), (12, 0));
+                assert_eq!(image, junk);
+            }
+            let extended = cabinet.extend(&mut image, size);
+            assert_eq!((extended.answer, extended.further), (0, bits));
+            assert_eq!(image[..size], earlier);
+            for block in image[size..].chunks(512) {
+                assert_eq!((&block[..508], &block[508..]), (&[0; 508][..], &[0, 1, 0, 0xFE][..]));
+            }
+            assert_eq!(cabinet.restore(&mut image).answer, 0);
+            assert_eq!(Stored::read(&image), stored);
         }
-        let extended = cabinet.extend(&mut image, IMAGE_SIZE_WITHOUT_REQUESTS);
-        assert_eq!((extended.answer, extended.further), (0, further::REQUESTS));
-        assert_eq!(image[..IMAGE_SIZE_WITHOUT_REQUESTS], earlier);
-        assert_eq!(image[IMAGE_SIZE_WITHOUT_REQUESTS..IMAGE_SIZE - 4], [0; 508]);
-        assert_eq!(image[IMAGE_SIZE - 4..], [0, 1, 0, 0xFE]);
-        assert_eq!(cabinet.restore(&mut image).answer, 0);
-        assert_eq!(Stored::read(&image), stored);
     }
 }

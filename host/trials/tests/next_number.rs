@@ -1,6 +1,6 @@
 //! A peer that leaves out messages: which numbers may come next, on the library and on the model.
 
-use cabinet::{flags, phase, Cabinet, Next, Outcome, Session, PLACES};
+use cabinet::{flags, further, phase, Cabinet, Next, Outcome, Session, PLACES};
 use model::Model;
 use trials::stored::{steps_after, word, Queued, Stored, NO_LABEL};
 use trials::under_test::UnderTest;
@@ -42,7 +42,8 @@ fn on_a_resumed_connection_1_to_64_steps_ahead_are_taken() {
                 let left_out = ahead as u32 - 1;
                 assert_eq!(cabinet.next_number(secured, number, true), Next { answer: 0, left_out });
                 let (outcome, after) = received(cabinet, &kept(secured), RESUMED, number);
-                let expected = Outcome { session: RESUMED, block0: 1, left_out, ..Outcome::default() };
+                let further = further::INDEX[0];
+                let expected = Outcome { session: RESUMED, block0: 1, further, left_out, ..Outcome::default() };
                 assert_eq!(outcome, expected, "{number} after {secured}");
                 assert_eq!((after.secured, after.labels[0]), (number, word(900, 3)), "S moves to the number itself");
             }
@@ -88,7 +89,8 @@ fn full(secured: u32) -> Stored {
     Stored { labels: (0..PLACES as u32).map(|place| word(16 + place, 3)).collect(), ..kept(secured) }
 }
 
-/// Zero is no number, and comes before what is said of the ACK, the labels and the turn; 20 comes after these, before 21.
+/// Zero is no number, and comes before what is said of the ACK, the labels and the turn; 20 comes after these, before
+/// 21.
 #[test]
 fn the_answers_keep_their_places_in_the_order() {
     let mut unprotected = kept(9);

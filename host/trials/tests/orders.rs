@@ -2,7 +2,8 @@
 
 use cabinet::{phase, Cabinet, Opening, Session, PLACES};
 use model::Model;
-use trials::stored::{word, Queued, Stored, REQUEST, STOPPED, STOPPING};
+use trials::entries::{entry_of, NO_ENTRY};
+use trials::stored::{word, Queued, Stored, ENTRY_PLACES, REQUEST, STOPPED, STOPPING};
 use trials::under_test::UnderTest;
 use trials::wire::{prefix, types, Message};
 
@@ -14,9 +15,11 @@ fn in_phase(phase: u32) -> Session {
     Session::new(phase, 0)
 }
 
-/// A kept state that has secured 10 and lists labels with the codes given, from label 700 on.
+/// A kept state that has secured 10 and lists labels with the codes given, from label 700 on, of the FEC that the
+/// messages have.
 fn listing(codes: &[u32]) -> Stored {
-    let mut stored = Stored { secured: 10, kept: true, timeout: 5_000, ..Stored::idle() };
+    let entries = [entry_of(&prefix(1)); ENTRY_PLACES];
+    let mut stored = Stored { secured: 10, kept: true, timeout: 5_000, entries, ..Stored::idle() };
     for (place, code) in codes.iter().enumerate() {
         stored.labels[place] = word(700 + place as u32, *code);
     }
@@ -51,6 +54,45 @@ fn receive_in_up_ft() {
     up(&listing(&[3; PLACES - 1]), mapping(16).protection(11).ack(0), 0);
 }
 
+/// A Mapping that moves its label has the same order; its label needs a word where it would not need one without the
+/// move.
+#[test]
+fn receive_of_a_mapping_that_moves_its_label() {
+    let other = |codes: &[u32]| Stored { entries: [NO_ENTRY; ENTRY_PLACES], ..listing(codes) };
+    let up = |stored: &Stored, message, answer| assert_received(stored, phase::UP_FT, message, answer);
+    for code in [3, 4, 5] {
+        let full = [&[code][..], &[3; PLACES - 1]].concat();
+        up(&other(&full), mapping(700).ack(0), 33);
+        up(&other(&full), mapping(700).protection(99).ack(0), 20);
+        up(&other(&full), mapping(700).protection(11).ack(0), 21);
+        up(&listing(&full), mapping(700).protection(11).ack(0), 0);
+        up(&other(&full[..PLACES - 1]), mapping(700).protection(11).ack(0), 0);
+    }
+    let full = [&[6][..], &[3; PLACES - 1]].concat();
+    up(&other(&full), mapping(700).protection(99).ack(0), 32);
+    up(&other(&full), mapping(700).ack(0), 21);
+    up(&listing(&full), mapping(700).ack(0), 0);
+}
+
+/// A Withdraw or Release of a prefix: 33 where one of its labels is protected, and never 32.
+#[test]
+fn receive_of_a_prefix_without_a_label() {
+    let up = |stored: &Stored, message, answer| assert_received(stored, phase::UP_FT, message, answer);
+    let about = |message_type| Message::new(message_type, 1).fec(&prefix(1));
+    for code in [3, 4, 5] {
+        up(&listing(&[6, code]), about(types::WITHDRAW).ack(9), 34);
+        up(&listing(&[6, code]), about(types::WITHDRAW), 33);
+        up(&listing(&[6, code]), about(types::WITHDRAW).protection(99), 20);
+        up(&listing(&[6, code]), about(types::WITHDRAW).protection(11), 0);
+        up(&listing(&[6, code]), about(types::RELEASE), 0);
+    }
+    for code in [1, 2, 8, 9] {
+        up(&listing(&[6, code]), about(types::RELEASE), 33);
+        up(&listing(&[6, code]), about(types::RELEASE).protection(11), 0);
+        up(&listing(&[6, code]), about(types::WITHDRAW), 0);
+    }
+}
+
 #[test]
 fn receive_in_up_plain() {
     let plain = |message, answer| assert_received(&Stored::idle(), phase::UP_PLAIN, message, answer);
@@ -80,9 +122,12 @@ fn labels_are_judged_as_the_ack_leaves_them() {
     let released = holding(&[9], types::WITHDRAW, 2, 700);
     assert_received(&released, phase::UP_FT, release(), 33);
     assert_received(&released, phase::UP_FT, release().ack(1), 0);
+    // the word that its own ACK frees is not free in the old block 0, and not taken; one that was free before is
     let mut full = holding(&[3; PLACES], types::RELEASE, 3, 700);
     full.labels[0] = word(700, 5);
     assert_received(&full, phase::UP_FT, mapping(16).protection(11), 21);
+    assert_received(&full, phase::UP_FT, mapping(16).protection(11).ack(1), 21);
+    full.labels[7] = 0;
     assert_received(&full, phase::UP_FT, mapping(16).protection(11).ack(1), 0);
 }
 
@@ -126,6 +171,8 @@ fn submit() {
     assert_submitted(&full, phase::FAILED, mapping(700), 6);
     assert_submitted(&full, phase::FAILED, mapping(15), 6);
     assert_submitted(&full, phase::FAILED, mapping(16), 13);
+    let other = Stored { entries: [NO_ENTRY; ENTRY_PLACES], ..full_ring(&[1; PLACES]) };
+    assert_submitted(&other, phase::FAILED, mapping(700), 6);
     assert_submitted(&full_ring(&[1; PLACES]), phase::FAILED, mapping(700), 7);
     assert_submitted(&full_ring(&[]), phase::FAILED, mapping(16), 7);
     assert_submitted(&listing(&[1]), phase::FAILED, Message::new(types::MAPPING, 1).label(16), 4);

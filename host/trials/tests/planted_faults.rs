@@ -14,6 +14,8 @@ const CALLS: u64 = 250_000;
 const CUTS: u64 = 20_000;
 const LEFT_OUT: u64 = 2_000;
 const MOVED: u64 = 1_000;
+const CUTS_IN_INDEX: u64 = 1_000;
+const LABELS_MOVED: u64 = 100;
 
 /// A fault in how zero sums are stored, which generated images are too few to meet.
 const CRAFTED_ONLY: Fault = Fault::TakesBothZeros;
@@ -39,6 +41,9 @@ fn the_crafted_images_find_planted_faults() {
         Fault::SkipsBytes20,
         Fault::RestoresVersion1,
         Fault::ConvertsOtherVersion,
+        Fault::SkipsIndexOfIdle,
+        Fault::SkipsZerosAfterEntries,
+        Fault::SkipsEntries,
     ];
     for fault in faults {
         let tested = Planted(fault);
@@ -92,6 +97,26 @@ fn the_crash_trials_find_planted_faults() {
 fn the_crash_trials_find_what_is_wrongly_moved() {
     let faults = [Fault::RoundsSeconds, Fault::KeepsUnit, Fault::LeavesSeconds, Fault::ConvertsBlock0Alone];
     assert_found(&faults, |cabinets, tally| crash::run_converting(cabinets, SEED, MOVED, tally));
+}
+
+/// Those that no connection between two such ends shows are the differential run's: messages of a prefix without a
+/// label.
+#[test]
+fn the_crash_trials_find_what_is_wrongly_indexed() {
+    let faults = [
+        Fault::HidesIndex,
+        Fault::NamesBlock66ForAll,
+        Fault::LeavesEntries,
+        Fault::WipesEntries,
+        Fault::KeepsBitsPastLength,
+    ];
+    assert_found(&faults, |cabinets, tally| crash::run_indexing(cabinets, SEED, CUTS_IN_INDEX, tally));
+}
+
+#[test]
+fn the_crash_trials_find_what_is_wrongly_moved_in_the_list() {
+    let faults = [Fault::KeepsOldEntry, Fault::WritesEntryInPlace, Fault::LeavesOldWord];
+    assert_found(&faults, |cabinets, tally| crash::run_renewing(cabinets, SEED, LABELS_MOVED, tally));
 }
 
 /// Those that no connection between two such ends shows are the differential run's: a jump of 65, and jumps unresumed.

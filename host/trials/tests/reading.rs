@@ -1,12 +1,12 @@
-//! What an image holds, by the three calls that read it, held against the record from which the image was laid out.
+//! What an image holds, by the four calls that read it, held against the record from which the image was laid out.
 
-use cabinet::{Part, Summary, Words, IMAGE_SIZE, PLACES};
+use cabinet::{Part, Prefix, Summary, Words, IMAGE_SIZE, PLACES};
 use model::Model;
 use trials::calls::{Call, Returned};
 use trials::crafted;
 use trials::differential::Run;
 use trials::generate::states;
-use trials::stored::{steps_after, Stored};
+use trials::stored::{steps_after, word_lists_label, Stored};
 use trials::under_test::UnderTest;
 
 const SEED: u64 = 0x1_D9F7;
@@ -101,4 +101,31 @@ fn the_messages_held_are_those_of_the_record_from_the_oldest_on() {
             assert_eq!(seen.returned, Returned::Part(Part { answer: 8, start: 0, end: 0 }), "place {place}");
         }
     }
+}
+
+#[test]
+fn the_prefixes_are_those_of_the_record_where_a_label_is_listed() {
+    let mut run = run();
+    let mut shown = 0;
+    for stored in records(&mut run) {
+        let image = stored.image(0xD1);
+        for (place, word) in stored.labels.iter().enumerate() {
+            let [is_prefix, length, _, _, prefix @ ..] = stored.entries[place].to_be_bytes();
+            let expected = if word_lists_label(*word) && is_prefix == 1 {
+                Prefix { indexed: 1, length: u32::from(length), prefix: u32::from_be_bytes(prefix) }
+            } else {
+                Prefix { indexed: 0, length: 0, prefix: 0 }
+            };
+            let seen = run.call(&image, &Call::PrefixAt { place: place as u32 }).unwrap();
+            assert_eq!(seen.returned, Returned::Prefix(expected), "place {place}");
+            shown += expected.indexed;
+        }
+        for place in [119, 120, u32::MAX] {
+            let seen = run.call(&image, &Call::PrefixAt { place }).unwrap();
+            assert_eq!(seen.returned, Returned::Prefix(Prefix::default()), "place {place}");
+        }
+    }
+    assert!(shown > 1_000, "{shown} prefixes");
+    let refused = run.call(&crafted::indexed().image(0)[..512], &Call::PrefixAt { place: 0 }).unwrap();
+    assert_eq!(refused.returned, Returned::Prefix(Prefix::default()));
 }

@@ -2,7 +2,8 @@
 
 use cabinet::{phase, Cabinet, Outcome, Session};
 use model::Model;
-use trials::stored::{word, Queued, Stored, NO_LABEL, REQUEST, STOPPED, STOPPING};
+use trials::entries::entry_of;
+use trials::stored::{word, Queued, Stored, ENTRY_PLACES, NO_LABEL, REQUEST, STOPPED, STOPPING};
 use trials::under_test::UnderTest;
 use trials::wire::{prefix, types, Message, NO_RESOURCES, RESOURCES_AVAILABLE, WILDCARD};
 
@@ -13,10 +14,11 @@ fn both() -> [&'static dyn Cabinet; 2] {
     [&UnderTest, &Model]
 }
 
-/// A kept state with open Requests 40 and 0 at places 2 and 4, a free word before, between and after them, and the ID of
-/// a Request that is over beside the last.
+/// A kept state with open Requests 40 and 0 at places 2 and 4, a free word before, between and after them, and the ID
+/// of a Request that is over beside the last. The entries are all of the FEC that the Mappings have.
 fn asking() -> Stored {
-    let mut stored = Stored { secured: 10, kept: true, timeout: 5_000, ..Stored::idle() };
+    let entries = [entry_of(&prefix(1)); ENTRY_PLACES];
+    let mut stored = Stored { secured: 10, kept: true, timeout: 5_000, entries, ..Stored::idle() };
     stored.labels[0] = word(LABEL, 1);
     (stored.labels[2], stored.ids[2]) = (REQUEST, 40);
     (stored.labels[4], stored.ids[4]) = (REQUEST, 0);

@@ -1,14 +1,16 @@
-//! The upgrade in the field, as a run: a cabinet with an image of the base, 65 blocks of version 1, is given this release. Its
-//! image is extended, moved forward and restored; it resumes with its peer, and nothing held or listed is lost.
+//! The upgrade in the field, as a run: a cabinet with an image of the base, 65 blocks of version 1, or of a release
+//! before the index, 66 blocks, is given this release. Its image is extended, moved forward where it is of version 1,
+//! and restored; it resumes with its peer, and nothing held or listed is lost.
 
 mod pair;
 
-use cabinet::{further, phase, Cabinet, Session, BLOCK_SIZE, IMAGE_SIZE, IMAGE_SIZE_WITHOUT_REQUESTS};
+use cabinet::{phase, Cabinet, Session, BLOCK_SIZE, IMAGE_SIZE, IMAGE_SIZE_WITHOUT_INDEX, IMAGE_SIZE_WITHOUT_REQUESTS};
 use model::Model;
 use pair::{connect, End};
-use trials::stored::{word, Queued, Stored, Version, NO_LABEL, SLOTS};
+use trials::entries::entry_of;
+use trials::stored::{word, Queued, Stored, Version, ENTRY_PLACES, NO_LABEL, REQUEST, SLOTS};
 use trials::under_test::UnderTest;
-use trials::wire::{prefix, types, Message};
+use trials::wire::{prefix, types, Message, WILDCARD};
 
 fn both() -> [&'static dyn Cabinet; 2] {
     [&UnderTest, &Model]
@@ -22,8 +24,8 @@ fn address(id: u32) -> Vec<u8> {
     Message::new(types::ADDRESS, id).bytes()
 }
 
-/// What the base has stored: five messages held, of which three were sent, and labels of every code that it knew, all 119 words
-/// but the last in use; its numbers are about to wrap.
+/// What the base has stored: five messages held, of which three were sent, and labels of every code that it knew, all
+/// 119 words but the last in use; its numbers are about to wrap.
 fn of_the_base() -> Stored {
     let held = [
         (1, 20, about(types::MAPPING, 20)),
@@ -65,8 +67,9 @@ fn upgraded(cabinet: &dyn Cabinet, stored: &[u8]) -> (Vec<u8>, Session) {
     medium.resize(IMAGE_SIZE, 0x77);
     let mut image = medium.clone();
     let extended = cabinet.extend(&mut image, stored.len());
-    assert_eq!((extended.answer, extended.further), (0, further::REQUESTS));
-    medium[IMAGE_SIZE_WITHOUT_REQUESTS..].copy_from_slice(&image[IMAGE_SIZE_WITHOUT_REQUESTS..]);
+    let made = if stored.len() == IMAGE_SIZE_WITHOUT_REQUESTS { 0b111 } else { 0b110 };
+    assert_eq!((extended.answer, extended.further), (0, made));
+    medium[stored.len()..].copy_from_slice(&image[stored.len()..]);
     let mut later = vec![0; IMAGE_SIZE];
     let converted = cabinet.convert_forward(&image, &mut later);
     assert_eq!((converted.answer, converted.length as usize), (0, IMAGE_SIZE));
@@ -106,15 +109,75 @@ fn an_image_of_the_base_is_taken_over_and_resumes_with_its_peer() {
     }
 }
 
-/// A cut at each point of the upgrade: what is stored is either still the base's, or this release's, and neither is lost.
+/// What a release of tickets 2 to 5 has stored: labels of every code and an open Request, in 66 blocks.
+fn before_the_index(version: Version) -> Stored {
+    let mut stored = Stored { version, secured: 10, kept: true, ..Stored::idle() };
+    stored.labels = vec![0; version.places()];
+    for (place, code) in [1, 2, 3, 4, 5, 6, 8, 9].into_iter().enumerate() {
+        stored.labels[place] = word(20 + place as u32, code);
+    }
+    (stored.labels[70], stored.ids[70]) = (REQUEST, 77);
+    stored
+}
+
+/// The image of such a release, extended and moved forward where it has to be, but not restored.
+fn extended(cabinet: &dyn Cabinet, stored: &Stored) -> Vec<u8> {
+    let mut image = stored.image(0xD1);
+    image[IMAGE_SIZE_WITHOUT_INDEX..].fill(0x77);
+    assert_eq!(cabinet.extend(&mut image, IMAGE_SIZE_WITHOUT_INDEX).further, 0b110);
+    if stored.version == Version::One {
+        let mut later = vec![0; IMAGE_SIZE];
+        assert_eq!(cabinet.convert_forward(&image, &mut later).answer, 0);
+        image = later;
+    }
+    image
+}
+
+/// 02: an image of tickets 2 to 5, the missing blocks put behind it, is sound, and "its labels then count as of other
+/// FECs": no prefix reaches them, the wildcard and their own names do, and a Mapping of a prefix moves them.
+#[test]
+fn labels_of_a_release_before_the_index_count_as_of_other_fecs() {
+    let up = Session::new(phase::UP_FT, 0);
+    for (cabinet, version) in both().into_iter().flat_map(|cabinet| [Version::One, Version::Two].map(|v| (cabinet, v)))
+    {
+        let image = extended(cabinet, &before_the_index(version));
+        let before = Stored::read(&image);
+        assert_eq!((before.entries, before.open_requests()), ([0; ENTRY_PLACES], vec![77]));
+        assert!((0..119).all(|place| cabinet.prefix_at(&image, place).indexed == 0));
+        let received = |message: Message| {
+            let mut image = image.clone();
+            let message = message.protection(11);
+            let outcome = cabinet.receive(&mut image, up, &message.bytes());
+            assert_eq!(outcome.answer, 0, "{message:?}");
+            (outcome.further, Stored::read(&image))
+        };
+        for message_type in [types::WITHDRAW, types::RELEASE] {
+            for fec in [&prefix(22)[..], &[2, 0, 1, 0], &[], &[3, 0, 1]] {
+                let (further, after) = received(Message::new(message_type, 1).fec(fec));
+                assert_eq!((further, after.labels, after.entries), (0, before.labels.clone(), before.entries));
+            }
+            assert_ne!(received(Message::new(message_type, 1).fec(WILDCARD)).1.labels, before.labels);
+        }
+        let (_, after) = received(Message::new(types::WITHDRAW, 1).fec(&prefix(22)).label(22));
+        assert_eq!(after.labels[2], word(22, 4));
+        let (further, after) = received(Message::new(types::MAPPING, 1).fec(&prefix(22)).label(22));
+        assert_eq!((further, after.labels[2], after.labels[8]), (0b10, 0, word(22, 3)));
+        assert_eq!(after.entries[8], entry_of(&prefix(22)));
+        let (further, after) = received(Message::new(types::MAPPING, 1).fec(&[]).label(22));
+        assert_eq!((further, after.labels[2]), (0, word(22, 3)), "another FEC, as before");
+    }
+}
+
+/// A cut at each point of the upgrade: what is stored is either still the base's, or this release's, and neither is
+/// lost.
 #[test]
 fn a_cut_in_the_upgrade_loses_nothing() {
     for cabinet in both() {
         let base = of_the_base().image(0xD1);
         let stored = &base[..IMAGE_SIZE_WITHOUT_REQUESTS];
-        // before block 65 is whole on the medium the file is as long as it was, or the block is made again
+        // before the further blocks are whole on the medium the file is as long as it was, or they are made again
         assert_eq!(upgraded(cabinet, stored).0, upgraded(cabinet, stored).0);
-        // block 65 is stored, block 0 is not: the image is of version 1 and has its size
+        // they are stored, block 0 is not: the image is of version 1 and has its size
         let mut extended = base.clone();
         cabinet.extend(&mut extended, stored.len());
         let refused = cabinet.restore(&mut extended.clone());

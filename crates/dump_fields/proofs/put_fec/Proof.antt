@@ -15,9 +15,14 @@ put-fec-spec =
     (λ c. search needs)
     (λ c. search needs)
     (λ c. search needs)
+    (λ c. search needs)
+    (λ c. search needs)
+    (λ c. search needs)
     (λ c. rw (c .enum-told .given .1) (put-none _ _, omega arith))
     (λ c. search needs)
     (λ c. rw (c .before .before .before .before .before .enum-told2 .given .1) (c .before .before .put-bytes .ensures .0, search needs))
     (λ c. search needs)
-    (λ c. rw (c .before .before .before .before .before .enum-told3 .given .1) (c .before .before .put-bytes2 .ensures .0, search needs)) in
+    (λ c. rw (c .before .before .before .before .before .enum-told3 .given .1) (c .before .before .put-bytes2 .ensures .0, search needs))
+    (λ c. search needs)
+    (λ c. rw (c .before .before .before .before .before .enum-told4 .given .1) (c .before .before .put-bytes3 .ensures .0, search needs)) in
     tie.close answers

@@ -11,7 +11,7 @@ returns-2 : tie.Need-returns-2
 unfolding idsOk
 returns-2 c =
     let zero = granted (c .before .before .before .before .before .before .rest-is-zero .ensures) (c .before .before .before .before .before .if1 .left) in
-    rw zero (c .ids-stand-once .ensures ∙ ap (onceOf _) (c .before .before .before .read-ids .ensures))
+    rw zero (c .ids-stand-once .ensures ∙ ap (onceOf _) (c .before .before .before .read-words .ensures))
 
 pub ids-are-valid-spec : {M : Type 1} → statement M
 unfolding idsOk

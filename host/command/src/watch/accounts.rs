@@ -3,7 +3,7 @@
 use super::journal::{self, Entry};
 use super::verdict::Delivery;
 use super::{left_out, Setting, NAMES};
-use crate::holdings::Holdings;
+use crate::holdings::{Holdings, Listed};
 use crate::json::Value;
 use std::collections::BTreeSet;
 use support::store::Store;
@@ -70,7 +70,7 @@ struct Direction {
 /// The accounts of both cabinets.
 pub struct Accounts {
     /// What each gives and uses, in order.
-    labels: [[Vec<u32>; 2]; 2],
+    labels: [[Vec<Listed>; 2]; 2],
     directions: [Direction; 2],
     delivery: Delivery,
     lists_agree: bool,
@@ -102,7 +102,7 @@ impl Accounts {
     pub fn in_full(&self) -> String {
         let mut text = String::new();
         for (name, [given, used]) in NAMES.iter().zip(&self.labels) {
-            text += &format!("{name} gives {given:?}\n{name} uses  {used:?}\n");
+            text += &format!("{name} gives {}\n{name} uses  {}\n", in_a_line(given), in_a_line(used));
         }
         for Direction { names: [from, to], clauses } in &self.directions {
             text += &format!("\nfrom {from} to {to}\n");
@@ -131,7 +131,9 @@ impl Accounts {
 
     pub fn json(&self) -> Vec<(&'static str, Value)> {
         let Delivery { accepted, left_out, secured, lost, twice, unknown, out_of_order, waiting } = self.delivery;
-        let [[north_gives, north_uses], [south_gives, south_uses]] = self.labels.clone().map(|of| of.map(list));
+        let numbers = |of: &Vec<Listed>| of.iter().map(|listed| listed.label).collect::<Value>();
+        let [[north_gives, north_uses], [south_gives, south_uses]] =
+            self.labels.each_ref().map(|of| of.each_ref().map(numbers));
         vec![
             ("accepted", accepted.into()),
             ("secured", secured.into()),
@@ -152,8 +154,8 @@ impl Accounts {
     }
 }
 
-fn list(labels: Vec<u32>) -> Value {
-    labels.into_iter().collect()
+fn in_a_line(labels: &[Listed]) -> String {
+    labels.iter().map(Listed::to_string).collect::<Vec<String>>().join(", ")
 }
 
 fn clause_line(clause: &str, holds: bool) -> String {
@@ -167,9 +169,9 @@ fn delivery(sender: &Left, receiver: &Left) -> Delivery {
     Delivery { accepted: sender.accepted.len(), left_out: sender.left_out.len(), ..delivery }
 }
 
-/// The labels given are the labels in use.
+/// The labels given are the labels in use, each with its prefix.
 fn lists_agree(sender: &Left, receiver: &Left) -> bool {
-    sender.holdings.labels_of(GIVEN) == receiver.holdings.labels_of(USING)
+    in_a_line(&sender.holdings.labels_of(GIVEN)) == in_a_line(&receiver.holdings.labels_of(USING))
 }
 
 /// The clauses of the demand for one direction, each with whether it holds.
@@ -192,11 +194,11 @@ fn clauses(sender: &Left, receiver: &Left) -> Vec<(String, bool)> {
         (format!("accepted ({n}) is let go ({released}) plus held ({h})"), n == released as usize + h),
         (format!("at most 64 are held ({h})"), h <= 64),
         (format!("left out are Requests whose Abort was accepted behind them ({l})"), sender.has_left_out_rightly()),
-        ("the labels given are the labels in use".to_string(), lists_agree(sender, receiver)),
+        ("the labels given are the labels in use, of the same prefixes".to_string(), lists_agree(sender, receiver)),
         ("no Request is open".to_string(), sender.holdings.requests.is_empty()),
         (
             "the peer knows whether there are labels to be had".to_string(),
-            sender.holdings.stopping == receiver.holdings.stopped,
+            sender.holdings.summary.is_stopping() == receiver.holdings.summary.is_stopped(),
         ),
     ]
 }
@@ -209,6 +211,7 @@ mod tests {
     use support::hex;
     use support::store::Directory;
     use support::wire::{prefix, Message};
+    use trials::entries::{entry, NO_ENTRY};
     use trials::stored::{word, Stored};
 
     /// What both cabinets leave, and where.
@@ -219,11 +222,12 @@ mod tests {
         journals: [String; 6],
     }
 
-    /// Each end has secured two messages of the other, which has let them go; north gives label 16.
+    /// Each end has secured two messages of the other, which has let them go; north gives label 16 of a prefix.
     fn in_order() -> Scene {
         let idle = Stored { kept: true, released: 2, issued: 2, secured: 2, ..Stored::idle() };
         let mut stores = [idle.clone(), idle];
         (stores[0].labels[0], stores[1].labels[0]) = (word(16, GIVEN), word(16, USING));
+        (stores[0].entries[0], stores[1].entries[0]) = (entry(24, 0x0A00_1000), entry(24, 0x0A00_1000));
         let [a, b] = [["aa", "ab"], ["ba", "bb"]].map(|names| records(&names));
         let journals = [a.clone(), String::new(), b.clone(), b, String::new(), a];
         Scene { directory: Directory::create("test-accounts").unwrap(), stores, journals }
@@ -325,10 +329,13 @@ mod tests {
 
     #[test]
     fn lists_and_stores_that_differ_are_told() {
-        let mut scene = in_order();
-        scene.stores[1].labels[0] = 0;
-        let (verdict, right) = closed(&scene);
-        assert!(verdict.ends_with("; the lists differ; the accounts do not add up") && !right, "{verdict}");
+        let (mut no_label, mut no_prefix) = (in_order(), in_order());
+        no_label.stores[1].labels[0] = 0;
+        no_prefix.stores[1].entries[0] = NO_ENTRY;
+        for scene in [no_label, no_prefix] {
+            let (verdict, right) = closed(&scene);
+            assert!(verdict.ends_with("; the lists differ; the accounts do not add up") && !right, "{verdict}");
+        }
         let mut scene = in_order();
         scene.stores[1].secured = 3;
         let (verdict, right) = closed(&scene);

@@ -9,7 +9,7 @@ use super::link::{Link, Way};
 use super::plan::{self, Offers, Plan, View};
 use super::{supervisor, Setting, NAMES};
 use crate::holdings;
-use cabinet::{marks, phase, Cabinet, Outcome, Session, Summary};
+use cabinet::{phase, Cabinet, Outcome, Session, Summary};
 use ldp_ft::Library;
 use std::io::{self, BufRead, Write};
 use std::path::PathBuf;
@@ -165,7 +165,7 @@ impl Process {
                 open: &holdings::requests(&self.image),
                 sent: &self.requests_sent(),
                 is_up: self.session.phase == phase::UP_FT,
-                is_stopping: self.is_stopping(),
+                is_stopping: self.summary().is_stopping(),
                 has_recovered: self.idle_keepalives >= RECOVERY,
             },
         )
@@ -178,12 +178,7 @@ impl Process {
         requests.map(|held| wire::message_id(&held.message)).collect()
     }
 
-    /// The peer was told that there are no labels.
-    pub fn is_stopping(&self) -> bool {
-        self.image[marks::AT] & marks::STOPPING != 0
-    }
-
-    /// Stores what a call names: slot, block 65, the owner's own record, then block 0. Output may leave after that.
+    /// Stores what a call names: slot, the further blocks, the owner's own record, then block 0. Output may leave after that.
     pub fn keep(&mut self, outcome: &Outcome, record: Option<(&[u8], Record)>) -> io::Result<()> {
         self.store.write_slot(&self.image, outcome)?;
         self.store.write_further(&self.image, outcome)?;

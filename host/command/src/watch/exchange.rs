@@ -90,7 +90,7 @@ impl Process {
 
     /// Counts the KeepAlives of a peer that has acknowledged everything, also that it is to ask for nothing.
     fn note_idle(&mut self, msg: &[u8], is_idle: bool) {
-        if !self.is_stopping() {
+        if !self.summary().is_stopping() {
             self.idle_keepalives = 0;
         } else if is_idle && message_type(msg) == types::KEEPALIVE {
             self.idle_keepalives += 1;

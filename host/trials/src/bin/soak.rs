@@ -2,11 +2,12 @@
 //!
 //! `cargo run --release --bin soak -- --seconds 600 --seed 1`
 
+use cabinet::INDEX_BLOCKS;
 use model::Model;
 use std::process::ExitCode;
 use std::time::{Duration, Instant};
 use support::options::{Known, Options};
-use trials::crash::{self, Tally};
+use trials::crash::{self, Cut, Tally};
 use trials::differential::Run;
 use trials::under_test::UnderTest;
 
@@ -14,6 +15,8 @@ const CALLS_IN_ROUND: u64 = 100_000;
 const CUTS_IN_ROUND: u64 = 2_000;
 const LEFT_OUT_IN_ROUND: u64 = 500;
 const MOVED_IN_ROUND: u64 = 300;
+const CUTS_IN_INDEX_IN_ROUND: u64 = 200;
+const LABELS_MOVED_IN_ROUND: u64 = 20;
 
 const KNOWN: Known = Known { flags: &[], values: &["seconds", "seed"], files: 0 };
 
@@ -61,5 +64,9 @@ fn round(seed: u64, tally: &mut Tally) -> Result<(), String> {
     let left_out = tally.left_out + LEFT_OUT_IN_ROUND;
     crash::run_leaving_out([&UnderTest, &UnderTest], seed, left_out, tally)?;
     let moved = tally.moved_forward + MOVED_IN_ROUND;
-    crash::run_converting([&UnderTest, &UnderTest], seed, moved, tally)
+    crash::run_converting([&UnderTest, &UnderTest], seed, moved, tally)?;
+    let cuts = INDEX_BLOCKS.map(|block| tally.cuts_at(Cut::Further(block))).into_iter().min().unwrap_or(0);
+    crash::run_indexing([&UnderTest, &UnderTest], seed, cuts + CUTS_IN_INDEX_IN_ROUND, tally)?;
+    let labels_moved = tally.moved + LABELS_MOVED_IN_ROUND;
+    crash::run_renewing([&UnderTest, &UnderTest], seed, labels_moved, tally)
 }

@@ -2,8 +2,9 @@
 //! read without those that a Send has passed over, which keep their slots until an ACK passes them.
 
 use super::end::End;
+use super::habits::Habits;
+use super::index;
 use super::lists::{check_agreed, check_withdrawing};
-use super::owner::Habits;
 use super::requests::tell_none;
 use super::require;
 use super::tally::Tally;
@@ -36,6 +37,8 @@ impl Stores {
                 .map_err(|what| format!("from end {sender} to end {receiver}: {what}"))?;
             check_requests(&ends[sender], &self.0[sender]).map_err(|what| format!("at end {sender}: {what}"))?;
             check_withdrawing(&self.0[sender], habits).map_err(|what| format!("at end {sender}: {what}"))?;
+            index::check(&self.0[sender], &ends[sender].given, &ends[sender].used)
+                .map_err(|what| format!("at end {sender}: {what}"))?;
         }
         Ok(())
     }

@@ -1,5 +1,6 @@
 //! One end: a cabinet, its memory, its store, and the history that the trial keeps of it.
 
+use super::index::{self, Entries};
 use super::requests;
 use super::tally::Cut;
 use crate::calls::{invoke, Call, Lent, Returned};
@@ -29,6 +30,9 @@ pub struct End<'a> {
     pub secured: Vec<Vec<u8>>,
     /// The IDs of our Requests that are neither aborted nor answered, by that history.
     pub open: BTreeSet<u32>,
+    /// The entries of the labels that we gave and of those that we use, by that history.
+    pub given: Entries,
+    pub used: Entries,
     /// The number that released and issued had at the start, and the other end's secured.
     pub base: u32,
 }
@@ -53,6 +57,8 @@ impl<'a> End<'a> {
             left_out: BTreeSet::new(),
             secured: Vec::new(),
             open: BTreeSet::new(),
+            given: Entries::new(),
+            used: Entries::new(),
             base: 0,
         };
         end.format()?;
@@ -63,12 +69,14 @@ impl<'a> End<'a> {
     pub fn begin(&mut self) {
         (self.accepted, self.secured) = (Vec::new(), Vec::new());
         (self.left_out, self.open) = (BTreeSet::new(), BTreeSet::new());
+        (self.given, self.used) = (Entries::new(), Entries::new());
         self.base = 0;
     }
 
     /// Notes a message that was accepted for sending.
     pub fn note_accepted(&mut self, msg: Vec<u8>) {
         requests::accepted(&mut self.open, &msg);
+        index::note(&mut self.given, &msg);
         self.accepted.push(msg);
     }
 
@@ -81,6 +89,7 @@ impl<'a> End<'a> {
     /// Notes a message that was secured from the other end.
     pub fn note_secured(&mut self, msg: Vec<u8>) {
         requests::secured(&mut self.open, &msg);
+        index::note(&mut self.used, &msg);
         self.secured.push(msg);
     }
 
@@ -99,18 +108,10 @@ impl<'a> End<'a> {
         Done { outcome, output }
     }
 
-    /// Stores what a call names, its slot, block 65, then block 0, as far as it comes before the power is cut.
+    /// Stores what a call names, in its order, as far as it comes before the power is cut.
     pub fn store_until(&self, outcome: &Outcome, cut: Cut) -> io::Result<()> {
-        if cut >= Cut::SlotOnly {
-            self.store.write_slot(&self.image, outcome)?;
-        }
-        if cut >= Cut::BeforeBlock0 {
-            self.store.write_further(&self.image, outcome)?;
-        }
-        if cut >= Cut::NoOutput {
-            self.store.write_block0(&self.image, outcome)?;
-        }
-        Ok(())
+        let mut stored = outcome.stores().filter(|block| Cut::behind(*block) <= cut);
+        stored.try_for_each(|block| self.store.write_block(&self.image, block))
     }
 
     /// Loses the memory and restores the session from the store; nothing of it is stored yet.

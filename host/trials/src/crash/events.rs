@@ -1,11 +1,12 @@
 //! The events of a world: what may befall an end in a step, and the calls that its owner makes then.
 
 use super::end::{Done, End};
+use super::index;
 use super::owner::{self, Known};
 use super::require;
 use super::world::World;
 use crate::calls::Call;
-use crate::stored::{steps_between, u32_at, Stored, SLOTS};
+use crate::stored::{steps_between, Stored, SLOTS};
 use crate::wire::{protection_number, without_ft};
 use cabinet::{phase, Opening};
 
@@ -40,8 +41,8 @@ impl World<'_, '_> {
             return Event::Convert;
         }
         match self.random.below(100) {
-            0..=34 => Event::Send,
-            35..=49 => Event::Keepalive,
+            35..=49 if self.random.percent(self.habits.keepalives) => Event::Keepalive,
+            0..=49 => Event::Send,
             50..=95 => Event::Deliver,
             96 => Event::Restart,
             _ => Event::TimePassed,
@@ -91,7 +92,7 @@ impl World<'_, '_> {
     pub fn send(&mut self, end: usize) -> Result<(), String> {
         let session = self.ends[end].session;
         let stored = Stored::read(&self.ends[end].image);
-        let ack = self.random.percent(50);
+        let ack = self.random.percent(self.habits.acks);
         let Some(done) = self.perform(end, &Call::SendNext { session, ack, room: 0 })? else { return Ok(()) };
         let all_sent = session.value as usize == stored.queue.len();
         require(done.outcome.answer != 8 || all_sent, "nothing is unsent, and something was not sent")?;
@@ -126,7 +127,7 @@ impl World<'_, '_> {
         } else {
             Call::Receive { session, msg: msg.clone() }
         };
-        let secured = u32_at(&self.ends[end].image, 12);
+        let before = Stored::read(&self.ends[end].image);
         let Some(Done { outcome, .. }) = self.perform(end, &call)? else { return Ok(()) };
         if outcome.answer != 0 {
             return Err(format!("{} answered {}", call.name(), outcome.answer));
@@ -139,8 +140,10 @@ impl World<'_, '_> {
                 "resumed is not that both ends kept their state",
             );
         }
-        let left_out = protection_number(&msg).map_or(0, |number| steps_between(secured, number).wrapping_sub(1));
+        let left_out =
+            protection_number(&msg).map_or(0, |number| steps_between(before.secured, number).wrapping_sub(1));
         require(outcome.left_out == left_out, "the receiver does not count the numbers left out")?;
+        self.tally.moved += index::moved(&before, &Stored::read(&self.ends[end].image));
         self.note_delivered(end, &msg);
         Ok(())
     }

@@ -1,6 +1,6 @@
 //! The label lists of two ends, held against what is in the store and against each other.
 
-use super::owner::{Customs, Habits};
+use super::habits::{Customs, Habits};
 use super::require;
 use super::tally::Tally;
 use crate::stored::{word, Stored};
@@ -11,6 +11,11 @@ const THEIRS: [u32; 4] = [3, 4, 5, 6];
 /// The code of a label among those of one side, 0 where it is absent.
 fn code(stored: &Stored, side: &[u32], label: u32) -> u32 {
     side.iter().copied().find(|code| stored.labels.contains(&word(label, *code))).unwrap_or(0)
+}
+
+/// The entry of a label on one side, if it is listed there.
+fn entry(stored: &Stored, side: &[u32], label: u32) -> Option<u64> {
+    stored.listed().find(|(listed, code, _)| *listed == label && side.contains(code)).map(|(_, _, entry)| entry)
 }
 
 /// A label is withdrawing, or waits for the ACK of its Withdraw alone, exactly as long as the Withdraw is held.
@@ -34,6 +39,9 @@ pub fn check_agreed(giver: &Stored, user: &Stored, habits: &Habits, tally: &mut 
             _ => false,
         };
         require(agreed, &format!("label {label} has the codes {codes:?}"))?;
+        let entries = [entry(giver, &OURS, label), entry(user, &THEIRS, label)];
+        let alike = entries.contains(&None) || entries[0] == entries[1];
+        require(alike, &format!("label {label} has the entries {entries:x?}"))?;
         tally.given += u64::from(codes == (1, 3));
         tally.withdrawn += u64::from(codes == (8, 4));
     }

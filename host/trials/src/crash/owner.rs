@@ -1,98 +1,17 @@
 //! What the owner of an end submits: messages about its labels, good for the most part.
 
+use super::habits::{Customs, Habits};
 use super::requests;
+use crate::entries::{entry_of, fec};
 use crate::random::Random;
-use crate::stored::{word, Stored, PLACES, STOPPED};
-use crate::wire::{message_id, prefix, request_id, tlvs, types, Message, NO_RESOURCES, RESOURCES_AVAILABLE};
+use crate::stored::{Stored, PLACES, STOPPED};
+use crate::wire::{
+    label, message_id, message_type, prefix, request_id, tlvs, types, Message, NO_RESOURCES, RESOURCES_AVAILABLE,
+};
 use cabinet::{phase, Session};
 
 /// An owner answers one of so many Requests of the peer's, the latest.
 const LATEST: usize = 6;
-
-/// What the owners of a world do with labels.
-#[derive(Clone, Copy, Debug, PartialEq, Eq)]
-pub enum Customs {
-    /// They offer and release them at any time: a Mapping of a label that is given and its Release may cross.
-    Any,
-    /// A label is not offered while it is given.
-    OffersFree,
-    /// A label is not released before it was asked back.
-    ReleasesAsked,
-    /// No label is released.
-    Keeps,
-}
-
-impl Customs {
-    /// True where a label may be offered now.
-    fn may_offer(self, stored: &Stored, label: u32) -> bool {
-        self != Customs::OffersFree || !stored.labels.contains(&word(label, 1))
-    }
-
-    /// The codes under which a label may be released.
-    fn releasable(self) -> &'static [u32] {
-        match self {
-            Customs::Any | Customs::OffersFree => &[3, 4],
-            Customs::ReleasesAsked => &[4],
-            Customs::Keeps => &[],
-        }
-    }
-}
-
-/// How the owners of a world behave.
-#[derive(Clone, Copy, Debug)]
-pub struct Habits {
-    /// Labels are taken from 16 up to this one.
-    pub last_label: u32,
-    pub customs: Customs,
-    /// How often, in a hundred submissions, one is about Requests.
-    pub asks: usize,
-    /// How often, in a hundred of these, a Request that is open is aborted.
-    pub aborts: usize,
-    /// How often, in a hundred Requests that change block 65, the power is cut.
-    pub cuts_in_asking: usize,
-    /// How often, in a hundred steps, something is submitted.
-    pub submits: usize,
-    /// How often, in a hundred calls, the power is cut.
-    pub cuts: usize,
-    /// How often, in a thousand steps, the connection breaks by itself.
-    pub breaks: usize,
-    /// How often, in a thousand steps, a store is moved to version 1 and forward again.
-    pub moves: usize,
-    /// How often, in a hundred points of such a move, the power is cut.
-    pub cuts_in_moving: usize,
-}
-
-impl Habits {
-    pub fn any(random: &mut Random) -> Self {
-        Habits {
-            last_label: random.pick(&[30, 65, 65, 65]),
-            customs: random.pick(&[Customs::Any, Customs::OffersFree, Customs::ReleasesAsked, Customs::Keeps]),
-            asks: random.pick(&[0, 30, 70]),
-            aborts: random.pick(&[5, 5, 40]),
-            cuts_in_asking: 40,
-            submits: random.pick(&[10, 30, 60]),
-            cuts: random.pick(&[2, 6, 20]),
-            breaks: random.pick(&[0, 8, 40]),
-            moves: random.pick(&[0, 4]),
-            cuts_in_moving: 30,
-        }
-    }
-
-    /// Owners that ask for labels again and again, with hardly anything cut but that.
-    pub fn asking(random: &mut Random) -> Self {
-        Habits { asks: 80, aborts: 5, cuts_in_asking: 90, submits: 30, cuts: 2, breaks: 0, ..Habits::any(random) }
-    }
-
-    /// Owners whose stores are moved from version to version again and again.
-    pub fn moving(random: &mut Random) -> Self {
-        Habits { moves: 120, cuts_in_moving: 40, cuts: 2, ..Habits::any(random) }
-    }
-
-    /// Owners that ask for labels and think better of it, over connections that break again and again.
-    pub fn aborting(random: &mut Random) -> Self {
-        Habits { asks: 90, aborts: 30, cuts_in_asking: 3, submits: 25, cuts: 2, breaks: 100, ..Habits::any(random) }
-    }
-}
 
 /// What an owner knows when it decides.
 pub struct Known<'a> {
@@ -102,14 +21,25 @@ pub struct Known<'a> {
     pub secured: &'a [Vec<u8>],
 }
 
-/// A label of the list that has one of the codes.
-fn listed(random: &mut Random, stored: &Stored, codes: &[u32]) -> Option<u32> {
-    let words: Vec<u32> = stored.labels.iter().copied().filter(|word| codes.contains(&(word >> 20))).collect();
-    (!words.is_empty()).then(|| random.pick(&words) & 0xF_FFFF)
+/// A label of the list that has one of the codes, of those that the owners speak of.
+fn listed(random: &mut Random, habits: &Habits, stored: &Stored, codes: &[u32]) -> Option<u32> {
+    let meant = stored.listed().filter(|(label, code, _)| *label <= habits.last_label && codes.contains(code));
+    let labels: Vec<u32> = meant.map(|(label, _, _)| label).collect();
+    (!labels.is_empty()).then(|| random.pick(&labels))
 }
 
 fn about(message_type: u16, label: u32, serial: u32) -> Message {
     Message::new(message_type, serial).fec(&prefix(label as u16)).label(label)
+}
+
+/// A Mapping of a label: of the FEC that it has where it is given, in most cases; else of one of a few, which some
+/// labels share, and of which one is no prefix.
+fn offer(random: &mut Random, stored: &Stored, label: u32, serial: u32) -> Message {
+    let fecs = [&prefix(label as u16)[..], &fec(8, 0x0A00_0000), &fec(0, 0), &fec(17, 0xC0A8_FFFF), &[3, 0, 1]];
+    let given = stored.listed().find(|(listed, code, _)| *listed == label && *code == 1).map(|(_, _, entry)| entry);
+    let same: Vec<&[u8]> = fecs.iter().copied().filter(|fec| given == Some(entry_of(fec))).collect();
+    let fec = if same.is_empty() || random.percent(10) { random.pick(&fecs) } else { random.pick(&same) };
+    Message::new(types::MAPPING, serial).fec(fec).label(label)
 }
 
 /// The next message that an owner submits.
@@ -119,19 +49,34 @@ pub fn submission(random: &mut Random, habits: &Habits, known: &Known, serial: u
         return padded(random, message);
     }
     let stored = known.stored;
+    if let Some(label) = just_released(known).filter(|_| random.percent(habits.renews)) {
+        return offer(random, stored, label, serial).bytes();
+    }
     let any = random.between(16, habits.last_label as usize) as u32;
     let about = |message_type, label| about(message_type, label, serial);
-    let releasable = listed(random, stored, habits.customs.releasable());
-    let message = match (random.below(20), releasable) {
-        (0..=6, _) if habits.customs.may_offer(stored, any) => about(types::MAPPING, any),
-        (7..=10, _) => about(types::WITHDRAW, listed(random, stored, &[1]).unwrap_or(any)),
-        (11..=13, Some(label)) => about(types::RELEASE, label),
+    let releasable = listed(random, habits, stored, habits.customs.releasable());
+    let choices = if random.percent(habits.others) { 20 } else { 14 };
+    let message = match (random.below(choices), releasable) {
+        (0..=6, _) if habits.customs.may_offer(stored, any) => offer(random, stored, any, serial),
+        (7..=10, _) if habits.customs != Customs::Renews => {
+            about(types::WITHDRAW, listed(random, habits, stored, &[1]).unwrap_or(any))
+        }
+        (7..=13, Some(label)) => about(types::RELEASE, label),
         (14, _) => Message::new(types::ADDRESS_WITHDRAW, serial).tlv(tlvs::ADDRESS_LIST, &[0, 1, 10, 0, 0, 1]),
         (15, _) => Message::new(types::NOTIFICATION, serial).status(RESOURCES_AVAILABLE),
         (16, _) => return refused(random, serial),
         _ => Message::new(types::ADDRESS, serial).tlv(tlvs::ADDRESS_LIST, &[0, 1, 10, 0, 0, 2]),
     };
     padded(random, message)
+}
+
+/// The label of the Release that was secured last, if nothing was secured after it and the label is free here: the peer
+/// may still list it, until the ACK of its Release comes.
+fn just_released(known: &Known) -> Option<u32> {
+    let last = known.secured.last().filter(|msg| message_type(msg) == types::RELEASE)?;
+    let is_given =
+        |label: &u32| known.stored.listed().any(|(listed, code, _)| listed == *label && !(3..=6).contains(&code));
+    label(last).filter(|label| !is_given(label))
 }
 
 /// The message's bytes, at times many more than it needs.
@@ -150,7 +95,7 @@ fn one_of(random: &mut Random, values: &[u32], otherwise: u32) -> u32 {
 }
 
 /// A Request or its Abort, an answer to a Request of the peer's, or word on whether there are labels to give. Every
-/// label of both sides has a word left beside the open Requests.
+/// label of both sides has a word left beside the open Requests, and one is left for a label that moves.
 fn about_requests(random: &mut Random, habits: &Habits, known: &Known, serial: u32) -> Message {
     let label = random.between(16, habits.last_label as usize) as u32;
     let open = known.stored.open_requests();
@@ -158,7 +103,7 @@ fn about_requests(random: &mut Random, habits: &Habits, known: &Known, serial: u
         let aborted = given_up(random, known.stored, &open).unwrap_or(serial);
         return Message::new(types::ABORT, serial).fec(&prefix(1)).request_id(aborted);
     }
-    let room = open.len() + 2 * (habits.last_label as usize - 15) < PLACES;
+    let room = open.len() + habits.words() + 1 < PLACES;
     let refused = known.session.phase != phase::UP_FT || known.stored.marks & STOPPED != 0;
     let may_ask = room && (!refused || random.percent(20));
     let peers = requests::ids(known.secured);
@@ -168,7 +113,9 @@ fn about_requests(random: &mut Random, habits: &Habits, known: &Known, serial: u
             let id = asked_by(random, known.stored, serial);
             Message::new(types::REQUEST, id).fec(&prefix(label as u16))
         }
-        10..=15 if habits.customs.may_offer(known.stored, label) => about(types::MAPPING, label, serial).request_id(id),
+        10..=15 if habits.customs.may_offer(known.stored, label) => {
+            offer(random, known.stored, label, serial).request_id(id)
+        }
         16..=17 => Message::new(types::NOTIFICATION, serial).status_of(NO_RESOURCES, id),
         _ => Message::new(types::NOTIFICATION, serial).status_of(RESOURCES_AVAILABLE, id),
     }

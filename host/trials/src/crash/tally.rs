@@ -1,25 +1,46 @@
 //! What the crash trials did: steps, cuts by call and store point, breaks, messages.
 
+use cabinet::{Outcome, FURTHER};
 use std::collections::BTreeMap;
 use std::fmt;
 
-/// How far a call came before the power was cut.
+/// How far a call came before the power was cut, in the order in which it is stored.
 #[derive(Clone, Copy, Debug, PartialEq, Eq, PartialOrd, Ord)]
 pub enum Cut {
     /// Nothing of the call was stored.
     Nothing,
     /// Its slot was stored, no other block was.
-    SlotOnly,
-    /// Slot and block 65 were stored, block 0 was not.
-    BeforeBlock0,
+    Slot,
+    /// It was stored through this further block; block 0 was not.
+    Further(usize),
     /// Everything was stored; the output did not leave.
     NoOutput,
     /// All was stored and the output left.
     All,
 }
 
-/// How far a call can come, in the order in which it is stored.
-pub const CUTS: [Cut; 5] = [Cut::Nothing, Cut::SlotOnly, Cut::BeforeBlock0, Cut::NoOutput, Cut::All];
+impl Cut {
+    /// The cut just behind a block that is stored.
+    pub fn behind(block: usize) -> Self {
+        match block {
+            0 => Cut::NoOutput,
+            block if FURTHER.contains(&block) => Cut::Further(block),
+            _ => Cut::Slot,
+        }
+    }
+
+    /// The cuts that a call may have, by what it names.
+    pub fn of(outcome: &Outcome) -> Vec<Self> {
+        let before_block0 = outcome.stores().filter(|block| *block != 0).map(Cut::behind);
+        [Cut::Nothing].into_iter().chain(before_block0).chain([Cut::NoOutput, Cut::All]).collect()
+    }
+}
+
+/// Every cut.
+pub fn cuts() -> impl Iterator<Item = Cut> {
+    let before_block0 = [Cut::Nothing, Cut::Slot].into_iter().chain(FURTHER.map(Cut::Further));
+    before_block0.chain([Cut::NoOutput, Cut::All])
+}
 
 /// Counts over all worlds of a run.
 #[derive(Clone, Debug, Default)]
@@ -48,6 +69,8 @@ pub struct Tally {
     /// Messages that were left out, each once, and how often Sends passed over them.
     pub left_out: u64,
     pub passed_over: u64,
+    /// Labels that a Mapping moved to another word.
+    pub moved: u64,
     pub full: u64,
     pub most_held: usize,
     pub drained: u64,
@@ -65,6 +88,11 @@ impl Tally {
         self.cuts.get(&(call, cut)).copied().unwrap_or(0)
     }
 
+    /// The cuts at a point, in whatever call.
+    pub fn cuts_at(&self, cut: Cut) -> u64 {
+        self.cuts.iter().filter(|((_, at), _)| *at == cut).map(|(_, count)| count).sum()
+    }
+
     pub fn all_cuts(&self) -> u64 {
         self.cuts.values().sum()
     }
@@ -72,12 +100,12 @@ impl Tally {
 
 impl fmt::Display for Tally {
     fn fmt(&self, f: &mut fmt::Formatter) -> fmt::Result {
-        writeln!(f, "{:>18}  nothing  slot only  before 0  no output      all", "cut in")?;
+        let heads: String = cuts().map(|cut| format!("{:>12}", format!("{cut:?}"))).collect();
+        writeln!(f, "{:>18}{heads}", "cut in, at")?;
         let calls: std::collections::BTreeSet<&str> = self.cuts.keys().map(|(call, _)| *call).collect();
         for call in calls {
-            let count = |cut| self.cuts.get(&(call, cut)).copied().unwrap_or(0);
-            let [nothing, slot, further, silent, all] = CUTS.map(count);
-            writeln!(f, "{call:>18} {nothing:>8} {slot:>10} {further:>9} {silent:>10} {all:>8}")?;
+            let counts: String = cuts().map(|cut| format!("{:>12}", self.cuts_in(call, cut))).collect();
+            writeln!(f, "{call:>18}{counts}")?;
         }
         writeln!(f, "{} worlds, {} steps, {} cuts", self.worlds, self.steps, self.all_cuts())?;
         writeln!(f, "{} breaks, {} restarts, {} resumed", self.breaks, self.restarts, self.resumed)?;
@@ -88,6 +116,7 @@ impl fmt::Display for Tally {
         let Tally { asked, aborted, answered, stopped, .. } = self;
         writeln!(f, "{asked} Requests, {aborted} aborted, {answered} answered, {stopped} refused while stopped")?;
         writeln!(f, "{} left out, passed over {} times", self.left_out, self.passed_over)?;
+        writeln!(f, "{} labels moved to another word", self.moved)?;
         writeln!(f, "at the end {} labels given, {} withdrawn and asked back", self.given, self.withdrawn)?;
         write!(f, "{} refused at 64 held, at most {} held, {} worlds drained", self.full, self.most_held, self.drained)
     }

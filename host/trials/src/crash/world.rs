@@ -2,14 +2,15 @@
 
 use super::demand::{check_drained, check_undone, Stores};
 use super::end::{Done, End};
-use super::owner::Habits;
+use super::habits::Habits;
 use super::require;
-use super::tally::{Cut, Tally, CUTS};
+use super::tally::{Cut, Tally};
 use crate::calls::Call;
+use crate::entries::entry;
 use crate::random::Random;
 use crate::store::Directory;
-use crate::stored::{u16_at, Stored};
-use cabinet::{Cabinet, Outcome};
+use crate::stored::{u16_at, word, Stored};
+use cabinet::{Cabinet, Outcome, FURTHER, INDEX_BLOCKS, REQUEST_BLOCK};
 use std::collections::VecDeque;
 use std::io;
 
@@ -17,6 +18,8 @@ const STEPS: usize = 700;
 const DRAIN_STEPS: usize = 4_000;
 /// Numbers that both directions start from: afresh, or as after a long run, just before wrap-around.
 const BASES: [u32; 5] = [0, 0, 0, 0xFFFF_FFC8, 0xFFFF_FFFF];
+/// The first of the labels that no owner speaks of.
+const SETTLED: u32 = 1_000;
 
 /// Runs worlds with the cabinets given until there have been so many cuts; the seed decides everything.
 pub fn run(cabinets: [&dyn Cabinet; 2], seed: u64, cuts: u64, tally: &mut Tally) -> Result<(), String> {
@@ -25,7 +28,18 @@ pub fn run(cabinets: [&dyn Cabinet; 2], seed: u64, cuts: u64, tally: &mut Tally)
 
 /// Runs worlds of owners that ask for labels, until so many cuts fell between block 65 and block 0.
 pub fn run_asking(cabinets: [&dyn Cabinet; 2], seed: u64, cuts: u64, tally: &mut Tally) -> Result<(), String> {
-    worlds(cabinets, seed, Habits::asking, |tally| tally.cuts_in("submit", Cut::BeforeBlock0) < cuts, tally)
+    worlds(cabinets, seed, Habits::asking, |tally| tally.cuts_at(Cut::Further(REQUEST_BLOCK)) < cuts, tally)
+}
+
+/// Runs worlds of owners that offer many labels, until so many cuts fell between each block of the index and block 0.
+pub fn run_indexing(cabinets: [&dyn Cabinet; 2], seed: u64, cuts: u64, tally: &mut Tally) -> Result<(), String> {
+    let few = |tally: &Tally| INDEX_BLOCKS.into_iter().any(|block| tally.cuts_at(Cut::Further(block)) < cuts);
+    worlds(cabinets, seed, Habits::indexing, few, tally)
+}
+
+/// Runs worlds of owners that offer labels anew, until so many were moved to another word.
+pub fn run_renewing(cabinets: [&dyn Cabinet; 2], seed: u64, count: u64, tally: &mut Tally) -> Result<(), String> {
+    worlds(cabinets, seed, Habits::renewing, |tally| tally.moved < count, tally)
 }
 
 /// Runs worlds of owners that abort what they have asked for, until so many Requests were left out.
@@ -57,6 +71,14 @@ fn worlds(
         ends = world_run.ends;
     }
     Ok(())
+}
+
+/// Lists labels with their entries under a code, in the first words that are free.
+fn settle(stored: &mut Stored, code: u32, settled: &[(u32, u64)]) {
+    let free: Vec<usize> = (0..stored.labels.len()).filter(|place| stored.labels[*place] == 0).collect();
+    for (place, (label, entry)) in free.into_iter().zip(settled) {
+        (stored.labels[place], stored.entries[place]) = (word(*label, code), *entry);
+    }
 }
 
 pub fn text(error: io::Error) -> String {
@@ -131,9 +153,23 @@ impl<'a, 't> World<'a, 't> {
             self.send(0)?;
         }
         self.deliver(1)?;
+        self.settle_labels()?;
         self.start_late()?;
         (self.habits.cuts, self.begun) = (cuts, true);
         self.check()
+    }
+
+    /// Labels of the second end that both list, as after a long run, in the words that are free.
+    fn settle_labels(&mut self) -> Result<(), String> {
+        for (end, code) in [(0, 3), (1, 1)] {
+            let settled = (0..self.habits.settled as u32).map(|n| (SETTLED + n, entry((n % 33) as u8, n << 8)));
+            let settled: Vec<(u32, u64)> = settled.collect();
+            let change = |stored: &mut Stored| settle(stored, code, &settled);
+            self.ends[end].rewrite(change).map_err(text)?;
+            let history = if code == 1 { &mut self.ends[end].given } else { &mut self.ends[end].used };
+            history.extend(settled);
+        }
+        Ok(())
     }
 
     /// Moves a world in which nothing has happened yet to numbers near wrap-around.
@@ -180,25 +216,20 @@ impl<'a, 't> World<'a, 't> {
         Ok(made.then_some(done))
     }
 
-    /// A store point at which the power is cut, at times. The points are those that the call has: one without a slot, or
-    /// that leaves block 65 as it was, has fewer.
+    /// A store point at which the power is cut, at times. The points are those that the call has: one without a slot,
+    /// or that leaves the further blocks as they were, has fewer.
     fn choose_cut(&mut self, outcome: &Outcome) -> Option<Cut> {
-        let asks = outcome.further != 0;
+        let further = outcome.further_blocks().last();
         let refused = (1..=19).contains(&outcome.answer);
-        let cuts = if asks { self.habits.cuts_in_asking } else { self.habits.cuts };
+        let place = FURTHER.iter().position(|block| Some(*block) == further);
+        let cuts = place.map_or(self.habits.cuts, |place| self.habits.cuts_in_further[place]);
         if refused || self.habits.cuts == 0 || !self.random.percent(cuts) {
             return None;
         }
-        if asks && self.random.percent(40) {
-            return Some(Cut::BeforeBlock0);
+        match further {
+            Some(block) if self.random.percent(70) => Some(Cut::Further(block)),
+            _ => Some(self.random.pick(&Cut::of(outcome))),
         }
-        let has = |cut: &Cut| match cut {
-            Cut::SlotOnly => outcome.slot != 0,
-            Cut::BeforeBlock0 => asks,
-            _ => true,
-        };
-        let points: Vec<Cut> = CUTS.into_iter().filter(has).collect();
-        Some(self.random.pick(&points))
     }
 
     /// The power comes back: the session is restored, and this may be cut too.

@@ -3,7 +3,7 @@
 use super::{inits, malformed, messages, states};
 use crate::calls::Call;
 use crate::random::Random;
-use crate::stored::{steps_after, Stored, Version, REQUEST};
+use crate::stored::{steps_after, word_lists_label, Stored, Version, REQUEST};
 use cabinet::{flags, phase, Opening, Session, IMAGE_SIZE};
 
 const EDGES: [u32; 9] = [0, 1, 2, 0x7FFF_FFFF, 0x8000_0000, 0x8000_0001, 0xFFFF_FFFD, 0xFFFF_FFFE, 0xFFFF_FFFF];
@@ -132,7 +132,7 @@ fn any_on_image(random: &mut Random, stored: &Stored) -> Call {
 
 /// The converter, mostly from the version that the state has, with room for an image in most cases.
 fn convert(random: &mut Random, stored: &Stored) -> Call {
-    let room = random.pick(&[0, 512, 33_280, IMAGE_SIZE - 1, IMAGE_SIZE, IMAGE_SIZE, IMAGE_SIZE, IMAGE_SIZE + 1]);
+    let room = random.pick(&[0, 512, 33_792, IMAGE_SIZE - 1, IMAGE_SIZE, IMAGE_SIZE, IMAGE_SIZE, IMAGE_SIZE + 1]);
     if (stored.version == Version::One) == random.percent(90) {
         Call::ConvertForward { room }
     } else {
@@ -142,14 +142,15 @@ fn convert(random: &mut Random, stored: &Stored) -> Call {
 
 /// A call that shows what an image holds, moves it, or makes it longer before anybody looks.
 fn look(random: &mut Random, stored: &Stored) -> Call {
-    match random.below(12) {
-        8.. => convert(random, stored),
+    match random.below(13) {
+        9.. => convert(random, stored),
         0 => Call::Label { place: place(random, stored) },
         1 => Call::RequestAt { place: place(random, stored) },
+        8 => Call::PrefixAt { place: place_listed(random, stored) },
         2..=3 => Call::Summarize,
         4..=5 => Call::Labels { room: random.pick(&[0, 1, 118, 119, 119, 119, 120, 200]) },
         6 => Call::Held { place: place_held(random, stored) },
-        _ => Call::Extend { stored_len: random.pick(&[33_280, 33_280, 33_280, 33_792, 33_279, 0, usize::MAX]) },
+        _ => Call::Extend { stored_len: random.pick(&[33_280, 33_280, 33_792, 33_792, 34_304, 34_816, 33_279, 0]) },
     }
 }
 
@@ -163,6 +164,15 @@ fn place_held(random: &mut Random, stored: &Stored) -> u32 {
 fn place(random: &mut Random, stored: &Stored) -> u32 {
     let open = stored.labels.iter().position(|word| *word == REQUEST).unwrap_or(60) as u32;
     random.pick(&[open, open, open, open, 0, 1, 117, 118, 119, 120, u32::MAX])
+}
+
+/// A place of the label list: one of a label that is listed in many cases, in either block of the index.
+fn place_listed(random: &mut Random, stored: &Stored) -> u32 {
+    let listed: Vec<usize> = (0..stored.labels.len()).filter(|place| word_lists_label(stored.labels[*place])).collect();
+    match random.below(10) {
+        0..=6 if !listed.is_empty() => random.pick(&listed) as u32,
+        _ => random.pick(&[0, 59, 60, 118, 119, 120, u32::MAX]),
+    }
 }
 
 fn edge(random: &mut Random) -> u32 {

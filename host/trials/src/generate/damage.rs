@@ -1,8 +1,11 @@
 //! Images that fail a check: wrong sizes, bad blocks, and each field wrong in turn with its block sealed again.
 
 use crate::random::Random;
-use crate::stored::{seal, steps_after, u16_at, u32_at, word, Stored, Version, ID_PLACES, REQUEST};
-use cabinet::{BLOCK_SIZE, REQUEST_BLOCK};
+use crate::stored::{
+    entry_at, seal, steps_after, u16_at, u32_at, word, word_lists_label, Stored, Version, ENTRY_PLACES, ID_PLACES,
+    REQUEST,
+};
+use cabinet::{BLOCK_SIZE, FURTHER, INDEX_BLOCKS, REQUEST_BLOCK};
 
 /// A fault in one field; the block that bears it is sealed again afterwards.
 #[derive(Clone, Copy)]
@@ -206,11 +209,11 @@ pub const NO_RESOURCES_FAULTS: &[FieldFault] = &[
     fault("kind 9 with status 13", |b| b[23] = 13),
 ];
 
-/// Faults of the block of the Requests' IDs, whatever block 0 holds.
+/// Faults of a further block, whatever block 0 holds.
 pub const ZERO_FAULTS: &[FieldFault] = &[
-    fault("first byte after the IDs", |b| b[480] = 1),
-    fault("last byte after the IDs", |b| b[507] = 0x80),
-    fault("a byte among those after the IDs", |b| b[493] = 7),
+    fault("first byte after the places", |b| b[480] = 1),
+    fault("last byte after the places", |b| b[507] = 0x80),
+    fault("a byte among those after the places", |b| b[493] = 7),
 ];
 
 /// Faults of the block of the Requests' IDs, where the first three and the 119th word are open Requests.
@@ -223,6 +226,21 @@ pub const ID_FAULTS: &[FieldFault] = &[
     }),
 ];
 
+/// Faults of a block of the index, beside whose first, second and 59th place labels are listed.
+pub const ENTRY_FAULTS: &[FieldFault] = &[
+    fault("an entry that begins with 2", |b| b[0] = 2),
+    fault("an entry that begins with 0", |b| put(b, 8, &[0, 24, 0, 0, 0, 0, 0, 0])),
+    fault("a prefix without its first bytes", |b| put(b, 464, &[0, 0, 0, 0, 10, 0, 0, 0])),
+    fault("length 33", |b| put(b, 0, &[1, 33, 0, 0, 0, 0, 0, 0])),
+    fault("length 255", |b| put(b, 464, &[1, 255, 0, 0, 0, 0, 0, 0])),
+    fault("third byte of an entry", |b| put(b, 8, &[1, 24, 1, 0, 10, 0, 0, 0])),
+    fault("fourth byte of an entry", |b| put(b, 8, &[1, 24, 0, 1, 10, 0, 0, 0])),
+    fault("a bit just past length 23", |b| put(b, 464, &[1, 23, 0, 0, 10, 0, 1, 0])),
+    fault("the last bit past length 31", |b| put(b, 0, &[1, 31, 0, 0, 10, 0, 0, 1])),
+    fault("a bit past length 0", |b| put(b, 8, &[1, 0, 0, 0, 128, 0, 0, 0])),
+    fault("an entry of bytes 255", |b| put(b, 464, &[255; 8])),
+];
+
 /// Applies a fault to a block and seals the block again.
 pub fn apply(image: &mut [u8], block: usize, fault: &FieldFault) {
     (fault.apply)(&mut image[block * BLOCK_SIZE..][..BLOCK_SIZE]);
@@ -233,8 +251,9 @@ pub fn apply(image: &mut [u8], block: usize, fault: &FieldFault) {
 pub fn image(random: &mut Random, stored: &Stored) -> Vec<u8> {
     let dead = random.u8();
     let mut image = stored.image(dead);
+    let random_further = random.pick(&FURTHER);
     match random.below(100) {
-        0..=1 => image.truncate(random.pick(&[0, 1, 511, 512, 33_280, 33_791])),
+        0..=1 => image.truncate(random.pick(&[0, 1, 511, 512, 33_280, 33_792, 34_815])),
         2 => image.extend(vec![0; random.pick(&[1, 512])]),
         3..=5 => flip(random, &mut image, 0),
         6..=8 if !stored.queue.is_empty() => {
@@ -254,11 +273,12 @@ pub fn image(random: &mut Random, stored: &Stored) -> Vec<u8> {
             image[23] = random.u8();
             seal(&mut image, 0);
         }
-        19 => flip(random, &mut image, REQUEST_BLOCK),
-        20 => apply(&mut image, REQUEST_BLOCK, &random.pick(ZERO_FAULTS)),
+        19 => flip(random, &mut image, random_further),
+        20 => apply(&mut image, random_further, &random.pick(ZERO_FAULTS)),
         21..=22 => repeat_id(random, stored, &mut image),
-        23 => spoil_byte(random, &mut image, REQUEST_BLOCK),
+        23 => spoil_byte(random, &mut image, random_further),
         24 => apply(&mut image, 0, &random.pick(SECONDS_FAULTS)),
+        25..=26 => spoil_entry(random, stored, &mut image),
         _ => {}
     }
     image
@@ -276,6 +296,19 @@ fn repeat_id(random: &mut Random, stored: &Stored, image: &mut [u8]) {
     let (from, to) = (4 * place(), 4 * place());
     image[REQUEST_BLOCK * BLOCK_SIZE..].copy_within(from..from + 4, to);
     seal(image, REQUEST_BLOCK);
+}
+
+/// Changes one byte of an entry, mostly of one that counts, and seals its block again.
+fn spoil_entry(random: &mut Random, stored: &Stored, image: &mut [u8]) {
+    let counts = |place: &usize| word_lists_label(stored.labels[*place]);
+    let counting: Vec<usize> = (0..stored.labels.len()).filter(counts).collect();
+    let place = match random.below(10) {
+        0..=7 if !counting.is_empty() => random.pick(&counting),
+        _ => random.below(ENTRY_PLACES),
+    };
+    let byte = random.below(8);
+    image[entry_at(place) + byte] = random.pick(&[0, 1, 2, 32, 33, 64, 255]);
+    INDEX_BLOCKS.into_iter().for_each(|block| seal(image, block));
 }
 
 /// Flips one bit of a block, its check included.

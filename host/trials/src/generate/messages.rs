@@ -1,10 +1,10 @@
 //! Messages of every type, good and bad, about the labels and numbers of a given state.
 
 use super::inits::{ft_session, init};
-use super::{malformed, states};
+use super::{fecs, malformed, states};
 use crate::random::Random;
 use crate::stored::{steps_after, Queued, Stored, NO_LABEL};
-use crate::wire::{prefix, tlvs, types, Message, NO_RESOURCES, RESOURCES_AVAILABLE, WILDCARD};
+use crate::wire::{tlvs, types, Message, NO_RESOURCES, RESOURCES_AVAILABLE};
 
 const TYPES: [u16; 10] = [
     types::NOTIFICATION,
@@ -69,16 +69,6 @@ fn codes_for(random: &mut Random, message_type: u16, sending: bool) -> &'static 
     }
 }
 
-fn fec(random: &mut Random) -> Vec<u8> {
-    match random.below(12) {
-        0 => Vec::new(),
-        1 => vec![2],
-        2 => vec![1, 1],
-        3..=5 => WILDCARD.to_vec(),
-        _ => prefix(random.u16()).to_vec(),
-    }
-}
-
 /// A message ID: mostly of a Request that the state has open, or of one that it had, 0, or any.
 fn id(random: &mut Random, stored: &Stored) -> u32 {
     let open = stored.open_requests();
@@ -117,15 +107,14 @@ fn body(random: &mut Random, stored: &Stored, message_type: u16, sending: bool) 
         types::MAPPING | types::WITHDRAW | types::RELEASE => {
             let codes = codes_for(random, message_type, sending);
             let label = label(random, stored, codes);
-            let message = message.fec(&fec(random));
             let named = message_type == types::MAPPING || random.percent(if sending { 90 } else { 60 });
             if named {
-                message.label(label)
+                message.fec(&fecs::of_state(random, stored, Some(label))).label(label)
             } else {
-                message
+                message.fec(&fecs::of_state(random, stored, None))
             }
         }
-        types::REQUEST | types::ABORT => message.fec(&fec(random)),
+        types::REQUEST | types::ABORT => message.fec(&fecs::any(random)),
         _ => message,
     }
 }
@@ -140,7 +129,7 @@ pub fn queued(random: &mut Random, stored: &Stored) -> Queued {
         1..=3 => {
             let code: &[u32] = [&[1][..], &[2, 9], &[5]][usize::from(kind) - 1];
             label = self::label(random, stored, code);
-            message = message.fec(&fec(random)).label(label);
+            message = message.fec(&fecs::of_state(random, stored, Some(label))).label(label);
         }
         6 => message = message.status_of(random.pick(&AVAILABLE), id(random, stored)),
         9 => message = message.status_of(random.pick(&NONE_LEFT), id(random, stored)),
@@ -206,6 +195,9 @@ fn ft_tlv_at_random(random: &mut Random, message: Message) -> Message {
 
 /// A message for receive: protected or not, in turn or not, with an ACK that is right or not.
 pub fn received(random: &mut Random, stored: &Stored) -> Vec<u8> {
+    if random.percent(15) {
+        return by_fec(random, stored);
+    }
     let message_type = if random.percent(80) { random.pick(&QUEUED) } else { any_type(random) };
     let mut message = body(random, stored, message_type, false);
     if random.percent(70) {
@@ -223,8 +215,28 @@ pub fn received(random: &mut Random, stored: &Stored) -> Vec<u8> {
     finished(random, message)
 }
 
-/// The number that is due in most cases; of a peer that leaves out messages, one of those after it, near the end of them
-/// at times; or another.
+/// A message in turn that does something by its FEC: a Mapping of a label that the peer gave, mostly with another FEC
+/// than it has, or a Withdraw or Release of a prefix; with the protection that the label wants, in most cases.
+fn by_fec(random: &mut Random, stored: &Stored) -> Vec<u8> {
+    let theirs: Vec<u32> = stored.labels.iter().copied().filter(|word| (3..=6).contains(&(word >> 20))).collect();
+    let id = id(random, stored);
+    let (message, unprotected) = if theirs.is_empty() || random.percent(40) {
+        let message_type = random.pick(&[types::WITHDRAW, types::RELEASE]);
+        (Message::new(message_type, 1).fec(&fecs::of_state(random, stored, None)), random.percent(30))
+    } else {
+        let word = random.pick(&theirs);
+        let message = Message::new(types::MAPPING, 1).fec(&fecs::any(random)).label(word & 0xF_FFFF);
+        let answers = random.percent(50);
+        (if answers { message.request_id(id) } else { message }, word >> 20 == 6)
+    };
+    let number = steps_after(stored.secured, 1);
+    let message = if unprotected == random.percent(95) { message } else { message.protection(number) };
+    let message = if random.percent(30) { message.ack(ack(random, stored)) } else { message };
+    finished(random, message)
+}
+
+/// The number that is due in most cases; of a peer that leaves out messages, one of those after it, near the end of
+/// them at times; or another.
 fn protection(random: &mut Random, stored: &Stored) -> u32 {
     match random.below(20) {
         0 => 0,

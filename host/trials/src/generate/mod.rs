@@ -2,6 +2,7 @@
 
 pub mod calls;
 pub mod damage;
+pub mod fecs;
 pub mod inits;
 pub mod malformed;
 pub mod messages;

@@ -1,6 +1,6 @@
 //! Stored states that pass every check: numbers near wrap-around, empty and full rings, empty and full label lists.
 
-use super::{messages, pairs};
+use super::{fecs, messages, pairs};
 use crate::random::Random;
 use crate::stored::{steps_after, word, Stored, Version, ID_PLACES, PLACES, REQUEST, STOPPED, STOPPING};
 use std::collections::HashSet;
@@ -92,7 +92,8 @@ pub fn earlier(random: &mut Random) -> Stored {
 fn of_version(random: &mut Random, version: Version, timeout: u32) -> Stored {
     if random.percent(15) {
         let labels = vec![0; version.places()];
-        return Stored { version, labels, ids: left_over(random), ..Stored::idle() };
+        let entries = fecs::entries(random, &labels);
+        return Stored { version, labels, ids: left_over(random), entries, ..Stored::idle() };
     }
     let held = random.pick(&HELD);
     let numbered = match random.below(3) {
@@ -103,6 +104,7 @@ fn of_version(random: &mut Random, version: Version, timeout: u32) -> Stored {
     let released = number(random);
     let mut labels = label_list(random, version.places());
     let ids = open_requests(random, &mut labels);
+    let entries = fecs::entries(random, &labels);
     let mut stored = Stored {
         version,
         released,
@@ -116,6 +118,7 @@ fn of_version(random: &mut Random, version: Version, timeout: u32) -> Stored {
         max_pdu_length: random.pick(&[0, 4096, 65_535]),
         labels,
         ids,
+        entries,
         queue: Vec::new(),
     };
     stored.queue = if random.percent(35) {

@@ -55,7 +55,7 @@ pub enum Fault {
     KeepsOldTimeout,
     /// A sum of 65,535 counts as 0.
     TakesBothZeros,
-    /// Submit does not say that block 65 changed.
+    /// Submit does not say that a further block changed.
     HidesFurther,
     /// A Request's ID is not put beside its word.
     LeavesIds,
@@ -197,9 +197,61 @@ pub enum Fault {
     ConvertsBlock0Alone,
     /// The converter does not say how much it wrote.
     TellsNoLength,
+    /// Submit and Receive do not say that a block of the index changed.
+    HidesIndex,
+    /// Block 66 is named where block 67 changed.
+    NamesBlock66ForAll,
+    /// The entry of a FEC is not put beside the word that its label takes.
+    LeavesEntries,
+    /// The entry of a label whose word is freed is made zeros.
+    WipesEntries,
+    /// Bits past the length are stored.
+    KeepsBitsPastLength,
+    /// A length above 32 counts as 32.
+    TakesLength33,
+    /// A byte behind the element is passed over.
+    TakesByteBehind,
+    /// A prefix without a label acts on every label.
+    PrefixIsEvery,
+    /// A prefix without a label acts on none.
+    PrefixIsNone,
+    /// A prefix without a label and without protection is taken, and acts on none.
+    PrefixNeedsNoProtection,
+    /// A Mapping with another entry leaves the label where it is, with the entry that it has.
+    KeepsOldEntry,
+    /// A received Mapping moves nothing where our own label of that number has its entry.
+    ComparesOurSide,
+    /// A Mapping with another entry changes the entry of the word that its label has.
+    WritesEntryInPlace,
+    /// A label that moves keeps the word that it had too.
+    LeavesOldWord,
+    /// A Mapping of a label that is given is queued with another FEC, as one with its own.
+    SubmitsOtherEntry,
+    /// A Mapping takes a word that its own ACK has freed.
+    TakesWordFreedByAck,
+    /// What is no entry is refused, whether or not it counts.
+    CountsAllEntries,
+    /// The entry that has no word counts.
+    CountsDeadEntry,
+    /// The blocks of the index are not looked at where nothing is kept.
+    SkipsIndexOfIdle,
+    /// Bytes after the entries may be anything.
+    SkipsZerosAfterEntries,
+    /// Entries may be anything.
+    SkipsEntries,
+    /// The entry beside a word that lists no label is shown.
+    ShowsFreeEntry,
+    /// The first byte of a prefix is shown as the lowest.
+    ShowsPrefixReversed,
+    /// A prefix of length 0 is shown as none.
+    ShowsNoLength0,
+    /// An image without the index is not extended.
+    ExtendsBaseAlone,
+    /// An extension names block 65 alone.
+    ExtensionNamesBlock65,
 }
 
-pub const ALL: [Fault; 97] = [
+pub const ALL: [Fault; 123] = [
     Fault::FreesOnWithdraw,
     Fault::WrapsToZero,
     Fault::ZeroTimeoutIsNoWait,
@@ -297,4 +349,30 @@ pub const ALL: [Fault; 97] = [
     Fault::FillsShortOutput,
     Fault::ConvertsBlock0Alone,
     Fault::TellsNoLength,
+    Fault::HidesIndex,
+    Fault::NamesBlock66ForAll,
+    Fault::LeavesEntries,
+    Fault::WipesEntries,
+    Fault::KeepsBitsPastLength,
+    Fault::TakesLength33,
+    Fault::TakesByteBehind,
+    Fault::PrefixIsEvery,
+    Fault::PrefixIsNone,
+    Fault::PrefixNeedsNoProtection,
+    Fault::KeepsOldEntry,
+    Fault::ComparesOurSide,
+    Fault::WritesEntryInPlace,
+    Fault::LeavesOldWord,
+    Fault::SubmitsOtherEntry,
+    Fault::TakesWordFreedByAck,
+    Fault::CountsAllEntries,
+    Fault::CountsDeadEntry,
+    Fault::SkipsIndexOfIdle,
+    Fault::SkipsZerosAfterEntries,
+    Fault::SkipsEntries,
+    Fault::ShowsFreeEntry,
+    Fault::ShowsPrefixReversed,
+    Fault::ShowsNoLength0,
+    Fault::ExtendsBaseAlone,
+    Fault::ExtensionNamesBlock65,
 ];

@@ -2,6 +2,7 @@
 
 mod convert;
 mod faults;
+mod index;
 mod left_out;
 mod published;
 mod reading;
@@ -10,8 +11,8 @@ mod requests;
 pub use faults::{Fault, ALL};
 
 use cabinet::{
-    phase, Cabinet, Converted, Distance, Extended, Message, Next, Opening, Outcome, Part, Pdu, Request, Session,
-    Summary, Words, IMAGE_SIZE_WITHOUT_REQUESTS, REQUEST_BLOCK,
+    phase, Cabinet, Converted, Distance, Extended, Message, Next, Opening, Outcome, Part, Pdu, Prefix, Request,
+    Session, Summary, Words, REQUEST_BLOCK,
 };
 use model::Model;
 use trials::stored::{seal, steps_after, u32_at, word, Stored, Version, PLACES};
@@ -24,6 +25,16 @@ pub struct Planted(pub Fault);
 fn put(image: &mut [u8], at: usize, bytes: &[u8]) {
     image[at..at + bytes.len()].copy_from_slice(bytes);
     seal(image, 0);
+}
+
+/// A message with another TLV in place of one of its own.
+fn replaced(msg: &[u8], tlv: &[u8], tlv_type: u16, value: &[u8]) -> Vec<u8> {
+    let at = tlv.as_ptr() as usize - msg.as_ptr() as usize;
+    let length = (value.len() as u16).to_be_bytes();
+    let mut new = [&msg[..at], &tlv_type.to_be_bytes(), &length, value, &msg[at + tlv.len()..]].concat();
+    let whole = (new.len() - 4) as u16;
+    new[2..4].copy_from_slice(&whole.to_be_bytes());
+    new
 }
 
 /// Where a label word stands in block 0.
@@ -164,9 +175,10 @@ impl Cabinet for Planted {
 
     fn submit(&self, image: &mut [u8], session: Session, msg: &[u8]) -> Outcome {
         let before = image.to_vec();
-        let mut outcome = Model.submit(image, session, msg);
+        let mut outcome = self.submit_other_entry(image, session, msg);
         if outcome.answer == 0 {
             self.after_submission(&before, image, session, &mut outcome);
+            self.wrong_entry(&before, image, msg, &mut outcome);
         }
         self.wrong_submission(&before, image, session, msg, &mut outcome);
         outcome
@@ -204,10 +216,13 @@ impl Cabinet for Planted {
         let before = image.to_vec();
         let all = self.acknowledged_as_all(image, msg);
         let msg = if self.0 == Fault::ZeroAckIsAll { &all } else { msg };
-        let mut outcome = self.wrong_turn(image, session, &self.read_wrongly(msg));
+        let read = self.fec_read_wrongly(image, &self.read_wrongly(msg));
+        let after_ack = self.receive_after_ack(image, session, msg);
+        let mut outcome = after_ack.unwrap_or_else(|| self.wrong_turn(image, session, &read));
         let accepted = outcome.answer == 0 && session.phase == phase::UP_FT;
         if accepted {
             self.wrong_reception(&before, image, &mut outcome);
+            self.wrong_entry(&before, image, msg, &mut outcome);
         }
         match self.0 {
             Fault::HidesBlock0 if accepted => outcome.block0 = 0,
@@ -284,6 +299,10 @@ impl Cabinet for Planted {
         request
     }
 
+    fn prefix_at(&self, image: &[u8], place: u32) -> Prefix {
+        self.wrong_prefix(image, place)
+    }
+
     fn summarize(&self, image: &[u8]) -> Summary {
         self.wrong_summary(image)
     }
@@ -297,8 +316,7 @@ impl Cabinet for Planted {
     }
 
     fn extend(&self, image: &mut [u8], stored_len: usize) -> Extended {
-        let any = self.0 == Fault::ExtendsAnySize && stored_len.is_multiple_of(512);
-        Model.extend(image, if any { IMAGE_SIZE_WITHOUT_REQUESTS } else { stored_len })
+        self.wrong_extension(image, stored_len)
     }
 
     fn convert_forward(&self, image: &[u8], out: &mut [u8]) -> Converted {

@@ -1,6 +1,6 @@
 //! What the faults about the two forms of FT Session, and about version 2, do wrong.
 
-use super::{put, Fault, Planted};
+use super::{put, replaced, Fault, Planted};
 use cabinet::{Cabinet, Opening, Outcome, Session, IMAGE_SIZE};
 use model::Model;
 use trials::stored::{seal, Stored, Version};
@@ -78,14 +78,4 @@ impl Planted {
             _ => {}
         }
     }
-}
-
-/// A message with another TLV in place of one of its own.
-fn replaced(msg: &[u8], tlv: &[u8], tlv_type: u16, value: &[u8]) -> Vec<u8> {
-    let at = tlv.as_ptr() as usize - msg.as_ptr() as usize;
-    let length = (value.len() as u16).to_be_bytes();
-    let mut new = [&msg[..at], &tlv_type.to_be_bytes(), &length, value, &msg[at + tlv.len()..]].concat();
-    let whole = (new.len() - 4) as u16;
-    new[2..4].copy_from_slice(&whole.to_be_bytes());
-    new
 }

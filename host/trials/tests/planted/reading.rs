@@ -51,6 +51,7 @@ impl Planted {
                 self.take_block0(image, &mut outcome);
             }
             _ if outcome.block as usize == REQUEST_BLOCK => self.wrong_refusal(image, &mut outcome),
+            _ if image.len() == IMAGE_SIZE => self.wrong_index(image, &mut outcome),
             _ => {}
         }
         outcome

@@ -45,7 +45,7 @@ fn wipe_id(before: &[u8], image: &mut [u8], outcome: &mut Outcome) {
     let block = REQUEST_BLOCK * BLOCK_SIZE;
     image[block + 4 * place..][..4].fill(0);
     seal(image, REQUEST_BLOCK);
-    outcome.further = u32::from(image[block..] != before[block..]);
+    outcome.further |= u32::from(image[block..][..BLOCK_SIZE] != before[block..][..BLOCK_SIZE]);
 }
 
 impl Planted {
@@ -55,7 +55,7 @@ impl Planted {
         let asks = accepted && wire::message_type(msg) == types::REQUEST;
         match self.0 {
             Fault::HidesFurther => outcome.further = 0,
-            Fault::LeavesIds if outcome.further != 0 => {
+            Fault::LeavesIds if outcome.further == further::REQUESTS => {
                 image[REQUEST_BLOCK * BLOCK_SIZE..].copy_from_slice(&before[REQUEST_BLOCK * BLOCK_SIZE..]);
                 outcome.further = 0;
             }
@@ -131,8 +131,8 @@ impl Planted {
         let mut mended = image.to_vec();
         let block = REQUEST_BLOCK * BLOCK_SIZE;
         match self.0 {
-            Fault::SkipsIdsOfIdle if image[22] == 0 => mended[block..].fill(0),
-            Fault::SkipsZerosAfterIds if outcome.answer == 11 => mended[block + 480..].fill(0),
+            Fault::SkipsIdsOfIdle if image[22] == 0 => mended[block..][..BLOCK_SIZE].fill(0),
+            Fault::SkipsZerosAfterIds if outcome.answer == 11 => mended[block + 480..block + 508].fill(0),
             _ => return,
         }
         seal(&mut mended, REQUEST_BLOCK);

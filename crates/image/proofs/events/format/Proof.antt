@@ -11,7 +11,7 @@ returns-2 : tie.Need-returns-2
 returns-2 c =
     format-done _ (c .before .before .before .before .before .before .before .before .before .before .before .before .if1 .left)
     (c .before .before .before .before .before .before .before .before .before .before .zero-to .ensures)
-    (c .before .before .before .before .before .before .clear-ids .ensures) (c .before .before .release .ensures)
+    (c .before .before .before .before .before .before .clear-from .ensures) (c .before .before .release .ensures)
 
 pub format-spec : {M : Type 1} → statement M
 format-spec =

@@ -1,7 +1,8 @@
 use native.Mathlib.Omega.{arith}
+use lib.ListN.{length-set}
 use borrow.Author.Needs.{needs}
 use Rattle.label_events.specs.Change.{changed}
-use Rattle.label_events.proofs.Written.{change-place}
+use Rattle.label_events.proofs.Written.{change-place, move-places}
 use Rattle.label_events.proofs.changing.make_change.Statement.{statement}
 use Rattle.label_events.proofs.changing.make_change.Tie as tie
 
@@ -14,8 +15,15 @@ make-change-spec =
     (λ c. omega (arith, change-place _ _ _ _ (c .before .before .before .pre) (c .before .change .given .1)))
     (λ c. change-place _ _ _ _ (c .before .before .before .pre) (c .before .change .given .1))
     (λ c. search needs)
+    (λ c. omega (arith, move-places _ _ _ _ _ (c .before .before .before .pre) (c .before .change2 .given .1) .0))
+    (λ c. move-places _ _ _ _ _ (c .before .before .before .pre) (c .before .change2 .given .1) .0)
+    (λ c. omega (arith, move-places _ _ _ _ _ (c .before .before .before .pre) (c .before .change2 .given .1) .1))
+    (λ c. simp length-set (move-places _ _ _ _ _ (c .before .before .before .pre) (c .before .change2 .given .1) .1))
+    (λ c. search needs)
     (λ c. rw (c .enum-told .given .1))
     (λ c. search needs)
     (λ c. rw (c .before .change .given .1))
+    (λ c. search needs)
+    (λ c. rw (c .before .change2 .given .1))
     (λ c. rw (c .enum-told2 .given .1)) in
     tie.close answers

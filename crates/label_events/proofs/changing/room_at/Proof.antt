@@ -12,13 +12,13 @@ room-at-spec =
     (λ c. search needs)
     (λ c. search needs)
     (λ c. search needs)
-    (λ c. room-here _ _ (c .before .before .before .before .request .given .1) (c .if2 .taken))
+    (λ c. room-here _ _ (c .before .before .before .before .request .given .1) (c .if2 .taken) _)
     (λ c κs. tt)
     (λ c. search needs)
     (λ c κs. tt)
-    (λ c. c .find .ensures ∙ ⊎-elim
-    (λ w. room-free _ _ (c .before .before .before .request .given .1) (w .2 .left))
-    (λ w. room-past _ _ (c .before .before .before .request .given .1) (omega arith))
+    (λ c. c .where-free .ensures ∙ ⊎-elim
+    (λ w. room-free _ _ (c .before .before .before .request .given .1) (w .2 .left) _)
+    (λ w. room-past _ _ (c .before .before .before .request .given .1) (omega arith) _)
     (c .before .if1 .came))
-    (λ c. c .find2 .ensures ∙ room-nowhere _ (c .before .enum-told .given .1)) in
+    (λ c. c .where-free2 .ensures ∙ room-nowhere _ (c .before .enum-told .given .1) _) in
     tie.close answers

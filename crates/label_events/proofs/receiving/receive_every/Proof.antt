@@ -1,10 +1,11 @@
 use borrow.Author.Needs.{needs}
+use Rattle.label_list.specs.Sweep.{wordReached}
 use Rattle.label_events.specs.Receive.{everyReceived}
 use Rattle.label_events.proofs.receiving.receive_every.Statement.{statement}
 use Rattle.label_events.proofs.receiving.receive_every.Tie as tie
 
 pub receive-every-spec : {M : Type 1} → statement M
-unfolding everyReceived
+unfolding everyReceived wordReached
 receive-every-spec =
     let answers = tie.spec
     (λ c. search needs)

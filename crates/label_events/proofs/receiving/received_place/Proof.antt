@@ -12,7 +12,9 @@ received-place-spec =
     (λ c κs. tt)
     (λ c. search needs)
     (λ c. search needs)
+    (λ c. search needs)
     (λ c. rw (c .before .before .before .touched .given .1, ← c .before .received-side .ensures) (c .find-label .ensures))
     (λ c. rw (c .enum-told .given .1))
-    (λ c. rw (c .enum-told2 .given .1)) in
+    (λ c. rw (c .enum-told2 .given .1))
+    (λ c. rw (c .enum-told3 .given .1)) in
     tie.close answers

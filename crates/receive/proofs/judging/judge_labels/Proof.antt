@@ -1,6 +1,7 @@
-use mathlib.Core.Path.{refl}
+use mathlib.Core.Bool.{false≢true}
+use mathlib.Core.Path.{ap, sym, _∙_}
 use borrow.Author.Needs.{needs}
-use Rattle.receive.proofs.Judged.{labels-protection, labels-out, labels-zero, labels-reception}
+use Rattle.receive.specs.Words.{asksEntries}
 use Rattle.receive.proofs.judging.judge_labels.Statement.{statement}
 use Rattle.receive.proofs.judging.judge_labels.Tie as tie
 
@@ -9,28 +10,11 @@ judge-labels-spec =
     let answers = tie.spec
     (λ c κs. search needs)
     (λ c κs. search needs)
-    (λ c κs. rw (← c .before .before .before .label-effect .ensures) (c .before .effect-place .ensures))
+    (λ c κs. (c .before .before .before .before .before .before .pre .0, c .before .before .before .before .before .before .pre .1, c .before .before .before .label-effect .ensures, c .before .before .before .before .before .before .pre .2))
     (λ c. search needs)
+    (λ c. c .before .before .judge-prefix .ensures)
     (λ c. search needs)
-    (λ c. labels-protection _ _ _ (c .before .before .judge-protection .ensures) refl (c .enum-told .given .1))
+    (λ c κs. (c .before .before .before .before .before .before .before .pre .0, c .before .before .before .before .before .before .before .pre .1, c .before .before .before .before .label-effect .ensures, c .before .before .before .before .before .before .before .pre .2, λ y. absurd (false≢true (sym (c .before .before .if1 .left) ∙ c .before .before .before .asks-entries .ensures ∙ ap asksEntries (c .before .before .before .before .label-effect .ensures) ∙ y))))
     (λ c. search needs)
-    (λ c. search needs)
-    (λ c. labels-protection _ _ _ (c .before .before .judge-protection .ensures) refl (c .enum-told2 .given .1))
-    (λ c. search needs)
-    (λ c. search needs)
-    (λ c. search needs)
-    (λ c. labels-out _ _ _ (c .before .before .before .before .judge-protection .ensures) (c .before .before .enum-told3 .given .1) (c .enum-told4 .given .1))
-    (λ c. search needs)
-    (λ c. search needs)
-    (λ c. labels-zero _ _ _ (c .before .before .before .before .judge-protection .ensures) (c .before .before .enum-told3 .given .1) (c .enum-told5 .given .1))
-    (λ c. search needs)
-    (λ c κs. search needs)
-    (λ c κs. search needs)
-    (λ c κs. c .before .before .before .before .before .before .before .before .before .before .effect-place .ensures)
-    (λ c. search needs)
-    (λ c. search needs)
-    (λ c. search needs)
-    (λ c. labels-reception _ _ _ (c .before .before .before .before .before .before .before .before .before .before .before .before .before .judge-protection .ensures) (c .before .before .before .before .before .before .before .before .before .before .before .enum-told3 .given .1) (c .before .before .before .before .before .before .before .before .before .enum-told6 .given .1) (c .before .before .before .before .before .is-protected .ensures) (c .before .before .before .before .before .before .before .before .before .before .before .before .before .before .before .before .before .label-effect .ensures) (c .before .before .before .before .before .before .before .answered-place .ensures) (c .before .before .before .before .change-labels .ensures) (c .enum-told7 .given .1))
-    (λ c. search needs)
-    (λ c. labels-reception _ _ _ (c .before .before .before .before .before .before .before .before .before .before .before .before .before .judge-protection .ensures) (c .before .before .before .before .before .before .before .before .before .before .before .enum-told3 .given .1) (c .before .before .before .before .before .before .before .before .before .enum-told6 .given .1) (c .before .before .before .before .before .is-protected .ensures) (c .before .before .before .before .before .before .before .before .before .before .before .before .before .before .before .before .before .label-effect .ensures) (c .before .before .before .before .before .before .before .answered-place .ensures) (c .before .before .before .before .change-labels .ensures) (c .enum-told8 .given .1)) in
+    (λ c. c .before .before .judge-beside .ensures) in
     tie.close answers

@@ -7,7 +7,7 @@ judge-effect-spec =
     let answers = tie.spec
     (λ c. search needs)
     (λ c. search needs)
-    (λ c κs. rw (c .before .effect .given .1) at (c .before .before .before .before .pre))
+    (λ c κs. rw (c .before .effect .given .1) at (c .before .before .before .before .before .pre))
     (λ c. search needs)
     (λ c. rw (c .before .before .effect .given .1) (c .judge-protection .ensures)) in
     tie.close answers

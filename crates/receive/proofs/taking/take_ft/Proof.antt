@@ -1,5 +1,5 @@
 use borrow.Author.Needs.{needs}
-use Rattle.receive.proofs.Taken.{count-read, take-is}
+use Rattle.receive.proofs.Taken.{takes-inside, still-taken, still-header, still-count, take-is}
 use Rattle.receive.proofs.taking.take_ft.Statement.{statement}
 use Rattle.receive.proofs.taking.take_ft.Tie as tie
 
@@ -9,9 +9,11 @@ take-ft-spec =
     (λ c κs. search needs)
     (λ c κs. search needs)
     (λ c κs. search needs)
-    (λ c κs. (c .before .before .before .before .before .before .before .pre, c .before .before .before .header-of .ensures, count-read _ _ (c .before .before .before .header-of .ensures) (c .before .before .ack-count .ensures)))
+    (λ c κs. search needs)
+    (λ c κs. (c .before .before .before .before .before .before .before .before .pre .0 .sound .size, takes-inside _ _ _ (c .before .before .before .before .before .before .before .before .pre .0) (c .before .before .before .before .before .before .before .before .pre .1)))
+    (λ c κs. (still-taken _ _ _ (c .before .before .before .before .before .before .before .before .before .before .before .before .pre .0) (c .before .before .before .before .before .before .before .before .before .before .before .before .pre .1) (c .before .before .before .before .entry-by .ensures) (c .before .before .before .store-taken .ensures .0), still-header _ _ _ (c .before .before .before .before .before .before .before .before .before .before .before .before .pre .0) (c .before .before .before .before .before .before .before .before .before .before .before .before .pre .1) (c .before .before .before .before .entry-by .ensures) (c .before .before .before .store-taken .ensures .0) (c .before .before .before .before .before .before .before .before .header-of .ensures), still-count _ _ _ (c .before .before .before .before .before .before .before .before .before .before .before .before .pre .0) (c .before .before .before .before .before .before .before .before .before .before .before .before .pre .1) (c .before .before .before .before .entry-by .ensures) (c .before .before .before .store-taken .ensures .0) (c .before .before .before .before .before .before .before .before .header-of .ensures) (c .before .before .before .before .before .before .before .ack-count .ensures)))
     (λ c κs. search needs)
     (λ c κs. search needs)
     (λ c. search needs)
-    (λ c. take-is _ _ _ (c .before .before .before .before .before .before .before .before .before .before .before .before .pre .sound .size) (c .before .before .before .before .before .before .before .before .header-of .ensures) (c .before .before .before .before .before .before .before .ack-count .ensures) (c .before .before .before .before .before .before .turn-borne .ensures) (c .before .before .before .before .store-taken .ensures) (c .before .lowered .ensures) (c .turn-gap .ensures)) in
+    (λ c. take-is _ _ _ (c .before .before .before .before .before .before .before .before .before .before .before .before .before .before .before .before .before .pre .0) (c .before .before .before .before .before .before .before .before .before .before .before .before .before .before .before .before .before .pre .1) (c .before .before .before .before .before .before .before .before .before .entry-by .ensures) (c .before .before .before .before .before .before .before .before .store-taken .ensures .0) _ (λ k. c .before .before .before .before .before .before .before .before .before .before .before .before .before .before .before .before .slice-known .given k .fits) (c .before .before .before .before .before .before .before .before .before .before .before .before .before .before .before .before .before .pre .2) (c .before .before .before .before .before .before .before .before .before .before .before .before .before .header-of .ensures) (c .before .before .before .before .before .before .before .before .before .before .before .before .ack-count .ensures) (c .before .before .before .before .before .before .before .before .before .before .before .turn-borne .ensures) (c .before .before .before .before .before .before .before .before .store-taken .ensures .1) (c .before .before .before .before .store-zeroth .ensures) (c .before .lowered .ensures) (c .turn-gap .ensures)) in
     tie.close answers

@@ -12,6 +12,8 @@ store-request-spec =
     (λ c. search needs)
     (λ c. search needs)
     (λ c. search needs)
+    (λ c. search needs)
     (λ c. rw (c .before .before .before .before .before .change .given .1) (c .before .before .store-id .ensures))
+    (λ c. search needs)
     (λ c. search needs) in
     tie.close answers

@@ -1,8 +1,9 @@
 //! What is measured: every call at 0, 8 and 64 held, short messages and long ones, label list empty and nearly full.
 
-use cabinet::{phase, Opening, Session, IMAGE_SIZE, PLACES};
+use cabinet::{phase, Opening, Session, FURTHER, IMAGE_SIZE, PLACES};
 use trials::calls::Call;
 use trials::coverage::ANSWERS;
+use trials::entries::{entry, fec};
 use trials::stored::{word, Queued, Stored, Version, NO_LABEL, REQUEST};
 use trials::wire::{self, prefix, types, Message};
 
@@ -106,6 +107,8 @@ pub fn all() -> Vec<Case> {
         cases.extend(about_requests(Fill { held, length: 0, listed: 0, open: OPEN }));
     }
     cases.extend(leaving_out());
+    cases.extend(with_prefixes());
+    cases.extend(by_prefix());
     cases.extend(pure());
     cases.sort_by_key(|case| order(&case.call));
     cases
@@ -119,7 +122,7 @@ fn order(call: &Call) -> usize {
 fn case(fill: Fill, about: &'static str, call: Call) -> Case {
     let must_read = match call {
         Call::ConvertForward { .. } | Call::ConvertBack { .. } => IMAGE_SIZE,
-        _ => 512 * (2 + fill.held) + call.input().len(),
+        _ => 512 * (1 + fill.held + FURTHER.len()) + call.input().len(),
     };
     let image = fill.stored().image(0);
     Case { call, image, held: Some(fill.held), messages: fill.messages(), labels: fill.labels(), about, must_read }
@@ -206,8 +209,8 @@ fn about_requests(fill: Fill) -> Vec<Case> {
     ]
 }
 
-/// Send next of a store full of Requests, or of half as many with their Aborts behind them, in the same order or the other
-/// way round; and a message after as many as can be left out.
+/// Send next of a store full of Requests, or of half as many with their Aborts behind them, in the same order or the
+/// other way round; and a message after as many as can be left out.
 fn leaving_out() -> Vec<Case> {
     let fill = Fill { held: 64, length: 0, listed: 0, open: 0 };
     let request = |id: u32| Queued { kind: 7, label: NO_LABEL, bytes: asking(types::REQUEST, id).bytes() };
@@ -227,6 +230,60 @@ fn leaving_out() -> Vec<Case> {
     ]
 }
 
+/// The prefix of some of the labels, and that of all others.
+const PREFIX: u32 = 0x0A00_0000;
+const OTHER_PREFIX: u32 = 0x0B00_0000;
+
+/// The peer's labels from the first word on, each with a prefix; nothing is held, as in a cabinet most of the time.
+fn indexed(listed: usize, of_prefix: usize) -> Stored {
+    let mut stored = Fill { held: 0, length: 0, listed: 0, open: 0 }.stored();
+    stored.entries = std::array::from_fn(|place| entry(8, if place < of_prefix { PREFIX } else { OTHER_PREFIX }));
+    for place in 0..listed {
+        stored.labels[place] = word(5_000 + place as u32, 3);
+    }
+    stored
+}
+
+/// A call on such a list.
+fn on_indexed(about: &'static str, stored: &Stored, call: Call) -> Case {
+    let listed = stored.labels.iter().filter(|word| **word != 0).count();
+    let labels = if listed == PLACES { "119 indexed" } else { "118 indexed" };
+    Case { image: stored.image(0), labels, ..case(Fill { held: 0, length: 0, listed, open: 0 }, about, call) }
+}
+
+/// Calls that judge, write and look for 120 entries.
+fn with_prefixes() -> Vec<Case> {
+    let (up, down) = (Session::new(phase::UP_FT, 0), Session::new(phase::FAILED, 0));
+    let (nearly_full, full) = (indexed(NEARLY_FULL, 0), indexed(PLACES, 0));
+    let new = mapping(900_000);
+    let received = |message: Message| Call::Receive { session: up, msg: message.protection(51).ack(100).bytes() };
+    let moves = || received(Message::new(types::MAPPING, 1).fec(&prefix(9)).label(5_000));
+    vec![
+        on_indexed("", &nearly_full, Call::Restore),
+        on_indexed("Mapping", &nearly_full, Call::Submit { session: down, msg: new.bytes() }),
+        on_indexed("Mapping, protected", &nearly_full, received(new)),
+        on_indexed("Mapping, moves its label", &nearly_full, moves()),
+        on_indexed("Mapping, 21 for a move", &full, moves()),
+        on_indexed("", &nearly_full, Call::PrefixAt { place: 60 }),
+    ]
+}
+
+/// Withdraws of a prefix, with no label, that so many labels have.
+fn by_prefix() -> Vec<Case> {
+    let withdraw = Message::new(types::WITHDRAW, 1).fec(&fec(8, PREFIX)).protection(51).ack(100).bytes();
+    let of = |(count, about)| {
+        let call = Call::Receive { session: Session::new(phase::UP_FT, 0), msg: withdraw.clone() };
+        on_indexed(about, &indexed(NEARLY_FULL, count), call)
+    };
+    let counts = [
+        (0, "Withdraw of a prefix, no label"),
+        (1, "Withdraw of a prefix, 1 label"),
+        (2, "Withdraw of a prefix, 2 labels"),
+        (60, "Withdraw of a prefix, 60 labels"),
+    ];
+    counts.map(of).into()
+}
+
 /// A Request, or an Abort that names none yet.
 fn asking(message_type: u16, id: u32) -> Message {
     Message::new(message_type, id).fec(&prefix(9))
@@ -244,10 +301,11 @@ fn pure() -> Vec<Case> {
     let length = 10 + messages.concat().len();
     messages.push(Message::new(types::KEEPALIVE, 1).padded_to(4_000 - length).bytes());
     let pdu = wire::pdu(1, &messages);
-    let on_idle = |call| Case { image: Stored::idle().image(0), ..pure_case("", call, 0) };
+    let on_idle = |about, call| Case { image: Stored::idle().image(0), ..pure_case(about, call, 0) };
     vec![
-        on_idle(Call::Format),
-        on_idle(Call::Extend { stored_len: 33_280 }),
+        on_idle("", Call::Format),
+        on_idle("from 33,280 bytes", Call::Extend { stored_len: 33_280 }),
+        on_idle("from 33,792 bytes", Call::Extend { stored_len: 33_792 }),
         pure_case("4,000 bytes, 111 messages", Call::PduOpen { pdu: pdu.clone() }, pdu.len()),
         pure_case("one message", Call::PduMessage { pdu, at: 10 }, 4),
         pure_case("Mapping, short", Call::MessageRead { msg: short.bytes() }, short.length()),

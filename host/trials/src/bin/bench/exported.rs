@@ -1,8 +1,8 @@
 //! A model behind a C boundary like the library's, so that both pay for crossing it.
 
 use cabinet::{
-    Cabinet, Converted, Distance, Extended, Message, Next, Opening, Outcome, Part, Pdu, Request, Session, Summary,
-    Words,
+    Cabinet, Converted, Distance, Extended, Message, Next, Opening, Outcome, Part, Pdu, Prefix, Request, Session,
+    Summary, Words,
 };
 use ldp_ft::abi::*;
 
@@ -52,6 +52,7 @@ exported! {
     block_check(block: &[u8]) -> u32 => u32;
     label(image: &[u8], place: u32) -> u32 => u32;
     request_at(image: &[u8], place: u32) -> ldp_ft_request => Request;
+    prefix_at(image: &[u8], place: u32) -> ldp_ft_prefix => Prefix;
     summarize(image: &[u8]) -> ldp_ft_summary => Summary;
     labels(image: &[u8], words: &mut [u32]) -> ldp_ft_words => Words;
     held(image: &[u8], place: u32) -> ldp_ft_part => Part;

@@ -1,7 +1,7 @@
 //! Timing: the subjects take turns within each round; a round's ratio is of times measured next to each other.
 
 use crate::cases::Case;
-use cabinet::{Cabinet, IMAGE_SIZE, PLACES, REQUEST_BLOCK};
+use cabinet::{Cabinet, IMAGE_SIZE, PLACES};
 use std::hint::black_box;
 use std::time::{Duration, Instant};
 use trials::calls::{invoke, Lent, Returned};
@@ -73,8 +73,7 @@ impl<'a> Bench<'a> {
         let lent = Lent { image: &mut image, input, out: &mut bench.out, words: &mut bench.words };
         let returned = invoke(cabinet, &case.call, lent);
         if let Returned::Outcome(outcome) = returned {
-            bench.changed.extend((outcome.slot > 0).then_some(outcome.slot as usize));
-            bench.changed.extend((outcome.further > 0).then_some(REQUEST_BLOCK));
+            bench.changed.extend(outcome.stores().filter(|block| *block != 0));
         }
         bench
     }

@@ -1,0 +1,4 @@
+pub mod Paired
+pub mod Counted
+pub mod Written
+pub mod Fecs

@@ -1,0 +1,4 @@
+pub mod Written
+pub mod Lent
+pub mod Wide
+pub mod Same
