@@ -51,7 +51,8 @@ def sources(suffixes=(".antt",)):
 def declared():
     """The names that specs/ and proofs/ declare, and those of them that are definitions."""
     names, definitions = set(), set()
-    for path in sources():
+    # (copies of tools/port_edits.py aside)
+    for path in (path for path in sources() if "__zz_" not in path.name):
         for line in path.read_text().split("\n"):
             found = DECLARED.match(line)
             if not found or path.name in PROOF_OF and re.search(r" : (tie|goal)\.| → statement ", line) or line.lstrip().startswith(NO_DECLARATION):
