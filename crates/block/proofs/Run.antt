@@ -35,6 +35,8 @@ get_run-spelled (w ∷ ws) (v ∷ vs) s t at e (one small f) =
     ap (λ (x : List ℕ). get_run ws x (at + w)) (sym (append_assoc s b rest)) ∙ get_run-spelled ws vs (s ++ b) t (at + w) there f in
     ap (λ (x : List ℕ). get_run (w ∷ ws) (s ++ x) at) (append_assoc b (spelled ws vs) t)
     ∙ ap₂ (λ (x : ℕ) (l : List ℕ). x ∷ l) (be_at-spelled w v s rest at e small) tail
+get_run-spelled [] (v ∷ vs) s t at e x4 = elim x4 [ ]
+get_run-spelled (w ∷ ws) [] s t at e x4 = elim x4 [ ]
 
 -- numbers stored one after the other are a run
 abbrev pub put_run : List ℕ → List ℕ → List ℕ → ℕ → List ℕ

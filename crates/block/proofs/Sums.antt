@@ -52,7 +52,7 @@ sums_zeros s (suc k) a b at h z =
 pub sums_lt : (a b : ℕ) (s : List ℕ) → a < 65535 → b < 65535 → sums a b s < 4294967296
 sums_lt a b [] ha hb = rw sums_end (omega arith)
 sums_lt a b (x ∷ []) ha hb = rw sums_odd (omega arith)
-sums_lt a b (x ∷ y ∷ rest) ha hb = rw sums_word (sums_lt _ _ rest (omega arith) (omega arith))
+sums_lt a b (x ∷ y ∷ rest) ha hb = rw sums_word (sums_lt ((a + (x * 256 + y)) % 65535) _ rest (omega arith) (omega arith))
 
 pub check_of-lt : (s : List ℕ) → check_of s < 4294967296
 unfolding check_of

@@ -1,5 +1,6 @@
 // A block of the stored image: 512 bytes, the last four of them the check of the others.
 #![tactic(auto)]
+
 ghost use Rattle.std.specs.Prelude.{◌≤◌, true, ◌≡◌, length, take};
 ghost use Rattle.octets.specs.Part.{part};
 ghost use Rattle.block.specs.Check.{block_size, check_at, check_of, sound, sealed, block_check_of};

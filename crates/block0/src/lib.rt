@@ -1,5 +1,6 @@
 // Block 0 of the stored image: the session's numbers and its label words, in the versions 1 and 2 of the image. Only the converter reads version 1.
 #![tactic(auto)]
+
 ghost use Rattle.std.specs.Prelude.{◌+◌, ◌*◌, ◌≤◌, ◌<◌, ◌≡◌, length, get_or};
 ghost use Rattle.octets.specs.Be.{be_at};
 ghost use Rattle.block.specs.Check.{block_size, check_at};

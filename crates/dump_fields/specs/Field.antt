@@ -1,5 +1,5 @@
 -- A listed TLV as fields of a line: a space, its name, a space, its value; nothing where it does not stand.
--- docs/LDP_DUMP.md: "`fec HEX` (`fec -` where empty), `label N`, `status 0x0000000f`, `params HEX`, `ft_session R SECONDS`, `ft-session-ms R MILLISECONDS`, `ft_protection N`, `ft_ack N`, `request-id N`".
+-- docs/LDP_DUMP.md: "`fec HEX` (`fec -` where empty), `label N`, `status 0x0000000f`, `params HEX`, `ft-session R SECONDS`, `ft-session-ms R MILLISECONDS`, `ft-protection N`, `ft-ack N`, `request-id N`".
 use Rattle.std.specs.Prelude.{ℕ, Bool, List, [], ◌∷◌, ◌++◌}
 use Rattle.octets.specs.Be.{bytes}
 use Rattle.octets.specs.Pick.{pick}

@@ -1,6 +1,7 @@
 // One TLV as a field of a line of ldp_dump's text: each function puts it from `at` on and answers where it ends.
 // Each asks for the room that its field may need, and puts nothing for a TLV that does not stand; only `dump` calls them.
 #![tactic(auto)]
+
 ghost use Rattle.std.specs.Prelude.{◌+◌, ◌*◌, ◌≤◌, ◌++◌, ◌≡◌, length};
 ghost use Rattle.text.specs.Text.{decimal, Put};
 ghost use Rattle.dump_fields.specs.Field.{bytes_text, type_text, fec_text, label_text, status_text, parameters_text, bit, reconnect_text, timeout_text, session_text, ft_text, request_id_text};

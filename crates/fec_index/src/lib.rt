@@ -1,6 +1,7 @@
 // Blocks 66 and 67 of the stored image: the index of prefixes, each entry at the place of its label word. An entry
 // counts only where that word lists a label; it stays when the word is freed.
 #![tactic(auto)]
+
 ghost use Rattle.std.specs.Prelude.{◌+◌, ◌*◌, ◌≤◌, ◌<◌, ◌≡◌, length, get_or};
 ghost use Rattle.octets.specs.Pick.{pick};
 ghost use Rattle.block.specs.Check.{block_size};

@@ -1,5 +1,6 @@
 // FT sequence numbers and message IDs, the acknowledgement decision, the signed distance, and the reconnection timeout.
 #![tactic(auto)]
+
 ghost use Rattle.std.specs.Prelude.{◌≡◌};
 ghost use Rattle.ft_number.specs.Ack.{ack_of};
 ghost use Rattle.ft_number.specs.Circle.{next, after, forward, steps_of};

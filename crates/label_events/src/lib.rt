@@ -2,6 +2,7 @@
 //
 // Each is planned on the lent words first, and then written: an answer that refuses leaves them as they were.
 #![tactic(auto)]
+
 mod accepting;
 mod changing;
 mod protecting;

@@ -3,6 +3,7 @@
 // A word is label + 1,048,576 x code, and 0 is a free word. Codes: 1 given, 2 withdrawing, 3 using, 4 asked back, 5 releasing, 6 using without protection, 7 an open
 // Request, whose message ID stands at the same place of a list beside the words, 8 withdrawn and the ACK has come, 9 withdrawn and the Release has come.
 #![tactic(auto)]
+
 mod beside;
 mod requests;
 mod rules;

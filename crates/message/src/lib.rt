@@ -1,5 +1,6 @@
 // One LDP message: its type, its message ID and what its TLVs say, or that it is malformed; and whether it may be submitted.
 #![tactic(auto)]
+
 ghost use Rattle.std.specs.Prelude.{◌≤◌, ◌≡◌, length};
 ghost use Rattle.tlv.specs.Value.{Places};
 ghost use Rattle.tlv.specs.Walk.{head_size};

@@ -20,6 +20,13 @@ use Rattle.message_writer.specs.Forms.{tlv_bytes, head_bytes, mode_byte, paramet
 use Rattle.message_writer.specs.Written.{written_of}
 use Rattle.message_writer.proofs.Room.{written-whole, written-short}
 
+-- with no ACK there is nothing behind the head
+no_ack : (ack : FtField) (h : List ℕ) → ack ≡ FtField.Absent → h ≡ h ++ ack_tlv ack
+no_ack ack h e = rw e (sym (append-nil h))
+
+pub no_ack_end : (ack : FtField) (end : ℕ) → ack ≡ FtField.Absent → end ≡ end + length (ack_tlv ack)
+no_ack_end ack end e = rw e (sym (add-zero end))
+
 module _ (m : List ℕ) (head : 8 ≤ length m) where
   pub length-raised_to : (size : ℕ) → length (raised_to m size) ≡ length m
   length-raised_to size = length-laid m 2 (bytes 2 size)
@@ -140,8 +147,8 @@ module _ (s : List ℕ) where
     pub init-plain : (ack : FtField) (x : List ℕ) → ack ≡ FtField.Absent → end ≤ length s → x ≡ laid s 0 (init_head (end - 4) id p ack t)
         → (Written.Bytes end, x) ≡ written_of s (init_bytes id p t ack)
     init-plain ack x none h e =
-        let size : end ≡ end + length (ack_tlv ack) = rw none (sym (add-zero end)) in
-        let nil : init_head (end - 4) id p ack t ≡ init_head (end - 4) id p ack t ++ ack_tlv ack = rw none (sym (append-nil (init_head (end - 4) id p FtField.Absent t))) in
+        let size : end ≡ end + length (ack_tlv ack) = no_ack_end ack end none in
+        let nil : init_head (end - 4) id p ack t ≡ init_head (end - 4) id p ack t ++ ack_tlv ack = no_ack ack (init_head (end - 4) id p ack t) none in
         init-whole ack end x size h (e ∙ ap (laid s 0) nil)
 
     pub init-acked : (a : FtNumber) (x y : List ℕ) → end + 8 ≤ length s → x ≡ laid s 0 (init_head (end + 4) id p (FtField.Number a) t)
@@ -152,6 +159,13 @@ module _ (s : List ℕ) where
         init-whole ack (end + 8) y refl h
         (ack_laid (init_head (end + 4) id p ack t) x y end a e₁ e₂ (endq ∙ sym (length_head (end + 4) id p t ack))
         ∙ ap (λ (n : ℕ). laid s 0 (init_head n id p ack t ++ ack_tlv ack)) raised)
+
+    pub init_numbered : (ack : FtField) (a : FtNumber) (x y : List ℕ) → ack ≡ FtField.Number a → end + 8 ≤ length s
+        → x ≡ laid s 0 (init_head (end + 4) id p (FtField.Number a) t) → y ≡ laid x end (ack_tlv (FtField.Number a))
+        → (Written.Bytes (end + 8), y) ≡ written_of s (init_bytes id p t ack)
+    init_numbered ack a x y e h e₁ e₂ =
+        init-acked a x y h e₁ e₂
+        ∙ ap (λ (k : FtField). written_of s (init_bytes id p t k)) (sym e)
 
   module _ (m : List ℕ) (head : 8 ≤ length m) where
     raised-laid : (x y : List ℕ) (size : ℕ) → length m ≤ length s → x ≡ laid s 0 m → y ≡ laid x 2 (bytes 2 size) → y ≡ laid s 0 (raised_to m size)

@@ -1,5 +1,6 @@
 // The messages that we write: our Init, KeepAlive, and a stored message with its FT TLVs.
 #![tactic(auto)]
+
 ghost use Rattle.std.specs.Prelude.{◌+◌, ◌-◌, ◌≤◌, ◌++◌, ◌≡◌, length};
 ghost use Rattle.octets.specs.Be.{bytes};
 ghost use Rattle.octets.specs.Laid.{laid};

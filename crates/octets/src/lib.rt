@@ -1,5 +1,6 @@
 // Big-endian fields of 8, 16 and 32 bits at a place of lent bytes, and runs of bytes copied or cleared.
 #![tactic(auto)]
+
 ghost use Rattle.std.specs.Prelude.{◌+◌, ◌≤◌, ◌<◌, ◌≡◌, length, replicate};
 ghost use Rattle.octets.specs.Be.{be_at, bytes};
 ghost use Rattle.octets.specs.Differ.{differ};

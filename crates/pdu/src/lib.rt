@@ -1,5 +1,6 @@
 // Reads one LDP PDU: the whole of it is judged first, then each message is handed out as that very part of the caller's slice.
 #![tactic(auto)]
+
 ghost use Rattle.std.specs.Prelude.{◌+◌, ◌≤◌, ◌<◌, ◌≡◌, length};
 ghost use Rattle.pdu.specs.Pdu.{message_place, place_bytes, message_start, counted_from, opened_of};
 

@@ -2,6 +2,7 @@
 // only where that word is an open Request's; it stays when the word is freed. A place that has no label word holds
 // anything.
 #![tactic(auto)]
+
 ghost use Rattle.std.specs.Prelude.{◌≡◌, length};
 ghost use Rattle.block.specs.Check.{block_size};
 ghost use Rattle.request_ids.specs.Fields.{ids_ok};

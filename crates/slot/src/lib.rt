@@ -1,5 +1,6 @@
 // A slot of the stored image: one held message with its length, kind and label.
 #![tactic(auto)]
+
 ghost use Rattle.std.specs.Prelude.{◌+◌, ◌≤◌, ◌<◌, true, false, [], ◌∷◌, ◌≡◌, length};
 ghost use Rattle.octets.specs.Laid.{laid};
 ghost use Rattle.block.specs.Check.{block_size};

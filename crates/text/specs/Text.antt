@@ -1,6 +1,6 @@
 -- Numbers, bytes and words as text in ASCII, and text put into bytes.
-use Prim.Native.Char.{code}
 use Rattle.std.specs.Prelude.{ℕ, ◌+◌, ◌/◌, ◌%◌, List, [], ◌∷◌, ◌++◌, ◌≡◌, ltb, length}
+use Prim.Native.Char.{code}
 use Prim.Native.String as S
 use Prim.Native.String.{String}
 use Rattle.io.specs.Digits.{hex_digit_ascii}

@@ -1,5 +1,6 @@
 // Text put into lent bytes, one piece after the other: words, decimal numbers, bytes in hexadecimal.
 #![tactic(auto)]
+
 ghost use Rattle.std.specs.Prelude.{◌+◌, ◌*◌, ◌≤◌, ◌<◌, ◌≡◌, length};
 ghost use Rattle.io.specs.Digits.{hex_digit_ascii};
 ghost use Rattle.text.specs.Text.{decimal, hex, Put};

@@ -1,5 +1,6 @@
 // The TLVs of one message: where each listed one stands, or that they are malformed, and what they say.
 #![tactic(auto)]
+
 use ft_number::{FtNumber, MessageId, Timeout};
 
 pub mod walk; // walk.rt: the walk over a message's TLVs

@@ -1,6 +1,7 @@
 // A further block of the stored image: 120 words of 32 bits, zeros, and the check. Which of its words count, and what
 // they have to be, is its users' to say.
 #![tactic(auto)]
+
 ghost use Rattle.std.specs.Prelude.{◌<◌, ◌≡◌, length, get_or, set};
 ghost use Rattle.block.specs.Check.{block_size, sound};
 ghost use Rattle.word_block.specs.Layout.{place_count, block_words, word_block, no_words, rest_zero, is_empty};

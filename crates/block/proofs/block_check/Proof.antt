@@ -6,14 +6,14 @@ use Rattle.block.specs.Check.{block_check_of}
 use Rattle.block.proofs.block_check.Statement.{statement}
 use Rattle.block.proofs.block_check.Tie as tie
 
-pub block-check-spec : {M : Type 1} → statement M
+pub block_check_spec : {M : Type 1} → statement M
 unfolding block_check_of
-block-check-spec =
+block_check_spec =
     let answers = tie.spec
-    (λ c. simp (lt-ltb _ _ c.if1.true))
+    (λ c. simp (lt-ltb _ _ c.if-block-lt-CHECK_AT.true))
     (λ c. omega arith)
     (λ c. omega arith)
     (λ c. omega arith)
     (λ c κs. search rules)
-    (λ c. simp (le-ltb _ _ c.before.before.if1.false, c.check.ensures)) in
+    (λ c. simp (le-ltb _ _ c.if-block-lt-CHECK_AT.false, c.check.ensures)) in
     tie.close answers

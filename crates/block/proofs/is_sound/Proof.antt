@@ -7,14 +7,14 @@ use Rattle.block.specs.Check.{sound}
 use Rattle.block.proofs.is_sound.Statement.{statement}
 use Rattle.block.proofs.is_sound.Tie as tie
 
-pub is-sound-spec : {M : Type 1} → statement M
+pub is_sound_spec : {M : Type 1} → statement M
 unfolding sound
-is-sound-spec =
+is_sound_spec =
     let answers = tie.spec
     (λ c κs. omega arith)
     (λ c. omega arith)
     (λ c. omega arith)
     (λ c. omega arith)
     (λ c κs. search rules)
-    (λ c. ap₂ eqb c.before.before.get-u32.ensures c.check.ensures) in
+    (λ c. ap₂ eqb c.get_u32.ensures c.check.ensures) in
     tie.close answers

@@ -6,11 +6,11 @@ use Rattle.block.specs.Check.{sound}
 use Rattle.block.proofs.is_sound_before.Statement.{statement}
 use Rattle.block.proofs.is_sound_before.Tie as tie
 
-pub is-sound-before-spec : {M : Type 1} → statement M
+pub is_sound_before_spec : {M : Type 1} → statement M
 unfolding sound
-is-sound-before-spec =
+is_sound_before_spec =
     let answers = tie.spec
     (λ c κs. omega arith)
-    (λ c κs. c.before.before.requires)
-    (λ c. ap₂ eqb c.before.get-u32.ensures c.check-before.ensures) in
+    (λ c κs. c.requires)
+    (λ c. ap₂ eqb c.get_u32.ensures c.check_before.ensures) in
     tie.close answers

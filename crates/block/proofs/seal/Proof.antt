@@ -5,8 +5,8 @@ use Rattle.block.proofs.Sealed.{seal_put}
 use Rattle.block.proofs.seal.Statement.{statement}
 use Rattle.block.proofs.seal.Tie as tie
 
-pub seal-spec : {M : Type 1} → statement M
-seal-spec =
+pub seal_spec : {M : Type 1} → statement M
+seal_spec =
     let answers = tie.spec
     (λ c. omega arith)
     (λ c. omega arith)
@@ -14,5 +14,5 @@ seal-spec =
     (λ c κs. search rules)
     (λ c κs. omega arith)
     (λ c. search rules)
-    (λ c. seal_put _ (omega arith) c.before.before.before.before.check.ensures c.before.before.put-u32.ensures) in
+    (λ c. seal_put _ (omega arith) c.check-check.ensures c.put_u32.ensures) in
     tie.close answers

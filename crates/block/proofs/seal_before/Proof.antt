@@ -5,11 +5,11 @@ use Rattle.block.proofs.Sealed.{seal_put}
 use Rattle.block.proofs.seal_before.Statement.{statement}
 use Rattle.block.proofs.seal_before.Tie as tie
 
-pub seal-before-spec : {M : Type 1} → statement M
-seal-before-spec =
+pub seal_before_spec : {M : Type 1} → statement M
+seal_before_spec =
     let answers = tie.spec
-    (λ c κs. c.before.before.requires)
+    (λ c κs. c.requires)
     (λ c κs. omega arith)
     (λ c. search rules)
-    (λ c. seal_put _ (omega arith) c.before.before.before.before.check-before.ensures c.before.before.put-u32.ensures) in
+    (λ c. seal_put _ (omega arith) c.check_before-sum.ensures c.put_u32.ensures) in
     tie.close answers

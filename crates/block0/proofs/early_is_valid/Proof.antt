@@ -3,12 +3,12 @@ use borrow.Author.Rules.{rules}
 use Rattle.block0.proofs.early_is_valid.Statement.{statement}
 use Rattle.block0.proofs.early_is_valid.Tie as tie
 
-pub early-is-valid-spec : {M : Type 1} → statement M
-early-is-valid-spec =
+pub early_is_valid_spec : {M : Type 1} → statement M
+early_is_valid_spec =
     let answers = tie.spec
     (λ c. search rules)
     (λ c. search rules)
     (λ c κs. search rules)
     (λ c. search rules)
-    (λ c. rw (c.before.enum-told2.given.1, c.get-u16.ensures)) in
+    (λ c. rw (c.in-Two.is, c.get_u16.ensures)) in
     tie.close answers

@@ -5,16 +5,16 @@ use Rattle.block0.proofs.Coded.{none_coded, some_coded}
 use Rattle.block0.proofs.has_code.Statement.{statement}
 use Rattle.block0.proofs.has_code.Tie as tie
 
-pub has-code-spec : {M : Type 1} → statement M
-has-code-spec =
+pub has_code_spec : {M : Type 1} → statement M
+has_code_spec =
     let answers = tie.spec
     (λ c κs. search rules)
     (λ c. search rules)
     (λ c. search rules)
     (λ c. search rules)
     (λ c κs. search rules)
-    (λ c. none_coded _ _ _ c.before.before.before.labels_at.ensures.0 (search rules) (sym c.before.all-zero.ensures ∙ c.if1.true))
+    (λ c. none_coded _ _ _ c.labels_at-start.ensures.0 (search rules) (sym c.all_zero.ensures ∙ c.if-all_zero.true))
     (λ c κs. search rules)
     (λ c κs. search rules)
-    (λ c. c.any-has-code.ensures ∙ some_coded _ _ _ c.before.before.before.before.before.labels_at.ensures.0 c.before.word_count.ensures.0) in
+    (λ c. c.any_has_code.ensures ∙ some_coded _ _ _ c.labels_at-start.ensures.0 c.word_count.ensures.0) in
     tie.close answers

@@ -6,12 +6,12 @@ use Rattle.block0.proofs.Coded.{other_byte}
 use Rattle.block0.proofs.has_code_at.Statement.{statement}
 use Rattle.block0.proofs.has_code_at.Tie as tie
 
-pub has-code-at-spec : {M : Type 1} → statement M
-has-code-at-spec =
+pub has_code_at_spec : {M : Type 1} → statement M
+has_code_at_spec =
     let answers = tie.spec
     (λ c. search rules)
     (λ c κs. search rules)
-    (λ c. let a = c.before.before.before in other_byte a.args.block.now a.args.at _ (λ k. (c.before.before.shared-slice-known.given k).fits) a.requires.2 c.before.get-u8.ensures c.if1.true)
+    (λ c. let a = c.before.before.before in other_byte a.args.block.now a.args.at _ (λ k. (c.shared_slice_known-1.given k).fits) a.requires.2 c.get_u8.ensures c.if-get_u8-code.true)
     (λ c κs. search rules)
-    (λ c. ap (has_code _) c.get-u32.ensures) in
+    (λ c. ap (has_code _) c.get_u32.ensures) in
     tie.close answers

@@ -3,8 +3,8 @@ use borrow.Author.Rules.{rules}
 use Rattle.block0.proofs.has_requests.Statement.{statement}
 use Rattle.block0.proofs.has_requests.Tie as tie
 
-pub has-requests-spec : {M : Type 1} → statement M
-has-requests-spec =
+pub has_requests_spec : {M : Type 1} → statement M
+has_requests_spec =
     let answers = tie.spec
     (λ c κs. search rules)
     (λ c. c.has_code.ensures) in

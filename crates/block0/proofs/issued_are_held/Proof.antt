@@ -4,13 +4,13 @@ use borrow.Author.Rules.{rules}
 use Rattle.block0.proofs.issued_are_held.Statement.{statement}
 use Rattle.block0.proofs.issued_are_held.Tie as tie
 
-pub issued-are-held-spec : {M : Type 1} → statement M
-issued-are-held-spec =
+pub issued_are_held_spec : {M : Type 1} → statement M
+issued_are_held_spec =
     let answers = tie.spec
     (λ c κs. search rules)
     (λ c. search rules)
     (λ c. omega arith)
     (λ c. search rules)
-    (λ c. rw (← c.before.before.before.before.steps-between.ensures, c.before.before.n.given.1))
-    (λ c. rw (← c.before.before.steps-between.ensures, c.enum_told.given.1)) in
+    (λ c. rw (← c.steps_between.ensures, c.in-Count.is))
+    (λ c. rw (← c.steps_between.ensures, c.in-Unreachable.is)) in
     tie.close answers

@@ -6,11 +6,11 @@ use Rattle.block0.specs.Updates.{header_timeout}
 use Rattle.block0.proofs.read_header.Statement.{statement}
 use Rattle.block0.proofs.read_header.Tie as tie
 
-pub read-header-spec : {M : Type 1} → statement M
+pub read_header_spec : {M : Type 1} → statement M
 unfolding header_by
-read-header-spec =
+read_header_spec =
     let answers = tie.spec
     (λ c κs. search rules)
     (λ c κs. search rules)
-    (λ c. c.read-with.ensures ∙ ap (header_timeout (header_of c.before.before.before.args.block.now)) c.before.get-u32.ensures) in
+    (λ c. c.read_with.ensures ∙ ap (header_timeout (header_of c.args.block.now)) c.get_u32.ensures) in
     tie.close answers

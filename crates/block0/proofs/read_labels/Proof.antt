@@ -11,11 +11,10 @@ returns : tie.Need-returns
 unfolding labels_by
 returns c =
     let p = c.before.before.before.before in
-    let a = p.before.before.before in
-    c.before.before.load-words.ensures ∙ ap₂ (λ (n at : ℕ). words_at n a.args.block.now at) a.requires.1 p.labels_at.ensures.0
+    c.load_words.ensures ∙ ap₂ (λ (n at : ℕ). words_at n c.args.block.now at) c.requires.1 c.labels_at.ensures.0
 
-pub read-labels-spec : {M : Type 1} → statement M
-read-labels-spec =
+pub read_labels_spec : {M : Type 1} → statement M
+read_labels_spec =
     let answers = tie.spec
     (λ c κs. search rules)
     (λ c κs. search rules)

@@ -6,15 +6,15 @@ use Rattle.block0.specs.Layout.{header_by}
 use Rattle.block0.proofs.read_timeout.Statement.{statement}
 use Rattle.block0.proofs.read_timeout.Tie as tie
 
-pub read-timeout-spec : {M : Type 1} → statement M
+pub read_timeout_spec : {M : Type 1} → statement M
 unfolding header_by
-read-timeout-spec =
+read_timeout_spec =
     let answers = tie.spec
     (λ c. search rules)
     (λ c κs. search rules)
     (λ c. search rules)
     (λ c. search rules)
     (λ c κs. search rules)
-    (λ c. c.get-u16.ensures ∙ sym (ap (λ (v : Version). (header_by v c.before.before.before.before.args.block.now).timeout) c.before.enum_told.given.1))
-    (λ c. c.get-u32.ensures ∙ sym (ap (λ (v : Version). (header_by v c.before.before.before.before.args.block.now).timeout) c.before.enum-told2.given.1)) in
+    (λ c. c.get_u16.ensures ∙ sym (ap (λ (v : Version). (header_by v c.args.block.now).timeout) c.in-One.is))
+    (λ c. c.get_u32.ensures ∙ sym (ap (λ (v : Version). (header_by v c.args.block.now).timeout) c.in-Two.is)) in
     tie.close answers

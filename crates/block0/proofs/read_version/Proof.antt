@@ -7,10 +7,10 @@ use Rattle.block0.proofs.Judged.{header_either}
 use Rattle.block0.proofs.read_version.Statement.{statement}
 use Rattle.block0.proofs.read_version.Tie as tie
 
-pub read-version-spec : {M : Type 1} → statement M
-read-version-spec =
+pub read_version_spec : {M : Type 1} → statement M
+read_version_spec =
     let answers = tie.spec
     (λ c κs. search rules)
     (λ c κs. search rules)
-    (λ c. c.read-with.ensures ∙ ap (header_timeout (header_of _)) c.before.read-timeout.ensures ∙ sym (header_either _ _)) in
+    (λ c. c.read_with.ensures ∙ ap (header_timeout (header_of _)) c.read_timeout.ensures ∙ sym (header_either _ _)) in
     tie.close answers

@@ -4,9 +4,9 @@ use Rattle.block0.specs.Layout.{header_by}
 use Rattle.block0.proofs.read_with.Statement.{statement}
 use Rattle.block0.proofs.read_with.Tie as tie
 
-pub read-with-spec : {M : Type 1} → statement M
+pub read_with_spec : {M : Type 1} → statement M
 unfolding header_by
-read-with-spec =
+read_with_spec =
     let answers = tie.spec
     (λ c κs. search rules)
     (λ c κs. search rules)

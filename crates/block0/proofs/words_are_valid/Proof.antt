@@ -5,11 +5,11 @@ use Rattle.label_list.specs.Valid.{valid_of}
 use Rattle.block0.proofs.words_are_valid.Statement.{statement}
 use Rattle.block0.proofs.words_are_valid.Tie as tie
 
-pub words-are-valid-spec : {M : Type 1} → statement M
-words-are-valid-spec =
+pub words_are_valid_spec : {M : Type 1} → statement M
+words_are_valid_spec =
     let answers = tie.spec
     (λ c κs. search rules)
     (λ c κs. search rules)
     (λ c. search rules)
-    (λ c. c.valid.ensures ∙ ap valid_of c.before.before.before.before.read-labels.ensures) in
+    (λ c. c.valid.ensures ∙ ap valid_of c.read_labels.ensures) in
     tie.close answers

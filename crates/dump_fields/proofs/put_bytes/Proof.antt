@@ -5,10 +5,9 @@ use Rattle.dump_fields.proofs.Values.{values}
 use Rattle.dump_fields.proofs.put_bytes.Statement.{statement}
 use Rattle.dump_fields.proofs.put_bytes.Tie as tie
 
-pub put-bytes-spec : {M : Type 1} → statement M
-put-bytes-spec =
+pub put_bytes_spec : {M : Type 1} → statement M
+put_bytes_spec =
     let answers = tie.spec
-    (λ c. search rules)
     (λ c. search rules)
     (λ c. search rules)
     (λ c. search rules)

@@ -5,14 +5,14 @@ use Rattle.text.proofs.Pieces.{put_none}
 use Rattle.dump_fields.proofs.put_ft_number.Statement.{statement}
 use Rattle.dump_fields.proofs.put_ft_number.Tie as tie
 
-pub put-ft-number-spec : {M : Type 1} → statement M
-put-ft-number-spec =
+pub put_ft_number_spec : {M : Type 1} → statement M
+put_ft_number_spec =
     let answers = tie.spec
     (λ c. search rules)
     (λ c. search rules)
     (λ c. search rules)
     (λ c. search rules)
-    (λ c. rw c.enum_told.given.1 (put_none _ _, omega arith))
+    (λ c. rw c.in-Absent.is (put_none _ _, omega arith))
     (λ c. search rules)
-    (λ c. rw c.before.before.before.before.before.before.field.given.1 (c.before.before.put-number.ensures.0, search rules)) in
+    (λ c. rw c.in-Number.is (c.put_number.ensures.0, search rules)) in
     tie.close answers

@@ -4,8 +4,8 @@ use Rattle.text.proofs.Pieces.{pieces}
 use Rattle.dump_fields.proofs.put_number.Statement.{statement}
 use Rattle.dump_fields.proofs.put_number.Tie as tie
 
-pub put-number-spec : {M : Type 1} → statement M
-put-number-spec =
+pub put_number_spec : {M : Type 1} → statement M
+put_number_spec =
     let answers = tie.spec
     (λ c. search rules)
     (λ c. search rules)

@@ -5,14 +5,13 @@ use Rattle.text.proofs.Pieces.{put_none}
 use Rattle.dump_fields.proofs.put_parameters.Statement.{statement}
 use Rattle.dump_fields.proofs.put_parameters.Tie as tie
 
-pub put-parameters-spec : {M : Type 1} → statement M
-put-parameters-spec =
+pub put_parameters_spec : {M : Type 1} → statement M
+put_parameters_spec =
     let answers = tie.spec
     (λ c. search rules)
     (λ c. search rules)
     (λ c. search rules)
+    (λ c. rw c.in-Absent.is (put_none _ _, omega arith))
     (λ c. search rules)
-    (λ c. rw c.enum_told.given.1 (put_none _ _, omega arith))
-    (λ c. search rules)
-    (λ c. rw c.before.before.before.before.before.enum-told2.given.1 (c.before.before.put-bytes.ensures.0, search rules)) in
+    (λ c. rw c.in-Given.is (c.put_bytes.ensures.0, search rules)) in
     tie.close answers

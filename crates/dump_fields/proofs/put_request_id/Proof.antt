@@ -5,15 +5,14 @@ use Rattle.text.proofs.Pieces.{put_none}
 use Rattle.dump_fields.proofs.put_request_id.Statement.{statement}
 use Rattle.dump_fields.proofs.put_request_id.Tie as tie
 
-pub put-request-id-spec : {M : Type 1} → statement M
-put-request-id-spec =
+pub put_request_id_spec : {M : Type 1} → statement M
+put_request_id_spec =
     let answers = tie.spec
     (λ c. search rules)
     (λ c. search rules)
     (λ c. search rules)
     (λ c. search rules)
+    (λ c. rw c.in-Absent.is (put_none _ _, omega arith))
     (λ c. search rules)
-    (λ c. rw c.enum_told.given.1 (put_none _ _, omega arith))
-    (λ c. search rules)
-    (λ c. rw c.before.before.before.before.before.before.before.requestid.given.1 (c.before.before.put-number.ensures.0, search rules)) in
+    (λ c. rw c.in-Id.is (c.put_number.ensures.0, search rules)) in
     tie.close answers

@@ -5,13 +5,13 @@ use Rattle.text.proofs.Pieces.{put_none}
 use Rattle.dump_fields.proofs.put_session.Statement.{statement}
 use Rattle.dump_fields.proofs.put_session.Tie as tie
 
-pub put-session-spec : {M : Type 1} → statement M
-put-session-spec =
+pub put_session_spec : {M : Type 1} → statement M
+put_session_spec =
     let answers = tie.spec
     (λ c. search rules)
     (λ c. search rules)
     (λ c. search rules)
-    (λ c. rw c.enum_told.given.1 (put_none _ _, omega arith))
+    (λ c. rw c.in-Absent.is (put_none _ _, omega arith))
     (λ c. search rules)
-    (λ c. rw c.before.before.before.before.before.session.given.1 c.before.before.put-timeout.ensures) in
+    (λ c. rw c.in-Given.is c.put_timeout.ensures) in
     tie.close answers

@@ -6,9 +6,9 @@ use Rattle.text.proofs.Pieces.{put_none}
 use Rattle.dump_fields.proofs.put_status.Statement.{statement}
 use Rattle.dump_fields.proofs.put_status.Tie as tie
 
-pub put-status-spec : {M : Type 1} → statement M
+pub put_status_spec : {M : Type 1} → statement M
 unfolding laid
-put-status-spec =
+put_status_spec =
     let answers = tie.spec
     (λ c. search rules)
     (λ c. search rules)
@@ -16,8 +16,7 @@ put-status-spec =
     (λ c. search rules)
     (λ c. search rules)
     (λ c. search rules)
+    (λ c. rw c.in-Absent.is (put_none _ _, omega arith))
     (λ c. search rules)
-    (λ c. rw c.enum_told.given.1 (put_none _ _, omega arith))
-    (λ c. search rules)
-    (λ c. rw c.before.before.before.before.before.before.before.before.before.before.status.given.1 (rw c.before.before.before.before.before.before.before.put-u32.ensures at c.before.before.put-bytes.ensures.0, search rules)) in
+    (λ c. rw c.in-Value.is (rw c.put_u32.ensures at c.put_bytes.ensures.0, search rules)) in
     tie.close answers

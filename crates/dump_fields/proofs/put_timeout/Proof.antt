@@ -3,8 +3,8 @@ use borrow.Author.Rules.{rules}
 use Rattle.dump_fields.proofs.put_timeout.Statement.{statement}
 use Rattle.dump_fields.proofs.put_timeout.Tie as tie
 
-pub put-timeout-spec : {M : Type 1} → statement M
-put-timeout-spec =
+pub put_timeout_spec : {M : Type 1} → statement M
+put_timeout_spec =
     let answers = tie.spec
     (λ c. search rules)
     (λ c. search rules)
@@ -13,9 +13,7 @@ put-timeout-spec =
     (λ c. search rules)
     (λ c. search rules)
     (λ c. search rules)
+    (λ c. rw c.in-Seconds.is (c.put_reconnect.ensures.0, search rules))
     (λ c. search rules)
-    (λ c. search rules)
-    (λ c. rw c.before.before.before.before.before.before.timeout.given.1 (c.before.before.put-reconnect.ensures.0, search rules))
-    (λ c. search rules)
-    (λ c. rw c.before.before.before.before.before.before.timeout2.given.1 (c.before.before.put-reconnect2.ensures.0, search rules)) in
+    (λ c. rw c.in-Milliseconds.is (c.put_reconnect-in-Milliseconds.ensures.0, search rules)) in
     tie.close answers

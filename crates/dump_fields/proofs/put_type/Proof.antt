@@ -4,15 +4,14 @@ use Rattle.octets.specs.Laid.{laid}
 use Rattle.dump_fields.proofs.put_type.Statement.{statement}
 use Rattle.dump_fields.proofs.put_type.Tie as tie
 
-pub put-type-spec : {M : Type 1} → statement M
+pub put_type_spec : {M : Type 1} → statement M
 unfolding laid
-put-type-spec =
+put_type_spec =
     let answers = tie.spec
     (λ c. search rules)
     (λ c. search rules)
     (λ c. search rules)
     (λ c. search rules)
     (λ c. search rules)
-    (λ c. search rules)
-    (λ c. (rw c.before.before.before.before.before.before.before.put-u16.ensures at c.before.before.put-bytes.ensures.0, search rules)) in
+    (λ c. (rw c.put_u16.ensures at c.put_bytes.ensures.0, search rules)) in
     tie.close answers

@@ -4,8 +4,8 @@ use Rattle.fec_index.proofs.Paired.{entry_read}
 use Rattle.fec_index.proofs.read_entry.Statement.{statement}
 use Rattle.fec_index.proofs.read_entry.Tie as tie
 
-pub read-entry-spec : {M : Type 1} → statement M
-read-entry-spec =
+pub read_entry_spec : {M : Type 1} → statement M
+read_entry_spec =
     let answers = tie.spec
     (λ c. search rules)
     (λ c κs. search rules)
@@ -16,5 +16,5 @@ read-entry-spec =
     (λ c. search rules)
     (λ c. search rules)
     (λ c. search rules)
-    (λ c. entry_read _ _ c.before.before.before.requires.1 (search rules) c.before.read_word.ensures c.read-word2.ensures) in
+    (λ c. entry_read _ _ c.requires.1 (search rules) c.read_word-upper.ensures c.read_word-lower.ensures) in
     tie.close answers

@@ -7,12 +7,10 @@ use Rattle.fec_index.proofs.write_entry.Tie as tie
 
 returns : tie.Need-returns
 returns c =
-    let put = c.before.before.before.before.before.before in
-    let a = put.before.before.before in
-    pair_written _ a.requires.0 (λ k. (put.before.before.slice-known.given k).fits) _ _ a.requires.1 (omega arith) put.put-u32.ensures c.before.before.write_word.ensures
+    pair_written _ c.requires.0 (λ k. (c.slice_known-1.given k).fits) _ _ c.requires.1 (omega arith) c.put_u32.ensures c.write_word.ensures
 
-pub write-entry-spec : {M : Type 1} → statement M
-write-entry-spec =
+pub write_entry_spec : {M : Type 1} → statement M
+write_entry_spec =
     let answers = tie.spec
     (λ c. search rules)
     (λ c. search rules)

@@ -3,46 +3,43 @@ use Rattle.ft_number.proofs.Laws.{releases, past, none_issued, unreachable}
 use Rattle.ft_number.proofs.acknowledge.Statement.{statement}
 use Rattle.ft_number.proofs.acknowledge.Tie as tie
 
-steps-between-requires : tie.Need-steps-between-requires
+steps-between-requires : tie.Need-steps_between-requires
 steps-between-requires c κs = search rules
 
-enum-known-k : tie.Need-enum-known-k
+enum-known-k : tie.Need-enum_known-k
 enum-known-k c = search rules
 
-steps-between-requires-2 : tie.Need-steps-between-requires-2
+steps-between-requires-2 : tie.Need-steps_between-requires-in-Count
 steps-between-requires-2 c κs = search rules
 
-enum-known-n : tie.Need-enum-known-n
+enum-known-n : tie.Need-enum_known-n
 enum-known-n c = search rules
 
-enum_told : tie.Need-enum-told
+enum_told : tie.Need-enum_told-1
 enum_told c = search rules
 
-enum-told-2 : tie.Need-enum-told-2
+enum-told-2 : tie.Need-enum_told-in-Unreachable
 enum-told-2 c = search rules
 
-returns : tie.Need-returns
+returns : tie.Need-returns-then-k-n
 returns c =
     let d = c.before.before in
-    let e = d.before.before.before.before in
-    releases _ _ _ e.before.before.steps-between.ensures e.k.given.1 d.before.before.steps-between2.ensures d.n.given.1 c.if1.true
+    releases _ _ _ c.steps_between.ensures c.in-Count.is c.steps_between-in-Count.ensures c.in-Count-steps_between.is c.if-k-n.true
 
-returns-2 : tie.Need-returns-2
+returns-2 : tie.Need-returns-else-k-n
 returns-2 c =
     let d = c.before.before in
-    let e = d.before.before.before.before in
-    past _ _ _ e.before.before.steps-between.ensures e.k.given.1 d.before.before.steps-between2.ensures d.n.given.1 c.if1.false
+    past _ _ _ c.steps_between.ensures c.in-Count.is c.steps_between-in-Count.ensures c.in-Count-steps_between.is c.if-k-n.false
 
-returns-3 : tie.Need-returns-3
+returns-3 : tie.Need-returns-in-Unreachable-steps_between
 returns-3 c =
-    let e = c.before.before.before.before in
-    none_issued _ _ _ e.before.before.steps-between.ensures e.k.given.1 c.before.before.steps-between2.ensures c.enum_told.given.1
+    none_issued _ _ _ c.steps_between.ensures c.in-Count.is c.steps_between-in-Count.ensures c.in-Unreachable-steps_between.is
 
-returns-4 : tie.Need-returns-4
-returns-4 c = unreachable _ _ _ c.before.before.steps-between.ensures c.enum-told2.given.1
+returns-4 : tie.Need-returns-in-Unreachable
+returns-4 c = unreachable _ _ _ c.steps_between.ensures c.in-Unreachable.is
 
-pub acknowledge-spec : {M : Type 1} → statement M
-acknowledge-spec =
+pub acknowledge_spec : {M : Type 1} → statement M
+acknowledge_spec =
     let answers = tie.spec
     steps-between-requires
     enum-known-k

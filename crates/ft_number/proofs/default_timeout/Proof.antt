@@ -2,10 +2,10 @@ use borrow.Author.Rules.{rules}
 use Rattle.ft_number.proofs.default_timeout.Statement.{statement}
 use Rattle.ft_number.proofs.default_timeout.Tie as tie
 
-pub default-timeout-spec : {M : Type 1} → statement M
-default-timeout-spec =
+pub default_timeout_spec : {M : Type 1} → statement M
+default_timeout_spec =
     let answers = tie.spec
     (λ c. search rules) (λ c. search rules) (λ c. search rules) (λ c. search rules)
-    (λ c. rw c.enum_told.given.1)
-    (λ c. rw c.enum-told2.given.1) in
+    (λ c. rw c.in-Draft.is)
+    (λ c. rw c.in-Published.is) in
     tie.close answers

@@ -3,8 +3,8 @@ use Rattle.message.proofs.Submissions.{fts}
 use Rattle.message.proofs.bears_ft.Statement.{statement}
 use Rattle.message.proofs.bears_ft.Tie as tie
 
-pub bears-ft-spec : {M : Type 1} → statement M
-bears-ft-spec =
+pub bears_ft_spec : {M : Type 1} → statement M
+bears_ft_spec =
     let answers = tie.spec
     (λ c. search (rules, fts)) (λ c. search (rules, fts)) (λ c. search (rules, fts)) in
     tie.close answers

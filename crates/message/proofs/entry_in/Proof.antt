@@ -3,8 +3,8 @@ use Rattle.message.proofs.Readings.{entries}
 use Rattle.message.proofs.entry_in.Statement.{statement}
 use Rattle.message.proofs.entry_in.Tie as tie
 
-pub entry-in-spec : {M : Type 1} → statement M
-entry-in-spec =
+pub entry_in_spec : {M : Type 1} → statement M
+entry_in_spec =
     let answers = tie.spec
     (λ c κs. search (rules, entries))
     (λ c. search (rules, entries))

@@ -2,22 +2,22 @@ use borrow.Author.Rules.{rules}
 use Rattle.message.proofs.kind_for.Statement.{statement}
 use Rattle.message.proofs.kind_for.Tie as tie
 
-pub kind-for-spec : {M : Type 1} → statement M
-kind-for-spec =
+pub kind_for_spec : {M : Type 1} → statement M
+kind_for_spec =
     let answers = tie.spec
     (λ c. search rules) (λ c. search rules) (λ c. search rules) (λ c. search rules)
     (λ c. search rules) (λ c. search rules) (λ c. search rules) (λ c. search rules)
     (λ c. search rules) (λ c. search rules) (λ c. search rules) (λ c. search rules)
     (λ c. search rules)
-    (λ c. rw c.before.enum_told.given.1 c.notification-kind.ensures)
-    (λ c. rw c.enum-told2.given.1)
-    (λ c. rw c.enum-told3.given.1)
-    (λ c. rw c.enum-told4.given.1)
-    (λ c. rw c.enum-told5.given.1)
-    (λ c. rw c.enum-told6.given.1)
-    (λ c. rw c.enum-told7.given.1)
-    (λ c. rw c.enum-told8.given.1)
-    (λ c. rw c.enum-told9.given.1)
-    (λ c. rw c.before.enum-told10.given.1 c.abort-kind.ensures)
-    (λ c. rw c.enum-told11.given.1) in
+    (λ c. rw c.in-Notification.is c.notification_kind.ensures)
+    (λ c. rw c.in-Initialization.is)
+    (λ c. rw c.in-KeepAlive.is)
+    (λ c. rw c.in-Address.is)
+    (λ c. rw c.in-AddressWithdraw.is)
+    (λ c. rw c.in-Mapping.is)
+    (λ c. rw c.in-Request.is)
+    (λ c. rw c.in-Withdraw.is)
+    (λ c. rw c.in-Release.is)
+    (λ c. rw c.in-Abort.is c.abort_kind.ensures)
+    (λ c. rw c.in-Other.is) in
     tie.close answers

@@ -3,8 +3,8 @@ use Rattle.message.proofs.Readings.{placings}
 use Rattle.message.proofs.places_in.Statement.{statement}
 use Rattle.message.proofs.places_in.Tie as tie
 
-pub places-in-spec : {M : Type 1} → statement M
-places-in-spec =
+pub places_in_spec : {M : Type 1} → statement M
+places_in_spec =
     let answers = tie.spec
     (λ c. search (rules, placings))
     (λ c. search (rules, placings))

@@ -6,15 +6,15 @@ use Rattle.message_writer.proofs.Room.{written-whole, written-short}
 use Rattle.message_writer.proofs.write_keepalive.Statement.{statement}
 use Rattle.message_writer.proofs.write_keepalive.Tie as tie
 
-pub write-keepalive-spec : {M : Type 1} → statement M
-write-keepalive-spec =
+pub write_keepalive_spec : {M : Type 1} → statement M
+write_keepalive_spec =
     let answers = tie.spec
     (λ c. search rules)
-    (λ c. rw c.before.enum_told.given.1 (written-short _ _ 8 refl c.if1.true))
+    (λ c. rw c.in-Absent.is (written-short _ _ 8 refl c.if-out-lt8.true))
     (λ c. search rules) (λ c. search rules)
-    (λ c. rw c.before.before.ack.given.1 (written-short _ _ 16 refl c.if2.true))
+    (λ c. rw c.in-Number.is (written-short _ _ 16 refl c.if-out-lt16.true))
     (λ c. search rules) (λ c. search rules) (λ c. search rules)
-    (λ c. rw c.before.before.before.before.before.enum_told.given.1 (written-whole _ _ _ c.before.before.put_head.ensures (omega arith) 8 refl))
+    (λ c. rw c.in-Absent.is (written-whole _ _ _ c.put_head.ensures (omega arith) 8 refl))
     (λ c. search rules)
-    (λ c. rw c.before.before.before.before.before.before.before.before.before.before.ack.given.1 (written-whole _ _ _ (ack_laid _ _ _ _ 8 _ c.before.before.before.before.before.before.put-head2.ensures c.before.before.put-tlv.ensures refl) (omega arith) 16 refl)) in
+    (λ c. rw c.in-Number.is (written-whole _ _ _ (ack_laid _ _ _ _ 8 _ c.put_head-in-Number.ensures c.put_tlv.ensures refl) (omega arith) 16 refl)) in
     tie.close answers

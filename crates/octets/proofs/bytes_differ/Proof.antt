@@ -5,22 +5,22 @@ use Rattle.octets.proofs.Differ.{differ-length, Same, same_none, same_one, same_
 use Rattle.octets.proofs.bytes_differ.Statement.{statement}
 use Rattle.octets.proofs.bytes_differ.Tie as tie
 
-abbrev invariant-loop : tie.invariant-loop
-invariant-loop a b i₀ i = Same a b i
+abbrev invariant-loop-i : tie.invariant-loop-i
+invariant-loop-i a b i₀ i = Same a b i
 
-abbrev decreases-loop : tie.decreases-loop
-decreases-loop a b i₀ i = length a - i
+abbrev decreases-loop-i : tie.decreases-loop-i
+decreases-loop-i a b i₀ i = length a - i
 
-pub bytes-differ-spec : {M : Type 1} → statement M
-bytes-differ-spec =
-    let answers = tie.spec invariant-loop decreases-loop
-    (λ c. differ-length _ _ c.if1.true)
-    (λ c. same_none _ _ c.if1.false)
+pub bytes_differ_spec : {M : Type 1} → statement M
+bytes_differ_spec =
+    let answers = tie.spec invariant-loop-i decreases-loop-i
+    (λ c. differ-length _ _ c.if-a-b.true)
+    (λ c. same_none _ _ c.if-a-b.false)
     (λ c. omega arith)
     (λ c. omega arith)
-    (λ c. same_not _ _ _ c.before.before.before.before.loop.invariant (omega arith) c.if2.true)
+    (λ c. same_not _ _ _ c.loop-i.invariant (omega arith) c.if-a-i.true)
     (λ c. omega arith)
     (λ c. omega arith)
-    (λ c. same_one _ _ _ c.before.before.before.before.loop.invariant (omega arith) c.if2.false)
-    (λ c. same_all _ _ _ c.before.loop.invariant c.loop-test.false) in
+    (λ c. same_one _ _ _ c.loop-i.invariant (omega arith) c.if-a-i.false)
+    (λ c. same_all _ _ _ c.loop-i.invariant c.loop-i-test.false) in
     tie.close answers

@@ -6,22 +6,22 @@ use Rattle.octets.proofs.Fill.{Filling, filling_none, filling_one, filling_all}
 use Rattle.octets.proofs.copy_to.Statement.{statement}
 use Rattle.octets.proofs.copy_to.Tie as tie
 
-abbrev invariant-loop : tie.invariant-loop
-invariant-loop s₀ at m i₀ s i = Filling (length m) m s₀ at s i
+abbrev invariant-loop-i : tie.invariant-loop-i
+invariant-loop-i s₀ at m i₀ s i = Filling (length m) m s₀ at s i
 
-abbrev decreases-loop : tie.decreases-loop
-decreases-loop s₀ at m i₀ s i = length m - i
+abbrev decreases-loop-i : tie.decreases-loop-i
+decreases-loop-i s₀ at m i₀ s i = length m - i
 
-pub copy-to-spec : {M : Type 1} → statement M
-copy-to-spec =
-    let answers = tie.spec invariant-loop decreases-loop
+pub copy_to_spec : {M : Type 1} → statement M
+copy_to_spec =
+    let answers = tie.spec invariant-loop-i decreases-loop-i
     (λ c. filling_none _ _ _ _ refl)
     (λ c. omega arith)
     (λ c. omega arith)
     (λ c. omega arith)
     (λ c. omega arith)
     (λ c. omega arith)
-    (λ c. filling_one _ _ _ _ c.before.before.loop.invariant (omega arith) refl)
+    (λ c. filling_one _ _ _ _ c.loop-i.invariant (omega arith) refl)
     (λ c. omega arith)
-    (λ c. filling_all _ _ _ _ c.before.loop.invariant c.loop-test.false) in
+    (λ c. filling_all _ _ _ _ c.loop-i.invariant c.loop-i-test.false) in
     tie.close answers

@@ -6,8 +6,8 @@ use Rattle.octets.proofs.Laid.{laid-four}
 use Rattle.octets.proofs.put_u32.Statement.{statement}
 use Rattle.octets.proofs.put_u32.Tie as tie
 
-pub put-u32-spec : {M : Type 1} → statement M
-put-u32-spec =
+pub put_u32_spec : {M : Type 1} → statement M
+put_u32_spec =
     let answers = tie.spec (λ c. search rules) (λ c. search rules)
     (λ c. search rules) (λ c. search rules) (λ c. simp length-set (omega arith))
     (λ c. search rules) (λ c. search rules) (λ c. simp length-set (omega arith))

@@ -6,21 +6,21 @@ use Rattle.octets.proofs.Fill.{Filling, filling_none, filling_one, filling_all, 
 use Rattle.octets.proofs.zero_to.Statement.{statement}
 use Rattle.octets.proofs.zero_to.Tie as tie
 
-abbrev invariant-loop : tie.invariant-loop
-invariant-loop s₀ at n i₀ s i = Filling n (replicate n 0) s₀ at s i
+abbrev invariant-loop-i : tie.invariant-loop-i
+invariant-loop-i s₀ at n i₀ s i = Filling n (replicate n 0) s₀ at s i
 
-abbrev decreases-loop : tie.decreases-loop
-decreases-loop s₀ at n i₀ s i = n - i
+abbrev decreases-loop-i : tie.decreases-loop-i
+decreases-loop-i s₀ at n i₀ s i = n - i
 
-pub zero-to-spec : {M : Type 1} → statement M
-zero-to-spec =
-    let answers = tie.spec invariant-loop decreases-loop
+pub zero_to_spec : {M : Type 1} → statement M
+zero_to_spec =
+    let answers = tie.spec invariant-loop-i decreases-loop-i
     (λ c. filling_none _ _ _ _ (length_zeros _))
     (λ c. omega arith)
     (λ c. omega arith)
     (λ c. omega arith)
     (λ c. omega arith)
-    (λ c. filling_one _ _ _ _ c.before.loop.invariant (omega arith) (sym (zeros_at c.before.before.args.n c.before.loop.i)))
+    (λ c. filling_one _ _ _ _ c.loop-i.invariant (omega arith) (sym (zeros_at c.args.n c.loop-i.i)))
     (λ c. omega arith)
-    (λ c. filling_all _ _ _ _ c.before.loop.invariant c.loop-test.false) in
+    (λ c. filling_all _ _ _ _ c.loop-i.invariant c.loop-i-test.false) in
     tie.close answers

@@ -18,8 +18,8 @@ abbrev decreases-messages : tie.decreases-messages
 decreases-messages pdu at₀ count₀ at count = length pdu - at
 
 -- where the message lies that was found
-lies : (c : tie.After-known-told invariant-messages decreases-messages) → Within c.before.before.before.before.before.before.before.args.pdu.now c.before.before.before.before.before.messages.at c.before.end.given.0.0 c.before.end.given.0.1.0
-lies c = place-within _ _ _ _ (sym c.before.before.before.message-at.ensures ∙ c.before.end.given.1)
+lies : (c : tie.In-Message invariant-messages decreases-messages) → Within c.args.pdu.now c.messages.at c.in-Message.field-0 c.in-Message.end
+lies c = place-within _ _ _ _ (sym c.message_at.ensures ∙ c.in-Message.is)
 
 messages-again : tie.Need-messages-preserved invariant-messages decreases-messages
 messages-again c =
@@ -27,18 +27,18 @@ messages-again c =
       omega arith,
       omega arith,
       sym
-          (count_next _ _ _ c.before.before.before.before.if1.false _ c.before.before.before.message-at.ensures _ _ c.before.end.given.1)
-          ∙ c.before.before.before.before.before.messages.invariant.2,
+          (count_next _ _ _ c.if-at-pdu.false _ c.message_at.ensures _ _ c.in-Message.is)
+          ∙ c.messages.invariant.2,
     )
 
-returns-2 : tie.Need-returns-2 invariant-messages decreases-messages
+returns-2 : tie.Need-returns-in-None invariant-messages decreases-messages
 returns-2 c =
     sym
-    (count_none _ _ _ c.before.before.before.if1.false _ c.before.before.message-at.ensures c.enum_told.given.1)
-    ∙ c.before.before.before.before.messages.invariant.2
+    (count_none _ _ _ c.if-at-pdu.false _ c.message_at.ensures c.in-None.is)
+    ∙ c.messages.invariant.2
 
-pub count-messages-spec : {M : Type 1} → statement M
-count-messages-spec =
+pub count_messages_spec : {M : Type 1} → statement M
+count_messages_spec =
     let answers = tie.spec invariant-messages decreases-messages
     (λ c. (omega arith, omega arith, refl))
     (λ c. search rules)
@@ -47,6 +47,6 @@ count-messages-spec =
     (λ c. let w = lies c in omega arith)
     messages-again
     (λ c. search rules)
-    (λ c. sym (count_end _ _ _ c.if1.true) ∙ c.before.messages.invariant.2)
+    (λ c. sym (count_end _ _ _ c.if-at-pdu.true) ∙ c.messages.invariant.2)
     returns-2 in
     tie.close answers

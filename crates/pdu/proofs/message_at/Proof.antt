@@ -4,8 +4,8 @@ use Rattle.pdu.proofs.Message.{places}
 use Rattle.pdu.proofs.message_at.Statement.{statement}
 use Rattle.pdu.proofs.message_at.Tie as tie
 
-pub message-at-spec : {M : Type 1} → statement M
-message-at-spec =
+pub message_at_spec : {M : Type 1} → statement M
+message_at_spec =
     let answers = tie.spec
     (λ c. search (rules, places))
     (λ c. search (rules, places))

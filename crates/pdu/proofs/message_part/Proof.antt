@@ -7,11 +7,11 @@ use Rattle.pdu.proofs.message_part.Statement.{statement}
 use Rattle.pdu.proofs.message_part.Tie as tie
 
 -- where the message lies that was found
-lies : (c : tie.After-known-told) → Within c.before.before.before.before.before.args.pdu.now c.before.before.before.before.before.args.at c.before.start.given.0.0 c.before.start.given.0.1.0
-lies c = place-within _ _ _ _ (sym c.before.before.before.message-at.ensures ∙ c.before.start.given.1)
+lies : (c : tie.In-Message) → Within c.args.pdu.now c.args.at c.in-Message.start c.in-Message.end
+lies c = place-within _ _ _ _ (sym c.message_at.ensures ∙ c.in-Message.is)
 
-pub message-part-spec : {M : Type 1} → statement M
-message-part-spec =
+pub message_part_spec : {M : Type 1} → statement M
+message_part_spec =
     let answers = tie.spec
     (λ c. search rules)
     (λ c. search rules)
@@ -22,6 +22,6 @@ message-part-spec =
     (λ c. search rules)
     (λ c. search rules)
     (λ c. search rules)
-    (λ c. rw (← c.before.before.before.before.message-at.ensures, c.before.before.start.given.1) (refl, (refl, search rules)))
-    (λ c. rw (← c.before.before.before.message-at.ensures, c.before.enum_told.given.1) (refl, (refl, search rules))) in
+    (λ c. rw (← c.message_at.ensures, c.in-Message.is) (refl, (refl, search rules)))
+    (λ c. rw (← c.message_at.ensures, c.in-None.is) (refl, (refl, search rules))) in
     tie.close answers

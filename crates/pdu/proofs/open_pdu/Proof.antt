@@ -4,8 +4,8 @@ use Rattle.pdu.proofs.Count.{openings}
 use Rattle.pdu.proofs.open_pdu.Statement.{statement}
 use Rattle.pdu.proofs.open_pdu.Tie as tie
 
-pub open-pdu-spec : {M : Type 1} → statement M
-open-pdu-spec =
+pub open_pdu_spec : {M : Type 1} → statement M
+open_pdu_spec =
     let answers = tie.spec
     (λ c. search (rules, openings))
     (λ c. search (rules, openings))

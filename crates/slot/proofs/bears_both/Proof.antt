@@ -4,8 +4,8 @@ use Rattle.slot.proofs.Judged.{bearing}
 use Rattle.slot.proofs.bears_both.Statement.{statement}
 use Rattle.slot.proofs.bears_both.Tie as tie
 
-pub bears-both-spec : {M : Type 1} → statement M
-bears-both-spec =
+pub bears_both_spec : {M : Type 1} → statement M
+bears_both_spec =
     let answers = tie.spec
     (λ c. search rules)
     (λ c. search rules)

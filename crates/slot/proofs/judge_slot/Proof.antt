@@ -5,8 +5,8 @@ use Rattle.slot.proofs.Judged.{judged}
 use Rattle.slot.proofs.judge_slot.Statement.{statement}
 use Rattle.slot.proofs.judge_slot.Tie as tie
 
-pub judge-slot-spec : {M : Type 1} → statement M
-judge-slot-spec =
+pub judge_slot_spec : {M : Type 1} → statement M
+judge_slot_spec =
     let answers = tie.spec
     (λ c κs. search rules)
     (λ c κs. search (rules, judged))

@@ -4,8 +4,8 @@ use Rattle.slot.proofs.Judged.{judged}
 use Rattle.slot.proofs.judge_wrong.Statement.{statement}
 use Rattle.slot.proofs.judge_wrong.Tie as tie
 
-pub judge-wrong-spec : {M : Type 1} → statement M
-judge-wrong-spec =
+pub judge_wrong_spec : {M : Type 1} → statement M
+judge_wrong_spec =
     let answers = tie.spec
     (λ c κs. search rules)
     (λ c. search (rules, judged))

@@ -5,8 +5,8 @@ use Rattle.slot.proofs.Judged.{judged}
 use Rattle.slot.proofs.message_is_right.Statement.{statement}
 use Rattle.slot.proofs.message_is_right.Tie as tie
 
-pub message-is-right-spec : {M : Type 1} → statement M
-message-is-right-spec =
+pub message_is_right_spec : {M : Type 1} → statement M
+message_is_right_spec =
     let answers = tie.spec
     (λ c κs. search rules)
     (λ c. search (rules, judged))

@@ -9,20 +9,20 @@ use Rattle.slot.proofs.Holding.{high_length}
 use Rattle.slot.proofs.message_of.Statement.{statement}
 use Rattle.slot.proofs.message_of.Tie as tie
 
-add-end : tie.Need-overflow-add-end
-add-end c = omega (arith, high_length _ c.before.before.requires.1)
+add-end : tie.Need-overflow_add-end
+add-end c = omega (arith, high_length _ c.requires.1)
 
-part-result-end : tie.Need-slice-bounds-result-end
-part-result-end c = omega (arith, high_length _ c.before.before.requires.1)
+part-result-end : tie.Need-slice_bounds-result-end
+part-result-end c = omega (arith, high_length _ c.requires.1)
 
 returns : tie.Need-returns
 unfolding slot_message
 returns c =
-    let b = c.before.before.before.args.block.now in
-    (ap (λ (n : ℕ). part b message_at (message_at + n)) c.before.message-length.ensures, (refl, refl))
+    let b = c.args.block.now in
+    (ap (λ (n : ℕ). part b message_at (message_at + n)) c.message_length-end.ensures, (refl, refl))
 
-pub message-of-spec : {M : Type 1} → statement M
-message-of-spec =
+pub message_of_spec : {M : Type 1} → statement M
+message_of_spec =
     let answers = tie.spec
     (λ c κs. search rules)
     add-end

@@ -4,8 +4,8 @@ use Rattle.block.proofs.Run.{run-put}
 use Rattle.slot.proofs.put_head.Statement.{statement}
 use Rattle.slot.proofs.put_head.Tie as tie
 
-pub put-head-spec : {M : Type 1} → statement M
-put-head-spec =
+pub put_head_spec : {M : Type 1} → statement M
+put_head_spec =
     let answers = tie.spec
     (λ c κs. search rules)
     (λ c κs. search rules)

@@ -9,8 +9,8 @@ use Rattle.slot.proofs.Written.{slot-put}
 use Rattle.slot.proofs.write_slot.Statement.{statement}
 use Rattle.slot.proofs.write_slot.Tie as tie
 
-pub write-slot-spec : {M : Type 1} → statement M
-write-slot-spec =
+pub write_slot_spec : {M : Type 1} → statement M
+write_slot_spec =
     let answers = tie.spec
     (λ c. omega arith)
     (λ c κs. search rules)
@@ -19,7 +19,7 @@ write-slot-spec =
     (λ c. omega arith)
     (λ c. omega arith)
     (λ c κs. search rules)
-    (λ c κs. let n = length c.before.before.before.before.before.before.before.before.before.before.before.before.before.before.before.before.args.m.now in (search rules, omega arith, rw c.before.before.before.zero_to.ensures (cleared-zero c.before.before.before.before.before.before.before.copy-to.new.0 (8 + n) (500 - n) 508 (search rules) (omega arith))))
+    (λ c κs. let n = length c.args.m.now in (search rules, omega arith, rw c.zero_to.ensures (cleared-zero c.copy_to.new.s (8 + n) (500 - n) 508 (search rules) (omega arith))))
     (λ c. search rules)
-    (λ c. let a = c.before.before.before.before.before.before.before.before.before.before.before.before.before.before.before.before.before.before.before.args in slot-put a.m.now (kind_number a.kind) a.label (search rules) a.block.now (search rules) (cc) c.before.before.before.before.before.before.before.before.before.before.copy-to.ensures c.before.before.before.before.before.before.zero_to.ensures c.before.before.seal-before.ensures) in
+    (λ c. let a = c.args in slot-put a.m.now (kind_number a.kind) a.label (search rules) a.block.now (search rules) (cc) c.copy_to.ensures c.zero_to.ensures c.seal_before.ensures) in
     tie.close answers

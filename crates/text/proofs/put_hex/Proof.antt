@@ -11,26 +11,26 @@ use Rattle.text.proofs.Digits.{hex-put, hex-done}
 use Rattle.text.proofs.put_hex.Statement.{statement}
 use Rattle.text.proofs.put_hex.Tie as tie
 
-abbrev invariant-loop : tie.invariant-loop
-invariant-loop out₀ at bytes i₀ out i = (i ≤ length bytes) × (length out ≡ length out₀) × (out ≡ laid out₀ at (hex (take i bytes)))
+abbrev invariant-loop-i : tie.invariant-loop-i
+invariant-loop-i out₀ at bytes i₀ out i = (i ≤ length bytes) × (length out ≡ length out₀) × (out ≡ laid out₀ at (hex (take i bytes)))
 
-abbrev decreases-loop : tie.decreases-loop
-decreases-loop out₀ at bytes i₀ out i = length bytes - i
+abbrev decreases-loop-i : tie.decreases-loop-i
+decreases-loop-i out₀ at bytes i₀ out i = length bytes - i
 
-loop-again : tie.Need-loop-preserved invariant-loop decreases-loop
+loop-again : tie.Need-loop-i-preserved invariant-loop-i decreases-loop-i
 loop-again c = (
   omega arith,
   simp length-set (omega arith),
-  rw c.before.before.before.before.before.loop.invariant.2
-      (hex-put _ _ _ _ _ _ c.before.before.before.before.loop-test.true c.before.before.digit.ensures c.digit2.ensures),
+  rw c.loop-i.invariant.2
+      (hex-put _ _ _ _ _ _ c.loop-i-test.true c.digit-high.ensures c.digit-low.ensures),
 )
 
-pub put-hex-spec : {M : Type 1} → statement M
-put-hex-spec =
-    let answers = tie.spec invariant-loop decreases-loop
+pub put_hex_spec : {M : Type 1} → statement M
+put_hex_spec =
+    let answers = tie.spec invariant-loop-i decreases-loop-i
     (λ c. (omega arith, refl, sym (laid_none _ _)))
     (λ c. search rules)
-    (λ c. λ κs. omega (arith, c.shared-slice-known2.given c.before.before.loop.i))
+    (λ c. λ κs. omega (arith, c.shared_slice_known-in-loop-i-1.given c.loop-i.i))
     (λ c. search rules)
     (λ c. search rules)
     (λ c. search rules)
@@ -46,5 +46,5 @@ put-hex-spec =
     (λ c. search rules)
     (λ c. search rules)
     (λ c. search rules)
-    (λ c. (hex-done _ _ _ _ _ c.loop-test.false c.before.loop.invariant.2, refl)) in
+    (λ c. (hex-done _ _ _ _ _ c.loop-i-test.false c.loop-i.invariant.2, refl)) in
     tie.close answers

@@ -8,10 +8,10 @@ pub is_empty_spec : {M : Type 1} → statement M
 is_empty_spec =
     let answers = tie.spec
     (λ c κs. search rules)
-    (λ c. not_empty _ (search rules) c.before.get-u32.ensures c.if1.true)
+    (λ c. not_empty _ (search rules) c.get_u32.ensures c.if-get_u32-ne-NONE_CHECK.true)
     (λ c. search rules)
     (λ c. search rules)
     (λ c. search rules)
     (λ c κs. search rules)
-    (λ c. are_empty _ (search rules) c.before.before.before.get-u32.ensures c.before.before.if1.false c.all-zero.ensures) in
+    (λ c. are_empty _ (search rules) c.get_u32.ensures c.if-get_u32-ne-NONE_CHECK.false c.all_zero.ensures) in
     tie.close answers

@@ -6,12 +6,12 @@ use Rattle.word_block.specs.Layout.{is_empty}
 use Rattle.word_block.proofs.is_sound.Statement.{statement}
 use Rattle.word_block.proofs.is_sound.Tie as tie
 
-pub is-sound-spec : {M : Type 1} → statement M
+pub is_sound_spec : {M : Type 1} → statement M
 unfolding is_empty
-is-sound-spec =
+is_sound_spec =
     let answers = tie.spec
     (λ c κs. search rules)
-    (λ c. sym (both_true _ _ (sym c.before.is-empty.ensures ∙ c.if1.true)).0)
+    (λ c. sym (both_true _ _ (sym c.is_empty.ensures ∙ c.if-is_empty.true)).0)
     (λ c κs. search rules)
     (λ c. search rules) in
     tie.close answers

@@ -11,10 +11,10 @@ returns : tie.Need-returns
 unfolding block_words
 returns c =
     let a = c.before.before.before.before.before.before in
-    c.before.before.load-words.ensures ∙ ap (λ (n : ℕ). words_at n a.args.block.now 0) a.requires.1
+    c.load_words.ensures ∙ ap (λ (n : ℕ). words_at n a.args.block.now 0) a.requires.1
 
-pub read-words-spec : {M : Type 1} → statement M
-read-words-spec =
+pub read_words_spec : {M : Type 1} → statement M
+read_words_spec =
     let answers = tie.spec
     (λ c κs. search rules)
     (λ c. search rules)

@@ -4,9 +4,9 @@ use borrow.Author.Tests.{lt-ltb, le-ltb}
 use Rattle.block.proofs.remainder.taken.Statement.{statement}
 use Rattle.block.proofs.remainder.taken.Tie as tie
 
-pub taken-spec : {M : Type 1} → statement M
-taken-spec =
+pub taken_spec : {M : Type 1} → statement M
+taken_spec =
     let answers = tie.spec
-    (λ c. let a = c.before.args in rw (lt-ltb a.x a.y (omega arith)))
-    (λ c. let a = c.before.args in rw (le-ltb a.x a.y (omega arith))) in
+    (λ c. let a = c.args in rw (lt-ltb a.x a.y (omega arith)))
+    (λ c. let a = c.args in rw (le-ltb a.x a.y (omega arith))) in
     tie.close answers

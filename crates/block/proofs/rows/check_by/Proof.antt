@@ -7,12 +7,12 @@ use Rattle.block.proofs.rows.check_by.Tie as tie
 
 returns : tie.Need-returns
 returns c =
-    let a = c.before.before.before.args in
+    let a = c.args in
     c.swapped.ensures
-    ∙ rw (c.before.before.remainder.ensures, c.before.remainder2.ensures, swap_back 256 1 1 a.a (omega arith), swap_back 65024 254 254 a.b (omega arith))
+    ∙ rw (c.remainder.ensures, c.remainder-2.ensures, swap_back 256 1 1 a.a (omega arith), swap_back 65024 254 254 a.b (omega arith))
 
-pub check-by-spec : {M : Type 1} → statement M
-check-by-spec =
+pub check_by_spec : {M : Type 1} → statement M
+check_by_spec =
     let answers = tie.spec
     (λ c. omega arith)
     (λ c. omega arith)

@@ -8,40 +8,40 @@ use Rattle.block.proofs.RowSums.{rows_room, places_less, rows_less, rows_bounds,
 use Rattle.block.proofs.rows.check_rows.Statement.{statement}
 use Rattle.block.proofs.rows.check_rows.Tie as tie
 
-byte : (c : tie.After-sum-rows) → Bytes c.before.before.args.s.now
-byte c = λ k. (c.before.shared-slice-known.given k).fits
+byte : (c : tie.After-sum_rows-sums) → Bytes c.args.s.now
+byte c = λ k. (c.shared_slice_known-1.given k).fits
 
-room : (c : tie.After-sum-rows) → (c.sum_rows.result.all ≤ 2 ^ 60) × (c.sum_rows.result.second ≤ 2 ^ 60) × (c.sum_rows.result.odd ≤ 2 ^ 60) × (c.sum_rows.result.running ≤ 2 ^ 60)
-room c = rows_room c.before.before.args.s.now (byte c) _ _ _ _ _ c.before.before.requires.0 c.sum_rows.ensures
+room : (c : tie.After-sum_rows-sums) → (c.sum_rows-sums.result.all ≤ 2 ^ 60) × (c.sum_rows-sums.result.second ≤ 2 ^ 60) × (c.sum_rows-sums.result.odd ≤ 2 ^ 60) × (c.sum_rows-sums.result.running ≤ 2 ^ 60)
+room c = rows_room c.args.s.now (byte c) _ _ _ _ _ c.requires.0 c.sum_rows-sums.ensures
 
-sub-halves : tie.Need-overflow-sub-halves
+sub-halves : tie.Need-overflow_sub-sums
 sub-halves c =
     let d = c.before.before.before.before in
-    let p = d.before.before.requires in
-    places_less _ (byte d) p.1 _ p.0 p.2 d.sum_rows.ensures
+    let p = d.requires in
+    places_less _ (byte d) p.1 _ p.0 p.2 d.sum_rows-sums.ensures
 
-sub-check-by : tie.Need-overflow-sub-check-by
+sub-check-by : tie.Need-overflow_sub-weighed
 sub-check-by c =
     let d = c.before.before.before.before.before.before in
-    let p = d.before.before.requires in
-    rows_less _ (byte d) p.1 _ p.0 p.2 d.sum_rows.ensures c.before.before.before.before.before.halves.ensures.0 c.high_half_lem.ensures.0 c.before.halves2.ensures.0
+    let p = d.requires in
+    rows_less _ (byte d) p.1 _ p.0 p.2 d.sum_rows-sums.ensures c.halves-a.ensures.0 c.high_half.ensures.0 c.halves-weighed.ensures.0
 
-check-by-requires : tie.Need-check-by-requires
+check-by-requires : tie.Need-check_by-requires
 check-by-requires c κs =
     let d = c.before.before.before.before.before.before in
-    let p = d.before.before.requires in
-    rows_bounds _ (byte d) p.1 _ p.0 p.2 d.sum_rows.ensures c.before.before.before.before.before.halves.ensures.0 c.high_half_lem.ensures.0 c.before.halves2.ensures.0
+    let p = d.requires in
+    rows_bounds _ (byte d) p.1 _ p.0 p.2 d.sum_rows-sums.ensures c.halves-a.ensures.0 c.high_half.ensures.0 c.halves-weighed.ensures.0
 
 returns : tie.Need-returns
 returns c =
     let e = c.before in
     let d = e.before.before.before.before.before.before in
-    let p = d.before.before.requires in
-    c.check-by.ensures
-    ∙ rows_check _ (byte d) p.1 _ p.0 p.2 d.sum_rows.ensures e.before.before.before.before.before.halves.ensures.0 e.high_half_lem.ensures.0 e.before.halves2.ensures.0
+    let p = d.requires in
+    c.check_by.ensures
+    ∙ rows_check _ (byte d) p.1 _ p.0 p.2 d.sum_rows-sums.ensures e.halves-a.ensures.0 e.high_half.ensures.0 e.halves-weighed.ensures.0
 
-pub check-rows-spec : {M : Type 1} → statement M
-check-rows-spec =
+pub check_rows_spec : {M : Type 1} → statement M
+check_rows_spec =
     let answers = tie.spec
     (λ c κs. search rules)
     (λ c κs. search rules)
@@ -52,8 +52,8 @@ check-rows-spec =
     (λ c κs. search rules)
     (λ c. omega arith)
     (λ c. omega arith)
-    (λ c. let f = rest_fits c.before.before.before.before.before.before.before.args.rows _ c.before.before.before.before.halves.ensures.1 in omega arith)
-    (λ c. let f = rest_fits c.before.before.before.before.before.before.before.args.rows _ c.before.before.before.before.halves.ensures.1 in omega arith)
+    (λ c. let f = rest_fits c.args.rows _ c.halves-a.ensures.1 in omega arith)
+    (λ c. let f = rest_fits c.args.rows _ c.halves-a.ensures.1 in omega arith)
     (λ c κs. search rules)
     (λ c. omega arith)
     (λ c. omega arith)

@@ -7,13 +7,13 @@ use Rattle.block.proofs.Le.{le_at-part}
 use Rattle.block.proofs.rows.get_eight.Statement.{statement}
 use Rattle.block.proofs.rows.get_eight.Tie as tie
 
-pub get-eight-spec : {M : Type 1} → statement M
-get-eight-spec =
+pub get_eight_spec : {M : Type 1} → statement M
+get_eight_spec =
     let answers = tie.spec
     (λ c. omega arith)
     (λ c. omega arith)
     (λ c. omega arith)
     (λ c. omega arith)
     (λ c κs. search rules)
-    (λ c. let a = c.before.before.before.args in c.eight.ensures ∙ le_at-part 8 a.s.now a.at (a.at + 8) (omega arith)) in
+    (λ c. let a = c.args in c.eight.ensures ∙ le_at-part 8 a.s.now a.at (a.at + 8) (omega arith)) in
     tie.close answers

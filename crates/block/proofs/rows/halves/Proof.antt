@@ -4,8 +4,8 @@ use Rattle.block.proofs.Subtraction.{low_half}
 use Rattle.block.proofs.rows.halves.Statement.{statement}
 use Rattle.block.proofs.rows.halves.Tie as tie
 
-pub halves-spec : {M : Type 1} → statement M
-halves-spec =
+pub halves_spec : {M : Type 1} → statement M
+halves_spec =
     let answers = tie.spec
     (λ c. rw low_half (omega arith))
     (λ c. rw low_half (omega arith)) in

@@ -6,8 +6,8 @@ use Rattle.block.proofs.Subtraction.{both_swapped}
 use Rattle.block.proofs.rows.swapped.Statement.{statement}
 use Rattle.block.proofs.rows.swapped.Tie as tie
 
-pub swapped-spec : {M : Type 1} → statement M
-swapped-spec =
+pub swapped_spec : {M : Type 1} → statement M
+swapped_spec =
     let answers = tie.spec
     (λ c. omega arith)
     (λ c. omega arith)

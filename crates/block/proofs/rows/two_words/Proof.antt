@@ -4,9 +4,9 @@ use Rattle.block.proofs.Le.{two_words}
 use Rattle.block.proofs.rows.two_words.Statement.{statement}
 use Rattle.block.proofs.rows.two_words.Tie as tie
 
-pub two-words-spec : {M : Type 1} → statement M
-two-words-spec =
+pub two_words_spec : {M : Type 1} → statement M
+two_words_spec =
     let answers = tie.spec
     (λ c κs. omega arith)
-    (λ c. two_words c.before.before.args.s.now (λ k. (c.before.shared-slice-known.given k).fits) c.before.before.args.at _ c.get-eight.ensures) in
+    (λ c. two_words c.args.s.now (λ k. (c.shared_slice_known-1.given k).fits) c.args.at _ c.get_eight.ensures) in
     tie.close answers

@@ -9,33 +9,33 @@ use Rattle.block.proofs.ZeroBytes.{all_zero-turn, all_zero_none}
 use Rattle.block.proofs.zeros.each_is_zero.Statement.{statement}
 use Rattle.block.proofs.zeros.each_is_zero.Tie as tie
 
-abbrev invariant-loop : tie.invariant-loop
-invariant-loop s i₀ i = (i ≤ length s) × (all_zero s ≡ all_zero (drop i s))
+abbrev invariant-loop-i : tie.invariant-loop-i
+invariant-loop-i s i₀ i = (i ≤ length s) × (all_zero s ≡ all_zero (drop i s))
 
-abbrev decreases-loop : tie.decreases-loop
-decreases-loop s i₀ i = length s - i
+abbrev decreases-loop-i : tie.decreases-loop-i
+decreases-loop-i s i₀ i = length s - i
 
-returns : tie.Need-returns invariant-loop decreases-loop
+returns : tie.Need-returns-then-s-i-ne0 invariant-loop-i decreases-loop-i
 returns c =
-    let l = c.before.before.before.loop in
-    let s = c.before.before.before.before.args.s.now in
-    sym (l.invariant.1 ∙ rw (all_zero-turn s l.i (omega arith), ne_eqb _ _ c.if1.true))
+    let l = c.loop-i in
+    let s = c.args.s.now in
+    sym (l.invariant.1 ∙ rw (all_zero-turn s l.i (omega arith), ne_eqb _ _ c.if-s-i-ne0.true))
 
-loop-again : tie.Need-loop-preserved invariant-loop decreases-loop
+loop-again : tie.Need-loop-i-preserved invariant-loop-i decreases-loop-i
 loop-again c =
-    let l = c.before.before.before.loop in
-    let s = c.before.before.before.before.args.s.now in
-    (omega arith, l.invariant.1 ∙ rw (all_zero-turn s l.i (omega arith), eq-eqb _ _ c.if1.false))
+    let l = c.loop-i in
+    let s = c.args.s.now in
+    (omega arith, l.invariant.1 ∙ rw (all_zero-turn s l.i (omega arith), eq-eqb _ _ c.if-s-i-ne0.false))
 
-returns-2 : tie.Need-returns-2 invariant-loop decreases-loop
+returns-2 : tie.Need-returns invariant-loop-i decreases-loop-i
 returns-2 c =
-    let l = c.before.loop in
-    let s = c.before.before.args.s.now in
+    let l = c.loop-i in
+    let s = c.args.s.now in
     sym (l.invariant.1 ∙ rw (drop_of_length-le s {i = l.i} (omega arith), all_zero_none))
 
-pub each-is-zero-spec : {M : Type 1} → statement M
-each-is-zero-spec =
-    let answers = tie.spec invariant-loop decreases-loop
+pub each_is_zero_spec : {M : Type 1} → statement M
+each_is_zero_spec =
+    let answers = tie.spec invariant-loop-i decreases-loop-i
     (λ c. (omega arith, refl))
     (λ c. omega arith)
     returns

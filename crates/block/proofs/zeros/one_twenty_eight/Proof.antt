@@ -3,11 +3,11 @@ use native.Mathlib.Omega.{arith}
 use Rattle.block.proofs.zeros.one_twenty_eight.Statement.{statement}
 use Rattle.block.proofs.zeros.one_twenty_eight.Tie as tie
 
-pub one-twenty-eight-spec : {M : Type 1} → statement M
-one-twenty-eight-spec =
+pub one_twenty_eight_spec : {M : Type 1} → statement M
+one_twenty_eight_spec =
     let answers = tie.spec
     (λ c κs. omega arith)
     (λ c. omega arith)
     (λ c κs. omega arith)
-    (λ c. rw (c.before.sixty_four.ensures, c.sixty-four2.ensures)) in
+    (λ c. rw (c.sixty_four.ensures, c.sixty_four-2.ensures)) in
     tie.close answers

@@ -3,11 +3,11 @@ use native.Mathlib.Omega.{arith}
 use Rattle.block.proofs.zeros.sixty_four.Statement.{statement}
 use Rattle.block.proofs.zeros.sixty_four.Tie as tie
 
-pub sixty-four-spec : {M : Type 1} → statement M
-sixty-four-spec =
+pub sixty_four_spec : {M : Type 1} → statement M
+sixty_four_spec =
     let answers = tie.spec
     (λ c κs. omega arith)
     (λ c. omega arith)
     (λ c κs. omega arith)
-    (λ c. rw (c.before.thirty_two.ensures, c.thirty-two2.ensures)) in
+    (λ c. rw (c.thirty_two.ensures, c.thirty_two-2.ensures)) in
     tie.close answers

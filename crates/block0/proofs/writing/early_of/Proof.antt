@@ -3,12 +3,12 @@ use borrow.Author.Rules.{rules}
 use Rattle.block0.proofs.writing.early_of.Statement.{statement}
 use Rattle.block0.proofs.writing.early_of.Tie as tie
 
-pub early-of-spec : {M : Type 1} → statement M
-early-of-spec =
+pub early_of_spec : {M : Type 1} → statement M
+early_of_spec =
     let answers = tie.spec
     (λ c. search rules)
     (λ c. search rules)
     (λ c. search rules)
-    (λ c. rw c.enum_told.given.1)
-    (λ c. rw c.enum-told2.given.1) in
+    (λ c. rw c.in-One.is)
+    (λ c. rw c.in-Two.is) in
     tie.close answers

@@ -7,12 +7,11 @@ use Rattle.block0.proofs.writing.put_fields.Tie as tie
 returns : tie.Need-returns
 returns c =
     let r = c.before.before.before.before.before.before in
-    let n = r.before.before.before.before.before in
-    let a = n.before.before.before.args in
-    fields_put a.version _ a.h r.before.early-of.ensures n.put-numbers.ensures r.put_rest.ensures c.before.before.put-late.ensures
+    let a = c.args in
+    fields_put a.version _ a.h c.early_of.ensures c.put_numbers.ensures c.put_rest.ensures c.put_late.ensures
 
-pub put-fields-spec : {M : Type 1} → statement M
-put-fields-spec =
+pub put_fields_spec : {M : Type 1} → statement M
+put_fields_spec =
     let answers = tie.spec
     (λ c κs. search rules)
     (λ c κs. search rules)

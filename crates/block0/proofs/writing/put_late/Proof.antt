@@ -6,14 +6,14 @@ use Rattle.block.specs.Run.{spelled}
 use Rattle.block0.proofs.writing.put_late.Statement.{statement}
 use Rattle.block0.proofs.writing.put_late.Tie as tie
 
-pub put-late-spec : {M : Type 1} → statement M
+pub put_late_spec : {M : Type 1} → statement M
 unfolding spelled
-put-late-spec =
+put_late_spec =
     let answers = tie.spec
     (λ c. search rules)
     (λ c. search rules)
     (λ c κs. search rules)
-    (λ c. rw c.enum_told.given.1 (sym (laid_none _ 28)))
+    (λ c. rw c.in-One.is (sym (laid_none _ 28)))
     (λ c. search rules)
-    (λ c. rw c.before.before.before.before.enum-told2.given.1 c.before.before.put-u32.ensures) in
+    (λ c. rw c.in-Two.is c.put_u32.ensures) in
     tie.close answers

@@ -4,8 +4,8 @@ use Rattle.block.proofs.Run.{run-put}
 use Rattle.block0.proofs.writing.put_numbers.Statement.{statement}
 use Rattle.block0.proofs.writing.put_numbers.Tie as tie
 
-pub put-numbers-spec : {M : Type 1} → statement M
-put-numbers-spec =
+pub put_numbers_spec : {M : Type 1} → statement M
+put_numbers_spec =
     let answers = tie.spec
     (λ c κs. search rules)
     (λ c κs. search rules)

@@ -4,8 +4,8 @@ use Rattle.block.proofs.Run.{run-put}
 use Rattle.block0.proofs.writing.put_rest.Statement.{statement}
 use Rattle.block0.proofs.writing.put_rest.Tie as tie
 
-pub put-rest-spec : {M : Type 1} → statement M
-put-rest-spec =
+pub put_rest_spec : {M : Type 1} → statement M
+put_rest_spec =
     let answers = tie.spec
     (λ c κs. search rules)
     (λ c κs. search rules)

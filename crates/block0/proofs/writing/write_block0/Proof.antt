@@ -4,13 +4,13 @@ use Rattle.block0.proofs.Same.{labels-put}
 use Rattle.block0.proofs.writing.write_block0.Statement.{statement}
 use Rattle.block0.proofs.writing.write_block0.Tie as tie
 
-pub write-block0-spec : {M : Type 1} → statement M
-write-block0-spec =
+pub write_block0_spec : {M : Type 1} → statement M
+write_block0_spec =
     let answers = tie.spec
     (λ c κs. search rules)
     (λ c κs. search rules)
     (λ c κs. search rules)
     (λ c κs. search rules)
     (λ c. search rules)
-    (λ c. labels-put c.before.before.before.before.before.before.before.before.before.before.before.before.before.before.before.args.version _ (search rules) _ c.before.before.before.before.before.before.before.before.before.before.before.put-fields.ensures _ (search rules) (rw c.before.before.before.before.before.before.before.labels_at.ensures.0 at c.before.before.before.before.before.before.store_words_lem.ensures) c.before.before.seal.ensures) in
+    (λ c. labels-put c.args.version _ (search rules) _ c.put_fields.ensures _ (search rules) (rw c.labels_at.ensures.0 at c.store_words.ensures) c.seal.ensures) in
     tie.close answers

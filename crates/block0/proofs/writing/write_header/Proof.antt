@@ -5,11 +5,11 @@ use Rattle.block0.proofs.Same.{labels_kept}
 use Rattle.block0.proofs.writing.write_header.Statement.{statement}
 use Rattle.block0.proofs.writing.write_header.Tie as tie
 
-pub write-header-spec : {M : Type 1} → statement M
-write-header-spec =
+pub write_header_spec : {M : Type 1} → statement M
+write_header_spec =
     let answers = tie.spec
     (λ c κs. search rules)
     (λ c κs. search rules)
     (λ c. search rules)
-    (λ c. labels_kept Two _ (search rules) _ c.before.before.before.before.before.before.put-fields.ensures (λ k. (c.before.before.before.before.before.before.before.before.slice-known.given k).fits) c.before.before.seal.ensures) in
+    (λ c. labels_kept Two _ (search rules) _ c.put_fields.ensures (λ k. (c.slice_known-1.given k).fits) c.seal.ensures) in
     tie.close answers

@@ -5,8 +5,8 @@ use Rattle.block0.proofs.Same.{label_put}
 use Rattle.block0.proofs.writing.write_label.Statement.{statement}
 use Rattle.block0.proofs.writing.write_label.Tie as tie
 
-pub write-label-spec : {M : Type 1} → statement M
-write-label-spec =
+pub write_label_spec : {M : Type 1} → statement M
+write_label_spec =
     let answers = tie.spec
     (λ c κs. search rules)
     (λ c. search rules)
@@ -14,5 +14,5 @@ write-label-spec =
     (λ c κs. search rules)
     (λ c κs. search rules)
     (λ c. search rules)
-    (λ c. label_put Two _ (search rules) _ c.before.before.before.before.before.before.before.before.before.before.put-fields.ensures (λ k. (c.before.before.before.before.before.before.before.before.before.before.before.before.slice-known.given k).fits) _ _ c.before.before.before.before.before.before.before.before.before.before.before.before.before.requires.1 c.before.before.before.before.before.before.put-u32.ensures c.before.before.seal.ensures) in
+    (λ c. label_put Two _ (search rules) _ c.put_fields.ensures (λ k. (c.slice_known-1.given k).fits) _ _ c.requires.1 c.put_u32.ensures c.seal.ensures) in
     tie.close answers

@@ -7,13 +7,13 @@ use Rattle.block0.proofs.Same.{labels-cleared}
 use Rattle.block0.proofs.writing.write_released.Statement.{statement}
 use Rattle.block0.proofs.writing.write_released.Tie as tie
 
-pub write-released-spec : {M : Type 1} → statement M
-write-released-spec =
+pub write_released_spec : {M : Type 1} → statement M
+write_released_spec =
     let answers = tie.spec
     (λ c κs. search rules)
     (λ c. search rules)
     (λ c κs. search rules)
-    (λ c κs. (search rules, omega arith, rw c.before.before.before.zero_to.ensures (cleared-zero c.before.before.before.before.before.before.before.put-fields.new.0 32 476 508 (search rules) (omega arith))))
+    (λ c κs. (search rules, omega arith, rw c.zero_to.ensures (cleared-zero c.put_fields.new.block 32 476 508 (search rules) (omega arith))))
     (λ c. search rules)
-    (λ c. labels-cleared Two _ (search rules) _ c.before.before.before.before.before.before.before.before.before.before.put-fields.ensures c.before.before.before.before.before.before.zero_to.ensures c.before.before.seal-before.ensures) in
+    (λ c. labels-cleared Two _ (search rules) _ c.put_fields.ensures c.zero_to.ensures c.seal_before.ensures) in
     tie.close answers

@@ -3,16 +3,16 @@ use Rattle.label_events.proofs.Planned.{plan_in, accepted_is, refused_is}
 use Rattle.label_events.proofs.accepting.accept.Statement.{statement}
 use Rattle.label_events.proofs.accepting.accept.Tie as tie
 
-pub accept-spec : {M : Type 1} → statement M
-accept-spec =
+pub accept_spec : {M : Type 1} → statement M
+accept_spec =
     let answers = tie.spec
     (λ c κs. tt)
     (λ c. search rules)
-    (λ c κs. plan_in _ _ _ c.before.before.before.before.plan-accept.ensures c.before.before.change.given.1)
+    (λ c κs. plan_in _ _ _ c.plan_accept.ensures c.in-Allowed.is)
     (λ c κs. tt)
     (λ c. search rules)
     (λ c. search rules)
-    (λ c. accepted_is _ _ _ c.before.before.before.before.before.before.before.before.plan-accept.ensures c.before.before.before.before.before.before.change.given.1 c.acceptance.ensures c.before.before.before.make-change.ensures)
+    (λ c. accepted_is _ _ _ c.plan_accept.ensures c.in-Allowed.is c.acceptance.ensures c.make_change.ensures)
     (λ c. search rules)
-    (λ c. refused_is _ _ _ c.before.before.plan-accept.ensures c.enum_told.given.1) in
+    (λ c. refused_is _ _ _ c.plan_accept.ensures c.in-Refused.is) in
     tie.close answers

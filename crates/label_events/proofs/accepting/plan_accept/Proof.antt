@@ -7,21 +7,21 @@ use Rattle.label_events.proofs.Planned.{plan_low, plan_high, plan_allowed, plan_
 use Rattle.label_events.proofs.accepting.plan_accept.Statement.{statement}
 use Rattle.label_events.proofs.accepting.plan_accept.Tie as tie
 
-pub plan-accept-spec : {M : Type 1} → statement M
-plan-accept-spec =
+pub plan_accept_spec : {M : Type 1} → statement M
+plan_accept_spec =
     let answers = tie.spec
-    (λ c. plan_low _ _ _ c.if1.true)
-    (λ c. plan_high _ _ _ c.if2.true)
+    (λ c. plan_low _ _ _ c.if-label-lt-FIRST_LABEL.true)
+    (λ c. plan_high _ _ _ c.if-label-ge-LABEL_COUNT.true)
     (λ c κs. tt)
     (λ c κs. tt)
-    (λ c κs. found_in_lem _ _ c.find-label.ensures)
+    (λ c κs. found_in_lem _ _ c.find_label-place.ensures)
     (λ c κs. tt)
     (λ c. search rules)
     (λ c κs. (
       omega arith,
-      subst SmallNext (sym c.before.before.before.code-accepted.ensures ∙ c.before.code.given.1) (accepted_small c.before.before.before.before.before.before.before.before.before.before.args.message c.before.before.before.before.code-at.result),
+      subst SmallNext (sym c.code_accepted.ensures ∙ c.in-Code.is) (accepted_small c.args.message c.code_at.result),
     ))
     (λ c. search rules)
-    (λ c. plan_allowed _ _ _ (omega arith) (omega arith) c.before.before.before.before.before.before.before.sent-side.ensures c.before.before.before.before.before.before.find-label.ensures c.before.before.before.before.before.code-at.ensures.0 c.before.before.before.before.code-accepted.ensures c.before.before.code.given.1 c.plan-change.ensures)
-    (λ c. plan_refused _ _ _ (omega arith) (omega arith) c.before.before.before.before.before.sent-side.ensures c.before.before.before.before.find-label.ensures c.before.before.before.code-at.ensures.0 c.before.before.code-accepted.ensures c.enum_told.given.1) in
+    (λ c. plan_allowed _ _ _ (omega arith) (omega arith) c.sent_side.ensures c.find_label-place.ensures c.code_at.ensures.0 c.code_accepted.ensures c.in-Code.is c.plan_change.ensures)
+    (λ c. plan_refused _ _ _ (omega arith) (omega arith) c.sent_side.ensures c.find_label-place.ensures c.code_at.ensures.0 c.code_accepted.ensures c.in-NotAllowed.is) in
     tie.close answers

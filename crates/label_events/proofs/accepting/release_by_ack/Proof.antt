@@ -6,24 +6,24 @@ use Rattle.label_events.proofs.Planned.{acked-small_label, acked_found, acked-ab
 use Rattle.label_events.proofs.accepting.release_by_ack.Statement.{statement}
 use Rattle.label_events.proofs.accepting.release_by_ack.Tie as tie
 
-pub release-by-ack-spec : {M : Type 1} → statement M
-release-by-ack-spec =
+pub release_by_ack_spec : {M : Type 1} → statement M
+release_by_ack_spec =
     let answers = tie.spec
     (λ c κs. tt)
     (λ c κs. tt)
     (λ c. search rules)
-    (λ c. omega (arith, found_place _ _ _ (found_in_lem _ _ c.before.before.before.find-label.ensures) c.before.i.given.1))
-    (λ c. found_place _ _ _ (found_in_lem _ _ c.before.before.before.before.find-label.ensures) c.before.before.i.given.1)
+    (λ c. omega (arith, found_place _ _ _ (found_in_lem _ _ c.find_label.ensures) c.in-At.is))
+    (λ c. found_place _ _ _ (found_in_lem _ _ c.find_label.ensures) c.in-At.is)
     (λ c κs. tt)
     (λ c κs. (
-      acked-small_label _ c.before.before.before.before.before.before.before.before.before.args.message _ c.before.before.before.before.before.before.sent-side.ensures c.before.before.before.before.before.find-label.ensures _ c.before.before.before.i.given.1,
-      rw c.code-acked.ensures (acked-small c.before.before.before.before.before.before.before.before.before.args.message _ (omega (arith, c.before.slice-known2.given c.before.before.before.i.given.0.0))),
+      acked-small_label _ c.args.message _ c.sent_side.ensures c.find_label.ensures _ c.in-At.is,
+      rw c.code_acked.ensures (acked-small c.args.message _ (omega (arith, c.slice_known-in-At-1.given c.in-At.i))),
     ))
-    (λ c. omega (arith, found_place _ _ _ (found_in_lem _ _ c.before.before.before.before.before.before.find-label.ensures) c.before.before.before.before.i.given.1))
-    (λ c. found_place _ _ _ (found_in_lem _ _ c.before.before.before.before.before.before.find-label.ensures) c.before.before.before.before.i.given.1)
+    (λ c. omega (arith, found_place _ _ _ (found_in_lem _ _ c.find_label.ensures) c.in-At.is))
+    (λ c. found_place _ _ _ (found_in_lem _ _ c.find_label.ensures) c.in-At.is)
     (λ c. search rules)
     (λ c. search rules)
-    (λ c. acked_found _ _ _ c.before.before.before.before.before.before.before.sent-side.ensures c.before.before.before.before.before.before.find-label.ensures _ c.before.before.before.before.i.given.1 c.before.code-acked.ensures c.word_of.ensures)
+    (λ c. acked_found _ _ _ c.sent_side.ensures c.find_label.ensures _ c.in-At.is c.code_acked.ensures c.word_of.ensures)
     (λ c. search rules)
-    (λ c. acked-absent _ _ _ c.before.before.before.sent-side.ensures c.before.before.find-label.ensures c.enum_told.given.1) in
+    (λ c. acked-absent _ _ _ c.sent_side.ensures c.find_label.ensures c.in-Nowhere.is) in
     tie.close answers

@@ -6,14 +6,14 @@ use Rattle.label_events.specs.Change.{code_in}
 use Rattle.label_events.proofs.changing.code_at.Statement.{statement}
 use Rattle.label_events.proofs.changing.code_at.Tie as tie
 
-pub code-at-spec : {M : Type 1} → statement M
+pub code_at_spec : {M : Type 1} → statement M
 unfolding code_in
-code-at-spec =
+code_at_spec =
     let answers = tie.spec
     (λ c. search rules)
-    (λ c. omega (arith, found_place _ _ _ c.before.before.before.requires c.before.place.given.1))
-    (λ c. found_place _ _ _ c.before.before.before.before.requires c.before.before.place.given.1)
+    (λ c. omega (arith, found_place _ _ _ c.requires c.in-At.is))
+    (λ c. found_place _ _ _ c.requires c.in-At.is)
     (λ c. search rules)
-    (λ c. rw c.before.before.place.given.1 (refl, omega (arith, c.shared-slice-known.given c.before.before.place.given.0.0)))
-    (λ c. rw c.enum_told.given.1 (refl, omega arith)) in
+    (λ c. rw c.in-At.is (refl, omega (arith, c.shared_slice_known-1.given c.in-At.i)))
+    (λ c. rw c.in-Nowhere.is (refl, omega arith)) in
     tie.close answers

@@ -4,16 +4,16 @@ use Rattle.label_events.proofs.Planned.{change_none, change-taken, placed_moved,
 use Rattle.label_events.proofs.changing.plan_place.Statement.{statement}
 use Rattle.label_events.proofs.changing.plan_place.Tie as tie
 
-pub plan-place-spec : {M : Type 1} → statement M
-plan-place-spec =
+pub plan_place_spec : {M : Type 1} → statement M
+plan_place_spec =
     let answers = tie.spec
     (λ c κs. c.requires)
     (λ c. search rules)
     (λ c κs. tt)
-    (λ c. placed_moved _ _ _ _ _ _ c.before.if1.true c.before.before.before.before.before.word_of.ensures c.move-to.ensures c.before.before.before.place.given.1)
+    (λ c. placed_moved _ _ _ _ _ _ c.if-moves.true c.word_of-word.ensures c.move_to.ensures c.in-At.is)
     (λ c. search rules)
-    (λ c. placed_new _ _ _ _ _ (change_none _ _ _ _ c.before.enum_told.given.1 c.if2.true) c.before.enum_told.given.1)
+    (λ c. placed_new _ _ _ _ _ (change_none _ _ _ _ c.in-Nowhere.is c.if-code-eq0.true) c.in-Nowhere.is)
     (λ c κs. tt)
-    (λ c. placed_stays _ _ _ _ _ _ c.if1.false c.before.before.before.before.word_of.ensures c.before.before.place.given.1)
-    (λ c. placed_new _ _ _ _ _ (change-taken _ _ _ _ c.before.before.enum_told.given.1 c.before.if2.false c.before.before.before.before.word_of.ensures refl c.take-free.ensures) c.before.before.enum_told.given.1) in
+    (λ c. placed_stays _ _ _ _ _ _ c.if-moves.false c.word_of-word.ensures c.in-At.is)
+    (λ c. placed_new _ _ _ _ _ (change-taken _ _ _ _ c.in-Nowhere.is c.if-code-eq0.false c.word_of-word.ensures refl c.take_free.ensures) c.in-Nowhere.is) in
     tie.close answers

@@ -6,19 +6,19 @@ use Rattle.label_events.proofs.Ended.{room-here, room-free, room_past, room_nowh
 use Rattle.label_events.proofs.changing.room_at.Statement.{statement}
 use Rattle.label_events.proofs.changing.room_at.Tie as tie
 
-pub room-at-spec : {M : Type 1} → statement M
-room-at-spec =
+pub room_at_spec : {M : Type 1} → statement M
+room_at_spec =
     let answers = tie.spec
     (λ c. search rules)
     (λ c. search rules)
     (λ c. search rules)
-    (λ c. room-here _ _ c.before.before.before.before.request.given.1 c.if2.true _)
+    (λ c. room-here _ _ c.in-At.is c.if-words-i-eq-REQUEST_WORD.true _)
     (λ c κs. tt)
     (λ c. search rules)
     (λ c κs. tt)
-    (λ c. c.where-free.ensures ∙ ⊎_elim
-    (λ w. room-free _ _ c.before.before.before.request.given.1 w.2.left _)
-    (λ w. room_past _ _ c.before.before.before.request.given.1 (omega arith) _)
-    c.before.if1.branch)
-    (λ c. c.where-free2.ensures ∙ room_nowhere _ c.before.enum_told.given.1 _) in
+    (λ c. c.where_free.ensures ∙ ⊎_elim
+    (λ w. room-free _ _ c.in-At.is w.if-words-i-eq-REQUEST_WORD.false _)
+    (λ w. room_past _ _ c.in-At.is (omega arith) _)
+    c.if-i-words.branch-raw)
+    (λ c. c.where_free-in-Nowhere.ensures ∙ room_nowhere _ c.in-Nowhere.is _) in
     tie.close answers

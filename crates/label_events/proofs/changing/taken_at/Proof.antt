@@ -2,13 +2,13 @@ use borrow.Author.Rules.{rules}
 use Rattle.label_events.proofs.changing.taken_at.Statement.{statement}
 use Rattle.label_events.proofs.changing.taken_at.Tie as tie
 
-pub taken-at-spec : {M : Type 1} → statement M
-taken-at-spec =
+pub taken_at_spec : {M : Type 1} → statement M
+taken_at_spec =
     let answers = tie.spec
     (λ c. search rules) (λ c. search rules) (λ c. search rules) (λ c. search rules) (λ c. search rules) (λ c. search rules)
-    (λ c. rw c.enum_told.given.1)
+    (λ c. rw c.in-Keep.is)
     (λ c. search rules)
-    (λ c. rw (c.before.before.before.change.given.1, c.enum-told3.given.1))
-    (λ c. rw c.before.change2.given.1)
-    (λ c. rw c.enum-told4.given.1) in
+    (λ c. rw (c.in-Put.is, c.in-Nowhere.is))
+    (λ c. rw c.in-Move.is)
+    (λ c. rw c.in-NoRoom.is) in
     tie.close answers

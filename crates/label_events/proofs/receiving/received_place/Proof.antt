@@ -3,9 +3,9 @@ use Rattle.label_events.specs.Receive.{received_place}
 use Rattle.label_events.proofs.receiving.received_place.Statement.{statement}
 use Rattle.label_events.proofs.receiving.received_place.Tie as tie
 
-pub received-place-spec : {M : Type 1} → statement M
+pub received_place_spec : {M : Type 1} → statement M
 unfolding received_place
-received-place-spec =
+received_place_spec =
     let answers = tie.spec
     (λ c. search rules)
     (λ c κs. tt)
@@ -13,8 +13,8 @@ received-place-spec =
     (λ c. search rules)
     (λ c. search rules)
     (λ c. search rules)
-    (λ c. rw (c.before.before.before.touched.given.1, ← c.before.received-side.ensures) c.find-label.ensures)
-    (λ c. rw c.enum_told.given.1)
-    (λ c. rw c.enum-told2.given.1)
-    (λ c. rw c.enum-told3.given.1) in
+    (λ c. rw (c.in-Label.is, ← c.received_side.ensures) c.find_label.ensures)
+    (λ c. rw c.in-Every.is)
+    (λ c. rw c.in-Prefix.is)
+    (λ c. rw c.in-Nothing.is) in
     tie.close answers

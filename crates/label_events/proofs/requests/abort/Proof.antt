@@ -6,17 +6,17 @@ use Rattle.label_events.proofs.Asked.{open_inside, aborted_there, aborted_none}
 use Rattle.label_events.proofs.requests.abort.Statement.{statement}
 use Rattle.label_events.proofs.requests.abort.Tie as tie
 
-pub abort-spec : {M : Type 1} → statement M
+pub abort_spec : {M : Type 1} → statement M
 unfolding changed
-abort-spec =
+abort_spec =
     let answers = tie.spec
     (λ c κs. tt)
     (λ c. search rules)
-    (λ c. omega (arith, open_inside _ _ _ _ c.before.before.before.find-request.ensures c.before.i.given.1))
-    (λ c. open_inside _ _ _ _ c.before.before.before.find-request.ensures c.before.i.given.1)
+    (λ c. omega (arith, open_inside _ _ _ _ c.find_request.ensures c.in-At.is))
+    (λ c. open_inside _ _ _ _ c.find_request.ensures c.in-At.is)
     (λ c. search rules)
     (λ c. search rules)
-    (λ c. rw (← aborted_there _ _ _ c.before.before.before.find-request.ensures _ c.before.i.given.1) (refl, refl, refl))
+    (λ c. rw (← aborted_there _ _ _ c.find_request.ensures _ c.in-At.is) (refl, refl, refl))
     (λ c. search rules)
-    (λ c. rw (← aborted_none _ _ _ c.before.before.find-request.ensures c.enum_told.given.1) (refl, refl, refl)) in
+    (λ c. rw (← aborted_none _ _ _ c.find_request.ensures c.in-Nowhere.is) (refl, refl, refl)) in
     tie.close answers

@@ -7,27 +7,27 @@ use Rattle.label_events.proofs.Asked.{asked_twice, asked-taken, asked-full}
 use Rattle.label_events.proofs.requests.ask.Statement.{statement}
 use Rattle.label_events.proofs.requests.ask.Tie as tie
 
-pub ask-spec : {M : Type 1} → statement M
+pub ask_spec : {M : Type 1} → statement M
 unfolding changed
-ask-spec =
+ask_spec =
     let answers = tie.spec
     (λ c κs. tt)
     (λ c. search rules)
     (λ c. search rules)
     (λ c κs. tt)
     (λ c. search rules)
-    (λ c. omega (arith, found_place _ _ _ (found_in_lem _ _ c.before.before.before.find.ensures) c.before.i.given.1))
-    (λ c. found_place _ _ _ (found_in_lem _ _ c.before.before.before.find.ensures) c.before.i.given.1)
-    (λ c. omega (arith, found_place _ _ _ (found_in_lem _ _ c.before.before.before.find.ensures) c.before.i.given.1))
-    (λ c. omega (arith, found_place _ _ _ (found_in_lem _ _ c.before.before.before.find.ensures) c.before.i.given.1))
+    (λ c. omega (arith, found_place _ _ _ (found_in_lem _ _ c.find.ensures) c.in-At-find.is))
+    (λ c. found_place _ _ _ (found_in_lem _ _ c.find.ensures) c.in-At-find.is)
+    (λ c. omega (arith, found_place _ _ _ (found_in_lem _ _ c.find.ensures) c.in-At-find.is))
+    (λ c. omega (arith, found_place _ _ _ (found_in_lem _ _ c.find.ensures) c.in-At-find.is))
     (λ c. search rules)
     (λ c. search rules)
     (λ c. search rules)
-    (λ c. rw (← asked_twice _ _ _ c.before.before.find-request.ensures _ c.enum_told.given.1) (refl, refl, refl, refl))
+    (λ c. rw (← asked_twice _ _ _ c.find_request.ensures _ c.in-At.is) (refl, refl, refl, refl))
     (λ c. search rules)
     (λ c. search rules)
-    (λ c. rw (← asked-taken _ _ _ c.before.before.before.before.before.before.before.find-request.ensures c.before.before.before.before.before.enum-told2.given.1 c.before.before.before.find.ensures _ c.before.i.given.1) (refl, refl, refl, refl))
+    (λ c. rw (← asked-taken _ _ _ c.find_request.ensures c.in-Nowhere.is c.find.ensures _ c.in-At-find.is) (refl, refl, refl, refl))
     (λ c. search rules)
     (λ c. search rules)
-    (λ c. rw (← asked-full _ _ _ c.before.before.before.before.before.before.find-request.ensures c.before.before.before.before.enum-told2.given.1 c.before.before.find.ensures c.enum-told3.given.1) (refl, refl, refl, refl)) in
+    (λ c. rw (← asked-full _ _ _ c.find_request.ensures c.in-Nowhere.is c.find.ensures c.in-Nowhere-find.is) (refl, refl, refl, refl)) in
     tie.close answers

@@ -6,21 +6,21 @@ use Rattle.label_list.proofs.Besides.{BesideMapped, beside_none, beside_more, be
 use Rattle.label_list.proofs.beside.sweep_beside.Statement.{statement}
 use Rattle.label_list.proofs.beside.sweep_beside.Tie as tie
 
-abbrev invariant-loop : tie.invariant-loop
-invariant-loop words₀ entries entry rule i₀ words i = BesideMapped (word_beside rule entry) words₀ entries words i
+abbrev invariant-loop-i : tie.invariant-loop-i
+invariant-loop-i words₀ entries entry rule i₀ words i = BesideMapped (word_beside rule entry) words₀ entries words i
 
-abbrev decreases-loop : tie.decreases-loop
-decreases-loop words₀ entries entry rule i₀ words i = length words - i
+abbrev decreases-loop-i : tie.decreases-loop-i
+decreases-loop-i words₀ entries entry rule i₀ words i = length words - i
 
-pub sweep-beside-spec : {M : Type 1} → statement M
-sweep-beside-spec =
-    let answers = tie.spec invariant-loop decreases-loop
+pub sweep_beside_spec : {M : Type 1} → statement M
+sweep_beside_spec =
+    let answers = tie.spec invariant-loop-i decreases-loop-i
     (λ c. beside_none _ _ _)
-    (λ c. c.before.before.loop.invariant.same)
-    (λ c. beside_last _ _ _ _ _ c.before.before.loop.invariant (omega arith))
+    (λ c. c.loop-i.invariant.same)
+    (λ c. beside_last _ _ _ _ _ c.loop-i.invariant (omega arith))
     (λ c. omega arith)
     (λ c. omega arith)
-    (λ c. omega (arith, c.before.before.before.loop.invariant.same))
+    (λ c. omega (arith, c.loop-i.invariant.same))
     (λ c. omega arith)
     (λ c κs. tt)
     (λ c. omega arith)
@@ -28,8 +28,8 @@ sweep-beside-spec =
     (λ c. omega arith)
     (λ c. simp length-set (omega arith))
     (λ c.
-    let l = c.before.before.before.before.before.loop in
-    beside_more _ _ _ _ _ l.invariant (omega arith) (omega arith) c.word-beside.ensures)
-    (λ c. c.before.loop.invariant.same)
-    (λ c. beside_all _ _ _ _ _ c.before.loop.invariant (omega arith)) in
+    let l = c.loop-i in
+    beside_more _ _ _ _ _ l.invariant (omega arith) (omega arith) c.word_beside.ensures)
+    (λ c. c.loop-i.invariant.same)
+    (λ c. beside_all _ _ _ _ _ c.loop-i.invariant (omega arith)) in
     tie.close answers

@@ -4,17 +4,17 @@ use Rattle.label_list.specs.Rules.{code_acked}
 use Rattle.label_list.proofs.rules.code_acked.Statement.{statement}
 use Rattle.label_list.proofs.rules.code_acked.Tie as tie
 
-pub code-acked-spec : {M : Type 1} → statement M
+pub code_acked_spec : {M : Type 1} → statement M
 unfolding code_acked
-code-acked-spec =
+code_acked_spec =
     let answers = tie.spec
     (λ c. search rules)
     (λ c. search rules)
     (λ c. search rules)
-    (λ c. rw c.enum_told.given.1)
-    (λ c. rw (c.before.enum-told2.given.1, c.match2.keys1))
-    (λ c. rw (c.before.enum-told2.given.1, c.match2.keys2))
-    (λ c. simp (c.before.enum-told2.given.1, ne_eqb _ _ c.match2.rest.0.1, ne_eqb _ _ c.match2.rest.1))
-    (λ c. rw (c.before.enum-told3.given.1, c.match3.keys1))
-    (λ c. simp (c.before.enum-told3.given.1, ne_eqb _ _ c.match3.rest.1)) in
+    (λ c. rw c.in-Mapping.is)
+    (λ c. rw (c.in-Withdraw.is, c.in-2.is))
+    (λ c. rw (c.in-Withdraw.is, c.in-9.is))
+    (λ c. simp (c.in-Withdraw.is, ne_eqb _ _ c.in_default.in_default-own.rest.0.1, ne_eqb _ _ c.in_default.in_default-own.rest.1))
+    (λ c. rw (c.in-Release.is, c.in-5.is))
+    (λ c. simp (c.in-Release.is, ne_eqb _ _ c.in_default-code.in_default-code-own.rest.1)) in
     tie.close answers

@@ -4,23 +4,23 @@ use Rattle.label_list.specs.Rules.{code_received}
 use Rattle.label_list.proofs.rules.code_received.Statement.{statement}
 use Rattle.label_list.proofs.rules.code_received.Tie as tie
 
-pub code-received-spec : {M : Type 1} → statement M
+pub code_received_spec : {M : Type 1} → statement M
 unfolding code_received
-code-received-spec =
+code_received_spec =
     let answers = tie.spec
     (λ c. search rules)
     (λ c. search rules)
     (λ c. search rules)
-    (λ c. rw (c.before.before.enum_told.given.1, c.before.if1.true, c.match2.keys1))
-    (λ c. rw (c.before.before.enum_told.given.1, c.before.if1.true, c.match2.keys2))
-    (λ c. simp (c.before.before.enum_told.given.1, c.before.if1.true, ne_eqb _ _ c.match2.rest.0.1, ne_eqb _ _ c.match2.rest.1))
-    (λ c. rw (c.before.before.enum_told.given.1, c.before.if1.false, c.match3.keys1))
-    (λ c. simp (c.before.before.enum_told.given.1, c.before.if1.false, ne_eqb _ _ c.match3.rest.1))
-    (λ c. rw (c.before.enum-told2.given.1, c.match4.keys1))
-    (λ c. rw (c.before.enum-told2.given.1, c.match4.keys2))
-    (λ c. simp (c.before.enum-told2.given.1, ne_eqb _ _ c.match4.rest.0.1, ne_eqb _ _ c.match4.rest.1))
-    (λ c. rw (c.before.enum-told3.given.1, c.match5.keys1))
-    (λ c. rw (c.before.enum-told3.given.1, c.match5.keys2))
-    (λ c. rw (c.before.enum-told3.given.1, c.match5.keys3))
-    (λ c. simp (c.before.enum-told3.given.1, ne_eqb _ _ c.match5.rest.0.0.1, ne_eqb _ _ c.match5.rest.0.1, ne_eqb _ _ c.match5.rest.1)) in
+    (λ c. rw (c.in-Mapping.is, c.if-protected.true, c.in-0.is))
+    (λ c. rw (c.in-Mapping.is, c.if-protected.true, c.in-5.is))
+    (λ c. simp (c.in-Mapping.is, c.if-protected.true, ne_eqb _ _ c.in_default.in_default-own.rest.0.1, ne_eqb _ _ c.in_default.in_default-own.rest.1))
+    (λ c. rw (c.in-Mapping.is, c.if-protected.false, c.in-0-code.is))
+    (λ c. simp (c.in-Mapping.is, c.if-protected.false, ne_eqb _ _ c.in_default-code.in_default-code-own.rest.1))
+    (λ c. rw (c.in-Withdraw.is, c.in-3.is))
+    (λ c. rw (c.in-Withdraw.is, c.in-6.is))
+    (λ c. simp (c.in-Withdraw.is, ne_eqb _ _ c.in_default-code-2.in_default-code-2-own.rest.0.1, ne_eqb _ _ c.in_default-code-2.in_default-code-2-own.rest.1))
+    (λ c. rw (c.in-Release.is, c.in-1.is))
+    (λ c. rw (c.in-Release.is, c.in-2.is))
+    (λ c. rw (c.in-Release.is, c.in-8.is))
+    (λ c. simp (c.in-Release.is, ne_eqb _ _ c.in_default-code-3.in_default-code-3-own.rest.0.0.1, ne_eqb _ _ c.in_default-code-3.in_default-code-3-own.rest.0.1, ne_eqb _ _ c.in_default-code-3.in_default-code-3-own.rest.1)) in
     tie.close answers

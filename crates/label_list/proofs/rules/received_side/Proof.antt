@@ -3,14 +3,14 @@ use Rattle.label_list.specs.Rules.{received_side}
 use Rattle.label_list.proofs.rules.received_side.Statement.{statement}
 use Rattle.label_list.proofs.rules.received_side.Tie as tie
 
-pub received-side-spec : {M : Type 1} → statement M
+pub received_side_spec : {M : Type 1} → statement M
 unfolding received_side
-received-side-spec =
+received_side_spec =
     let answers = tie.spec
     (λ c. search rules)
     (λ c. search rules)
     (λ c. search rules)
-    (λ c. rw c.enum_told.given.1)
-    (λ c. rw c.enum-told2.given.1)
-    (λ c. rw c.enum-told3.given.1) in
+    (λ c. rw c.in-Mapping.is)
+    (λ c. rw c.in-Withdraw.is)
+    (λ c. rw c.in-Release.is) in
     tie.close answers

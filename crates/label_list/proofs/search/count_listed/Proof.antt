@@ -6,15 +6,15 @@ use Rattle.label_list.proofs.Sought.{Counted, counted_none, counted_listed, coun
 use Rattle.label_list.proofs.search.count_listed.Statement.{statement}
 use Rattle.label_list.proofs.search.count_listed.Tie as tie
 
-abbrev invariant-loop : tie.invariant-loop
-invariant-loop words count₀ i₀ count i = Counted words count i
+abbrev invariant-loop-i : tie.invariant-loop-i
+invariant-loop-i words count₀ i₀ count i = Counted words count i
 
-abbrev decreases-loop : tie.decreases-loop
-decreases-loop words count₀ i₀ count i = length words - i
+abbrev decreases-loop-i : tie.decreases-loop-i
+decreases-loop-i words count₀ i₀ count i = length words - i
 
-pub count-listed-spec : {M : Type 1} → statement M
-count-listed-spec =
-    let answers = tie.spec invariant-loop decreases-loop
+pub count_listed_spec : {M : Type 1} → statement M
+count_listed_spec =
+    let answers = tie.spec invariant-loop-i decreases-loop-i
     (λ c. counted_none _)
     (λ c. omega arith)
     (λ c. omega arith)
@@ -22,10 +22,10 @@ count-listed-spec =
     (λ c. omega arith)
     (λ c. omega arith)
     (λ c.
-    let inv = c.before.before.before.loop.invariant in
+    let inv = c.loop-i.invariant in
     ⊎_elim
-    (λ w. rw w.1 (counted_listed _ _ _ inv (omega arith) w.0.taken))
-    (λ w. rw w.1 (counted_free _ _ _ inv (omega arith) w.0.left))
-    c.if1.branch)
-    (λ c. counted_all _ _ _ c.before.loop.invariant (omega arith)) in
+    (λ w. rw w.count-is (counted_listed _ _ _ inv (omega arith) w.if-words-i-ne0.true))
+    (λ w. rw w.count-is (counted_free _ _ _ inv (omega arith) w.if-words-i-ne0.false))
+    c.if-words-i-ne0.branch-raw)
+    (λ c. counted_all _ _ _ c.loop-i.invariant (omega arith)) in
     tie.close answers

@@ -4,11 +4,11 @@ use Rattle.label_list.proofs.Small.{swept_small}
 use Rattle.label_list.proofs.sweeping.word_swept.Statement.{statement}
 use Rattle.label_list.proofs.sweeping.word_swept.Tie as tie
 
-pub word-swept-spec : {M : Type 1} → statement M
+pub word_swept_spec : {M : Type 1} → statement M
 unfolding word_swept
-word-swept-spec =
+word_swept_spec =
     let answers = tie.spec
     (λ c κs. tt)
-    (λ c κs. (omega arith, rw c.code-swept.ensures (swept_small c.before.args.rule _ (omega arith))))
-    (λ c. rw (← c.before.code-swept.ensures) c.word_of.ensures) in
+    (λ c κs. (omega arith, rw c.code_swept.ensures (swept_small c.args.rule _ (omega arith))))
+    (λ c. rw (← c.code_swept.ensures) c.word_of.ensures) in
     tie.close answers

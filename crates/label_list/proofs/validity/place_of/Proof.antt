@@ -4,15 +4,15 @@ use Rattle.label_list.specs.Marks.{mark_at}
 use Rattle.label_list.proofs.validity.place_of.Statement.{statement}
 use Rattle.label_list.proofs.validity.place_of.Tie as tie
 
-pub place-of-spec : {M : Type 1} → statement M
+pub place_of_spec : {M : Type 1} → statement M
 unfolding mark_at
-place-of-spec =
+place_of_spec =
     let answers = tie.spec
     (λ c. search rules)
     (λ c. search rules)
     (λ c. search rules)
     (λ c. search rules)
     (λ c. search rules)
-    (λ c. rw c.enum_told.given.1 (omega arith, omega arith))
-    (λ c. rw c.enum-told2.given.1 (omega arith, omega arith)) in
+    (λ c. rw c.in-Given.is (omega arith, omega arith))
+    (λ c. rw c.in-Used.is (omega arith, omega arith)) in
     tie.close answers

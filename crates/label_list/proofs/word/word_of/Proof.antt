@@ -4,12 +4,12 @@ use Rattle.label_list.specs.Word.{word_of}
 use Rattle.label_list.proofs.word.word_of.Statement.{statement}
 use Rattle.label_list.proofs.word.word_of.Tie as tie
 
-pub word-of-spec : {M : Type 1} → statement M
+pub word_of_spec : {M : Type 1} → statement M
 unfolding word_of
-word-of-spec =
+word_of_spec =
     let answers = tie.spec
-    (λ c. rw (eq-eqb _ _ c.if1.true))
+    (λ c. rw (eq-eqb _ _ c.if-code-eq0.true))
     (λ c. omega arith)
     (λ c. omega arith)
-    (λ c. rw (ne_eqb _ _ c.if1.false)) in
+    (λ c. rw (ne_eqb _ _ c.if-code-eq0.false)) in
     tie.close answers

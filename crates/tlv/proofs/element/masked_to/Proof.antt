@@ -7,9 +7,9 @@ use Rattle.tlv.proofs.Elements.{masked_le, masked_exact}
 use Rattle.tlv.proofs.element.masked_to.Statement.{statement}
 use Rattle.tlv.proofs.element.masked_to.Tie as tie
 
-pub masked-to-spec : {M : Type 1} → statement M
+pub masked_to_spec : {M : Type 1} → statement M
 unfolding masked_to
-masked-to-spec =
+masked_to_spec =
     let answers = tie.spec
     (λ c. search rules)
     (λ c. search rules)

@@ -4,13 +4,13 @@ use Rattle.tlv.specs.Value.{parameters_at}
 use Rattle.tlv.proofs.value.parameters_at.Statement.{statement}
 use Rattle.tlv.proofs.value.parameters_at.Tie as tie
 
-pub parameters-at-spec : {M : Type 1} → statement M
-parameters-at-spec =
+pub parameters_at_spec : {M : Type 1} → statement M
+parameters_at_spec =
     let answers = tie.spec
-    (λ c. unfold parameters_at in where_equal _ 0 _ _ c.if1.true)
-    (λ c. omega (arith, c.before.before.requires c.if1.false))
-    (λ c κs. omega (arith, c.before.before.requires c.if1.false))
-    (λ c. omega (arith, c.before.before.before.requires c.before.if1.false))
-    (λ c κs. omega (arith, c.before.before.before.requires c.before.if1.false))
-    (λ c. unfold parameters_at in where_apart _ 0 _ _ c.before.before.if1.false (cc)) in
+    (λ c. unfold parameters_at in where_equal _ 0 _ _ c.if-place-eq0.true)
+    (λ c. omega (arith, c.requires c.if-place-eq0.false))
+    (λ c κs. omega (arith, c.requires c.if-place-eq0.false))
+    (λ c. omega (arith, c.requires c.if-place-eq0.false))
+    (λ c κs. omega (arith, c.requires c.if-place-eq0.false))
+    (λ c. unfold parameters_at in where_apart _ 0 _ _ c.if-place-eq0.false (cc)) in
     tie.close answers

@@ -5,14 +5,14 @@ use Rattle.tlv.specs.Value.{part_at}
 use Rattle.tlv.proofs.value.part_at.Statement.{statement}
 use Rattle.tlv.proofs.value.part_at.Tie as tie
 
-pub part-at-spec : {M : Type 1} → statement M
-part-at-spec =
+pub part_at_spec : {M : Type 1} → statement M
+part_at_spec =
     let answers = tie.spec
-    (λ c. unfold part_at in where_equal _ 0 _ _ c.if1.true)
-    (λ c. omega (arith, c.before.before.requires c.if1.false))
-    (λ c. omega (arith, c.before.before.requires c.if1.false))
-    (λ c κs. omega (arith, c.before.before.requires c.if1.false))
+    (λ c. unfold part_at in where_equal _ 0 _ _ c.if-place-eq0.true)
+    (λ c. omega (arith, c.requires c.if-place-eq0.false))
+    (λ c. omega (arith, c.requires c.if-place-eq0.false))
+    (λ c κs. omega (arith, c.requires c.if-place-eq0.false))
     (λ c. search rules)
-    (λ c. omega (arith, c.before.before.before.requires c.before.if1.false))
-    (λ c. unfold part_at in where_apart _ 0 _ _ c.before.if1.false (cc)) in
+    (λ c. omega (arith, c.requires c.if-place-eq0.false))
+    (λ c. unfold part_at in where_apart _ 0 _ _ c.if-place-eq0.false (cc)) in
     tie.close answers

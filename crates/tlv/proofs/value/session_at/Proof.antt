@@ -4,12 +4,12 @@ use Rattle.tlv.specs.Value.{session_at}
 use Rattle.tlv.proofs.value.session_at.Statement.{statement}
 use Rattle.tlv.proofs.value.session_at.Tie as tie
 
-pub session-at-spec : {M : Type 1} → statement M
-session-at-spec =
+pub session_at_spec : {M : Type 1} → statement M
+session_at_spec =
     let answers = tie.spec
-    (λ c. unfold session_at in where_equal _ 0 _ _ c.if1.true)
-    (λ c. omega (arith, c.before.before.requires.0 c.if1.false))
-    (λ c κs. omega (arith, c.before.before.requires.0 c.if1.false))
-    (λ c κs. (omega (arith, c.before.before.before.requires.0 c.before.if1.false), c.before.before.before.requires.1 c.before.if1.false))
-    (λ c. unfold session_at in where_apart _ 0 _ _ c.before.before.if1.false (cc)) in
+    (λ c. unfold session_at in where_equal _ 0 _ _ c.if-place-eq0.true)
+    (λ c. omega (arith, c.requires.0 c.if-place-eq0.false))
+    (λ c κs. omega (arith, c.requires.0 c.if-place-eq0.false))
+    (λ c κs. (omega (arith, c.requires.0 c.if-place-eq0.false), c.requires.1 c.if-place-eq0.false))
+    (λ c. unfold session_at in where_apart _ 0 _ _ c.if-place-eq0.false (cc)) in
     tie.close answers

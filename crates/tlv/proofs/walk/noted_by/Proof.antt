@@ -5,19 +5,19 @@ use Rattle.tlv.proofs.Rows.{lookup_absent}
 use Rattle.tlv.proofs.walk.noted_by.Statement.{statement}
 use Rattle.tlv.proofs.walk.noted_by.Tie as tie
 
-pub noted-by-spec : {M : Type 1} → statement M
-noted-by-spec =
+pub noted_by_spec : {M : Type 1} → statement M
+noted_by_spec =
     let answers = tie.spec
     (λ c κs. search rules) (λ c κs. search rules) (λ c κs. search rules) (λ c κs. search rules)
     (λ c κs. search rules) (λ c κs. search rules) (λ c κs. search rules) (λ c κs. search rules)
     (λ c κs. search rules)
-    (λ c. unfold tlv_of in rw c.before.match.keys1 c.noted.ensures)
-    (λ c. unfold tlv_of in rw c.before.match.keys2 c.noted2.ensures)
-    (λ c. unfold tlv_of in rw c.before.match.keys3 c.noted3.ensures)
-    (λ c. unfold tlv_of in rw c.before.match.keys4 c.noted4.ensures)
-    (λ c. unfold tlv_of in rw c.before.match.keys5 c.noted5.ensures)
-    (λ c. unfold tlv_of in rw c.before.match.keys6 c.noted6.ensures)
-    (λ c. unfold tlv_of in rw c.before.match.keys7 c.noted7.ensures)
-    (λ c. unfold tlv_of in rw c.before.match.keys8 c.noted8.ensures)
-    (λ c. unfold tlv_of in rw (← lookup_absent Tlv.Other listed c.before.before.before.args.number (search rules)) c.noted9.ensures) in
+    (λ c. unfold tlv_of in rw c.in-256.is c.noted.ensures)
+    (λ c. unfold tlv_of in rw c.in-512.is c.noted-in-512.ensures)
+    (λ c. unfold tlv_of in rw c.in-768.is c.noted-in-768.ensures)
+    (λ c. unfold tlv_of in rw c.in-1280.is c.noted-in-1280.ensures)
+    (λ c. unfold tlv_of in rw c.in-1283.is c.noted-in-1283.ensures)
+    (λ c. unfold tlv_of in rw c.in-515.is c.noted-in-515.ensures)
+    (λ c. unfold tlv_of in rw c.in-1284.is c.noted-in-1284.ensures)
+    (λ c. unfold tlv_of in rw c.in-1536.is c.noted-in-1536.ensures)
+    (λ c. unfold tlv_of in rw (← lookup_absent Tlv.Other listed c.args.number (search rules)) c.noted-in_default.ensures) in
     tie.close answers

@@ -2,19 +2,19 @@ use borrow.Author.Rules.{rules}
 use Rattle.tlv.proofs.walk.placed.Statement.{statement}
 use Rattle.tlv.proofs.walk.placed.Tie as tie
 
-pub placed-spec : {M : Type 1} → statement M
-placed-spec =
+pub placed_spec : {M : Type 1} → statement M
+placed_spec =
     let answers = tie.spec
     (λ c. search rules) (λ c. search rules) (λ c. search rules) (λ c. search rules)
     (λ c. search rules) (λ c. search rules) (λ c. search rules) (λ c. search rules)
     (λ c. search rules)
-    (λ c. rw c.enum_told.given.1)
-    (λ c. rw c.enum-told2.given.1)
-    (λ c. rw c.enum-told3.given.1)
-    (λ c. rw c.enum-told4.given.1)
-    (λ c. rw c.enum-told5.given.1)
-    (λ c. rw c.enum-told6.given.1)
-    (λ c. rw c.enum-told7.given.1)
-    (λ c. rw c.enum-told8.given.1)
+    (λ c. rw c.in-Fec.is)
+    (λ c. rw c.in-Label.is)
+    (λ c. rw c.in-Status.is)
+    (λ c. rw c.in-Parameters.is)
+    (λ c. rw c.in-Session.is)
+    (λ c. rw c.in-Protection.is)
+    (λ c. rw c.in-Ack.is)
+    (λ c. rw c.in-RequestId.is)
     (λ c. search rules) in
     tie.close answers

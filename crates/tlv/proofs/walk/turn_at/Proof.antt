@@ -4,8 +4,8 @@ use Rattle.tlv.proofs.Turns.{turns}
 use Rattle.tlv.proofs.walk.turn_at.Statement.{statement}
 use Rattle.tlv.proofs.walk.turn_at.Tie as tie
 
-pub turn-at-spec : {M : Type 1} → statement M
-turn-at-spec =
+pub turn_at_spec : {M : Type 1} → statement M
+turn_at_spec =
     let answers = tie.spec
     (λ c. search (rules, turns)) (λ c. search (rules, turns)) (λ c. search (rules, turns)) (λ c. search (rules, turns))
     (λ c. search (rules, turns)) (λ c. search (rules, turns)) (λ c. search (rules, turns)) (λ c. search (rules, turns))

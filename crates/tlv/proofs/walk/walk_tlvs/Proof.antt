@@ -14,8 +14,8 @@ invariant-walk s found₀ at₀ found at = (at ≤ length s) × (walk_of at (dro
 abbrev decreases-walk : tie.decreases-walk
 decreases-walk s found₀ at₀ found at = length s - at
 
-pub walk-tlvs-spec : {M : Type 1} → statement M
-walk-tlvs-spec =
+pub walk_tlvs_spec : {M : Type 1} → statement M
+walk_tlvs_spec =
     let answers = tie.spec
     invariant-walk
     decreases-walk

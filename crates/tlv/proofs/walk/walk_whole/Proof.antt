@@ -3,8 +3,8 @@ use Rattle.tlv.proofs.Noted.{heads}
 use Rattle.tlv.proofs.walk.walk_whole.Statement.{statement}
 use Rattle.tlv.proofs.walk.walk_whole.Tie as tie
 
-pub walk-whole-spec : {M : Type 1} → statement M
-walk-whole-spec =
+pub walk_whole_spec : {M : Type 1} → statement M
+walk_whole_spec =
     let answers = tie.spec
     (λ c. search (rules, heads)) (λ c. search (rules, heads)) (λ c. search (rules, heads)) (λ c. search (rules, heads))
     (λ c. search (rules, heads)) (λ c. search (rules, heads)) (λ c. search (rules, heads)) in
