@@ -1,5 +1,6 @@
 // The stored image moved from version 1 to version 2, and back. Block 0 alone differs.
 #![tactic(auto)]
+
 ghost use Rattle.std.specs.Prelude.{◌<◌, ◌%◌, ◌++◌, ◌≡◌, eqb, leb, length, take, drop, replicate};
 ghost use Rattle.octets.specs.Pick.{both};
 ghost use Rattle.block.specs.Check.{block_size};

@@ -2,6 +2,7 @@
 // slots of a ring. Behind them stand the further blocks: block 65 holds the IDs of open Requests, blocks 66 and 67 the
 // index of prefixes.
 #![tactic(auto)]
+
 ghost use Rattle.std.specs.Prelude.{◌+◌, ◌-◌, ◌*◌, ◌%◌, ◌≤◌, ◌<◌, ◌≡◌, length, get_or};
 ghost use Rattle.block.specs.Check.{block_size};
 ghost use Rattle.label_list.specs.Word.{word_count};

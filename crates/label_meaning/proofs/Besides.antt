@@ -33,7 +33,7 @@ use Rattle.label_events.specs.Receive.{every_received, every_beside, received_wi
 use Rattle.label_events.specs.Requests.{ended_at}
 use Rattle.label_events.proofs.Ended.{ended_find, ended-length}
 use Rattle.label_meaning.specs.Valid.{WordInRange, IsValid}
-use Rattle.label_meaning.proofs.Entries.{entry_of}
+use Rattle.label_meaning.proofs.Entries.{entry_of_lem}
 use Rattle.label_meaning.proofs.Meaning.{range_listed}
 use Rattle.label_meaning.proofs.Unlisted.{ended_stays}
 
@@ -94,7 +94,7 @@ module _ (words entries : List ℕ) (v : IsValid words) (entry : ℕ) (long : le
 
   -- the entry of a listed label is the one beside its word
   entry_here : (s : Side) (i : ℕ) → on_side s (code_of (get_or words i 0)) ≡ true → entry_on words entries s (label_of (get_or words i 0)) ≡ get_or entries i 0
-  entry_here s i on = entry_of words entries v s (label_of (get_or words i 0)) i (parts_stands s (label_of (get_or words i 0)) (get_or words i 0) on refl)
+  entry_here s i on = entry_of_lem words entries v s (label_of (get_or words i 0)) i (parts_stands s (label_of (get_or words i 0)) (get_or words i 0) on refl)
 
   module _ {r : SweepRule} {s : Side} (rule : RuleOf r s) where
     same_word : (i : ℕ) → i < length words → word_beside r entry (get_or words i 0) (get_or entries i 0) ≡ word_reached (of_entry s) r (get_or words i 0)

@@ -26,8 +26,8 @@ unfolding entry_at
 entry-at entries q j same = rw same
 
 -- The entry of a label is the one beside the word that lists it.
-pub entry_of : (words entries : List ℕ) → IsValid words → (s : Side) (l q : ℕ) → stands_for s l (get_or words q 0) ≡ true → entry_on words entries s l ≡ get_or entries q 0
-entry_of words entries v s l q here = by (find_of (stands_for s l) words) refl
+pub entry_of_lem : (words entries : List ℕ) → IsValid words → (s : Side) (l q : ℕ) → stands_for s l (get_or words q 0) ≡ true → entry_on words entries s l ≡ get_or entries q 0
+entry_of_lem words entries v s l q here = by (find_of (stands_for s l) words) refl
   where
     by : (f : Found) → f ≡ find_of (stands_for s l) words → entry_at entries (find_of (stands_for s l) words) ≡ get_or entries q 0
     by (At j) e = rw (← e) (entry-at entries q j (v.once s l j q (found_passes (stands_for s l) words j e refl) here))
@@ -54,8 +54,8 @@ module _ (words after index : List ℕ) (v : IsValid words) (va : IsValid after)
   pub entry_kept : StandsOld words after place → (s : Side) (l i : ℕ) → place ≢ At i → stands_for s l (get_or after i 0) ≡ true
       → entry_on after (put_at place entry index) s l ≡ entry_on words index s l
   entry_kept old s l i apart stands =
-      entry_of after (put_at place entry index) va s l i stands ∙ put_other place entry index i apart ∙ sym (entry_of words index v s l i (old s l i apart stands))
+      entry_of_lem after (put_at place entry index) va s l i stands ∙ put_other place entry index i apart ∙ sym (entry_of_lem words index v s l i (old s l i apart stands))
 
   -- The label that takes the word has the message's.
   pub entry-taken : (s : Side) (l j : ℕ) → place ≡ At j → j < length index → stands_for s l (get_or after j 0) ≡ true → entry_on after (put_at place entry index) s l ≡ entry
-  entry-taken s l j at inside stands = entry_of after (put_at place entry index) va s l j stands ∙ rw at (get_or-set_same index j entry 0 inside)
+  entry-taken s l j at inside stands = entry_of_lem after (put_at place entry index) va s l j stands ∙ rw at (get_or-set_same index j entry 0 inside)

@@ -85,18 +85,18 @@ module _ (test : ℕ → Bool) (free : test 0 ≡ false) where
     unfolding change_at changed
     absent-passes g room = by_test (eqb c 0) (λ t. rw t (same_passes words Nowhere)) (λ f. rw f (take-passes g (word_of k c) room))
 
-    place_of : (i : ℕ) → At i ≡ find_of (stands_for s k) words → i < length words
-    place_of i e = found_place words (At i) i (found_in_lem (stands_for s k) words e) refl
+    place_of_lem : (i : ℕ) → At i ≡ find_of (stands_for s k) words → i < length words
+    place_of_lem i e = found_place words (At i) i (found_in_lem (stands_for s k) words e) refl
 
     placed_passes : (b : Bool) (f g : Found) → f ≡ find_of (stands_for s k) words → FreeAt words g
         → PassesOld test words (changed words (placed_at b f g k c)) (taken_at f (placed_at b f g k c))
     unfolding placed_at change_at changed
     placed_passes true (At i) (At j) e room =
-        then_passes words (set words i 0) (set (set words i 0) j (word_of k c)) (At j) (none_passes words i 0 (place_of i e) free)
+        then_passes words (set words i 0) (set (set words i 0) j (word_of k c)) (At j) (none_passes words i 0 (place_of_lem i e) free)
         (taken-passes (set words i 0) j (word_of k c) (rw (length-set words i 0) room.0))
     placed_passes true (At i) Nowhere e room = same_passes words Nowhere
     placed_passes true Nowhere g e room = absent-passes g room
-    placed_passes false (At i) g e room = own_passes words i (word_of k c) (place_of i e) (own i (found_passes (stands_for s k) words i e refl))
+    placed_passes false (At i) g e room = own_passes words i (word_of k c) (place_of_lem i e) (own i (found_passes (stands_for s k) words i e refl))
     placed_passes false Nowhere g e room = absent-passes g room
 
 -- ---- words that list a label

@@ -282,6 +282,9 @@ module _ (words : List ℕ) where
   lacks_no_room v Asked (asked none) = rw (free_nowhere words (find_of is_free words) refl none)
   lacks_no_room v (Received x m p t) (received {k = k} needs none closed) =
       rw (received_same words x Mapping p (room_at x.request x.spare words) k, received-full x p k v needs (none_first words x.request x.spare closed ∙ none))
+  lacks_no_room v (Acked _ _) x3 = elim x3 [ ]
+  lacks_no_room v (Ended _) x3 = elim x3 [ ]
+  lacks_no_room v Broken x3 = elim x3 [ ]
 
   -- "the first free word is taken": a label moves from absent where there is room, and then into that word.
   sent-takes : (k : ℕ) → NeedsWord words Given k → NoRoomAnswered words (Accepted Mapping k) ⊎ FirstTaken words (accepted_of words Mapping k).1 k 1

@@ -74,7 +74,7 @@ or_true true = refl
 or_true false = refl
 
 -- the same half again moves nothing
-acked-again : {k c d : ℕ} → c ≡ 8 → Moves (Acked Withdraw k) Given k c d → ⊥
+acked-again : {l k c d : ℕ} → c ≡ 8 → Moves (Acked Withdraw l) Given k c d → ⊥
 acked-again z withdraw-acked = omega arith
 acked-again z back_acked = omega arith
 
@@ -303,3 +303,4 @@ ends_free k (e ∷ es) words v (by_release one t) = free-later (free-now (given-
 ends_free k (e ∷ es) words v (by_both one a r) =
     free-later (both-freed k es (after_event words (Accepted Withdraw k)) (step_is_valid words v (Accepted Withdraw k)) false false (move_happens words v withdrawn (λ z. omega arith) one tt) a r)
 ends_free k (e ∷ es) words v (ends_later f) = free-later (ends_free k es (after_event words e) (step_is_valid words v e) f)
+ends_free k [] words v x'' = elim x'' [ ]

@@ -35,7 +35,7 @@ use Rattle.protocol.specs.Receive.{ack_count, ack_on, received_state, taken}
 use Rattle.protocol.specs.State.{State, Table, table_of}
 use Rattle.protocol.proofs.KeepingLabels.{acked-keeps}
 use Rattle.protocol.proofs.KeepingStates.{table_lawful}
-use Rattle.protocol.proofs.MeaningLabels.{effect_of, effect_touches, touching_effect}
+use Rattle.protocol.proofs.MeaningLabels.{effect_of_lem, effect_touches, touching_effect}
 
 -- neither answers a Request
 no_answer : (g : Message) (m : LabelMessage) (x : MessageType) → g.typename ≡ x → LabelType x m → is_mapping m ≡ false → (t : Table) → answered_at t g ≡ Nowhere
@@ -43,6 +43,36 @@ unfolding answered_at answers
 no_answer g LabelMessage.Mapping MessageType.Mapping q of_mapping other t = absurd (true≢false other)
 no_answer g LabelMessage.Withdraw MessageType.Withdraw q of_withdraw other t = rw q
 no_answer g LabelMessage.Release MessageType.Release q of_release other t = rw q
+no_answer g LabelMessage.Mapping MessageType.Notification q x8 other t = elim x8 [ ]
+no_answer g LabelMessage.Mapping MessageType.Initialization q x9 other t = elim x9 [ ]
+no_answer g LabelMessage.Mapping MessageType.KeepAlive q x10 other t = elim x10 [ ]
+no_answer g LabelMessage.Mapping MessageType.Address q x11 other t = elim x11 [ ]
+no_answer g LabelMessage.Mapping MessageType.AddressWithdraw q x12 other t = elim x12 [ ]
+no_answer g LabelMessage.Mapping MessageType.Request q x13 other t = elim x13 [ ]
+no_answer g LabelMessage.Mapping MessageType.Withdraw q x14 other t = elim x14 [ ]
+no_answer g LabelMessage.Mapping MessageType.Release q x15 other t = elim x15 [ ]
+no_answer g LabelMessage.Mapping MessageType.Abort q x16 other t = elim x16 [ ]
+no_answer g LabelMessage.Mapping MessageType.Other q x17 other t = elim x17 [ ]
+no_answer g LabelMessage.Withdraw MessageType.Notification q x9 other t = elim x9 [ ]
+no_answer g LabelMessage.Withdraw MessageType.Initialization q x10 other t = elim x10 [ ]
+no_answer g LabelMessage.Withdraw MessageType.KeepAlive q x11 other t = elim x11 [ ]
+no_answer g LabelMessage.Withdraw MessageType.Address q x12 other t = elim x12 [ ]
+no_answer g LabelMessage.Withdraw MessageType.AddressWithdraw q x13 other t = elim x13 [ ]
+no_answer g LabelMessage.Withdraw MessageType.Mapping q x14 other t = elim x14 [ ]
+no_answer g LabelMessage.Withdraw MessageType.Request q x15 other t = elim x15 [ ]
+no_answer g LabelMessage.Withdraw MessageType.Release q x16 other t = elim x16 [ ]
+no_answer g LabelMessage.Withdraw MessageType.Abort q x17 other t = elim x17 [ ]
+no_answer g LabelMessage.Withdraw MessageType.Other q x18 other t = elim x18 [ ]
+no_answer g LabelMessage.Release MessageType.Notification q x10 other t = elim x10 [ ]
+no_answer g LabelMessage.Release MessageType.Initialization q x11 other t = elim x11 [ ]
+no_answer g LabelMessage.Release MessageType.KeepAlive q x12 other t = elim x12 [ ]
+no_answer g LabelMessage.Release MessageType.Address q x13 other t = elim x13 [ ]
+no_answer g LabelMessage.Release MessageType.AddressWithdraw q x14 other t = elim x14 [ ]
+no_answer g LabelMessage.Release MessageType.Mapping q x15 other t = elim x15 [ ]
+no_answer g LabelMessage.Release MessageType.Request q x16 other t = elim x16 [ ]
+no_answer g LabelMessage.Release MessageType.Withdraw q x17 other t = elim x17 [ ]
+no_answer g LabelMessage.Release MessageType.Abort q x18 other t = elim x18 [ ]
+no_answer g LabelMessage.Release MessageType.Other q x19 other t = elim x19 [ ]
 
 -- a message of that effect over the table t, which is one of a state
 module _ (t : Table) (v : IsValid t.words) (g : Message) (m : LabelMessage) (x : Meets) (request : x.request ≡ Nowhere) (other : is_mapping m ≡ false)
@@ -94,7 +124,7 @@ module _ (s : State) (law : Lawful s) (g : Message) (m : LabelMessage) (type : L
 
   effect : label_effect g ≡ LabelEffect.Change m touched
   unfolding label_effect
-  effect = effect_of g.typename m type touched
+  effect = effect_of_lem g.typename m type touched
 
   request : x.request ≡ Nowhere
   request = no_answer g m g.typename refl type other t

@@ -55,31 +55,47 @@ type_of_lem MessageType.Release y m t e = let p : LabelMessage.Release ≡ m = c
 type_of_lem MessageType.Abort y m t e = no (cc)
 type_of_lem MessageType.Other y m t e = no (cc)
 
-pub effect_of : (x : MessageType) (m : LabelMessage) → LabelType x m → (t : Touched) → effect_on x t ≡ LabelEffect.Change m t
-effect_of MessageType.Mapping LabelMessage.Mapping of_mapping t = refl
-effect_of MessageType.Withdraw LabelMessage.Withdraw of_withdraw t = refl
-effect_of MessageType.Release LabelMessage.Release of_release t = refl
+pub effect_of_lem : (x : MessageType) (m : LabelMessage) → LabelType x m → (t : Touched) → effect_on x t ≡ LabelEffect.Change m t
+effect_of_lem MessageType.Mapping LabelMessage.Mapping of_mapping t = refl
+effect_of_lem MessageType.Withdraw LabelMessage.Withdraw of_withdraw t = refl
+effect_of_lem MessageType.Release LabelMessage.Release of_release t = refl
+effect_of_lem MessageType.Notification m x'' t = elim x'' [ ]
+effect_of_lem MessageType.Initialization m x3 t = elim x3 [ ]
+effect_of_lem MessageType.KeepAlive m x4 t = elim x4 [ ]
+effect_of_lem MessageType.Address m x5 t = elim x5 [ ]
+effect_of_lem MessageType.AddressWithdraw m x6 t = elim x6 [ ]
+effect_of_lem MessageType.Mapping LabelMessage.Withdraw x8 t = elim x8 [ ]
+effect_of_lem MessageType.Mapping LabelMessage.Release x9 t = elim x9 [ ]
+effect_of_lem MessageType.Request m x8 t = elim x8 [ ]
+effect_of_lem MessageType.Withdraw LabelMessage.Mapping x10 t = elim x10 [ ]
+effect_of_lem MessageType.Withdraw LabelMessage.Release x11 t = elim x11 [ ]
+effect_of_lem MessageType.Release LabelMessage.Mapping x11 t = elim x11 [ ]
+effect_of_lem MessageType.Release LabelMessage.Withdraw x12 t = elim x12 [ ]
+effect_of_lem MessageType.Abort m x11 t = elim x11 [ ]
+effect_of_lem MessageType.Other m x12 t = elim x12 [ ]
 
 module _ (tb : Table) (g : Message) (m : LabelMessage) where
-  label_of : LabelType g.typename m → (x : Field) → g.label ≡ x → (f : Fec) → g.fec ≡ f → {l : ℕ} → Touches (reached tb m (touched_by x f)) l → Touching tb g m l
-  label_of k (Field.Value l) e f q named = names k e
-  label_of k Field.Absent e Fec.Wildcard q (among z) = under_wildcard k e q
-  label_of k Field.Absent e (Fec.Prefix p) q (among {k = l} z) = under_prefix k e q (eqb-true (entry_on tb.words tb.index (received_side m) l) (entry_of p) z)
+  label_of_lem : LabelType g.typename m → (x : Field) → g.label ≡ x → (f : Fec) → g.fec ≡ f → {l : ℕ} → Touches (reached tb m (touched_by x f)) l → Touching tb g m l
+  label_of_lem k (Field.Value l) e f q named = names k e
+  label_of_lem k Field.Absent e Fec.Wildcard q (among z) = under_wildcard k e q
+  label_of_lem k Field.Absent e (Fec.Prefix p) q (among {k = l} z) = under_prefix k e q (eqb-true (entry_on tb.words tb.index (received_side m) l) (entry_of p) z)
+  label_of_lem k Field.Absent e Fec.Absent q {l = l} x6 = elim x6 [ ]
+  label_of_lem k Field.Absent e Fec.Other q {l = l} x7 = elim x7 [ ]
 
   -- a message touches the label that it names, or all of them under the wildcard FEC
   pub effect_touches : (t : Touched) → label_effect g ≡ LabelEffect.Change m t → {l : ℕ} → Touches (reached tb m t) l → Touching tb g m l
   unfolding label_effect
   effect_touches t e p =
       let k = type_of_lem g.typename (touched_by g.label g.fec) m t e in
-      label_of k.0 g.label refl g.fec refl (rw k.1 p)
+      label_of_lem k.0 g.label refl g.fec refl (rw k.1 p)
 
   -- and back
   pub touching_effect : {l : ℕ} → Touching tb g m l → (t : Touched) × (label_effect g ≡ LabelEffect.Change m t) × Touches (reached tb m t) l
   unfolding label_effect
-  touching_effect (names {l = l} k e) = (Touched.Label l, rw e (effect_of g.typename m k (Touched.Label l)), named)
-  touching_effect (under_wildcard k e f) = (Touched.Every, rw (e, f) (effect_of g.typename m k Touched.Every), among refl)
+  touching_effect (names {l = l} k e) = (Touched.Label l, rw e (effect_of_lem g.typename m k (Touched.Label l)), named)
+  touching_effect (under_wildcard k e f) = (Touched.Every, rw (e, f) (effect_of_lem g.typename m k Touched.Every), among refl)
   touching_effect (under_prefix {l = l} {p} k e f same) =
-      (Touched.Prefix (entry_of p), rw (e, f) (effect_of g.typename m k (Touched.Prefix (entry_of p))), among (eq-eqb (entry_on tb.words tb.index (received_side m) l) (entry_of p) same))
+      (Touched.Prefix (entry_of p), rw (e, f) (effect_of_lem g.typename m k (Touched.Prefix (entry_of p))), among (eq-eqb (entry_on tb.words tb.index (received_side m) l) (entry_of p) same))
 
 -- ---- the kinds that are always protected
 bare_kind : (k : Kind) → always_protected k ≡ true → NeverBare k
@@ -255,4 +271,4 @@ module _ (tb : Table) (g : Message) where
   unfolding protection_rule label_effect protection_of code_protection
   means_wrong w =
       let code : code_at tb.words (received_side w.message) w.label ≡ 6 = rw w.side w.bare in
-      rw (w.protected, w.named, effect_of g.typename w.message w.type (Touched.Label w.label), used_bars w.message _ w.side code)
+      rw (w.protected, w.named, effect_of_lem g.typename w.message w.type (Touched.Label w.label), used_bars w.message _ w.side code)

@@ -2,14 +2,16 @@
 use Prim.Native.Nat.{ℕ, ◌≤◌}
 use mathlib.Core.Bool.{true, false}
 use mathlib.Core.List.{List}
-use mathlib.Core.Path.{◌≡◌, refl}
+use mathlib.Core.Path.{◌≡◌, refl, ap, ◌∙◌}
 use lib.ListN.{length}
 use borrow.Author.Tests.{le-ltb}
 use Rattle.ft_number.specs.declared.MessageId.{MessageId}
 use Rattle.ft_number.specs.declared.Proposal.{Proposal}
 use Rattle.ft_number.specs.Timeout.{proposed_of}
 use Rattle.tlv.specs.declared.FtField.{FtField}
+use Rattle.message.specs.Reading.{reading_of}
 use Rattle.message_writer.specs.declared.OwnParameters.{OwnParameters}
+use Rattle.message_writer.specs.Forms.{init_bytes}
 use Rattle.message_writer.proofs.Own.{init_reads, keepalive_reads}
 use Rattle.protocol.specs.declared.Answer.{Answer}
 use Rattle.protocol.specs.declared.Phase.{Phase}
@@ -32,7 +34,7 @@ module _ (s : State) (ph : Phase) (id : MessageId) (own : OwnParameters) (propos
       let bytes : List ℕ = open_bytes s id own proposal in
       let d : where_open (may_open ph) (room_for bytes room) ≡ Answer.Done = rw (may, le-ltb room (length bytes) enough) in
       rw (admitted-does s ph fits (where_open (may_open ph) (room_for bytes room)) d (stepped Answer.Done s (awaiting proposal) bytes))
-      (record { answer = refl; state = refl; phase = refl; reads = rw e (init_reads id own (proposed_of proposal) ack) })
+      (record { answer = refl; state = refl; phase = refl; reads = λ f. ap (λ (k : FtField). reading_of (init_bytes id own (proposed_of proposal) k)) e ∙ init_reads id own (proposed_of proposal) ack f })
 
   -- our Init as the peer reads it: with kept state R, the ACK S and the timeout proposed, in the form that was named
   pub open_kept : s.kept ≡ true → OpenedFrom s id own proposal (FtField.Number s.secured) (open_session s ph id own proposal room)

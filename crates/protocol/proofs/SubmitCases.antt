@@ -102,10 +102,10 @@ module _ (s : State) (ph : Phase) (m : List ℕ) where
   may_is kind may a = rw (may.going, may.up)
 
   -- before 13 and 7
-  asked_of : (kind : Kind) (x : Acceptance) → x ≢ Acceptance.NotAllowed → (y : Answer) → ((a : Answer) → ask_rule s ph kind a ≡ y) → acceptance_rule s ph kind x ≡ y
-  asked_of kind Acceptance.Taken allowed y f = f (room_rule s)
-  asked_of kind Acceptance.NotAllowed allowed y f = absurd (allowed refl)
-  asked_of kind Acceptance.NoRoom allowed y f = f Answer.NoLabelWord
+  asked_of_lem : (kind : Kind) (x : Acceptance) → x ≢ Acceptance.NotAllowed → (y : Answer) → ((a : Answer) → ask_rule s ph kind a ≡ y) → acceptance_rule s ph kind x ≡ y
+  asked_of_lem kind Acceptance.Taken allowed y f = f (room_rule s)
+  asked_of_lem kind Acceptance.NotAllowed allowed y f = absurd (allowed refl)
+  asked_of_lem kind Acceptance.NoRoom allowed y f = f Answer.NoLabelWord
 
   -- and each case has its answer: 1, 3, 4, 5, 6, 14, 15, 13, 7
   pub case-submit : {a : Answer} → SubmitCase s ph m a → submit_rule s ph m ≡ a
@@ -121,8 +121,8 @@ module _ (s : State) (ph : Phase) (m : List ℕ) where
   case-submit (still-held f e b) = fitting_is f ∙ rw (e, b)
   case-submit (another_entry f e b o) = fitting_is f ∙ rw (e, b, o)
   case-submit (code_forbids u e) = unbarred_is u ∙ rw e
-  case-submit (stopped {kind} {label} u allowed q d) = unbarred_is u ∙ asked_of kind (accepted_as s.table kind label).0 allowed Answer.RequestsStopped (λ a. rw (q, d))
-  case-submit (outside {kind} {label} u allowed q d e) = unbarred_is u ∙ asked_of kind (accepted_as s.table kind label).0 allowed Answer.RequestOutsideUpFt (λ a. rw (q, d, e))
+  case-submit (stopped {kind} {label} u allowed q d) = unbarred_is u ∙ asked_of_lem kind (accepted_as s.table kind label).0 allowed Answer.RequestsStopped (λ a. rw (q, d))
+  case-submit (outside {kind} {label} u allowed q d e) = unbarred_is u ∙ asked_of_lem kind (accepted_as s.table kind label).0 allowed Answer.RequestOutsideUpFt (λ a. rw (q, d, e))
   case-submit (no_free_word {kind} u may e) = unbarred_is u ∙ rw e (may_is kind may Answer.NoLabelWord)
   case-submit (store-full {kind} u may e l) = unbarred_is u ∙ rw e (may_is kind may (room_rule s) ∙ rw (le-leb capacity (held s) l))
   case-submit (queues {kind} u may e l) = unbarred_is u ∙ rw e (may_is kind may (room_rule s) ∙ rw (lt-leb capacity (held s) l))

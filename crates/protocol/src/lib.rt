@@ -1,5 +1,6 @@
 // The session's protocol: the types that its rules speak of. The rules are definitions and stand in specs/; there is no code here.
 #![tactic(auto)]
+
 use ft_number::FtNumber;
 
 // What InitWait bears: our proposed timeout in milliseconds.

@@ -4,8 +4,8 @@ use Rattle.convert.proofs.Kept.{front_put}
 use Rattle.convert.proofs.load_words.Statement.{statement}
 use Rattle.convert.proofs.load_words.Tie as tie
 
-pub load-words-spec : {M : Type 1} → statement M
-load-words-spec =
+pub load_words_spec : {M : Type 1} → statement M
+load_words_spec =
     let answers = tie.spec
     (λ c κs. search rules)
     (λ c. search rules)
@@ -13,5 +13,5 @@ load-words-spec =
     (λ c. search rules)
     (λ c κs. search rules)
     (λ c. search rules)
-    (λ c. front_put _ c.before.before.read-labels.ensures c.before.before.before.before.word_count.ensures.0) in
+    (λ c. front_put _ c.read_labels.ensures c.word_count-count.ensures.0) in
     tie.close answers

@@ -8,16 +8,16 @@ use Rattle.convert.proofs.Answers.{block_moved}
 use Rattle.convert.proofs.move_by.Statement.{statement}
 use Rattle.convert.proofs.move_by.Tie as tie
 
-pub move-by-spec : {M : Type 1} → statement M
-move-by-spec =
+pub move_by_spec : {M : Type 1} → statement M
+move_by_spec =
     let answers = tie.spec
     (λ c κs. search rules)
-    (λ c κs. rw c.read-version.ensures (fits_bytes _ _ (λ k. (c.before.before.before.shared-slice-known.given k).fits)).timeout)
+    (λ c κs. rw c.read_version-h.ensures (fits_bytes _ _ (λ k. (c.shared_slice_known-1.given k).fits)).timeout)
     (λ c κs. search rules)
     (λ c κs. search rules)
     (λ c κs. search rules)
-    (λ c κs. let long = ap length c.before.before.before.before.before.before.before.before.before.before.before.before.before.requires.2 in (search rules, omega (arith, long)))
+    (λ c κs. let long = ap length c.requires.2 in (search rules, omega (arith, long)))
     (λ c. search rules)
     (λ c. search rules)
-    (λ c. block_moved _ _ c.before.before.before.before.before.before.before.before.before.before.before.before.before.before.before.before.requires.0 c.before.before.before.before.before.other_version.ensures c.before.before.before.before.before.before.before.before.before.before.before.before.read-version.ensures c.before.before.before.before.before.before.before.before.before.before.before.move-timeout.ensures c.before.before.before.before.with-timeout.ensures c.before.before.before.before.before.before.before.before.before.before.before.before.before.before.before.before.requires.2 c.before.before.before.before.before.before.before.before.before.load-words.ensures c.before.before.write-words.ensures) in
+    (λ c. block_moved _ _ c.requires.0 c.other_version.ensures c.read_version-h.ensures c.move_timeout-timeout.ensures c.with_timeout.ensures c.requires.2 c.load_words.ensures c.write_words.ensures) in
     tie.close answers

@@ -6,8 +6,8 @@ use Rattle.convert.proofs.Kept.{front_read}
 use Rattle.convert.proofs.write_words.Statement.{statement}
 use Rattle.convert.proofs.write_words.Tie as tie
 
-pub write-words-spec : {M : Type 1} → statement M
-write-words-spec =
+pub write_words_spec : {M : Type 1} → statement M
+write_words_spec =
     let answers = tie.spec
     (λ c κs. search rules)
     (λ c. search rules)
@@ -15,5 +15,5 @@ write-words-spec =
     (λ c. search rules)
     (λ c κs. search rules)
     (λ c. search rules)
-    (λ c. c.before.before.write-block0.ensures ∙ ap (block_by _ _) (front_read _ c.before.before.before.before.before.word_count.ensures.0)) in
+    (λ c. c.write_block0.ensures ∙ ap (block_by _ _) (front_read _ c.word_count-count.ensures.0)) in
     tie.close answers

@@ -7,8 +7,8 @@ use Rattle.word_block.proofs.Written.{length-word_block}
 use Rattle.image.proofs.clear_block.Statement.{statement}
 use Rattle.image.proofs.clear_block.Tie as tie
 
-pub clear-block-spec : {M : Type 1} → statement M
-clear-block-spec =
+pub clear_block_spec : {M : Type 1} → statement M
+clear_block_spec =
     let answers = tie.spec
     (λ c. omega arith)
     (λ c. omega arith)
@@ -17,5 +17,5 @@ clear-block-spec =
     (λ c. omega arith)
     (λ c κs. search rules)
     (λ c. search rules)
-    (λ c. rw c.before.before.write-none.ensures (laid-between _ _ _ _ (omega arith) (omega arith) (length-word_block _ ∙ omega arith))) in
+    (λ c. rw c.write_none.ensures (laid-between _ _ _ _ (omega arith) (omega arith) (length-word_block _ ∙ omega arith))) in
     tie.close answers

@@ -4,9 +4,9 @@ use Rattle.image.specs.State.{decode}
 use Rattle.image.proofs.header_of.Statement.{statement}
 use Rattle.image.proofs.header_of.Tie as tie
 
-pub header-of-spec : {M : Type 1} → statement M
+pub header_of_spec : {M : Type 1} → statement M
 unfolding decode
-header-of-spec =
+header_of_spec =
     let answers = tie.spec
     (λ c κs. search rules)
     (λ c κs. search rules)

@@ -9,11 +9,11 @@ use Rattle.image.specs.State.{stored_ids}
 use Rattle.image.proofs.id_at.Statement.{statement}
 use Rattle.image.proofs.id_at.Tie as tie
 
-pub id-at-spec : {M : Type 1} → statement M
+pub id_at_spec : {M : Type 1} → statement M
 unfolding stored_ids
-id-at-spec =
+id_at_spec =
     let answers = tie.spec
     (λ c κs. search rules)
     (λ c κs. search rules)
-    (λ c. c.read_word.ensures ∙ ap (λ (b : List ℕ). get_or (block_words b) c.before.before.before.args.place 0) c.before.block_at.ensures.0.0) in
+    (λ c. c.read_word.ensures ∙ ap (λ (b : List ℕ). get_or (block_words b) c.args.place 0) c.block_at.ensures.0.0) in
     tie.close answers

@@ -4,9 +4,9 @@ use Rattle.image.specs.State.{stored_ids}
 use Rattle.image.proofs.ids_of.Statement.{statement}
 use Rattle.image.proofs.ids_of.Tie as tie
 
-pub ids-of-spec : {M : Type 1} → statement M
+pub ids_of_spec : {M : Type 1} → statement M
 unfolding stored_ids
-ids-of-spec =
+ids_of_spec =
     let answers = tie.spec
     (λ c κs. search rules)
     (λ c κs. search rules)

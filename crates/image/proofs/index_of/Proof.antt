@@ -9,13 +9,12 @@ use Rattle.image.proofs.index_of.Tie as tie
 returns : tie.Need-returns
 returns c =
     let first = c.before.before.before.before.before.before.before in
-    let a = first.before.before.before.before.before in
-    halves_read a.args.image.now a.args.entries.now a.requires.1
-    (first.read-entries.ensures ∙ ap entries_of first.before.before.block_at.ensures.0.0)
-    (c.before.before.read-entries2.ensures ∙ ap entries_of c.before.before.before.before.block-at2.ensures.0.0)
+    halves_read c.args.image.now c.args.entries.now c.requires.1
+    (c.read_entries.ensures ∙ ap entries_of c.block_at.ensures.0.0)
+    (c.read_entries-2.ensures ∙ ap entries_of c.block_at-2.ensures.0.0)
 
-pub index-of-spec : {M : Type 1} → statement M
-index-of-spec =
+pub index_of_spec : {M : Type 1} → statement M
+index_of_spec =
     let answers = tie.spec
     (λ c κs. search rules)
     (λ c. search rules)

@@ -9,11 +9,11 @@ use Rattle.image.specs.State.{decode}
 use Rattle.image.proofs.label_at.Statement.{statement}
 use Rattle.image.proofs.label_at.Tie as tie
 
-pub label-at-spec : {M : Type 1} → statement M
+pub label_at_spec : {M : Type 1} → statement M
 unfolding decode
-label-at-spec =
+label_at_spec =
     let answers = tie.spec
     (λ c κs. search rules)
     (λ c κs. search rules)
-    (λ c. c.read-label.ensures ∙ ap (λ (b : List ℕ). get_or (labels_of b) c.before.before.before.args.place 0) c.before.block_at.ensures.0.0) in
+    (λ c. c.read_label.ensures ∙ ap (λ (b : List ℕ). get_or (labels_of b) c.args.place 0) c.block_at.ensures.0.0) in
     tie.close answers

@@ -4,9 +4,9 @@ use Rattle.image.specs.State.{decode}
 use Rattle.image.proofs.labels_of.Statement.{statement}
 use Rattle.image.proofs.labels_of.Tie as tie
 
-pub labels-of-spec : {M : Type 1} → statement M
+pub labels_of_spec : {M : Type 1} → statement M
 unfolding decode
-labels-of-spec =
+labels_of_spec =
     let answers = tie.spec
     (λ c κs. search rules)
     (λ c κs. search rules)

@@ -5,20 +5,20 @@ use Rattle.image.proofs.Counted.{issued_low, pended-count, pended_all}
 use Rattle.image.proofs.counting.count_pended.Statement.{statement}
 use Rattle.image.proofs.counting.count_pended.Tie as tie
 
-cast-result : tie.Need-overflow-cast-result
-cast-result c = omega (arith, issued_low c.before.before.before.before.args.h _ c.before.before.before.steps-between.ensures c.before.before.before.before.requires _ c.before.n.given.1)
+cast-result : tie.Need-overflow_cast-result
+cast-result c = omega (arith, issued_low c.args.h _ c.steps_between.ensures c.requires _ c.in-Count.is)
 
-sub-result : tie.Need-overflow-sub-result
-sub-result c = issued_low c.before.before.before.before.before.args.h _ c.before.before.before.before.steps-between.ensures c.before.before.before.before.before.requires _ c.before.before.n.given.1
+sub-result : tie.Need-overflow_sub-result
+sub-result c = issued_low c.args.h _ c.steps_between.ensures c.requires _ c.in-Count.is
 
-returns : tie.Need-returns
-returns c = pended-count c.before.before.before.before.before.args.h _ c.before.before.before.before.steps-between.ensures _ c.before.before.n.given.1
+returns : tie.Need-returns-in-Count
+returns c = pended-count c.args.h _ c.steps_between.ensures _ c.in-Count.is
 
-returns-2 : tie.Need-returns-2
-returns-2 c = pended_all c.before.before.before.args.h _ c.before.before.steps-between.ensures c.enum_told.given.1
+returns-2 : tie.Need-returns-in-Unreachable
+returns-2 c = pended_all c.args.h _ c.steps_between.ensures c.in-Unreachable.is
 
-pub count-pended-spec : {M : Type 1} → statement M
-count-pended-spec =
+pub count_pended_spec : {M : Type 1} → statement M
+count_pended_spec =
     let answers = tie.spec
     (λ c κs. search rules)
     (λ c. search rules)

@@ -4,17 +4,17 @@ use Rattle.image.proofs.Formatted.{format_refused, format-done}
 use Rattle.image.proofs.events.format.Statement.{statement}
 use Rattle.image.proofs.events.format.Tie as tie
 
-returns : tie.Need-returns
-returns c = format_refused _ c.if1.true
+returns : tie.Need-returns-then-image-ne-IMAGE_SIZE
+returns c = format_refused _ c.if-image-ne-IMAGE_SIZE.true
 
-returns-2 : tie.Need-returns-2
+returns-2 : tie.Need-returns
 returns-2 c =
-    format-done _ c.before.before.before.before.before.before.before.before.before.before.before.before.if1.false
-    c.before.before.before.before.before.before.before.before.before.before.zero_to.ensures
-    c.before.before.before.before.before.before.clear-from.ensures c.before.before.release.ensures
+    format-done _ c.if-image-ne-IMAGE_SIZE.false
+    c.zero_to.ensures
+    c.clear_from.ensures c.release.ensures
 
-pub format-spec : {M : Type 1} → statement M
-format-spec =
+pub format_spec : {M : Type 1} → statement M
+format_spec =
     let answers = tie.spec
     returns
     (λ c κs. search rules)

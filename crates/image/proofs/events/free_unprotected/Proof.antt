@@ -4,9 +4,9 @@ use Rattle.image.specs.Events.{break_of}
 use Rattle.image.proofs.events.free_unprotected.Statement.{statement}
 use Rattle.image.proofs.events.free_unprotected.Tie as tie
 
-pub free-unprotected-spec : {M : Type 1} → statement M
+pub free_unprotected_spec : {M : Type 1} → statement M
 unfolding break_of
-free-unprotected-spec =
+free_unprotected_spec =
     let answers = tie.spec
     (λ c κs. search rules)
     (λ c. search rules)

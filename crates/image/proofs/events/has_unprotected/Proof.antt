@@ -9,11 +9,11 @@ use Rattle.image.specs.State.{decode}
 use Rattle.image.proofs.events.has_unprotected.Statement.{statement}
 use Rattle.image.proofs.events.has_unprotected.Tie as tie
 
-pub has-unprotected-spec : {M : Type 1} → statement M
+pub has_unprotected_spec : {M : Type 1} → statement M
 unfolding decode
-has-unprotected-spec =
+has_unprotected_spec =
     let answers = tie.spec
     (λ c κs. search rules)
     (λ c κs. search rules)
-    (λ c. c.has-unprotected.ensures ∙ ap (λ (b : List ℕ). unprotected (labels_of b)) c.before.block_at.ensures.0.0) in
+    (λ c. c.has_unprotected.ensures ∙ ap (λ (b : List ℕ). unprotected (labels_of b)) c.block_at.ensures.0.0) in
     tie.close answers

@@ -17,5 +17,5 @@ release_spec =
     (λ c. omega arith)
     (λ c κs. search rules)
     (λ c. search rules)
-    (λ c. rw c.before.before.write-released.ensures (laid-between _ 0 512 _ (omega arith) (omega arith) (length-block0 _ _ _))) in
+    (λ c. rw c.write_released.ensures (laid-between _ 0 512 _ (omega arith) (omega arith) (length-block0 _ _ _))) in
     tie.close answers

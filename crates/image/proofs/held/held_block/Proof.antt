@@ -10,18 +10,18 @@ use Rattle.image.proofs.Queue.{held-sum}
 use Rattle.image.proofs.held.held_block.Statement.{statement}
 use Rattle.image.proofs.held.held_block.Tie as tie
 
-add-result : tie.Need-overflow-add-result
-add-result c = let p = c.before.before.before.requires in omega (arith, held-sum _ p.0 _ p.1 c.wide.result c.wide.ensures.1)
+add-result : tie.Need-overflow_add-result
+add-result c = let p = c.requires in omega (arith, held-sum _ p.0 _ p.1 c.wide.result c.wide.ensures.1)
 
 returns : tie.Need-returns
 returns c =
-    let a = c.before.before.before.args in
+    let a = c.args in
     let first : c.wide.result ≡ (decode a.image.now).header.first =
-    c.wide.ensures.0 ∙ ap (λ (h : Header). h.first) c.before.header_of.ensures in
+    c.wide.ensures.0 ∙ ap (λ (h : Header). h.first) c.header_of-h.ensures in
     (ap (λ (x : ℕ). block_of (slot_at x a.i)) first, omega arith)
 
-pub held-block-spec : {M : Type 1} → statement M
-held-block-spec =
+pub held_block_spec : {M : Type 1} → statement M
+held_block_spec =
     let answers = tie.spec
     (λ c κs. search rules)
     (λ c κs. search rules)

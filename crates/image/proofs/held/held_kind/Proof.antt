@@ -4,12 +4,12 @@ use Rattle.image.proofs.Queue.{kind_read}
 use Rattle.image.proofs.held.held_kind.Statement.{statement}
 use Rattle.image.proofs.held.held_kind.Tie as tie
 
-pub held-kind-spec : {M : Type 1} → statement M
-held-kind-spec =
+pub held_kind_spec : {M : Type 1} → statement M
+held_kind_spec =
     let answers = tie.spec
     (λ c κs. search rules)
     (λ c κs. search rules)
     (λ c.
-    let p = c.before.before.before.requires in
-    kind_read _ p.0 _ p.1 c.before.held-slot.ensures.0.0 c.kind-of.ensures) in
+    let p = c.requires in
+    kind_read _ p.0 _ p.1 c.held_slot.ensures.0.0 c.kind_of.ensures) in
     tie.close answers

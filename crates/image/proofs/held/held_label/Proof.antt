@@ -4,12 +4,12 @@ use Rattle.image.proofs.Queue.{label_read}
 use Rattle.image.proofs.held.held_label.Statement.{statement}
 use Rattle.image.proofs.held.held_label.Tie as tie
 
-pub held-label-spec : {M : Type 1} → statement M
-held-label-spec =
+pub held_label_spec : {M : Type 1} → statement M
+held_label_spec =
     let answers = tie.spec
     (λ c κs. search rules)
     (λ c κs. search rules)
     (λ c.
-    let p = c.before.before.before.requires in
-    label_read _ p.0 _ p.1 c.before.held-slot.ensures.0.0 c.label_of.ensures) in
+    let p = c.requires in
+    label_read _ p.0 _ p.1 c.held_slot.ensures.0.0 c.label_of.ensures) in
     tie.close answers

@@ -11,15 +11,15 @@ use Rattle.image.proofs.held.held_slot.Tie as tie
 returns : tie.Need-returns
 unfolding held_block held_place
 returns c =
-    let a = c.before.before.before.args in
+    let a = c.args in
     let r = c.block_at.ensures in
-    let e = c.before.held-block.ensures.0 in (
+    let e = c.held_block.ensures.0 in (
       (r.0.0 ∙ ap (λ (b : ℕ). block a.image.now b) e, r.0.1),
-      (r.1.0, r.1.1 ∙ ap (λ (b : ℕ). b * block_size + a.image.ptr.1) e),
+      (r.1.0, r.1.1 ∙ ap (λ (b : ℕ). b * block_size + a.image.ref_ptr.1) e),
     )
 
-pub held-slot-spec : {M : Type 1} → statement M
-held-slot-spec =
+pub held_slot_spec : {M : Type 1} → statement M
+held_slot_spec =
     let answers = tie.spec
     (λ c κs. search rules)
     (λ c κs. search rules)

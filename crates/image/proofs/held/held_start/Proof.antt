@@ -10,10 +10,10 @@ use Rattle.image.proofs.held.held_start.Tie as tie
 
 returns : tie.Need-returns
 unfolding held_place
-returns c = ap (λ (b : ℕ). message_at + b * block_size) c.held-block.ensures.0
+returns c = ap (λ (b : ℕ). message_at + b * block_size) c.held_block.ensures.0
 
-pub held-start-spec : {M : Type 1} → statement M
-held-start-spec =
+pub held_start_spec : {M : Type 1} → statement M
+held_start_spec =
     let answers = tie.spec
     (λ c κs. search rules)
     (λ c. search rules)

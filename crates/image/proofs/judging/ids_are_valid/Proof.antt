@@ -5,11 +5,11 @@ use Rattle.request_ids.specs.Fields.{ids_ok}
 use Rattle.image.proofs.judging.ids_are_valid.Statement.{statement}
 use Rattle.image.proofs.judging.ids_are_valid.Tie as tie
 
-pub ids-are-valid-spec : {M : Type 1} → statement M
-ids-are-valid-spec =
+pub ids_are_valid_spec : {M : Type 1} → statement M
+ids_are_valid_spec =
     let answers = tie.spec
     (λ c κs. search rules)
     (λ c κs. search rules)
     (λ c. search rules)
-    (λ c. c.ids-are-valid.ensures ∙ ap₂ ids_ok c.before.before.before.before.read-labels.ensures refl) in
+    (λ c. c.ids_are_valid.ensures ∙ ap₂ ids_ok c.read_labels.ensures refl) in
     tie.close answers

@@ -11,32 +11,30 @@ use Rattle.image.proofs.Indexed.{beside_read, beside_room}
 use Rattle.image.proofs.judging.index_is_valid.Statement.{statement}
 use Rattle.image.proofs.judging.index_is_valid.Tie as tie
 
-entries-are-valid-requires : tie.Need-entries-are-valid-requires
+entries-are-valid-requires : tie.Need-entries_are_valid-requires
 entries-are-valid-requires c κs =
-    let a = c.before.before.before.before.before in
-    let k : ℕ = a.args.b - 66 in
+    let k : ℕ = c.args.b - 66 in
     let two : k < 2 = omega arith in
-    let long = c.before.block-at2.ensures.0.1 in
-    let start = c.before.before.before.labels_at.ensures.0 in
-    let room = beside_room a.args.version k _ two c.count-beside.ensures.0 in
-    (c.before.before.block_at.ensures.0.1, c.count-beside.ensures.1, omega (arith, long, start, room))
+    let long = c.block_at-2.ensures.0.1 in
+    let start = c.labels_at.ensures.0 in
+    let room = beside_room c.args.version k _ two c.count_beside.ensures.0 in
+    (c.block_at.ensures.0.1, c.count_beside.ensures.1, omega (arith, long, start, room))
 
 returns : tie.Need-returns
 returns c =
-    let a = c.before.before.before.before.before.before in
-    let k : ℕ = a.args.b - 66 in
+    let k : ℕ = c.args.b - 66 in
     let two : k < 2 = omega arith in
-    let start = c.before.before.before.before.labels_at.ensures.0 in
-    let zeroth = c.before.before.block-at2.ensures.0.0 in
-    let count = c.before.count-beside.ensures.0 in
-    rw (ne_eqb a.args.b 65 (omega arith))
-    (c.entries-are-valid.ensures
+    let start = c.labels_at.ensures.0 in
+    let zeroth = c.block_at-2.ensures.0.0 in
+    let count = c.count_beside.ensures.0 in
+    rw (ne_eqb c.args.b 65 (omega arith))
+    (c.entries_are_valid.ensures
     ∙ ap₂ entries_ok
-    (beside_read a.args.version _ k two count start ∙ ap (λ (z : List ℕ). words_beside k (labels_by a.args.version z)) zeroth)
-    c.before.before.before.block_at.ensures.0.0)
+    (beside_read c.args.version _ k two count start ∙ ap (λ (z : List ℕ). words_beside k (labels_by c.args.version z)) zeroth)
+    c.block_at.ensures.0.0)
 
-pub index-is-valid-spec : {M : Type 1} → statement M
-index-is-valid-spec =
+pub index_is_valid_spec : {M : Type 1} → statement M
+index_is_valid_spec =
     let answers = tie.spec
     (λ c. omega arith)
     (λ c κs. search rules)

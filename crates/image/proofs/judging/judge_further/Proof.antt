@@ -9,31 +9,31 @@ use Rattle.image.proofs.Scans.{further_check, further_end, further_field, furthe
 use Rattle.image.proofs.judging.judge_further.Statement.{statement}
 use Rattle.image.proofs.judging.judge_further.Tie as tie
 
-abbrev invariant-loop : tie.invariant-loop
-invariant-loop image version b₀ b =
+abbrev invariant-loop-b : tie.invariant-loop-b
+invariant-loop-b image version b₀ b =
     (request_block ≤ b) × (b ≤ block_count) × (first_fault (bytes_judged version image) (blocks_from b (block_count - b)) ≡ first_fault (bytes_judged version image) further)
 
-abbrev decreases-loop : tie.decreases-loop
-decreases-loop image version b₀ b = block_count - b
+abbrev decreases-loop-b : tie.decreases-loop-b
+decreases-loop-b image version b₀ b = block_count - b
 
-pub judge-further-spec : {M : Type 1} → statement M
-judge-further-spec =
-    let answers = tie.spec invariant-loop decreases-loop
+pub judge_further_spec : {M : Type 1} → statement M
+judge_further_spec =
+    let answers = tie.spec invariant-loop-b decreases-loop-b
     (λ c. (omega arith, omega arith, refl))
     (λ c κs. (search rules, omega arith, omega arith))
     (λ c. search rules)
     (λ c. search rules)
-    (λ c. further_size _ _ _ c.before.before.before.before.loop.invariant.2 c.before.before.before.loop-test.true c.before.before.judge-block.ensures c.enum-told2.given.1)
+    (λ c. further_size _ _ _ c.loop-b.invariant.2 c.loop-b-test.true c.judge_block.ensures c.in-WrongSize.is)
     (λ c. search rules)
-    (λ c. further_check _ _ _ c.before.before.before.before.before.loop.invariant.2 c.before.before.before.before.loop-test.true c.before.before.before.judge-block.ensures c.before.k.given.1)
+    (λ c. further_check _ _ _ c.loop-b.invariant.2 c.loop-b-test.true c.judge_block.ensures c.in-BadBlock.is)
     (λ c. search rules)
-    (λ c. further_field _ _ _ c.before.before.before.before.before.loop.invariant.2 c.before.before.before.before.loop-test.true c.before.before.before.judge-block.ensures c.before.k2.given.1)
+    (λ c. further_field _ _ _ c.loop-b.invariant.2 c.loop-b-test.true c.judge_block.ensures c.in-BadField.is)
     (λ c. omega arith)
     (λ c. omega arith)
     (λ c. (
       omega arith,
       omega arith,
-      further-next _ _ _ c.before.before.before.before.loop.invariant.2 c.before.before.before.loop-test.true c.before.before.judge-block.ensures c.enum_told.given.1,
+      further-next _ _ _ c.loop-b.invariant.2 c.loop-b-test.true c.judge_block.ensures c.in-Sound.is,
     ))
-    (λ c. further_end _ _ _ c.before.loop.invariant.2 c.loop-test.false) in
+    (λ c. further_end _ _ _ c.loop-b.invariant.2 c.loop-b-test.false) in
     tie.close answers

@@ -1,36 +1,34 @@
 -- `image::judging::judge_index` meets its contract, by the laws of its answers. Assumes nothing.
+use mathlib.Core.Bool.{not}
+use mathlib.Core.Path.{ap}
 use native.Mathlib.Omega.{arith}
 use borrow.Author.Rules.{rules}
 use Rattle.image.proofs.Scans.{one_check, one_empty, one_fields, one_right}
 use Rattle.image.proofs.judging.judge_index.Statement.{statement}
 use Rattle.image.proofs.judging.judge_index.Tie as tie
 
-returns : tie.Need-returns
+returns : tie.Need-returns-then-is_empty
 returns c =
-    let a = c.before.before.before.before in
-    one_empty a.args.version a.args.image.now a.args.b (omega arith) c.before.before.block_at.ensures.0.0
-    a.requires.1 c.before.is-empty.ensures c.if1.true
+    one_empty c.args.version c.args.image.now c.args.b (omega arith) c.block_at-block.ensures.0.0
+    c.requires.1 c.is_empty.ensures c.if-is_empty.true
 
-returns-2 : tie.Need-returns-2
+returns-2 : tie.Need-returns-then-not-is_sound
 returns-2 c =
-    let a = c.before.before.before.before.before.before in
-    one_check a.args.version a.args.image.now a.args.b (omega arith) c.before.before.before.before.block_at.ensures.0.0
-    c.before.is-sound.ensures c.if2.true
+    one_check c.args.version c.args.image.now c.args.b (omega arith) c.block_at-block.ensures.0.0
+    c.is_sound.ensures (ap not c.if-not-is_sound.true)
 
-returns-3 : tie.Need-returns-3
+returns-3 : tie.Need-returns-then-not-index_is_valid
 returns-3 c =
-    let a = c.before.before.before.before.before.before.before.before in
-    one_fields a.args.version a.args.image.now a.args.b (omega arith) c.before.before.before.before.before.before.block_at.ensures.0.0
-    c.before.before.before.is-sound.ensures c.before.before.if2.false c.before.index-is-valid.ensures c.if3.true
+    one_fields c.args.version c.args.image.now c.args.b (omega arith) c.block_at-block.ensures.0.0
+    c.is_sound.ensures (ap not c.if-not-is_sound.false) c.index_is_valid.ensures (ap not c.if-not-index_is_valid.true)
 
-returns-4 : tie.Need-returns-4
+returns-4 : tie.Need-returns
 returns-4 c =
-    let a = c.before.before.before.before.before.before.before.before in
-    one_right a.args.version a.args.image.now a.args.b (omega arith) c.before.before.before.before.before.before.block_at.ensures.0.0
-    c.before.before.before.is-sound.ensures c.before.before.if2.false c.before.index-is-valid.ensures c.if3.false
+    one_right c.args.version c.args.image.now c.args.b (omega arith) c.block_at-block.ensures.0.0
+    c.is_sound.ensures (ap not c.if-not-is_sound.false) c.index_is_valid.ensures (ap not c.if-not-index_is_valid.false)
 
-pub judge-index-spec : {M : Type 1} → statement M
-judge-index-spec =
+pub judge_index_spec : {M : Type 1} → statement M
+judge_index_spec =
     let answers = tie.spec
     (λ c κs. search rules)
     (λ c κs. search rules)

@@ -10,44 +10,41 @@ use Rattle.image.proofs.Scans.{scan_check, scan_end, scan_fields, scan_next, sca
 use Rattle.image.proofs.judging.scan_slots.Statement.{statement}
 use Rattle.image.proofs.judging.scan_slots.Tie as tie
 
-abbrev invariant-loop : tie.invariant-loop
-invariant-loop image first held i₀ i = (i ≤ held) × (first_fault (slot_judged image) (ring block_of (first + i) (held - i)) ≡ first_fault (slot_judged image) (ring block_of first held))
+abbrev invariant-loop-i : tie.invariant-loop-i
+invariant-loop-i image first held i₀ i = (i ≤ held) × (first_fault (slot_judged image) (ring block_of (first + i) (held - i)) ≡ first_fault (slot_judged image) (ring block_of first held))
 
-abbrev decreases-loop : tie.decreases-loop
-decreases-loop image first held i₀ i = held - i
+abbrev decreases-loop-i : tie.decreases-loop-i
+decreases-loop-i image first held i₀ i = held - i
 
-loop-holds : tie.Need-loop-init invariant-loop decreases-loop
-loop-holds c = let a = c.before.args in (omega arith, scan_start a.image.now a.first a.held)
+loop-holds : tie.Need-loop-i-init invariant-loop-i decreases-loop-i
+loop-holds c = let a = c.args in (omega arith, scan_start a.image.now a.first a.held)
 
-returns : tie.Need-returns invariant-loop decreases-loop
+returns : tie.Need-returns-in-BadCheck invariant-loop-i decreases-loop-i
 returns c =
-    let b = c.before.before.before in
-    let l = b.before.before.loop in
-    let a = b.before.before.before.before.args in
-    scan_check a.image.now a.first a.held l.i _ b.before.loop-test.true l.invariant.1 b.block_at.ensures.0.0 c.before.before.judge-slot.ensures c.enum-told2.given.1
+    let l = c.loop-i in
+    let a = c.args in
+    scan_check a.image.now a.first a.held l.i _ c.loop-i-test.true l.invariant.1 c.block_at.ensures.0.0 c.judge_slot.ensures c.in-BadCheck.is
 
-returns-2 : tie.Need-returns-2 invariant-loop decreases-loop
+returns-2 : tie.Need-returns-in-BadFields invariant-loop-i decreases-loop-i
 returns-2 c =
-    let b = c.before.before.before in
-    let l = b.before.before.loop in
-    let a = b.before.before.before.before.args in
-    scan_fields a.image.now a.first a.held l.i _ b.before.loop-test.true l.invariant.1 b.block_at.ensures.0.0 c.before.before.judge-slot.ensures c.enum-told3.given.1
+    let l = c.loop-i in
+    let a = c.args in
+    scan_fields a.image.now a.first a.held l.i _ c.loop-i-test.true l.invariant.1 c.block_at.ensures.0.0 c.judge_slot.ensures c.in-BadFields.is
 
-loop-again : tie.Need-loop-preserved invariant-loop decreases-loop
+loop-again : tie.Need-loop-i-preserved invariant-loop-i decreases-loop-i
 loop-again c =
-    let b = c.before.before.before in
-    let l = b.before.before.loop in
-    let a = b.before.before.before.before.args in
-    (omega arith, scan_next a.image.now a.first a.held l.i _ b.before.loop-test.true l.invariant.1 b.block_at.ensures.0.0 c.before.before.judge-slot.ensures c.enum_told.given.1)
+    let l = c.loop-i in
+    let a = c.args in
+    (omega arith, scan_next a.image.now a.first a.held l.i _ c.loop-i-test.true l.invariant.1 c.block_at.ensures.0.0 c.judge_slot.ensures c.in-Good.is)
 
-returns-3 : tie.Need-returns-3 invariant-loop decreases-loop
+returns-3 : tie.Need-returns invariant-loop-i decreases-loop-i
 returns-3 c =
-    let a = c.before.before.before.args in
-    scan_end a.image.now a.first a.held c.before.loop.i _ c.loop-test.false c.before.loop.invariant.1
+    let a = c.args in
+    scan_end a.image.now a.first a.held c.loop-i.i _ c.loop-i-test.false c.loop-i.invariant.1
 
-pub scan-slots-spec : {M : Type 1} → statement M
-scan-slots-spec =
-    let answers = tie.spec invariant-loop decreases-loop
+pub scan_slots_spec : {M : Type 1} → statement M
+scan_slots_spec =
+    let answers = tie.spec invariant-loop-i decreases-loop-i
     loop-holds
     (λ c. omega arith)
     (λ c. omega arith)

@@ -8,21 +8,20 @@ use Rattle.image.specs.State.{store_entry}
 use Rattle.image.proofs.storing.store_entry.Statement.{statement}
 use Rattle.image.proofs.storing.store_entry.Tie as tie
 
-pub store-entry-spec : {M : Type 1} → statement M
+pub store_entry_spec : {M : Type 1} → statement M
 unfolding store_entry
-store-entry-spec =
+store_entry_spec =
     let answers = tie.spec
     (λ c κs. search rules)
-    (λ c. omega (arith, c.entry-block.ensures))
+    (λ c. omega (arith, c.entry_block-start.ensures))
     (λ c. omega arith)
     (λ c. omega arith)
     (λ c. omega arith)
     (λ c. omega arith)
     (λ c κs. search rules)
-    (λ c κs. (search rules, omega (arith, c.place-in-block.ensures)))
+    (λ c κs. (search rules, omega (arith, c.place_in_block.ensures)))
     (λ c. search rules)
     (λ c.
     let put = c.before.before in
-    let found = put.before.before.before in
-    rw (put.write-entry.ensures, put.before.place-in-block.ensures, found.entry-block.ensures) (laid-between _ _ _ _ (omega arith) (omega arith) (length-word_block _ ∙ omega arith))) in
+    rw (c.write_entry.ensures, c.place_in_block.ensures, c.entry_block-start.ensures) (laid-between _ _ _ _ (omega arith) (omega arith) (length-word_block _ ∙ omega arith))) in
     tie.close answers

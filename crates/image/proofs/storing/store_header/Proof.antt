@@ -7,14 +7,14 @@ use Rattle.image.specs.State.{store0, decode}
 use Rattle.image.proofs.storing.store_header.Statement.{statement}
 use Rattle.image.proofs.storing.store_header.Tie as tie
 
-pub store-header-spec : {M : Type 1} → statement M
+pub store_header_spec : {M : Type 1} → statement M
 unfolding store0 decode
-store-header-spec =
+store_header_spec =
     let answers = tie.spec
     (λ c. omega arith)
     (λ c. omega arith)
     (λ c. omega arith)
     (λ c κs. search rules)
     (λ c. search rules)
-    (λ c. rw c.before.before.write-header.ensures (laid-between _ 0 512 _ (omega arith) (omega arith) (length-block0 _ _ _))) in
+    (λ c. rw c.write_header.ensures (laid-between _ 0 512 _ (omega arith) (omega arith) (length-block0 _ _ _))) in
     tie.close answers

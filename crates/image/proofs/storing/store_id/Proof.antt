@@ -7,9 +7,9 @@ use Rattle.image.specs.State.{stored_ids, store_id}
 use Rattle.image.proofs.storing.store_id.Statement.{statement}
 use Rattle.image.proofs.storing.store_id.Tie as tie
 
-pub store-id-spec : {M : Type 1} → statement M
+pub store_id_spec : {M : Type 1} → statement M
 unfolding store_id stored_ids
-store-id-spec =
+store_id_spec =
     let answers = tie.spec
     (λ c. omega arith)
     (λ c. omega arith)
@@ -18,5 +18,5 @@ store-id-spec =
     (λ c. omega arith)
     (λ c κs. search rules)
     (λ c. search rules)
-    (λ c. rw c.before.before.write_word.ensures (laid-between _ 33280 33792 _ (omega arith) (omega arith) (length-word_block _))) in
+    (λ c. rw c.write_word.ensures (laid-between _ 33280 33792 _ (omega arith) (omega arith) (length-word_block _))) in
     tie.close answers

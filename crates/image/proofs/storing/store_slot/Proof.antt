@@ -9,9 +9,9 @@ use Rattle.image.specs.State.{store_slot}
 use Rattle.image.proofs.storing.store_slot.Statement.{statement}
 use Rattle.image.proofs.storing.store_slot.Tie as tie
 
-pub store-slot-spec : {M : Type 1} → statement M
+pub store_slot_spec : {M : Type 1} → statement M
 unfolding store_slot slot_for
-store-slot-spec =
+store_slot_spec =
     let answers = tie.spec
     (λ c. omega arith)
     (λ c. omega arith)
@@ -21,5 +21,5 @@ store-slot-spec =
     (λ c. omega arith)
     (λ c κs. search rules)
     (λ c. search rules)
-    (λ c. let p = c.before.before.before.before.before.before.requires in rw (p.3, c.before.before.write-slot.ensures) (laid-between _ _ _ _ (omega arith) (omega arith) (length-slot _ _ _ p.2 ∙ omega arith))) in
+    (λ c. let p = c.requires in rw (p.3, c.write_slot.ensures) (laid-between _ _ _ _ (omega arith) (omega arith) (length-slot _ _ _ p.2 ∙ omega arith))) in
     tie.close answers
