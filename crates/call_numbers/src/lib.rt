@@ -1,5 +1,6 @@
 // The ten calls of the session with numbers for enums, as the C boundary has them.
 #![tactic(auto)]
+
 mod running;
 mod starting;
 

@@ -1,5 +1,6 @@
 // What every public call shares: phases, answers and what they leave, the outcome, and the acts that end a connection or a session.
 #![tactic(auto)]
+
 mod acking;
 mod admitting;
 mod answers;

@@ -2,7 +2,7 @@
 use Prim.Native.Nat.{ℕ}
 use mathlib.Core.Bool.{Bool, true, false}
 use mathlib.Core.List.{List}
-use mathlib.Core.Path.{◌≡◌, refl, sym, ap, ◌∙◌}
+use mathlib.Core.Path.{◌≡◌, refl, sym, ap, ap₂, ◌∙◌}
 use lib.Dec.{ltb}
 use lib.ListN.{length}
 use Rattle.octets.specs.Bytes.{Bytes}
@@ -113,7 +113,8 @@ module _ (im : List ℕ) (ph : Phase) (id : MessageId) (o : OwnParameters) (t : 
       → x ≡ written_as w ph (waiting_for n) → after_with x im out' ≡ open_of im ph id o t out
   unfolding open_of open_session kept_ack
   open_wrote byte d f es en eh ea q p =
-      writer-wrote im ph (awaiting t) out (open_bytes (state_of im) id o t) (may_open ph) e byte d f (rw (ea, eh, es) at q) (rw (en, es) at p)
+      writer-wrote im ph (awaiting t) out (open_bytes (state_of im) id o t) (may_open ph) e byte d f
+      (q ∙ ap₂ (λ (u : Timeout) (k : FtField). written_of out (init_bytes id o u k)) es (ea ∙ ap (λ (g : Header). kept_ack (state_of_numbers g)) eh)) (rw (en, es) at p)
 
 -- ---- KeepAlive
 module _ (im : List ℕ) (ph : Phase) (id : MessageId) (out : List ℕ) {r : Answer} (e : r ≡ admitted_on im ph Answer.Done) where

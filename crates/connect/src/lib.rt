@@ -1,5 +1,6 @@
 // How a session begins and is kept up: a new image, a restored one, our Init and our KeepAlive.
 #![tactic(auto)]
+
 mod starting;
 mod writing;
 

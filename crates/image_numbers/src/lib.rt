@@ -1,5 +1,6 @@
 // A stored image as numbers, as the C boundary shows it: what it holds, extended, converted.
 #![tactic(auto)]
+
 mod contents;
 mod converting;
 mod stored;

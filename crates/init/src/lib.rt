@@ -1,5 +1,6 @@
 // The peer's Init: how it is judged, and the session that begins with it.
 #![tactic(auto)]
+
 mod beginning;
 mod judging;
 

@@ -1,5 +1,6 @@
 // PDUs, messages, FT numbers and timeouts as numbers, as the C boundary shows them.
 #![tactic(auto)]
+
 mod fields;
 mod messages;
 mod numbers;

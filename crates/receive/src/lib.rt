@@ -1,5 +1,6 @@
 // Receive: one message of the peer's, on a session that is up.
 #![tactic(auto)]
+
 mod answering;
 mod judging;
 mod labels;

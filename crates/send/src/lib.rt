@@ -1,5 +1,6 @@
 // Send next: the oldest held message not sent on this connection that is not left out, with its FT number.
 #![tactic(auto)]
+
 ghost use Rattle.std.specs.Prelude.{◌<◌, ◌≡◌};
 ghost use Rattle.octets.specs.Differ.{differ};
 ghost use Rattle.message_writer.specs.Written.{written_of};

@@ -27,7 +27,7 @@ use Rattle.calls.specs.Outcomes.{After, settle_of}
 use Rattle.calls.specs.State.{state_of}
 use Rattle.connect.specs.Start.{format_of}
 use Rattle.session.specs.Call.{leaves}
-use Rattle.session.specs.Keepers.{InventsCount, InventsHeld, InventsReleased, Is, Keeper, Meets, Taking, Wrong, state_before, state_left, Always-refuses, one_answer, one_answer_to_messages, one_count, never_stores, only_nods, invents_counts}
+use Rattle.session.specs.Keepers.{InventsCount, InventsHeld, InventsReleased, Is, Keeper, Meets, Taking, Wrong, state_before, state_left, always_refuses, one_answer, one_answer_to_messages, one_count, never_stores, only_nods, invents_counts}
 use Rattle.session.proofs.Fresh.{Sending, begun, begun_stands, begun_state, second_send}
 use Rattle.session.proofs.Queued.{one_more-held}
 use Rattle.session.proofs.Refines.{refines}
@@ -157,7 +157,7 @@ module _ (keeper : Keeper) (meets : Meets keeper) where
 -- ---- the list: whichever it is, it does not meet the promises
 pub no_wrong_keeper : (w : Wrong) (keeper : Keeper) → Is w keeper → Meets keeper → ⊥
 unfolding Is
-no_wrong_keeper Always-refuses keeper wrong meets = refuser_fails keeper meets wrong
+no_wrong_keeper always_refuses keeper wrong meets = refuser_fails keeper meets wrong
 no_wrong_keeper one_answer keeper wrong meets = constant_fails keeper meets wrong.0 wrong.1
 no_wrong_keeper one_answer_to_messages keeper wrong meets = deaf_fails keeper meets wrong.0 wrong.1
 no_wrong_keeper one_count keeper wrong meets = one_count_fails keeper meets wrong.0 wrong.1

@@ -65,11 +65,11 @@ pub record InventsReleased (keeper : Keeper) : Type 0 where
   pub invented : (state_left taking).released.0 ≢ ack_borne (state_before taking) taking.read.ack
 
 pub data Wrong : Type 0 where
-  Always-refuses one_answer one_answer_to_messages one_count never_stores only_nods invents_counts : Wrong
+  always_refuses one_answer one_answer_to_messages one_count never_stores only_nods invents_counts : Wrong
 
 unfoldable pub Is : Wrong → Keeper → Type 0
 -- every submission is refused
-Is Always-refuses keeper = (im : List ℕ) (ph : Phase) (m : List ℕ) → is_done (keeper (submits m) im ph []).outcome.answer ≡ false
+Is always_refuses keeper = (im : List ℕ) (ph : Phase) (m : List ℕ) → is_done (keeper (submits m) im ph []).outcome.answer ≡ false
 -- every call has one and the same answer
 Is one_answer keeper = (a : Answer) × ((c : Call) (im : List ℕ) (ph : Phase) (out : List ℕ) → (keeper c im ph out).outcome.answer ≡ a)
 -- every message received has one and the same answer, whatever it acknowledges

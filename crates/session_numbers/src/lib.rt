@@ -1,5 +1,6 @@
 // A session's phase and a call's outcome as numbers, both ways: the session's record at the C boundary.
 #![tactic(auto)]
+
 mod outcome;
 mod phases;
 

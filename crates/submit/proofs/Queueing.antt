@@ -90,7 +90,7 @@ module _ (im m : List ℕ) (size : length im ≡ image_size) (sf : SlotFits im (
 
   module _ {im₂ : List ℕ} (e₂ : im₂ ≡ further_stored im₁ f) where
     pub labels-put : (decode im₂).labels ≡ (decode im).labels
-    labels-put = same_labels im₂ im (rw (e₂, is_slotted) (put-zeroth im m size sf f place))
+    labels-put = same_labels im₂ im (ap (λ (i : List ℕ). block i 0) (e₂ ∙ ap (λ (i : List ℕ). further_stored i f) is_slotted) ∙ put-zeroth im m size sf f place)
 
     pub stored_is : (kind : Kind) (change : Change) {h' : Header} {im₃ : List ℕ} → h' ≡ header_queued h kind → im₃ ≡ store0 im₂ h' (changed (decode im₂).labels change)
         → im₃ ≡ store0 (further_stored (store_slot im (next_slot (decode im).header) m) f) (header_queued (decode im).header kind) (changed (decode im).labels change)

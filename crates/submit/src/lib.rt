@@ -1,5 +1,6 @@
 // Submit: the message is judged, and queued as the newest one held. It gets its number when it is first sent.
 #![tactic(auto)]
+
 ghost use Rattle.std.specs.Prelude.{◌≤◌, [], ◌≡◌, length};
 ghost use Rattle.message.specs.declared.Submission.TheVariants.{Accepted};
 ghost use Rattle.message.specs.Storable.{shortest, longest};

@@ -1,5 +1,6 @@
 // Connection failed and Time passed: the events that come without a message.
 #![tactic(auto)]
+
 ghost use Rattle.std.specs.Prelude.{[], ◌≡◌};
 ghost use Rattle.protocol.specs.Phases.{connected, waiting};
 ghost use Rattle.protocol.specs.TimePassed.{expired};

@@ -3,10 +3,10 @@ use Rattle.send.proofs.Acts.{ack_is}
 use Rattle.send.proofs.ack_asked.Statement.{statement}
 use Rattle.send.proofs.ack_asked.Tie as tie
 
-pub ack-asked-spec : {M : Type 1} → statement M
+pub ack_asked_spec : {M : Type 1} → statement M
 unfolding ack_asked
-ack-asked-spec =
+ack_asked_spec =
     let answers = tie.spec
-    (λ c. ack_is _ c.if1.true)
-    (λ c. ack_is _ c.if1.false) in
+    (λ c. ack_is _ c.if-ack.true)
+    (λ c. ack_is _ c.if-ack.false) in
     tie.close answers

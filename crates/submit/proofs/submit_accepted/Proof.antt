@@ -1,6 +1,5 @@
 use mathlib.Core.Path.{◌≡◌, refl, sym, ◌∙◌}
 use borrow.Author.Rules.{rules}
-use borrow.Author.Tests.{not-true, not-false}
 use Rattle.message.specs.Submission.{entry_in}
 use Rattle.protocol.specs.Submit.{kind_rule}
 use Rattle.protocol.specs.SubmitCases.{Fitting}
@@ -16,24 +15,24 @@ fitting : (c : tie.Start) → Fitting (state_of c.args.image.now) c.args.msg.now
 fitting c = fitting_is _ c.args.phase _ refl c.requires.1 c.requires.2 c.requires.3
 
 -- nothing held bars the message, and its label with its entry or its Request was asked
-judged : (c : tie.After-judge) → c.judge.result ≡ kind_rule (state_of c.before.before.before.before.before.before.before.before.before.before.args.image.now) c.before.before.before.before.before.before.before.before.before.before.args.phase c.before.before.before.before.before.before.before.before.before.before.args.kind c.before.before.before.before.before.before.before.before.before.before.args.label (entry_in c.before.before.before.before.before.before.before.before.before.before.args.msg.now)
-judged c = judged_is _ _ _ _ _ c.before.before.before.before.entry_of.ensures c.before.before.accept-as.ensures.0 c.judge.ensures c.before.before.before.before.before.before.is-barred.ensures c.before.before.before.before.before.if1.false
+judged : (c : tie.After-judge-answer) → c.judge-answer.result ≡ kind_rule (state_of c.args.image.now) c.args.phase c.args.kind c.args.label (entry_in c.args.msg.now)
+judged c = judged_is _ _ _ _ _ c.entry_of-entry.ensures c.accept_as-accepted.ensures.0 c.judge-answer.ensures c.is_barred.ensures c.if-is_barred.false
 
-pub submit-accepted-spec : {M : Type 1} → statement M
-submit-accepted-spec =
+pub submit_accepted_spec : {M : Type 1} → statement M
+submit_accepted_spec =
     let answers = tie.spec
     (λ c κs. search rules)
     (λ c κs. search rules)
     (λ c. search rules)
-    (λ c. found_refused _ _ _ _ (barred_is _ _ _ _ _ c.before.before.is-barred.ensures c.before.if1.true) c.refuse.ensures refl)
+    (λ c. found_refused _ _ _ _ (barred_is _ _ _ _ _ c.is_barred.ensures c.if-is_barred.true) c.refuse.ensures refl)
     (λ c κs. search rules)
     (λ c κs. search rules)
     (λ c κs. search rules)
     (λ c κs. search rules)
     (λ c κs. search rules)
     (λ c. search rules)
-    (λ c. kind_refused _ _ _ (fitting c.before.before.before.before.before.before.before.before.before.before.before.before.before) c.before.before.before.before.before.before.before.before.before.before.before.before.before.requires.4 (judged c.before.before.before) (sym c.before.before.is-done.ensures ∙ not-true c.before.before.is-done.result c.before.if2.true) c.refuse2.ensures)
-    (λ c κs. record { sound = c.before.before.before.before.before.before.before.before.before.before.before.before.before.requires.0; room = judged-room _ _ _ (fitting c.before.before.before.before.before.before.before.before.before.before.before.before.before) c.before.before.before.before.before.before.before.before.before.before.before.before.before.requires.4 (judged c.before.before.before) (sym c.before.before.is-done.ensures ∙ not-false c.before.before.is-done.result c.before.if2.false); low = c.before.before.before.before.before.before.before.before.before.before.before.before.before.requires.2; high = c.before.before.before.before.before.before.before.before.before.before.before.before.before.requires.3; accepted = c.before.before.before.before.before.before.before.before.before.before.before.before.before.requires.4; entry_read = c.before.before.before.before.before.before.before.entry_of.ensures; change-made = judged-change _ c.before.before.before.before.before.before.before.before.before.before.before.before.before.args.phase _ _ (entry_in c.before.before.before.before.before.before.before.before.before.before.before.before.before.args.msg.now) c.before.before.before.before.before.before.before.entry_of.ensures c.before.before.before.before.before.accept-as.ensures.0 c.before.before.before.judge.ensures (sym c.before.before.is-done.ensures ∙ not-false c.before.before.is-done.result c.before.if2.false) c.before.before.before.before.before.accept-as.ensures.1 })
+    (λ c. kind_refused _ _ _ (fitting c.before.before.before.before.before.before.before.before.before.before) c.requires.4 (judged c.before.before.before) (sym c.is_done.ensures ∙ c.if-not-is_done.true) c.refuse-then-not-is_done.ensures)
+    (λ c κs. record { sound = c.requires.0; room = judged-room _ _ _ (fitting c.before.before.before.before.before.before.before.before.before.before) c.requires.4 (judged c.before.before.before) (sym c.is_done.ensures ∙ c.if-not-is_done.false); low = c.requires.2; high = c.requires.3; accepted = c.requires.4; entry_read = c.entry_of-entry.ensures; change-made = judged-change _ c.args.phase _ _ (entry_in c.args.msg.now) c.entry_of-entry.ensures c.accept_as-accepted.ensures.0 c.judge-answer.ensures (sym c.is_done.ensures ∙ c.if-not-is_done.false) c.accept_as-accepted.ensures.1 })
     (λ c. search rules)
-    (λ c. kind_done _ _ _ (fitting c.before.before.before.before.before.before.before.before.before.before.before.before.before.before.before.before) c.before.before.before.before.before.before.before.before.before.before.before.before.before.before.before.before.requires.4 (judged c.before.before.before.before.before.before) (sym c.before.before.before.before.before.is-done.ensures ∙ not-false c.before.before.before.before.before.is-done.result c.before.before.before.before.if2.false) c.before.before.queue-message.ensures) in
+    (λ c. kind_done _ _ _ (fitting c.before.before.before.before.before.before.before.before.before.before.before.before.before) c.requires.4 (judged c.before.before.before.before.before.before) (sym c.is_done.ensures ∙ c.if-not-is_done.false) c.queue_message.ensures) in
     tie.close answers

@@ -5,16 +5,16 @@ use Rattle.call_numbers.proofs.Calls.{keepalive_narrow}
 use Rattle.call_numbers.proofs.running.keepalive.Statement.{statement}
 use Rattle.call_numbers.proofs.running.keepalive.Tie as tie
 
-pub keepalive-spec : {M : Type 1} → statement M
-keepalive-spec =
+pub keepalive_spec : {M : Type 1} → statement M
+keepalive_spec =
     let answers = tie.spec
     (λ c κs. search rules)
     (λ c. search rules)
     (λ c κs. search rules)
-    (λ c κs. narrow_is c.before.before.keepalive.ensures (keepalive_narrow _ _ _ _))
+    (λ c κs. narrow_is c.keepalive-o.ensures (keepalive_narrow _ _ _ _))
     (λ c. search rules)
     (λ c κs. search rules)
     (λ c. search rules)
-    (λ c. called_known _ _ _ _ c.before.before.before.before.before.before.before.before.phase-given.ensures c.before.before.before.before.before.before.phase.given.1 c.before.before.before.keepalive.ensures c.outcome-numbers.ensures)
-    (λ c. called_unknown _ _ _ _ c.before.before.before.phase-given.ensures c.before.enum_told.given.1 c.refuse-unknown.ensures) in
+    (λ c. called_known _ _ _ _ c.phase_given.ensures c.in-Known.is c.keepalive-o.ensures c.outcome_numbers.ensures)
+    (λ c. called_unknown _ _ _ _ c.phase_given.ensures c.in-Unknown.is c.refuse_unknown.ensures) in
     tie.close answers

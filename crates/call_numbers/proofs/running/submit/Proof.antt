@@ -5,17 +5,17 @@ use Rattle.call_numbers.proofs.Calls.{submit_narrow}
 use Rattle.call_numbers.proofs.running.submit.Statement.{statement}
 use Rattle.call_numbers.proofs.running.submit.Tie as tie
 
-pub submit-spec : {M : Type 1} → statement M
-submit-spec =
+pub submit_spec : {M : Type 1} → statement M
+submit_spec =
     let answers = tie.spec
     (λ c κs. search rules)
     (λ c. search rules)
     (λ c κs. search rules)
-    (λ c κs. narrow_is c.before.before.submit.ensures (submit_narrow _ _ _))
+    (λ c κs. narrow_is c.submit-o.ensures (submit_narrow _ _ _))
     (λ c. search rules)
     (λ c κs. search rules)
     (λ c. search rules)
-    (λ c. called_known _ _ _ _ c.before.before.before.before.before.before.before.before.phase-given.ensures c.before.before.before.before.before.before.phase.given.1 c.before.before.before.submit.ensures c.outcome-numbers.ensures)
+    (λ c. called_known _ _ _ _ c.phase_given.ensures c.in-Known.is c.submit-o.ensures c.outcome_numbers.ensures)
     (λ c. search rules)
-    (λ c. called_unknown _ _ _ _ c.before.before.before.before.phase-given.ensures c.before.before.enum_told.given.1 c.refuse-unknown.ensures) in
+    (λ c. called_unknown _ _ _ _ c.phase_given.ensures c.in-Unknown.is c.refuse_unknown.ensures) in
     tie.close answers

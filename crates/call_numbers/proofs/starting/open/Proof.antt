@@ -13,10 +13,10 @@ open_spec =
     (λ c κs. search rules)
     (λ c. search rules)
     (λ c κs. search rules)
-    (λ c κs. narrow_is c.before.before.open-session.ensures (open_narrow _ _ _ _ _ _))
+    (λ c κs. narrow_is c.open_session-o.ensures (open_narrow _ _ _ _ _ _))
     (λ c. search rules)
     (λ c κs. search rules)
     (λ c. search rules)
-    (λ c. called_known _ _ _ _ c.before.before.before.before.before.before.before.before.phase-given.ensures c.before.before.before.before.before.before.phase.given.1 (rw (c.before.before.before.before.before.before.before.before.before.proposal-of.ensures, c.before.before.before.before.before.before.before.before.before.before.form_of.ensures) at c.before.before.before.open-session.ensures) c.outcome-numbers.ensures)
-    (λ c. called_unknown _ _ _ _ c.before.before.before.phase-given.ensures c.before.enum_told.given.1 c.refuse-unknown.ensures) in
+    (λ c. called_known _ _ _ _ c.phase_given.ensures c.in-Known.is (rw (c.proposal_of-proposed.ensures, c.form_of.ensures) at c.open_session-o.ensures) c.outcome_numbers.ensures)
+    (λ c. called_unknown _ _ _ _ c.phase_given.ensures c.in-Unknown.is c.refuse_unknown.ensures) in
     tie.close answers

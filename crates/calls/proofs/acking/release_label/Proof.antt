@@ -3,16 +3,16 @@ use Rattle.calls.proofs.Releasing.{released-withdraw, released-release, released
 use Rattle.calls.proofs.acking.release_label.Statement.{statement}
 use Rattle.calls.proofs.acking.release_label.Tie as tie
 
-pub release-label-spec : {M : Type 1} → statement M
-release-label-spec =
+pub release_label_spec : {M : Type 1} → statement M
+release_label_spec =
     let answers = tie.spec
     (λ c κs. search rules)
     (λ c κs. search rules)
     (λ c. search rules)
-    (λ c. released-withdraw _ _ _ c.before.before.before.before.before.kind-number.ensures c.before.before.before.before.if1.true c.before.before.release-by-ack.ensures)
+    (λ c. released-withdraw _ _ _ c.kind_number.ensures c.if-kind-kind_number.true c.release_by_ack.ensures)
     (λ c κs. search rules)
     (λ c κs. search rules)
     (λ c. search rules)
-    (λ c. released-release _ _ _ c.before.before.before.before.before.before.before.kind-number.ensures c.before.before.before.before.before.before.if1.false c.before.before.before.before.before.kind-number2.ensures c.before.before.before.before.if2.true c.before.before.release-by-ack2.ensures)
-    (λ c. released-other _ _ _ c.before.before.before.kind-number.ensures c.before.before.if1.false c.before.kind-number2.ensures c.if2.false) in
+    (λ c. released-release _ _ _ c.kind_number.ensures c.if-kind-kind_number.false c.kind_number-2.ensures c.if-kind-kind_number-2.true c.release_by_ack-then-kind-kind_number-2.ensures)
+    (λ c. released-other _ _ _ c.kind_number.ensures c.if-kind-kind_number.false c.kind_number-2.ensures c.if-kind-kind_number-2.false) in
     tie.close answers

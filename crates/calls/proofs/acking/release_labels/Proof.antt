@@ -7,24 +7,24 @@ use Rattle.calls.proofs.Releasing.{Releasing, releasing_none, releasing_one, rel
 use Rattle.calls.proofs.acking.release_labels.Statement.{statement}
 use Rattle.calls.proofs.acking.release_labels.Tie as tie
 
-abbrev invariant-loop : tie.invariant-loop
-invariant-loop image count words₀ i₀ words i = Releasing (decode image).queue count words₀ words i
+abbrev invariant-loop-i : tie.invariant-loop-i
+invariant-loop-i image count words₀ i₀ words i = Releasing (decode image).queue count words₀ words i
 
-abbrev decreases-loop : tie.decreases-loop
-decreases-loop image count words₀ i₀ words i = count - i
+abbrev decreases-loop-i : tie.decreases-loop-i
+decreases-loop-i image count words₀ i₀ words i = count - i
 
-pub release-labels-spec : {M : Type 1} → statement M
-release-labels-spec =
+pub release_labels_spec : {M : Type 1} → statement M
+release_labels_spec =
     let answers = tie.spec
-    invariant-loop
-    decreases-loop
+    invariant-loop-i
+    decreases-loop-i
     (λ c. releasing_none _ _ _)
-    (λ c κs. (c.before.before.before.before.before.requires.0, omega arith))
-    (λ c κs. (c.before.before.before.before.before.before.requires.0, omega arith))
+    (λ c κs. (c.requires.0, omega arith))
+    (λ c κs. (c.requires.0, omega arith))
     (λ c κs. search rules)
     (λ c. omega arith)
     (λ c. omega arith)
-    (λ c. releasing_one _ _ _ c.before.before.before.before.before.before.before.loop.invariant (omega arith) (rw queue_length (omega arith)) c.before.before.before.before.held-kind.ensures c.before.before.before.held-label.ensures (search rules) c.before.before.release-label.ensures)
-    (λ c. c.before.loop.invariant.same)
-    (λ c. releasing_all _ _ _ c.before.loop.invariant c.loop-test.false) in
+    (λ c. releasing_one _ _ _ c.loop-i.invariant (omega arith) (rw queue_length (omega arith)) c.held_kind.ensures c.held_label.ensures (search rules) c.release_label.ensures)
+    (λ c. c.loop-i.invariant.same)
+    (λ c. releasing_all _ _ _ c.loop-i.invariant c.loop-i-test.false) in
     tie.close answers

@@ -2,16 +2,16 @@ use borrow.Author.Rules.{rules}
 use Rattle.calls.proofs.admitting.check.Statement.{statement}
 use Rattle.calls.proofs.admitting.check.Tie as tie
 
-pub check-spec : {M : Type 1} → statement M
-check-spec =
+pub check_spec : {M : Type 1} → statement M
+check_spec =
     let answers = tie.spec
     (λ c κs. search rules)
     (λ c. search rules)
     (λ c. search rules)
     (λ c. search rules)
     (λ c. search rules)
-    (λ c. rw (← c.before.before.check-image.ensures, c.enum_told.given.1))
-    (λ c. rw (← c.before.before.check-image.ensures, c.enum-told2.given.1))
-    (λ c. rw (← c.before.before.before.check-image.ensures, c.before.b.given.1))
-    (λ c. rw (← c.before.before.before.check-image.ensures, c.before.b2.given.1)) in
+    (λ c. rw (← c.check_image.ensures, c.in-Sound.is))
+    (λ c. rw (← c.check_image.ensures, c.in-WrongSize.is))
+    (λ c. rw (← c.check_image.ensures, c.in-BadBlock.is))
+    (λ c. rw (← c.check_image.ensures, c.in-BadField.is)) in
     tie.close answers

@@ -4,12 +4,12 @@ use Rattle.protocol.proofs.Effects.{effect_act, effect_nothing, effect_fail, eff
 use Rattle.calls.proofs.answers.effect_of.Statement.{statement}
 use Rattle.calls.proofs.answers.effect_of.Tie as tie
 
-pub effect-of-spec : {M : Type 1} → statement M
-effect-of-spec =
+pub effect_of_spec : {M : Type 1} → statement M
+effect_of_spec =
     let answers = tie.spec
     (λ c κs. search rules)
-    (λ c. effect_act _ _ c.before.answer-number.ensures (omega arith))
-    (λ c. effect_nothing _ _ c.before.before.answer-number.ensures (omega arith) (omega arith))
-    (λ c. effect_fail _ _ c.before.before.before.answer-number.ensures (omega arith) (omega arith))
-    (λ c. effect_release _ _ c.before.before.before.answer-number.ensures (omega arith)) in
+    (λ c. effect_act _ _ c.answer_number-n.ensures (omega arith))
+    (λ c. effect_nothing _ _ c.answer_number-n.ensures (omega arith) (omega arith))
+    (λ c. effect_fail _ _ c.answer_number-n.ensures (omega arith) (omega arith))
+    (λ c. effect_release _ _ c.answer_number-n.ensures (omega arith)) in
     tie.close answers

@@ -9,8 +9,8 @@ release_spec =
     (λ c κs. search rules)
     (λ c κs. search rules)
     (λ c. search rules)
-    (λ c. release_none _ _ _ c.before.before.before.before.before.before.requires c.before.before.before.header_of.ensures (λ k. (c.before.before.before.before.before.slice-known.given k).fits) c.before.if1.true c.refuse.ensures)
+    (λ c. release_none _ _ _ c.requires c.header_of-h.ensures (λ k. (c.slice_known-1.given k).fits) c.if-h-eq0.true c.refuse.ensures)
     (λ c κs. search rules)
     (λ c. search rules)
-    (λ c. release_some _ _ _ c.before.before.before.before.before.before.before.before.before.requires c.before.before.before.before.before.before.header_of.ensures c.before.before.before.before.if1.false c.before.before.release.ensures) in
+    (λ c. release_some _ _ _ c.requires c.header_of-h.ensures c.if-h-eq0.false c.release.ensures) in
     tie.close answers

@@ -2,12 +2,12 @@ use borrow.Author.Rules.{rules}
 use Rattle.calls.proofs.marks.marks_heard.Statement.{statement}
 use Rattle.calls.proofs.marks.marks_heard.Tie as tie
 
-pub marks-heard-spec : {M : Type 1} → statement M
-marks-heard-spec =
+pub marks_heard_spec : {M : Type 1} → statement M
+marks_heard_spec =
     let answers = tie.spec
     (λ c κs. search rules)
     (λ c κs. search rules)
     (λ c κs. search rules)
     (λ c κs. search rules)
-    (λ c. rw (c.marks-byte.ensures, c.before.requests-refused.ensures, c.before.before.stop-after.ensures, c.before.before.before.requests-stopped.ensures)) in
+    (λ c. rw (c.marks_byte.ensures, c.requests_refused.ensures, c.stop_after.ensures, c.requests_stopped.ensures)) in
     tie.close answers

@@ -4,20 +4,20 @@ use Rattle.protocol.specs.Phases.{phase_fits}
 use Rattle.calls.proofs.phases.phase_fits.Statement.{statement}
 use Rattle.calls.proofs.phases.phase_fits.Tie as tie
 
-pub phase-fits-spec : {M : Type 1} → statement M
+pub phase_fits_spec : {M : Type 1} → statement M
 unfolding phase_fits
-phase-fits-spec =
+phase_fits_spec =
     let answers = tie.spec
     (λ c. search rules)
     (λ c. search rules)
     (λ c. search rules)
-    (λ c. simp (c.before.before.before.phase.given.1, ne_eqb _ _ c.if1.true))
+    (λ c. simp (c.in-UpFT.is, ne_eqb _ _ c.if-h-ne1.true))
     (λ c κs. search rules)
     (λ c. search rules)
     (λ c. search rules)
-    (λ c. simp c.before.enum_told.given.1)
+    (λ c. simp c.in-Idle.is)
     (λ c. search rules)
-    (λ c. simp (c.before.before.before.before.before.phase.given.1, eq-eqb _ _ c.before.before.if1.false, c.before.issued-count.ensures))
-    (λ c. simp c.before.enum-told3.given.1)
-    (λ c. simp c.before.enum-told4.given.1) in
+    (λ c. simp (c.in-UpFT.is, eq-eqb _ _ c.if-h-ne1.false, c.issued_count.ensures))
+    (λ c. simp c.in-UpPlain.is)
+    (λ c. simp c.in-Failed.is) in
     tie.close answers

@@ -5,18 +5,18 @@ use Rattle.calls.proofs.Saying.{header_eq}
 use Rattle.calls.proofs.storing.same_numbers.Statement.{statement}
 use Rattle.calls.proofs.storing.same_numbers.Tie as tie
 
-pub same-numbers-spec : {M : Type 1} → statement M
-same-numbers-spec =
+pub same_numbers_spec : {M : Type 1} → statement M
+same_numbers_spec =
     let answers = tie.spec
-    (λ c. (λ e. absurd (false≢true e), λ _ same. c.if1.true (ap (λ (h : Header). h.released.0) same)))
-    (λ c. (λ e. absurd (false≢true e), λ _ same. c.if2.true (ap (λ (h : Header). h.issued.0) same)))
-    (λ c. (λ e. absurd (false≢true e), λ _ same. c.if3.true (ap (λ (h : Header). h.secured.0) same)))
-    (λ c. (λ e. absurd (false≢true e), λ _ same. c.if4.true (ap (λ (h : Header). h.first) same)))
-    (λ c. (λ e. absurd (false≢true e), λ _ same. c.if5.true (ap (λ (h : Header). h.held) same)))
-    (λ c. (λ e. absurd (false≢true e), λ _ same. c.if6.true (ap (λ (h : Header). h.timeout) same)))
-    (λ c. (λ e. absurd (false≢true e), λ _ same. c.if7.true (ap (λ (h : Header). h.kept) same)))
-    (λ c. (λ e. absurd (false≢true e), λ _ same. c.if8.true (ap (λ (h : Header). h.marks) same)))
-    (λ c. (λ e. absurd (false≢true e), λ _ same. c.if9.true (ap (λ (h : Header). h.keepalive) same)))
-    (λ c. (λ e. absurd (false≢true e), λ _ same. c.if10.true (ap (λ (h : Header). h.maxpdu) same)))
-    (λ c. (λ _. header_eq c.before.before.before.before.before.before.before.before.before.before.before.before.before.before.before.before.before.before.before.before.before.before.before.before.before.before.before.if1.false c.before.before.before.before.before.before.before.before.before.before.before.before.before.before.before.before.before.before.before.before.before.before.before.before.if2.false c.before.before.before.before.before.before.before.before.before.before.before.before.before.before.before.before.before.before.before.before.before.if3.false c.before.before.before.before.before.before.before.before.before.before.before.before.before.before.before.before.before.before.if4.false c.before.before.before.before.before.before.before.before.before.before.before.before.before.before.before.if5.false c.before.before.before.before.before.before.before.before.before.before.before.before.if6.false c.before.before.before.before.before.before.before.before.before.if7.false c.before.before.before.before.before.before.if8.false c.before.before.before.if9.false c.if10.false, λ e. absurd (true≢false e))) in
+    (λ c. (λ e. absurd (false≢true e), λ _ same. c.if-a-b.true (ap (λ (h : Header). h.released.0) same)))
+    (λ c. (λ e. absurd (false≢true e), λ _ same. c.if-a-b-2.true (ap (λ (h : Header). h.issued.0) same)))
+    (λ c. (λ e. absurd (false≢true e), λ _ same. c.if-a-b-3.true (ap (λ (h : Header). h.secured.0) same)))
+    (λ c. (λ e. absurd (false≢true e), λ _ same. c.if-a-b-4.true (ap (λ (h : Header). h.first) same)))
+    (λ c. (λ e. absurd (false≢true e), λ _ same. c.if-a-b-5.true (ap (λ (h : Header). h.held) same)))
+    (λ c. (λ e. absurd (false≢true e), λ _ same. c.if-a-b-6.true (ap (λ (h : Header). h.timeout) same)))
+    (λ c. (λ e. absurd (false≢true e), λ _ same. c.if-a-b-7.true (ap (λ (h : Header). h.kept) same)))
+    (λ c. (λ e. absurd (false≢true e), λ _ same. c.if-a-b-8.true (ap (λ (h : Header). h.marks) same)))
+    (λ c. (λ e. absurd (false≢true e), λ _ same. c.if-a-b-9.true (ap (λ (h : Header). h.keepalive) same)))
+    (λ c. (λ e. absurd (false≢true e), λ _ same. c.if-a-b-10.true (ap (λ (h : Header). h.maxpdu) same)))
+    (λ c. (λ _. header_eq c.if-a-b.false c.if-a-b-2.false c.if-a-b-3.false c.if-a-b-4.false c.if-a-b-5.false c.if-a-b-6.false c.if-a-b-7.false c.if-a-b-8.false c.if-a-b-9.false c.if-a-b-10.false, λ e. absurd (true≢false e))) in
     tie.close answers

@@ -1,4 +1,6 @@
 -- `connect::starting::restore` meets its contract. Assumes nothing.
+use mathlib.Core.Bool.{not}
+use mathlib.Core.Path.{ap}
 use borrow.Author.Rules.{rules}
 use Rattle.octets.proofs.Choice.{denied, granted}
 use Rattle.call_meaning.proofs.Calling.{checks_passed}
@@ -6,15 +8,15 @@ use Rattle.connect.proofs.Started.{restore_refused, restore-passed}
 use Rattle.connect.proofs.starting.restore.Statement.{statement}
 use Rattle.connect.proofs.starting.restore.Tie as tie
 
-pub restore-spec : {M : Type 1} → statement M
-restore-spec =
+pub restore_spec : {M : Type 1} → statement M
+restore_spec =
     let answers = tie.spec
     (λ c κs. search rules)
     (λ c κs. search rules)
     (λ c κs. search rules)
     (λ c. search rules)
-    (λ c. restore_refused _ c.before.before.before.check.ensures (denied c.before.before.is-done.ensures c.before.if1.true) c.refuse.ensures)
-    (λ c κs. checks_passed _ c.before.before.before.check.ensures (granted c.before.before.is-done.ensures c.before.if1.false))
+    (λ c. restore_refused _ c.check-a.ensures (denied c.is_done.ensures (ap not c.if-not-is_done.true)) c.refuse.ensures)
+    (λ c κs. checks_passed _ c.check-a.ensures (granted c.is_done.ensures (ap not c.if-not-is_done.false)))
     (λ c. search rules)
-    (λ c. restore-passed _ c.before.before.before.before.before.before.check.ensures (granted c.before.before.before.before.before.is-done.ensures c.before.before.before.before.if1.false) c.before.before.fail.ensures) in
+    (λ c. restore-passed _ c.check-a.ensures (granted c.is_done.ensures (ap not c.if-not-is_done.false)) c.fail.ensures) in
     tie.close answers

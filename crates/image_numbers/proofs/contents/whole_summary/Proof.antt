@@ -6,16 +6,16 @@ use Rattle.image_numbers.specs.Contents.{whole_summary}
 use Rattle.image_numbers.proofs.contents.whole_summary.Statement.{statement}
 use Rattle.image_numbers.proofs.contents.whole_summary.Tie as tie
 
-pub whole-summary-spec : {M : Type 1} → statement M
+pub whole_summary_spec : {M : Type 1} → statement M
 unfolding whole_summary
-whole-summary-spec =
+whole_summary_spec =
     let answers = tie.spec
     (λ c. search rules)
     (λ c. search rules)
     (λ c. search rules)
     (λ c. search rules)
-    (λ c. omega (arith, c.struct-known5))
-    (λ c. omega (arith, c.struct-known6))
+    (λ c. omega (arith, c.struct_known-5-1))
+    (λ c. omega (arith, c.struct_known-6-1))
     (λ c. search rules)
     (λ c. refl) in
     tie.close answers

@@ -5,11 +5,11 @@ use Rattle.image_numbers.proofs.Moved.{converted_low, converted_is}
 use Rattle.image_numbers.proofs.converting.convert_back.Statement.{statement}
 use Rattle.image_numbers.proofs.converting.convert_back.Tie as tie
 
-pub convert-back-spec : {M : Type 1} → statement M
-convert-back-spec =
+pub convert_back_spec : {M : Type 1} → statement M
+convert_back_spec =
     let answers = tie.spec
     (λ c κs. search rules)
-    (λ c κs. converted_low Two _ _ c.before.before.back.ensures)
+    (λ c κs. converted_low Two _ _ c.back.ensures)
     (λ c. search rules)
-    (λ c. converted_is Two _ _ c.before.before.before.back.ensures c.converted-numbers.ensures) in
+    (λ c. converted_is Two _ _ c.back.ensures c.converted_numbers.ensures) in
     tie.close answers

@@ -5,11 +5,11 @@ use Rattle.image_numbers.proofs.Moved.{converted_low, converted_is}
 use Rattle.image_numbers.proofs.converting.convert_forward.Statement.{statement}
 use Rattle.image_numbers.proofs.converting.convert_forward.Tie as tie
 
-pub convert-forward-spec : {M : Type 1} → statement M
-convert-forward-spec =
+pub convert_forward_spec : {M : Type 1} → statement M
+convert_forward_spec =
     let answers = tie.spec
     (λ c κs. search rules)
-    (λ c κs. converted_low One _ _ c.before.before.forward.ensures)
+    (λ c κs. converted_low One _ _ c.forward.ensures)
     (λ c. search rules)
-    (λ c. converted_is One _ _ c.before.before.before.forward.ensures c.converted-numbers.ensures) in
+    (λ c. converted_is One _ _ c.forward.ensures c.converted_numbers.ensures) in
     tie.close answers

@@ -3,12 +3,12 @@ use borrow.Author.Rules.{rules}
 use Rattle.image_numbers.proofs.stored.block_check.Statement.{statement}
 use Rattle.image_numbers.proofs.stored.block_check.Tie as tie
 
-pub block-check-spec : {M : Type 1} → statement M
-block-check-spec =
+pub block_check_spec : {M : Type 1} → statement M
+block_check_spec =
     let answers = tie.spec
     (λ c κs. search rules)
     (λ c. search rules)
     (λ c. search rules)
-    (λ c. rw (← c.before.before.before.block-check.ensures, c.before.c.given.1))
-    (λ c. rw (← c.before.before.block-check.ensures, c.enum_told.given.1)) in
+    (λ c. rw (← c.block_check.ensures, c.in-Check.is))
+    (λ c. rw (← c.block_check.ensures, c.in-TooShort.is)) in
     tie.close answers

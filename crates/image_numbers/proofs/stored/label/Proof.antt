@@ -4,13 +4,13 @@ use Rattle.image_numbers.proofs.LabelWord.{label_refused, label_past, label_size
 use Rattle.image_numbers.proofs.stored.label.Statement.{statement}
 use Rattle.image_numbers.proofs.stored.label.Tie as tie
 
-pub label-spec : {M : Type 1} → statement M
-label-spec =
+pub label_spec : {M : Type 1} → statement M
+label_spec =
     let answers = tie.spec
     (λ c κs. search rules)
     (λ c κs. search rules)
-    (λ c. label_refused _ _ c.before.before.check-image.ensures c.before.verdict-number.ensures c.if1.true)
-    (λ c. label_past _ _ c.before.before.before.check-image.ensures c.before.before.verdict-number.ensures c.before.if1.false c.if2.true)
-    (λ c κs. (label_size _ 0 c.before.before.before.check-image.ensures c.before.before.verdict-number.ensures c.before.if1.false, c.if2.false))
-    (λ c. label_read _ _ c.before.before.before.before.check-image.ensures c.before.before.before.verdict-number.ensures c.before.before.if1.false c.before.if2.false c.label_at.ensures) in
+    (λ c. label_refused _ _ c.check_image.ensures c.verdict_number.ensures c.if-verdict_number-ne0.true)
+    (λ c. label_past _ _ c.check_image.ensures c.verdict_number.ensures c.if-verdict_number-ne0.false c.if-place-ge-WORD_COUNT.true)
+    (λ c κs. (label_size _ 0 c.check_image.ensures c.verdict_number.ensures c.if-verdict_number-ne0.false, c.if-place-ge-WORD_COUNT.false))
+    (λ c. label_read _ _ c.check_image.ensures c.verdict_number.ensures c.if-verdict_number-ne0.false c.if-place-ge-WORD_COUNT.false c.label_at.ensures) in
     tie.close answers

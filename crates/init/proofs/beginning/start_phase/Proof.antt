@@ -3,8 +3,8 @@ use borrow.Author.Rules.{rules}
 use Rattle.init.proofs.beginning.start_phase.Statement.{statement}
 use Rattle.init.proofs.beginning.start_phase.Tie as tie
 
-pub start-phase-spec : {M : Type 1} → statement M
-start-phase-spec =
+pub start_phase_spec : {M : Type 1} → statement M
+start_phase_spec =
     let answers = tie.spec
     (λ c. search rules)
     (λ c. search rules)
@@ -14,6 +14,6 @@ start-phase-spec =
     (λ c κs. search rules)
     (λ c. search rules)
     (λ c. search rules)
-    (λ c. simp c.before.enum-told3.given.1 c.up-ft.ensures)
-    (λ c. simp c.before.enum-told4.given.1 c.up-ft2.ensures) in
+    (λ c. simp c.in-Fresh.is c.up_ft.ensures)
+    (λ c. simp c.in-Resumed.is c.up_ft-in-Resumed.ensures) in
     tie.close answers

@@ -4,12 +4,12 @@ use Rattle.protocol.specs.Init.{fresh}
 use Rattle.init.proofs.beginning.store_fresh.Statement.{statement}
 use Rattle.init.proofs.beginning.store_fresh.Tie as tie
 
-pub store-fresh-spec : {M : Type 1} → statement M
+pub store_fresh_spec : {M : Type 1} → statement M
 unfolding fresh
-store-fresh-spec =
+store_fresh_spec =
     let answers = tie.spec
     (λ c. search rules)
     (λ c κs. search rules)
     (λ c. search rules)
-    (λ c. c.before.before.store-changed.ensures) in
+    (λ c. c.store_changed.ensures) in
     tie.close answers

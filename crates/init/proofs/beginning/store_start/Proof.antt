@@ -6,8 +6,8 @@ use Rattle.calls.proofs.Putting.{put_same}
 use Rattle.init.proofs.beginning.store_start.Statement.{statement}
 use Rattle.init.proofs.beginning.store_start.Tie as tie
 
-pub store-start-spec : {M : Type 1} → statement M
-store-start-spec =
+pub store_start_spec : {M : Type 1} → statement M
+store_start_spec =
     let answers = tie.spec
     (λ c. search rules)
     (λ c. search rules)
@@ -15,12 +15,12 @@ store-start-spec =
     (λ c. search rules)
     (λ c κs. search rules)
     (λ c. search rules)
-    (λ c κs. (c.before.before.before.before.before.requires.0, rw c.before.before.start2.given.1 at c.before.before.before.before.before.requires.1))
-    (λ c. (rw c.enum_told.given.1 (sym (put_same _ c.before.before.before.requires.0 (λ k. (c.before.before.slice-known.given k).fits))), sym (differ_self _)))
+    (λ c κs. (c.requires.0, rw c.in-Resumed.is at c.requires.1))
+    (λ c. (rw c.in-Refused.is (sym (put_same _ c.requires.0 (λ k. (c.slice_known-1.given k).fits))), sym (differ_self _)))
     (λ c. search rules)
-    (λ c. (rw c.before.before.before.before.enum-told2.given.1 c.before.before.store-released.ensures.0, c.before.before.store-released.ensures.1))
+    (λ c. (rw c.in-Plain.is c.store_released.ensures.0, c.store_released.ensures.1))
     (λ c. search rules)
-    (λ c. (rw c.before.before.before.before.before.start.given.1 c.before.before.store-fresh.ensures.0, c.before.before.store-fresh.ensures.1))
+    (λ c. (rw c.in-Fresh.is c.store_fresh.ensures.0, c.store_fresh.ensures.1))
     (λ c. search rules)
-    (λ c. (rw c.before.before.before.before.before.start2.given.1 c.before.before.store-resumed.ensures.0, c.before.before.store-resumed.ensures.1)) in
+    (λ c. (rw c.in-Resumed.is c.store_resumed.ensures.0, c.store_resumed.ensures.1)) in
     tie.close answers

@@ -4,14 +4,14 @@ use Rattle.init.proofs.Starts.{both-keepalive, both_maxpdu, both_ack}
 use Rattle.init.proofs.judging.judge_both.Statement.{statement}
 use Rattle.init.proofs.judging.judge_both.Tie as tie
 
-pub judge-both-spec : {M : Type 1} → statement M
-judge-both-spec =
+pub judge_both_spec : {M : Type 1} → statement M
+judge_both_spec =
     let answers = tie.spec
-    (λ c. both-keepalive _ _ _ c.if1.true)
-    (λ c. both_maxpdu _ _ _ c.before.before.before.if1.false c.if2.true)
+    (λ c. both-keepalive _ _ _ c.if-h-terms.true)
+    (λ c. both_maxpdu _ _ _ c.if-h-terms.false c.if-h-terms-2.true)
     (λ c κs. search rules)
     (λ c. search rules)
     (λ c. search rules)
-    (λ c. both_ack _ _ _ c.before.before.before.before.before.before.before.if1.false c.before.before.before.before.if2.false c.before.before.before.acknowledge.ensures c.before.k.given.1)
-    (λ c. both_ack _ _ _ c.before.before.before.before.before.before.if1.false c.before.before.before.if2.false c.before.before.acknowledge.ensures c.enum_told.given.1) in
+    (λ c. both_ack _ _ _ c.if-h-terms.false c.if-h-terms-2.false c.acknowledge.ensures c.in-Releases.is)
+    (λ c. both_ack _ _ _ c.if-h-terms.false c.if-h-terms-2.false c.acknowledge.ensures c.in-SequenceError.is) in
     tie.close answers

@@ -3,12 +3,12 @@ use borrow.Author.Rules.{rules}
 use Rattle.init.proofs.judging.judge_init.Statement.{statement}
 use Rattle.init.proofs.judging.judge_init.Tie as tie
 
-pub judge-init-spec : {M : Type 1} → statement M
-judge-init-spec =
+pub judge_init_spec : {M : Type 1} → statement M
+judge_init_spec =
     let answers = tie.spec
     (λ c. search rules)
     (λ c. search rules)
     (λ c κs. search rules)
-    (λ c. rw c.enum_told.given.1)
-    (λ c. rw c.before.before.parameters.given.1 c.judge-session.ensures) in
+    (λ c. rw c.in-Absent.is)
+    (λ c. rw c.in-Given.is c.judge_session.ensures) in
     tie.close answers

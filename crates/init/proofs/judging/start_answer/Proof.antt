@@ -3,14 +3,14 @@ use borrow.Author.Rules.{rules}
 use Rattle.init.proofs.judging.start_answer.Statement.{statement}
 use Rattle.init.proofs.judging.start_answer.Tie as tie
 
-pub start-answer-spec : {M : Type 1} → statement M
-start-answer-spec =
+pub start_answer_spec : {M : Type 1} → statement M
+start_answer_spec =
     let answers = tie.spec
     (λ c. search rules)
     (λ c. search rules)
     (λ c. search rules)
     (λ c. search rules)
-    (λ c. rw c.before.start.given.1)
+    (λ c. rw c.in-Refused.is)
     (λ c. search rules)
     (λ c. search rules)
     (λ c. search rules) in

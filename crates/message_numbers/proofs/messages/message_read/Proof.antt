@@ -6,17 +6,17 @@ use Rattle.message_numbers.proofs.Parts.{message_narrow}
 use Rattle.message_numbers.proofs.messages.message_read.Statement.{statement}
 use Rattle.message_numbers.proofs.messages.message_read.Tie as tie
 
-pub message-read-spec : {M : Type 1} → statement M
-message-read-spec =
+pub message_read_spec : {M : Type 1} → statement M
+message_read_spec =
     let answers = tie.spec
     (λ c κs. search rules)
     (λ c. search rules)
     (λ c κs. search rules)
     (λ c. search rules)
     (λ c κs. (
-      reading_places _ _ c.before.before.before.places-in.ensures _ c.before.found.given.1,
-      message_narrow _ (λ k. (c.before.before.before.before.shared-slice-known.given k).fits) _ (sym (reading_whole _ _ c.before.before.before.places-in.ensures _ c.before.found.given.1 _ refl)),
+      reading_places _ _ c.places_in.ensures _ c.in-Whole.is,
+      message_narrow _ (λ k. (c.shared_slice_known-1.given k).fits) _ (sym (reading_whole _ _ c.places_in.ensures _ c.in-Whole.is _ refl)),
     ))
-    (λ c. rw (← reading_malformed _ _ c.before.before.before.places-in.ensures c.before.enum_told.given.1) c.no-message.ensures)
-    (λ c. rw (← reading_whole _ _ c.before.before.before.before.places-in.ensures _ c.before.before.found.given.1 _ refl) c.whole-message.ensures) in
+    (λ c. rw (← reading_malformed _ _ c.places_in.ensures c.in-Malformed.is) c.no_message.ensures)
+    (λ c. rw (← reading_whole _ _ c.places_in.ensures _ c.in-Whole.is _ refl) c.whole_message.ensures) in
     tie.close answers

@@ -4,11 +4,11 @@ use borrow.Author.Tests.{lt-ltb, le-ltb}
 use Rattle.message_numbers.proofs.messages.part_numbers.Statement.{statement}
 use Rattle.message_numbers.proofs.messages.part_numbers.Tie as tie
 
-pub part-numbers-spec : {M : Type 1} → statement M
-part-numbers-spec =
+pub part_numbers_spec : {M : Type 1} → statement M
+part_numbers_spec =
     let answers = tie.spec
-    (λ c. rw (lt-ltb _ _ c.if1.true))
+    (λ c. rw (lt-ltb _ _ c.if-end-gt4294967295.true))
     (λ c. search rules)
     (λ c. search rules)
-    (λ c. rw (le-ltb _ _ c.if1.false)) in
+    (λ c. rw (le-ltb _ _ c.if-end-gt4294967295.false)) in
     tie.close answers

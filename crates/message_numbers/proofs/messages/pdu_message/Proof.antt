@@ -5,13 +5,13 @@ use Rattle.message_numbers.proofs.Parts.{place_ordered}
 use Rattle.message_numbers.proofs.messages.pdu_message.Statement.{statement}
 use Rattle.message_numbers.proofs.messages.pdu_message.Tie as tie
 
-pub pdu-message-spec : {M : Type 1} → statement M
-pdu-message-spec =
+pub pdu_message_spec : {M : Type 1} → statement M
+pdu_message_spec =
     let answers = tie.spec
     (λ c κs. search rules)
     (λ c. search rules)
-    (λ c κs. place_ordered _ _ _ _ (sym c.before.before.before.message-at.ensures ∙ c.before.start.given.1))
+    (λ c κs. place_ordered _ _ _ _ (sym c.message_at.ensures ∙ c.in-Message.is))
     (λ c. search rules)
-    (λ c. rw (← c.before.before.before.before.message-at.ensures, c.before.before.start.given.1) c.part-numbers.ensures)
-    (λ c. rw (← c.before.before.message-at.ensures, c.enum_told.given.1)) in
+    (λ c. rw (← c.message_at.ensures, c.in-Message.is) c.part_numbers.ensures)
+    (λ c. rw (← c.message_at.ensures, c.in-None.is)) in
     tie.close answers

@@ -3,13 +3,13 @@ use Rattle.receive.proofs.Answered.{answered_none, answered_open}
 use Rattle.receive.proofs.answering.answered_place.Statement.{statement}
 use Rattle.receive.proofs.answering.answered_place.Tie as tie
 
-pub answered-place-spec : {M : Type 1} → statement M
-answered-place-spec =
+pub answered_place_spec : {M : Type 1} → statement M
+answered_place_spec =
     let answers = tie.spec
     (λ c κs. search rules)
     (λ c. search rules)
     (λ c. search rules)
     (λ c κs. search rules)
-    (λ c. answered_none _ _ _ c.before.before.answered-id.ensures c.enum_told.given.1)
-    (λ c. answered_open _ _ _ c.before.before.before.before.answered-id.ensures c.before.before.before.before.before.before.before.requires.1 c.before.before.id.given.1 c.find-open.ensures) in
+    (λ c. answered_none _ _ _ c.answered_id.ensures c.in-Absent.is)
+    (λ c. answered_open _ _ _ c.answered_id.ensures c.requires.1 c.in-Id.is c.find_open.ensures) in
     tie.close answers

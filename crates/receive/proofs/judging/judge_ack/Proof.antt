@@ -6,18 +6,18 @@ use Rattle.receive.proofs.Judged.{ack_told, ack_within, ack_error, ack_right}
 use Rattle.receive.proofs.judging.judge_ack.Statement.{statement}
 use Rattle.receive.proofs.judging.judge_ack.Tie as tie
 
-pub judge-ack-spec : {M : Type 1} → statement M
-judge-ack-spec =
+pub judge_ack_spec : {M : Type 1} → statement M
+judge_ack_spec =
     let answers = tie.spec
     (λ c κs. search rules)
     (λ c κs. search rules)
     (λ c. search rules)
     (λ c κs. search rules)
     (λ c. search rules)
-    (λ c κs. (c.before.before.before.before.before.before.before.before.requires.0, ack_within _ c.before.before.before.before.before.before.before.before.args.g c.before.before.before.before.before.before.before.before.requires.0 (ack_told _ _ c.before.before.before.before.before.before.before.before.requires.1 c.before.before.before.before.acknowledge.ensures c.before.before.before.before.before.ack-borne.ensures) c.before.before.k.given.1, c.before.before.before.before.before.before.before.before.requires.2))
+    (λ c κs. (c.requires.0, ack_within _ c.args.g c.requires.0 (ack_told _ _ c.requires.1 c.acknowledge.ensures c.ack_borne.ensures) c.in-Releases.is, c.requires.2))
     (λ c κs. search rules)
-    (λ c κs. (c.before.before.before.before.before.before.before.before.before.before.before.before.before.requires.0.size, search rules, loaded_valid _ _ c.before.before.before.before.before.before.before.k.given.0.0 c.before.before.before.before.before.before.before.before.before.before.before.before.before.requires.0 c.before.before.before.before.load-acked.ensures))
-    (λ c. ack_error _ _ _ (ack_told _ _ c.before.before.before.before.before.before.before.requires.1 c.before.before.before.acknowledge.ensures c.before.before.before.before.ack-borne.ensures) c.before.enum_told.given.1 c.refused.ensures)
+    (λ c κs. (c.requires.0.size, search rules, loaded_valid _ _ c.in-Releases.k c.requires.0 c.load_acked.ensures))
+    (λ c. ack_error _ _ _ (ack_told _ _ c.requires.1 c.acknowledge.ensures c.ack_borne.ensures) c.in-SequenceError.is c.refused.ensures)
     (λ c. search rules)
-    (λ c. ack_right _ _ _ (ack_told _ _ c.before.before.before.before.before.before.before.before.before.before.before.before.before.before.before.before.requires.1 c.before.before.before.before.before.before.before.before.before.before.before.before.acknowledge.ensures c.before.before.before.before.before.before.before.before.before.before.before.before.before.ack-borne.ensures) (ap (λ (y : Header). y.secured) c.before.before.before.before.before.before.before.before.before.before.before.before.before.before.before.before.requires.1) c.before.before.before.turn-borne.ensures c.before.before.before.before.before.before.before.before.before.before.k.given.1 c.before.before.before.before.before.before.before.load-acked.ensures c.before.before.judge-labels.ensures) in
+    (λ c. ack_right _ _ _ (ack_told _ _ c.requires.1 c.acknowledge.ensures c.ack_borne.ensures) (ap (λ (y : Header). y.secured) c.requires.1) c.turn_borne.ensures c.in-Releases.is c.load_acked.ensures c.judge_labels.ensures) in
     tie.close answers

@@ -5,16 +5,16 @@ use Rattle.receive.specs.Words.{asks_entries}
 use Rattle.receive.proofs.judging.judge_labels.Statement.{statement}
 use Rattle.receive.proofs.judging.judge_labels.Tie as tie
 
-pub judge-labels-spec : {M : Type 1} → statement M
-judge-labels-spec =
+pub judge_labels_spec : {M : Type 1} → statement M
+judge_labels_spec =
     let answers = tie.spec
     (λ c κs. search rules)
     (λ c κs. search rules)
-    (λ c κs. (c.before.before.before.before.before.before.requires.0, c.before.before.before.before.before.before.requires.1, c.before.before.before.label-effect.ensures, c.before.before.before.before.before.before.requires.2))
+    (λ c κs. (c.requires.0, c.requires.1, c.label_effect-effect.ensures, c.requires.2))
     (λ c. search rules)
-    (λ c. c.before.before.judge-prefix.ensures)
+    (λ c. c.judge_prefix.ensures)
     (λ c. search rules)
-    (λ c κs. (c.before.before.before.before.before.before.before.requires.0, c.before.before.before.before.before.before.before.requires.1, c.before.before.before.before.label-effect.ensures, c.before.before.before.before.before.before.before.requires.2, λ y. absurd (false≢true (sym c.before.before.if1.false ∙ c.before.before.before.asks-entries.ensures ∙ ap asks_entries c.before.before.before.before.label-effect.ensures ∙ y))))
+    (λ c κs. (c.requires.0, c.requires.1, c.label_effect-effect.ensures, c.requires.2, λ y. absurd (false≢true (sym c.if-asks_entries.false ∙ c.asks_entries.ensures ∙ ap asks_entries c.label_effect-effect.ensures ∙ y))))
     (λ c. search rules)
-    (λ c. c.before.before.judge-beside.ensures) in
+    (λ c. c.judge_beside.ensures) in
     tie.close answers

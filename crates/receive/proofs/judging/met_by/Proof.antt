@@ -3,11 +3,11 @@ use Rattle.receive.proofs.Judged.{effect_inside, met_serves}
 use Rattle.receive.proofs.judging.met_by.Statement.{statement}
 use Rattle.receive.proofs.judging.met_by.Tie as tie
 
-pub met-by-spec : {M : Type 1} → statement M
-met-by-spec =
+pub met_by_spec : {M : Type 1} → statement M
+met_by_spec =
     let answers = tie.spec
-    (λ c κs. (c.before.before.requires.0, effect_inside _ _ c.before.before.args.effect c.before.before.requires.1 c.before.before.requires.3))
+    (λ c κs. (c.requires.0, effect_inside _ _ c.args.effect c.requires.1 c.requires.3))
     (λ c κs. search rules)
     (λ c κs. search rules)
-    (λ c. met_serves _ _ _ c.before.before.before.before.before.requires.2 c.before.before.before.before.before.requires.3 c.before.answered-place.ensures c.before.before.brings-another.ensures c.spare-for.ensures) in
+    (λ c. met_serves _ _ _ c.requires.2 c.requires.3 c.answered_place-request.ensures c.brings_another-another.ensures c.spare_for.ensures) in
     tie.close answers

@@ -2,8 +2,8 @@ use borrow.Author.Rules.{rules}
 use Rattle.receive.proofs.labels.effect_on.Statement.{statement}
 use Rattle.receive.proofs.labels.effect_on.Tie as tie
 
-pub effect-on-spec : {M : Type 1} → statement M
-effect-on-spec =
+pub effect_on_spec : {M : Type 1} → statement M
+effect_on_spec =
     let answers = tie.spec
     (λ c. search rules)
     (λ c. search rules)
@@ -21,10 +21,10 @@ effect-on-spec =
     (λ c. search rules)
     (λ c. search rules)
     (λ c. search rules)
-    (λ c. rw c.enum-told6.given.1)
+    (λ c. rw c.in-Mapping.is)
     (λ c. search rules)
-    (λ c. rw c.enum-told8.given.1)
-    (λ c. rw c.enum-told9.given.1)
+    (λ c. rw c.in-Withdraw.is)
+    (λ c. rw c.in-Release.is)
     (λ c. search rules)
     (λ c. search rules) in
     tie.close answers

@@ -1,13 +1,12 @@
 use borrow.Author.Rules.{rules}
-use borrow.Author.Tests.{not-true, not-false}
 use Rattle.receive.proofs.labels.labels_stay.Statement.{statement}
 use Rattle.receive.proofs.labels.labels_stay.Tie as tie
 
-pub labels-stay-spec : {M : Type 1} → statement M
-labels-stay-spec =
+pub labels_stay_spec : {M : Type 1} → statement M
+labels_stay_spec =
     let answers = tie.spec
     (λ c κs. search rules)
-    (λ c. rw (← c.before.leaves-words.ensures, not-true c.before.leaves-words.result c.if1.true))
+    (λ c. rw (← c.leaves_words.ensures, c.if-not-leaves_words.true))
     (λ c κs. search rules)
-    (λ c. rw (← c.before.before.leaves-words.ensures, not-false c.before.before.leaves-words.result c.before.if1.false) c.frees-none.ensures) in
+    (λ c. rw (← c.leaves_words.ensures, c.if-not-leaves_words.false) c.frees_none.ensures) in
     tie.close answers

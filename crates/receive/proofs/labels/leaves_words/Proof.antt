@@ -2,8 +2,8 @@ use borrow.Author.Rules.{rules}
 use Rattle.receive.proofs.labels.leaves_words.Statement.{statement}
 use Rattle.receive.proofs.labels.leaves_words.Tie as tie
 
-pub leaves-words-spec : {M : Type 1} → statement M
-leaves-words-spec =
+pub leaves_words_spec : {M : Type 1} → statement M
+leaves_words_spec =
     let answers = tie.spec
     (λ c κs. search rules)
     (λ c. search rules)
@@ -11,7 +11,7 @@ leaves-words-spec =
     (λ c. search rules)
     (λ c. search rules)
     (λ c. search rules)
-    (λ c. rw (← c.before.before.before.before.before.label-effect.ensures, c.before.before.before.enum_told.given.1, ← c.before.before.answered-id.ensures, c.enum-told2.given.1))
-    (λ c. rw (← c.before.before.before.before.before.label-effect.ensures, c.before.before.before.enum_told.given.1, ← c.before.before.answered-id.ensures, c.enum-told3.given.1))
-    (λ c. rw (← c.before.before.label-effect.ensures, c.enum-told4.given.1)) in
+    (λ c. rw (← c.label_effect.ensures, c.in-Nothing.is, ← c.answered_id.ensures, c.in-Absent.is))
+    (λ c. rw (← c.label_effect.ensures, c.in-Nothing.is, ← c.answered_id.ensures, c.in-Id.is))
+    (λ c. rw (← c.label_effect.ensures, c.in-Change.is)) in
     tie.close answers

@@ -5,8 +5,8 @@ use Rattle.label_events.specs.declared.Touched.{Touched}
 use Rattle.receive.proofs.labels.touched_by.Statement.{statement}
 use Rattle.receive.proofs.labels.touched_by.Tie as tie
 
-pub touched-by-spec : {M : Type 1} → statement M
-touched-by-spec =
+pub touched_by_spec : {M : Type 1} → statement M
+touched_by_spec =
     let answers = tie.spec
     (λ c. search rules)
     (λ c. search rules)
@@ -15,9 +15,9 @@ touched-by-spec =
     (λ c. search rules)
     (λ c κs. search rules)
     (λ c. search rules)
-    (λ c. rw c.before.label.given.1)
+    (λ c. rw c.in-Value.is)
     (λ c. search rules)
     (λ c. search rules)
-    (λ c. rw (c.before.before.before.enum_told.given.1, c.before.enum-told4.given.1) (ap Touched.Prefix (c.entry-by.ensures ∙ ap entry_by c.before.enum-told4.given.1)))
+    (λ c. rw (c.in-Absent.is, c.in-Prefix.is) (ap Touched.Prefix (c.entry_by.ensures ∙ ap entry_by c.in-Prefix.is)))
     (λ c. search rules) in
     tie.close answers

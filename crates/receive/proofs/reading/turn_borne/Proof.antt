@@ -2,12 +2,12 @@ use borrow.Author.Rules.{rules}
 use Rattle.receive.proofs.reading.turn_borne.Statement.{statement}
 use Rattle.receive.proofs.reading.turn_borne.Tie as tie
 
-pub turn-borne-spec : {M : Type 1} → statement M
-turn-borne-spec =
+pub turn_borne_spec : {M : Type 1} → statement M
+turn_borne_spec =
     let answers = tie.spec
     (λ c. search rules)
     (λ c. search rules)
     (λ c κs. search rules)
     (λ c. search rules)
-    (λ c. rw (c.before.before.n.given.1, ← c.judge-turn.ensures)) in
+    (λ c. rw (c.in-Number.is, ← c.judge_turn.ensures)) in
     tie.close answers

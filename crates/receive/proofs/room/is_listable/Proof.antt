@@ -3,10 +3,10 @@ use Rattle.label_list.proofs.Standing.{within_above, within_below, within_in}
 use Rattle.receive.proofs.room.is_listable.Statement.{statement}
 use Rattle.receive.proofs.room.is_listable.Tie as tie
 
-pub is-listable-spec : {M : Type 1} → statement M
-is-listable-spec =
+pub is_listable_spec : {M : Type 1} → statement M
+is_listable_spec =
     let answers = tie.spec
-    (λ c. within_below _ _ _ c.if1.true)
-    (λ c. within_above _ _ _ c.before.if1.false (omega arith))
-    (λ c. within_in _ _ _ c.before.if1.false (omega arith)) in
+    (λ c. within_below _ _ _ c.if-label-lt-FIRST_LABEL.true)
+    (λ c. within_above _ _ _ c.if-label-lt-FIRST_LABEL.false (omega arith))
+    (λ c. within_in _ _ _ c.if-label-lt-FIRST_LABEL.false (omega arith)) in
     tie.close answers

@@ -5,12 +5,12 @@ use Rattle.receive.proofs.Takes.{spare_here, spare_not}
 use Rattle.receive.proofs.room.is_spare.Statement.{statement}
 use Rattle.receive.proofs.room.is_spare.Tie as tie
 
-pub is-spare-spec : {M : Type 1} → statement M
-is-spare-spec =
+pub is_spare_spec : {M : Type 1} → statement M
+is_spare_spec =
     let answers = tie.spec
     (λ c. search rules)
     (λ c. search rules)
-    (λ c. spare_not _ _ (c.before.before.before.before.requires.1 ∙ sym (labels-count _)) _ c.if1.true)
+    (λ c. spare_not _ _ (c.requires.1 ∙ sym (labels-count _)) _ c.if-words-i-ne0.true)
     (λ c κs. search rules)
-    (λ c. spare_here _ _ (c.before.before.before.before.before.requires.1 ∙ sym (labels-count _)) _ c.before.if1.false c.label_at.ensures) in
+    (λ c. spare_here _ _ (c.requires.1 ∙ sym (labels-count _)) _ c.if-words-i-ne0.false c.label_at.ensures) in
     tie.close answers

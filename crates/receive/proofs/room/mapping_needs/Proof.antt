@@ -1,19 +1,18 @@
 use borrow.Author.Rules.{rules}
-use borrow.Author.Tests.{not-true, not-false}
 use Rattle.receive.proofs.room.mapping_needs.Statement.{statement}
 use Rattle.receive.proofs.room.mapping_needs.Tie as tie
 
-pub mapping-needs-spec : {M : Type 1} → statement M
-mapping-needs-spec =
+pub mapping_needs_spec : {M : Type 1} → statement M
+mapping_needs_spec =
     let answers = tie.spec
     (λ c. search rules)
     (λ c κs. search rules)
-    (λ c. rw (c.before.before.before.touched.given.1, ← c.before.is-listable.ensures, not-true c.before.is-listable.result c.if1.true))
+    (λ c. rw (c.in-Label.is, ← c.is_listable.ensures, c.if-not-is_listable.true))
     (λ c κs. search rules)
     (λ c. search rules)
     (λ c. search rules)
     (λ c. search rules)
-    (λ c. rw (c.before.before.before.before.touched.given.1, ← c.before.before.is-listable.ensures, not-false c.before.before.is-listable.result c.before.if1.false) c.takes-anew.ensures)
+    (λ c. rw (c.in-Label.is, ← c.is_listable.ensures, c.if-not-is_listable.false) c.takes_anew.ensures)
     (λ c. search rules)
     (λ c. search rules)
     (λ c. search rules) in

@@ -3,8 +3,8 @@ use Rattle.receive.proofs.Taken.{read_malformed, read_whole, plain_settled}
 use Rattle.receive.proofs.taking.receive_plain.Statement.{statement}
 use Rattle.receive.proofs.taking.receive_plain.Tie as tie
 
-pub receive-plain-spec : {M : Type 1} → statement M
-receive-plain-spec =
+pub receive_plain_spec : {M : Type 1} → statement M
+receive_plain_spec =
     let answers = tie.spec
     (λ c κs. search rules)
     (λ c. search rules)
@@ -13,7 +13,7 @@ receive-plain-spec =
     (λ c κs. search rules)
     (λ c κs. search rules)
     (λ c. search rules)
-    (λ c. read_malformed _ _ _ _ c.before.before.before.before.before.before.read-message.ensures _ c.before.before.before.before.enum_told.given.1 c.before.before.settle.ensures)
+    (λ c. read_malformed _ _ _ _ c.read_message.ensures _ c.in-Malformed.is c.settle.ensures)
     (λ c. search rules)
-    (λ c. read_whole _ _ _ _ c.before.before.before.before.before.before.before.before.read-message.ensures c.before.before.before.before.before.before.g.given.1 (plain_settled _ c.before.before.before.before.before.before.before.before.before.before.before.requires (λ k. (c.before.before.before.before.before.before.before.before.before.before.slice-known.given k).fits) _ c.before.before.before.judge-plain.ensures c.before.before.settle2.ensures)) in
+    (λ c. read_whole _ _ _ _ c.read_message.ensures c.in-Whole.is (plain_settled _ c.requires (λ k. (c.slice_known-1.given k).fits) _ c.judge_plain.ensures c.settle-in-Whole.ensures)) in
     tie.close answers

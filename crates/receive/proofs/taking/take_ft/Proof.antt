@@ -3,17 +3,17 @@ use Rattle.receive.proofs.Taken.{takes_inside, still-taken, still_header, still-
 use Rattle.receive.proofs.taking.take_ft.Statement.{statement}
 use Rattle.receive.proofs.taking.take_ft.Tie as tie
 
-pub take-ft-spec : {M : Type 1} → statement M
-take-ft-spec =
+pub take_ft_spec : {M : Type 1} → statement M
+take_ft_spec =
     let answers = tie.spec
     (λ c κs. search rules)
     (λ c κs. search rules)
     (λ c κs. search rules)
     (λ c κs. search rules)
-    (λ c κs. (c.before.before.before.before.before.before.before.before.requires.0.sound.size, takes_inside _ _ _ c.before.before.before.before.before.before.before.before.requires.0 c.before.before.before.before.before.before.before.before.requires.1))
-    (λ c κs. (still-taken _ _ _ c.before.before.before.before.before.before.before.before.before.before.before.before.requires.0 c.before.before.before.before.before.before.before.before.before.before.before.before.requires.1 c.before.before.before.before.entry-by.ensures c.before.before.before.store-taken.ensures.0, still_header _ _ _ c.before.before.before.before.before.before.before.before.before.before.before.before.requires.0 c.before.before.before.before.before.before.before.before.before.before.before.before.requires.1 c.before.before.before.before.entry-by.ensures c.before.before.before.store-taken.ensures.0 c.before.before.before.before.before.before.before.before.header_of.ensures, still-count _ _ _ c.before.before.before.before.before.before.before.before.before.before.before.before.requires.0 c.before.before.before.before.before.before.before.before.before.before.before.before.requires.1 c.before.before.before.before.entry-by.ensures c.before.before.before.store-taken.ensures.0 c.before.before.before.before.before.before.before.before.header_of.ensures c.before.before.before.before.before.before.before.ack-count.ensures))
+    (λ c κs. (c.requires.0.sound.size, takes_inside _ _ _ c.requires.0 c.requires.1))
+    (λ c κs. (still-taken _ _ _ c.requires.0 c.requires.1 c.entry_by.ensures c.store_taken-further.ensures.0, still_header _ _ _ c.requires.0 c.requires.1 c.entry_by.ensures c.store_taken-further.ensures.0 c.header_of-h.ensures, still-count _ _ _ c.requires.0 c.requires.1 c.entry_by.ensures c.store_taken-further.ensures.0 c.header_of-h.ensures c.ack_count-k.ensures))
     (λ c κs. search rules)
     (λ c κs. search rules)
     (λ c. search rules)
-    (λ c. take_is _ _ _ c.before.before.before.before.before.before.before.before.before.before.before.before.before.before.before.before.before.requires.0 c.before.before.before.before.before.before.before.before.before.before.before.before.before.before.before.before.before.requires.1 c.before.before.before.before.before.before.before.before.before.entry-by.ensures c.before.before.before.before.before.before.before.before.store-taken.ensures.0 _ (λ k. (c.before.before.before.before.before.before.before.before.before.before.before.before.before.before.before.before.slice-known.given k).fits) c.before.before.before.before.before.before.before.before.before.before.before.before.before.before.before.before.before.requires.2 c.before.before.before.before.before.before.before.before.before.before.before.before.before.header_of.ensures c.before.before.before.before.before.before.before.before.before.before.before.before.ack-count.ensures c.before.before.before.before.before.before.before.before.before.before.before.turn-borne.ensures c.before.before.before.before.before.before.before.before.store-taken.ensures.1 c.before.before.before.before.store-zeroth.ensures c.before.lowered.ensures c.turn_Gap.ensures) in
+    (λ c. take_is _ _ _ c.requires.0 c.requires.1 c.entry_by.ensures c.store_taken-further.ensures.0 _ (λ k. (c.slice_known-1.given k).fits) c.requires.2 c.header_of-h.ensures c.ack_count-k.ensures c.turn_borne-turn.ensures c.store_taken-further.ensures.1 c.store_zeroth-changed.ensures c.lowered.ensures c.turn_gap.ensures) in
     tie.close answers

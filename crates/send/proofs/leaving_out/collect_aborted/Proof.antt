@@ -10,23 +10,23 @@ use Rattle.send.proofs.Aborted.{Collecting, collecting_none, collecting_one, col
 use Rattle.send.proofs.leaving_out.collect_aborted.Statement.{statement}
 use Rattle.send.proofs.leaving_out.collect_aborted.Tie as tie
 
-abbrev invariant-loop : tie.invariant-loop
-invariant-loop image from ids₀ i₀ ids i = Collecting (length ids₀) (drop from (decode image).queue) ids i
+abbrev invariant-loop-i : tie.invariant-loop-i
+invariant-loop-i image from ids₀ i₀ ids i = Collecting (length ids₀) (drop from (decode image).queue) ids i
 
-abbrev decreases-loop : tie.decreases-loop
-decreases-loop image from ids₀ i₀ ids i = length ids₀ - i
+abbrev decreases-loop-i : tie.decreases-loop-i
+decreases-loop-i image from ids₀ i₀ ids i = length ids₀ - i
 
-pub collect-aborted-spec : {M : Type 1} → statement M
-collect-aborted-spec =
-    let answers = tie.spec invariant-loop decreases-loop
-    (λ c. let a = c.before.before.args in collecting_none _ _ (omega (arith, c.before.before.requires.1, length-drop a.from (decode a.image.now).queue, queue_length a.image.now)) refl)
-    (λ c. let a = c.before.before.before.before.args in omega (arith, c.before.before.before.before.requires.1, (sound_valid a.image.now c.before.before.before.before.requires.0).held))
-    (λ c κs. (c.before.before.before.before.requires.0, omega arith))
+pub collect_aborted_spec : {M : Type 1} → statement M
+collect_aborted_spec =
+    let answers = tie.spec invariant-loop-i decreases-loop-i
+    (λ c. let a = c.args in collecting_none _ _ (omega (arith, c.requires.1, length-drop a.from (decode a.image.now).queue, queue_length a.image.now)) refl)
+    (λ c. let a = c.args in omega (arith, c.requires.1, (sound_valid a.image.now c.requires.0).held))
+    (λ c κs. (c.requires.0, omega arith))
     (λ c. omega arith)
     (λ c. omega arith)
     (λ c. omega arith)
     (λ c. omega arith)
-    (λ c. collecting_one _ _ _ c.before.before.loop.invariant (omega arith) (rw get_or-drop c.held-abort.ensures))
-    (λ c. c.before.loop.invariant.size)
-    (λ c. collecting_all _ _ _ c.before.loop.invariant (omega arith)) in
+    (λ c. collecting_one _ _ _ c.loop-i.invariant (omega arith) (rw get_or-drop c.held_abort.ensures))
+    (λ c. c.loop-i.invariant.size)
+    (λ c. collecting_all _ _ _ c.loop-i.invariant (omega arith)) in
     tie.close answers

@@ -4,18 +4,18 @@ use Rattle.send.proofs.Aborted.{aborts_none, aborts-judged}
 use Rattle.send.proofs.leaving_out.held_abort.Statement.{statement}
 use Rattle.send.proofs.leaving_out.held_abort.Tie as tie
 
-pub held-abort-spec : {M : Type 1} → statement M
-held-abort-spec =
+pub held_abort_spec : {M : Type 1} → statement M
+held_abort_spec =
     let answers = tie.spec
     (λ c κs. search rules)
-    (λ c. aborts_none _ c.before.held-kind.ensures c.if1.true)
+    (λ c. aborts_none _ c.held_kind.ensures c.if-held_kind-ne-ABORT.true)
     (λ c κs. search rules)
     (λ c κs. search rules)
     (λ c. search rules)
     (λ c. search rules)
     (λ c. search rules)
     (λ c κs. search rules)
-    (λ c. aborts-judged _ c.before.before.before.held-message.ensures.0 c.before.before.judge-submission.ensures c.enum_told.given.1 refl)
-    (λ c. aborts-judged _ c.before.before.before.held-message.ensures.0 c.before.before.judge-submission.ensures c.enum-told2.given.1 refl)
-    (λ c. aborts-judged _ c.before.before.before.before.before.held-message.ensures.0 c.before.before.before.before.judge-submission.ensures c.before.before.kind.given.1 c.aborted-id.ensures) in
+    (λ c. aborts-judged _ c.held_message.ensures.0 c.judge_submission.ensures c.in-Malformed.is refl)
+    (λ c. aborts-judged _ c.held_message.ensures.0 c.judge_submission.ensures c.in-Refused.is refl)
+    (λ c. aborts-judged _ c.held_message.ensures.0 c.judge_submission.ensures c.in-Accepted.is c.aborted_id.ensures) in
     tie.close answers

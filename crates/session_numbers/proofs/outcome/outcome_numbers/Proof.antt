@@ -4,9 +4,9 @@ use Rattle.session_numbers.specs.Outcome.{outcome_numbers}
 use Rattle.session_numbers.proofs.outcome.outcome_numbers.Statement.{statement}
 use Rattle.session_numbers.proofs.outcome.outcome_numbers.Tie as tie
 
-pub outcome-numbers-spec : {M : Type 1} → statement M
+pub outcome_numbers_spec : {M : Type 1} → statement M
 unfolding outcome_numbers
-outcome-numbers-spec =
+outcome_numbers_spec =
     let answers = tie.spec
     (λ c κs. search rules)
     (λ c κs. search rules)
@@ -15,5 +15,5 @@ outcome-numbers-spec =
     (λ c. search rules)
     (λ c. search rules)
     (λ c κs. search rules)
-    (λ c. simp (c.bit-of.ensures, c.before.before.before.session-left.ensures, c.before.before.before.before.effect_of.ensures, c.before.before.before.before.before.answer-block.ensures, c.before.before.before.before.before.before.answer-number.ensures)) in
+    (λ c. simp (c.bit_of.ensures, c.session_left.ensures, c.effect_of.ensures, c.answer_block.ensures, c.answer_number.ensures)) in
     tie.close answers

@@ -6,14 +6,14 @@ use Rattle.session_numbers.specs.Session.{phases, given_of}
 use Rattle.session_numbers.proofs.phases.phase_given.Statement.{statement}
 use Rattle.session_numbers.proofs.phases.phase_given.Tie as tie
 
-pub phase-given-spec : {M : Type 1} → statement M
+pub phase_given_spec : {M : Type 1} → statement M
 unfolding given_of
-phase-given-spec =
+phase_given_spec =
     let answers = tie.spec
-    (λ c. rw c.match.keys1)
-    (λ c. rw c.match.keys2)
-    (λ c. rw c.before.match.keys3)
-    (λ c. rw c.match.keys4)
-    (λ c. rw c.match.keys5)
-    (λ c. lookup_absent Given.Unknown (phases c.before.args.s.value c.before.args.s.flags) c.before.args.s.phase (search rules)) in
+    (λ c. rw c.in-0.is)
+    (λ c. rw c.in-1.is)
+    (λ c. rw c.in-2.is)
+    (λ c. rw c.in-3.is)
+    (λ c. rw c.in-4.is)
+    (λ c. lookup_absent Given.Unknown (phases c.args.s.value c.args.s.flags) c.args.s.phase (search rules)) in
     tie.close answers

@@ -3,8 +3,8 @@ use borrow.Author.Rules.{rules}
 use Rattle.session_numbers.proofs.phases.session_of.Statement.{statement}
 use Rattle.session_numbers.proofs.phases.session_of.Tie as tie
 
-pub session-of-spec : {M : Type 1} → statement M
-session-of-spec =
+pub session_of_spec : {M : Type 1} → statement M
+session_of_spec =
     let answers = tie.spec
     (λ c. search rules)
     (λ c. search rules)
@@ -12,9 +12,9 @@ session-of-spec =
     (λ c κs. search rules)
     (λ c. search rules)
     (λ c. search rules)
-    (λ c. rw c.enum_told.given.1)
-    (λ c. rw c.before.phase.given.1)
-    (λ c. rw (c.before.before.phase2.given.1, c.bit-of.ensures))
-    (λ c. rw c.enum-told2.given.1)
-    (λ c. rw c.enum-told3.given.1) in
+    (λ c. rw c.in-Idle.is)
+    (λ c. rw c.in-InitWait.is)
+    (λ c. rw (c.in-UpFT.is, c.bit_of.ensures))
+    (λ c. rw c.in-UpPlain.is)
+    (λ c. rw c.in-Failed.is) in
     tie.close answers

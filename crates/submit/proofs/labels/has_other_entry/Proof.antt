@@ -5,13 +5,13 @@ use Rattle.calls.proofs.Told.{found_place_in}
 use Rattle.submit.proofs.labels.has_other_entry.Statement.{statement}
 use Rattle.submit.proofs.labels.has_other_entry.Tie as tie
 
-pub has-other-entry-spec : {M : Type 1} → statement M
+pub has_other_entry_spec : {M : Type 1} → statement M
 unfolding entry_at
-has-other-entry-spec =
+has_other_entry_spec =
     let answers = tie.spec
     (λ c. search rules)
-    (λ c κs. (c.before.before.before.before.requires.0, omega (arith, found_place_in _ _ _ c.before.before.before.before.requires.1 c.before.place.given.1)))
+    (λ c κs. (c.requires.0, omega (arith, found_place_in _ _ _ c.requires.1 c.in-At.is)))
     (λ c. search rules)
-    (λ c. rw (c.before.before.place.given.1, c.entry-at.ensures))
+    (λ c. rw (c.in-At.is, c.entry_at.ensures))
     (λ c. search rules) in
     tie.close answers

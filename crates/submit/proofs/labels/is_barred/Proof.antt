@@ -3,9 +3,9 @@ use Rattle.protocol.specs.Accepting.{is_barred}
 use Rattle.submit.proofs.labels.is_barred.Statement.{statement}
 use Rattle.submit.proofs.labels.is_barred.Tie as tie
 
-pub is-barred-spec : {M : Type 1} → statement M
+pub is_barred_spec : {M : Type 1} → statement M
 unfolding is_barred
-is-barred-spec =
+is_barred_spec =
     let answers = tie.spec
     (λ c. search rules)
     (λ c. search rules)
@@ -21,14 +21,14 @@ is-barred-spec =
     (λ c. search rules)
     (λ c. search rules)
     (λ c. search rules)
-    (λ c. rw c.enum_told.given.1)
-    (λ c. simp (c.is_held_lem.ensures, c.before.kind-number.ensures, c.before.before.enum-told2.given.1))
-    (λ c. simp (c.is-held2.ensures, c.before.kind-number2.ensures, c.before.before.enum-told3.given.1))
-    (λ c. rw c.enum-told4.given.1)
-    (λ c. rw c.enum-told5.given.1)
-    (λ c. rw c.enum-told6.given.1)
-    (λ c. rw c.enum-told7.given.1)
-    (λ c. rw c.enum-told8.given.1)
-    (λ c. rw c.enum-told9.given.1)
-    (λ c. rw c.enum-told10.given.1) in
+    (λ c. rw c.in-Mapping.is)
+    (λ c. simp (c.is_held.ensures, c.kind_number.ensures, c.in-Withdraw.is))
+    (λ c. simp (c.is_held-in-Release.ensures, c.kind_number-in-Release.ensures, c.in-Release.is))
+    (λ c. rw c.in-Address.is)
+    (λ c. rw c.in-AddressWithdraw.is)
+    (λ c. rw c.in-ResourcesAvailable.is)
+    (λ c. rw c.in-Request.is)
+    (λ c. rw c.in-Abort.is)
+    (λ c. rw c.in-NoResources.is)
+    (λ c. rw c.in-NoKind.is) in
     tie.close answers

@@ -2,8 +2,8 @@ use borrow.Author.Rules.{rules}
 use Rattle.submit.proofs.storing.queued_header.Statement.{statement}
 use Rattle.submit.proofs.storing.queued_header.Tie as tie
 
-pub queued-header-spec : {M : Type 1} → statement M
-queued-header-spec =
+pub queued_header_spec : {M : Type 1} → statement M
+queued_header_spec =
     let answers = tie.spec
     (λ c. search rules)
     (λ c κs. search rules)

@@ -4,22 +4,22 @@ use Rattle.submit.proofs.Queueing.{change-at, never_moved}
 use Rattle.submit.proofs.storing.store_change.Statement.{statement}
 use Rattle.submit.proofs.storing.store_change.Tie as tie
 
-pub store-change-spec : {M : Type 1} → statement M
+pub store_change_spec : {M : Type 1} → statement M
 unfolding changed
-store-change-spec =
+store_change_spec =
     let answers = tie.spec
     (λ c. search rules)
     (λ c κs. search rules)
     (λ c. search rules)
-    (λ c κs. (c.before.before.before.before.before.requires.0, change-at _ _ _ _ c.before.before.before.before.before.requires.1 c.before.before.change.given.1))
+    (λ c κs. (c.requires.0, change-at _ _ _ _ c.requires.1 c.in-Put.is))
     (λ c. search rules)
     (λ c. search rules)
     (λ c κs. search rules)
     (λ c. search rules)
-    (λ c. rw c.before.before.before.before.enum_told.given.1 c.before.before.store-header.ensures)
+    (λ c. rw c.in-Keep.is c.store_header.ensures)
     (λ c. search rules)
-    (λ c. rw c.before.before.before.before.before.change.given.1 c.before.before.store-label.ensures)
-    (λ c. absurd (never_moved _ _ _ _ c.before.before.before.requires.2 c.enum-told2.given.1))
+    (λ c. rw c.in-Put.is c.store_label.ensures)
+    (λ c. absurd (never_moved _ _ _ _ c.requires.2 c.in-Move.is))
     (λ c. search rules)
-    (λ c. rw c.before.before.before.before.enum-told3.given.1 c.before.before.store-header2.ensures) in
+    (λ c. rw c.in-NoRoom.is c.store_header-in-NoRoom.ensures) in
     tie.close answers

@@ -4,9 +4,9 @@ use Rattle.submit.specs.Mapping.{further_by}
 use Rattle.submit.proofs.storing.store_further.Statement.{statement}
 use Rattle.submit.proofs.storing.store_further.Tie as tie
 
-pub store-further-spec : {M : Type 1} → statement M
+pub store_further_spec : {M : Type 1} → statement M
 unfolding further_by
-store-further-spec =
+store_further_spec =
     let answers = tie.spec
     (λ c. search rules)
     (λ c κs. search rules)
@@ -21,15 +21,15 @@ store-further-spec =
     (λ c. search rules)
     (λ c. search rules)
     (λ c. search rules)
-    (λ c. rw c.before.before.before.before.enum_told.given.1 c.before.before.store-mapping.ensures)
-    (λ c. rw c.enum-told2.given.1 (refl, refl))
-    (λ c. rw c.enum-told3.given.1 (refl, refl))
-    (λ c. rw c.enum-told4.given.1 (refl, refl))
-    (λ c. rw c.enum-told5.given.1 (refl, refl))
-    (λ c. rw c.enum-told6.given.1 (refl, refl))
+    (λ c. rw c.in-Mapping.is c.store_mapping.ensures)
+    (λ c. rw c.in-Withdraw.is (refl, refl))
+    (λ c. rw c.in-Release.is (refl, refl))
+    (λ c. rw c.in-Address.is (refl, refl))
+    (λ c. rw c.in-AddressWithdraw.is (refl, refl))
+    (λ c. rw c.in-ResourcesAvailable.is (refl, refl))
     (λ c. search rules)
-    (λ c. rw c.before.before.before.before.before.kind.given.1 c.before.before.store-request.ensures)
-    (λ c. rw c.enum-told7.given.1 (refl, refl))
-    (λ c. rw c.enum-told8.given.1 (refl, refl))
-    (λ c. rw c.enum-told9.given.1 (refl, refl)) in
+    (λ c. rw c.in-Request.is c.store_request.ensures)
+    (λ c. rw c.in-Abort.is (refl, refl))
+    (λ c. rw c.in-NoResources.is (refl, refl))
+    (λ c. rw c.in-NoKind.is (refl, refl)) in
     tie.close answers
