@@ -12,6 +12,7 @@ use Rattle.ft_number.specs.declared.Proposal.{Proposal}
 use Rattle.ft_number.specs.Timeout.{proposed_of, TimeoutFits}
 use Rattle.tlv.specs.declared.FtField.{FtField}
 use Rattle.message_writer.specs.declared.OwnParameters.{OwnParameters}
+use Rattle.message_writer.specs.Forms.{init_bytes}
 use Rattle.message_writer.specs.ReadBack.{InitFits}
 use Rattle.protocol.specs.declared.Answer.{Answer}
 use Rattle.protocol.specs.declared.Phase.{Phase}
@@ -41,9 +42,12 @@ proposed_fits (Proposal.NotGiven Form.Published) f = omega arith
 
 module _ (now : State) (id : MessageId) (p : OwnParameters) (t : Proposal) (widths : Widths id p) (fits : ProposalFits t) where
   -- with kept state R is set, and the ACK is S
-  bytes_are : now.kept ≡ true → open_bytes now id p t ≡ bytes_of (again id p (proposed_of t) now.secured)
+  kept_borne : now.kept ≡ true → kept_ack now ≡ FtField.Number now.secured
   unfolding kept_ack
-  bytes_are k = rw k
+  kept_borne k = rw k
+
+  bytes_are : now.kept ≡ true → open_bytes now id p t ≡ bytes_of (again id p (proposed_of t) now.secured)
+  bytes_are k = ap (λ (ack : FtField). init_bytes id p (proposed_of t) ack) (kept_borne k)
 
   init_fits : now.secured.0 < 4294967296 → InitFits id p (proposed_of t) (FtField.Number now.secured)
   init_fits small = record {
