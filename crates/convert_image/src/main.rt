@@ -2,9 +2,14 @@
 // bytes it has; or prints the one line of its refusal, as print_image does, and makes no file. A program has no exit status: that line is what tells that
 // the file is there whole. Proved safe and ending; what the system reads and writes is tested.
 #![tactic(auto)]
+
 use arguments::Asked;
 use convert::Conversion;
 use image_report::Report;
+use std::fs::OpenFile;
+use std::io;
+use std::io::{Read, Write};
+use std::rt::{Env, Files};
 
 // What the first argument asks for.
 #[derive(Clone, Copy)]
@@ -24,61 +29,71 @@ fn direction_of(argument: &[u8]) -> Direction {
     Direction::Unknown
 }
 
-fn write_usage(fd: i32) {
-    io::write_all(
-        fd,
+fn write_usage<W: Write>(writer: &mut W) {
+    let _ = writer.write_all(
         b"usage: convert_image forward|back FILE   moves the stored image on standard input from version 1 to 2, or back, into FILE, which it makes, and prints `converted N bytes` when it is there; or prints why it is refused\n",
     );
 }
 
 // The line that tells that all went well; its end is written last.
-fn tell_done(size: usize) {
-    let fd = libc::STDOUT_FILENO;
-    if io::write_all(fd, b"converted ")
-        && io::print_decimal(fd, size as u64)
-        && io::write_all(fd, b" bytes\n")
-    {
-        return;
-    }
-    os::fail(b"standard output");
+fn write_done<O: Write>(size: usize, out: &mut O) -> io::Result<()> {
+    write!(out, "converted {size}")?;
+    out.write_all(b" bytes\n")
 }
 
-// Whether all of the image is in the file, the file on its medium, and closed. Where one of these fails errno says why, and the program's end closes it.
-fn written(fd: i32, image: &[u8]) -> bool {
-    if io::write_all(fd, image) && libc::fsync(fd) == 0 {
-        return libc::close(fd) == 0;
+// That line; where it cannot be written, `err` says why.
+fn tell_done<O: Write, E: Write>(size: usize, out: &mut O, err: &mut E) {
+    if let Err(why) = write_done(size, out) {
+        arguments::fail(err, b"standard output", &why);
     }
-    false
 }
 
-// The file, made; one that is there already is left as it is. Where the image does not get there whole, standard error says why and no file is left.
-fn store(path: &[u8], image: &[u8]) {
-    let fd = os::create(path);
-    if fd < 0 {
-        os::fail(path);
-        return;
-    }
-    if written(fd, image) {
-        tell_done(image.len());
-        return;
-    }
-    os::fail(path);
-    os::unlink(path);
+// All of the image in the file, and the file on its medium.
+fn write_image<F: Write + OpenFile + Drop>(mut file: F, image: &[u8]) -> io::Result<()> {
+    file.write_all(image)?;
+    file.sync_all()
 }
 
-fn refuse(answer: u32, block: usize) {
+// The file, made; one that is there already is left as it is. Where the image does not get there whole, `err` says why and no file is left.
+fn store<R: Files, O: Write, E: Write>(
+    rt: &R,
+    path: &[u8],
+    image: &[u8],
+    out: &mut O,
+    err: &mut E,
+) {
+    let Some(file) = arguments::created(rt, path, err) else {
+        return;
+    };
+    match write_image(file, image) {
+        Ok(()) => tell_done(image.len(), out, err),
+        Err(why) => {
+            arguments::fail(err, path, &why);
+            let _ = arguments::remove(rt, path);
+        }
+    }
+}
+
+fn refuse<O: Write>(answer: u32, block: usize, out: &mut O) {
     let mut line = [0u8; 186];
     let end = image_report::lines::put_report(&mut line, Report::Refused(answer, block));
-    io::write_all(libc::STDOUT_FILENO, &line[..end]);
+    let _ = out.write_all(&line[..end]);
 }
 
-fn settle(c: Conversion, path: &[u8], image: &[u8]) {
+fn settle<R: Files, O: Write, E: Write>(
+    rt: &R,
+    c: Conversion,
+    path: &[u8],
+    image: &[u8],
+    out: &mut O,
+    err: &mut E,
+) {
     let answer = convert::conversion_number(c);
     if answer == 0 {
-        store(path, image);
+        store(rt, path, image, out, err);
         return;
     }
-    refuse(answer, convert::conversion_block(c));
+    refuse(answer, convert::conversion_block(c), out);
 }
 
 fn move_image(forward: bool, image: &[u8], out: &mut [u8]) -> Conversion {
@@ -89,53 +104,62 @@ fn move_image(forward: bool, image: &[u8], out: &mut [u8]) -> Conversion {
 }
 
 // Reads the image; a byte more than it may have shows that it is too long. What cannot be read is told, and not judged.
-fn move_input(forward: bool, path: &[u8]) {
+fn move_input<R: Files + Input, O: Write, E: Write>(
+    rt: &R,
+    forward: bool,
+    path: &[u8],
+    out: &mut O,
+    err: &mut E,
+) {
     let mut image = [0u8; image::IMAGE_SIZE + 1];
-    let size = io::read_full(libc::STDIN_FILENO, &mut image);
-    if size < image.len() && arguments::read_fails(libc::STDIN_FILENO, b"standard input") {
+    let mut input = rt.reader();
+    let read = stream_reads::read_full(&mut input, &mut image);
+    if arguments::read_fails(read.failure, b"standard input", err) {
         return;
     }
-    let mut out = [0u8; image::IMAGE_SIZE];
-    let answer = move_image(forward, &image[..size], &mut out);
-    settle(answer, path, &out);
+    let size = read.count;
+    let mut moved = [0u8; image::IMAGE_SIZE];
+    let answer = move_image(forward, &image[..size], &mut moved);
+    settle(rt, answer, path, &moved, out, err);
 }
 
 // With both arguments: a direction, and the name of a file.
-fn run() {
-    let mut argument = io::buffer();
-    let length = os::arg(1, &mut argument);
-    let mut path = io::buffer();
-    let end = os::arg(2, &mut path);
+fn run<R: Env + Files + Input, O: Write, E: Write>(rt: &R, out: &mut O, err: &mut E) {
+    let mut argument = [0u8; 4096];
+    let length = arguments::read_argument(rt, 1, &mut argument);
+    let mut path = [0u8; 4096];
+    let end = arguments::read_argument(rt, 2, &mut path);
     match arguments::asked_by(&path[..end]) {
         Asked::File => {}
-        Asked::Usage => return write_usage(libc::STDERR_FILENO),
-        Asked::Unknown => return write_usage(libc::STDERR_FILENO),
+        Asked::Usage => return write_usage(err),
+        Asked::Unknown => return write_usage(err),
     }
     match direction_of(&argument[..length]) {
-        Direction::Forward => move_input(true, &path[..end]),
-        Direction::Back => move_input(false, &path[..end]),
-        Direction::Unknown => write_usage(libc::STDERR_FILENO),
+        Direction::Forward => move_input(rt, true, &path[..end], out, err),
+        Direction::Back => move_input(rt, false, &path[..end], out, err),
+        Direction::Unknown => write_usage(err),
     }
 }
 
 // With one argument only `--help` is known.
-fn help() {
-    let mut argument = io::buffer();
-    let length = os::arg(1, &mut argument);
+fn help<R: Env, O: Write, E: Write>(rt: &R, out: &mut O, err: &mut E) {
+    let mut argument = [0u8; 4096];
+    let length = arguments::read_argument(rt, 1, &mut argument);
     match arguments::asked_by(&argument[..length]) {
-        Asked::Usage => write_usage(libc::STDOUT_FILENO),
-        Asked::File => write_usage(libc::STDERR_FILENO),
-        Asked::Unknown => write_usage(libc::STDERR_FILENO),
+        Asked::Usage => write_usage(out),
+        Asked::File => write_usage(err),
+        Asked::Unknown => write_usage(err),
     }
 }
 
-fn main() {
-    let count = os::arg_count();
-    if count == 3 {
-        return run();
+fn main(rt: HostRuntime) {
+    let mut out = rt.stdout();
+    let mut err = rt.stderr();
+    if arguments::is_given(&rt, 3) || !arguments::is_given(&rt, 1) {
+        return write_usage(&mut err);
     }
-    if count == 2 {
-        return help();
+    if arguments::is_given(&rt, 2) {
+        return run(&rt, &mut out, &mut err);
     }
-    write_usage(libc::STDERR_FILENO);
+    help(&rt, &mut out, &mut err);
 }

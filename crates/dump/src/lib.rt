@@ -1,5 +1,6 @@
 // The text of LDP PDUs for people who look at captures: a line for each message (docs/LDP_DUMP.md).
 #![tactic(auto)]
+
 pub mod line; // line.rt: the line of one message
 pub mod stream; // stream.rt: a stream of PDUs
 

@@ -1,44 +1,72 @@
-// A stream of PDUs of any length, read PDU by PDU and written as text to standard output.
+// A stream of PDUs of any length, read PDU by PDU and written as text.
 ghost use Rattle.std.specs.Prelude.{◌≤◌, length};
 ghost use Rattle.dump.specs.Line.{pdu_text_room, largest_pdu};
 
 use crate::dump_pdu;
-use libc::STDOUT_FILENO;
+use std::io;
+use std::io::{Read, Write};
+use stream_reads::{Filled, read_full};
 
 // Reads the next PDU into `buffer`, version and length first, and answers how many bytes came: 0 at the stream's end, fewer than
-// the PDU has where the stream ends inside it.
-fn read_pdu(fd: i32, buffer: &mut [u8]) -> usize
+// the PDU has where the stream ends, or a read fails, inside it.
+fn read_pdu<R: Read>(reader: &mut R, buffer: &mut [u8]) -> Filled
     requires { largest_pdu ≤ length buffer.old }
-    ensures { result ≤ largest_pdu }
+    ensures { result.count ≤ largest_pdu }
 {
-    let head = io::read_full(fd, &mut buffer[..4]);
-    if head < 4 {
+    let head = read_full(reader, &mut buffer[..4]);
+    if head.count < 4 {
         return head;
     }
     let rest = octets::get_u16(buffer, 2) as usize;
     let end = 4 + rest;
-    4 + io::read_full(fd, &mut buffer[4..end])
+    let body = read_full(reader, &mut buffer[4..end]);
+    Filled {
+        count: 4 + body.count,
+        failure: body.failure,
+    }
 }
 
-// Reads the next PDU, writes its text and answers whether to go on: not at the stream's end, nor after a malformed PDU.
-fn dump_next(fd: i32, number: u64, buffer: &mut [u8], out: &mut [u8]) -> bool
-    requires { (largest_pdu ≤ length buffer.old) × (pdu_text_room ≤ length out.old) }
+// Writes the text of what was read of a PDU and answers whether to go on: not at the stream's end, nor after a malformed PDU, nor where
+// the writer takes no more.
+fn put_next<W: Write>(writer: &mut W, number: u64, pdu: &[u8], out: &mut [u8]) -> bool
+    requires { (length pdu.now ≤ largest_pdu) × (pdu_text_room ≤ length out.old) }
 {
-    let size = read_pdu(fd, buffer);
-    if size == 0 {
+    if pdu.len() == 0 {
         return false;
     }
-    let text = dump_pdu(out, number, &buffer[..size]);
+    let text = dump_pdu(out, number, pdu);
     let end = text.end;
-    io::write_all(STDOUT_FILENO, &out[..end]) && text.whole
+    writer.write_all(&out[..end]).is_ok() && text.whole
 }
 
-// Writes the text of every PDU of the stream. Proved safe and ending; what is read and written is tested (docs/LDP_DUMP.md).
-pub fn dump_stream(fd: i32) {
+// Reads the next PDU, writes its text and answers whether to go on; a read that failed is told after the text of what came before.
+fn dump_next<R: Read, W: Write>(
+    reader: &mut R,
+    writer: &mut W,
+    number: u64,
+    buffer: &mut [u8],
+    out: &mut [u8],
+) -> io::Result<bool>
+    requires { (largest_pdu ≤ length buffer.old) × (pdu_text_room ≤ length out.old) }
+{
+    let pdu = read_pdu(reader, buffer);
+    let size = pdu.count;
+    let goes_on = put_next(writer, number, &buffer[..size], out);
+    match pdu.failure {
+        Some(why) => Err(why),
+        None => Ok(goes_on),
+    }
+}
+
+// Writes the text of every PDU of the stream, up to one that is malformed. The error is of a read that failed; where the writer takes no more, the dump ends.
+// Proved safe and ending; what is read and written is tested (docs/LDP_DUMP.md).
+pub fn dump_stream<R: Read, W: Write>(reader: &mut R, writer: &mut W) -> io::Result<()> {
     let mut buffer = [0u8; 65539];
     let mut out = [0u8; 2700000];
-    let mut number: u64 = 0;
-    while number < u64::MAX && dump_next(fd, number, &mut buffer, &mut out) {
-        number += 1;
+    for number in 0..u64::MAX {
+        if !dump_next(reader, writer, number, &mut buffer, &mut out)? {
+            break;
+        }
     }
+    Ok(())
 }

@@ -1,5 +1,6 @@
 // What a stored image says, for people: its counts, or why it is refused, as lines of text.
 #![tactic(auto)]
+
 ghost use Rattle.std.specs.Prelude.{◌≡◌};
 ghost use Rattle.image_report.specs.Report.{report_of};
 

@@ -5,6 +5,8 @@ ghost use Rattle.image_report.specs.Lines.{report_room, line, numbers_text, coun
 
 use crate::Report;
 use image::Counts;
+use std::io;
+use std::io::{Read, Write};
 
 // A name, a number and the line's end. The longest name has nine letters.
 fn put_line(out: &mut [u8], at: usize, name: &[u8], n: u64) -> usize
@@ -62,12 +64,17 @@ pub fn put_report(out: &mut [u8], report: Report) -> usize
     }
 }
 
-// Reads an image from `fd`, of any size, and prints what it says: a byte more than it may have shows that it is too long. Proved safe and
-// ending; what the system reads and writes is tested.
-pub fn print_image(fd: i32) {
+// Reads an image, of any size, and prints what it says: a byte more than it may have shows that it is too long. Where a read fails, what came before is judged
+// and the error answered. Proved safe and ending; what the system reads and writes is tested.
+pub fn print_image<R: Read, W: Write>(reader: &mut R, writer: &mut W) -> io::Result<()> {
     let mut image = [0u8; image::IMAGE_SIZE + 1];
-    let size = io::read_full(fd, &mut image);
+    let read = stream_reads::read_full(reader, &mut image);
+    let size = read.count;
     let mut out = [0u8; 186];
     let end = put_report(&mut out, crate::report_of(&image[..size]));
-    io::write_all(libc::STDOUT_FILENO, &out[..end]);
+    writer.write_all(&out[..end])?;
+    match read.failure {
+        Some(why) => Err(why),
+        None => Ok(()),
+    }
 }

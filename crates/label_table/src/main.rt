@@ -1,6 +1,7 @@
 // Runs every event on a list that holds label 16 under each code, and on one with an open Request in its place; prints a row for each event.
 // Beside the first word stands the ID 9. A cell gives the answer's number and the codes of the first two words afterwards. The expected rows are made by tests/labels/make.py.
 #![tactic(auto)]
+
 ghost use Rattle.std.specs.Prelude.{◌≤◌, ◌<◌, ◌≡◌, length};
 ghost use Rattle.label_list.specs.Word.{word_count};
 ghost use Rattle.label_events.specs.Accept.{acceptance_number};
@@ -12,8 +13,8 @@ use label_events::{Acceptance, Meets, Reception, Touched};
 use label_list::{
     Found, LABEL_COUNT, LabelMessage, Protection, REQUEST_WORD, SweepRule, WORD_COUNT, Wanted,
 };
-
-const STDOUT: i32 = 1;
+use std::io;
+use std::io::Write;
 
 #[derive(Clone, Copy)]
 enum Event {
@@ -27,13 +28,12 @@ enum Event {
     Broken,
 }
 
-fn text(s: &[u8]) {
-    io::write_all(STDOUT, s);
+fn text(out: &mut impl Write, s: &[u8]) -> io::Result<()> {
+    out.write_all(s)
 }
 
-fn number(n: u32) {
-    text(b" ");
-    io::print_decimal(STDOUT, n as u64);
+fn number(out: &mut impl Write, n: u32) -> io::Result<()> {
+    write!(out, " {n}")
 }
 
 fn acceptance_number(answer: Acceptance) -> u32
@@ -163,7 +163,7 @@ fn list(words: &mut [u32], code: u32)
     words[0] = label_list::word_of(16, code);
 }
 
-fn cell(event: Event, code: u32, full: bool)
+fn cell(out: &mut impl Write, event: Event, code: u32, full: bool) -> io::Result<()>
     requires { code < 10 }
 {
     let mut words = [0u32; WORD_COUNT];
@@ -172,131 +172,145 @@ fn cell(event: Event, code: u32, full: bool)
     let mut ids = [0u32; WORD_COUNT];
     ids[0] = 9;
     let answer = happen(&mut words, &mut ids, event);
-    text(b" |");
-    number(answer);
-    number(words[0] / LABEL_COUNT);
-    number(words[1] / LABEL_COUNT);
+    text(out, b" |")?;
+    number(out, answer)?;
+    number(out, words[0] / LABEL_COUNT)?;
+    number(out, words[1] / LABEL_COUNT)
 }
 
 // A cell for each code: 0 for a label that is absent, 7 for an open Request.
-fn row(event: Event, full: bool) {
-    let mut code: u32 = 0;
-    while code < 10 {
-        cell(event, code, full);
-        code += 1;
+fn row(out: &mut impl Write, event: Event, full: bool) -> io::Result<()> {
+    for code in 0..10 {
+        cell(out, event, code, full)?;
     }
-    text(b"\n");
+    text(out, b"\n")
 }
 
-fn name(message: LabelMessage) {
+fn name(out: &mut impl Write, message: LabelMessage) -> io::Result<()> {
     match message {
-        LabelMessage::Mapping => text(b" mapping"),
-        LabelMessage::Withdraw => text(b" withdraw"),
-        LabelMessage::Release => text(b" release"),
+        LabelMessage::Mapping => text(out, b" mapping"),
+        LabelMessage::Withdraw => text(out, b" withdraw"),
+        LabelMessage::Release => text(out, b" release"),
     }
 }
 
-fn sent(message: LabelMessage) {
-    text(b"accept");
-    name(message);
-    row(Event::Accepted(message, 16), false);
-    text(b"accept full");
-    name(message);
-    row(Event::Accepted(message, 16), true);
-    text(b"accept 15");
-    name(message);
-    row(Event::Accepted(message, 15), false);
-    text(b"ack");
-    name(message);
-    row(Event::Acked(message, 16), false);
+fn sent(out: &mut impl Write, message: LabelMessage) -> io::Result<()> {
+    text(out, b"accept")?;
+    name(out, message)?;
+    row(out, Event::Accepted(message, 16), false)?;
+    text(out, b"accept full")?;
+    name(out, message)?;
+    row(out, Event::Accepted(message, 16), true)?;
+    text(out, b"accept 15")?;
+    name(out, message)?;
+    row(out, Event::Accepted(message, 15), false)?;
+    text(out, b"ack")?;
+    name(out, message)?;
+    row(out, Event::Acked(message, 16), false)
 }
 
-fn asked() {
-    text(b"accept request");
-    row(Event::Asked(MessageId(9)), false);
-    text(b"accept full request");
-    row(Event::Asked(MessageId(9)), true);
-    text(b"accept other request");
-    row(Event::Asked(MessageId(10)), false);
-    text(b"accept abort");
-    row(Event::Aborted(MessageId(9)), false);
-    text(b"accept other abort");
-    row(Event::Aborted(MessageId(10)), false);
+fn asked(out: &mut impl Write) -> io::Result<()> {
+    text(out, b"accept request")?;
+    row(out, Event::Asked(MessageId(9)), false)?;
+    text(out, b"accept full request")?;
+    row(out, Event::Asked(MessageId(9)), true)?;
+    text(out, b"accept other request")?;
+    row(out, Event::Asked(MessageId(10)), false)?;
+    text(out, b"accept abort")?;
+    row(out, Event::Aborted(MessageId(9)), false)?;
+    text(out, b"accept other abort")?;
+    row(out, Event::Aborted(MessageId(10)), false)
 }
 
 // A Mapping that names the ID 9, or another.
-fn answered(protected: bool) {
-    text(b"receive naming mapping");
+fn answered(out: &mut impl Write, protected: bool) -> io::Result<()> {
+    text(out, b"receive naming mapping")?;
     row(
+        out,
         Event::Answered(MessageId(9), protected, Touched::Label(16)),
         false,
-    );
-    text(b"receive naming full mapping");
+    )?;
+    text(out, b"receive naming full mapping")?;
     row(
+        out,
         Event::Answered(MessageId(9), protected, Touched::Label(16)),
         true,
-    );
-    text(b"receive naming 15 mapping");
+    )?;
+    text(out, b"receive naming 15 mapping")?;
     row(
+        out,
         Event::Answered(MessageId(9), protected, Touched::Label(15)),
         false,
-    );
-    text(b"receive naming other mapping");
+    )?;
+    text(out, b"receive naming other mapping")?;
     row(
+        out,
         Event::Answered(MessageId(10), protected, Touched::Label(16)),
         false,
-    );
+    )
 }
 
-fn named(message: LabelMessage, protected: bool) {
-    text(b"receive");
-    name(message);
+fn named(out: &mut impl Write, message: LabelMessage, protected: bool) -> io::Result<()> {
+    text(out, b"receive")?;
+    name(out, message)?;
     row(
+        out,
         Event::Received(message, protected, Touched::Label(16)),
         false,
-    );
-    text(b"receive full");
-    name(message);
+    )?;
+    text(out, b"receive full")?;
+    name(out, message)?;
     row(
+        out,
         Event::Received(message, protected, Touched::Label(16)),
         true,
-    );
-    text(b"receive 15");
-    name(message);
+    )?;
+    text(out, b"receive 15")?;
+    name(out, message)?;
     row(
+        out,
         Event::Received(message, protected, Touched::Label(15)),
         false,
-    );
+    )
 }
 
 // Without a label: the wildcard FEC, and another FEC.
-fn unnamed(message: LabelMessage, protected: bool) {
-    text(b"receive every");
-    name(message);
-    row(Event::Received(message, protected, Touched::Every), false);
-    text(b"receive other");
-    name(message);
-    row(Event::Received(message, protected, Touched::Nothing), false);
+fn unnamed(out: &mut impl Write, message: LabelMessage, protected: bool) -> io::Result<()> {
+    text(out, b"receive every")?;
+    name(out, message)?;
+    row(
+        out,
+        Event::Received(message, protected, Touched::Every),
+        false,
+    )?;
+    text(out, b"receive other")?;
+    name(out, message)?;
+    row(
+        out,
+        Event::Received(message, protected, Touched::Nothing),
+        false,
+    )
 }
 
-fn received(protected: bool) {
-    named(LabelMessage::Mapping, protected);
-    named(LabelMessage::Withdraw, protected);
-    named(LabelMessage::Release, protected);
-    answered(protected);
-    unnamed(LabelMessage::Withdraw, protected);
-    unnamed(LabelMessage::Release, protected);
+fn received(out: &mut impl Write, protected: bool) -> io::Result<()> {
+    named(out, LabelMessage::Mapping, protected)?;
+    named(out, LabelMessage::Withdraw, protected)?;
+    named(out, LabelMessage::Release, protected)?;
+    answered(out, protected)?;
+    unnamed(out, LabelMessage::Withdraw, protected)?;
+    unnamed(out, LabelMessage::Release, protected)
 }
 
-fn main() {
-    sent(LabelMessage::Mapping);
-    sent(LabelMessage::Withdraw);
-    sent(LabelMessage::Release);
-    asked();
-    text(b"protected\n");
-    received(true);
-    text(b"unprotected\n");
-    received(false);
-    text(b"break");
-    row(Event::Broken, false);
+fn main(rt: HostRuntime) -> io::Result<()> {
+    let mut out = rt.stdout();
+    sent(&mut out, LabelMessage::Mapping)?;
+    sent(&mut out, LabelMessage::Withdraw)?;
+    sent(&mut out, LabelMessage::Release)?;
+    asked(&mut out)?;
+    text(&mut out, b"protected\n")?;
+    received(&mut out, true)?;
+    text(&mut out, b"unprotected\n")?;
+    received(&mut out, false)?;
+    text(&mut out, b"break")?;
+    row(&mut out, Event::Broken, false)
 }

@@ -1,29 +1,38 @@
 // Runs ldp_dump's work on each file that its arguments name, after a line with the file's name.
 #![tactic(auto)]
-use libc::STDOUT_FILENO;
+
+use std::io;
+use std::io::Write;
+use std::rt::{Env, Files};
 
 // Dumps the file that the argument names, and answers whether there was one.
-fn dump_argument(index: usize) -> bool {
-    let mut path = io::buffer();
-    let length = os::arg(index, &mut path);
+fn dump_argument<R: Env + Files, O: Write, E: Write>(
+    rt: &R,
+    index: usize,
+    out: &mut O,
+    err: &mut E,
+) -> io::Result<bool> {
+    let mut path = [0u8; 4096];
+    let length = arguments::read_argument(rt, index, &mut path);
     if length == 0 {
-        return false;
+        return Ok(false);
     }
-    let fd = os::open_read(&path[..length]);
-    if fd < 0 {
-        os::fail(&path[..length]);
-        return false;
-    }
-    io::write_all(STDOUT_FILENO, &path[..length]);
-    io::write_all(STDOUT_FILENO, b"\n");
-    dump::stream::dump_stream(fd);
-    libc::close(fd);
-    true
+    let Some(mut file) = arguments::opened(rt, &path[..length], err) else {
+        return Ok(false);
+    };
+    out.write_all(&path[..length])?;
+    out.write_all(b"\n")?;
+    dump::stream::dump_stream(&mut file, out)?;
+    Ok(true)
 }
 
-fn main() {
-    let mut index: usize = 1;
-    while index < 1000 && dump_argument(index) {
-        index += 1;
+fn main(rt: HostRuntime) -> io::Result<()> {
+    let mut out = rt.stdout();
+    let mut err = rt.stderr();
+    for index in 1..1000 {
+        if !dump_argument(&rt, index, &mut out, &mut err)? {
+            break;
+        }
     }
+    Ok(())
 }

@@ -1,9 +1,10 @@
 // Runs the number and timeout rules over values at the ends of their ranges, and prints a line for each.
 // The expected lines are made by tests/numbers/make.py.
 #![tactic(auto)]
-use ft_number::{Ack, Distance, Form, FtNumber, Proposal, Steps, Timeout, Turn};
 
-const STDOUT: i32 = 1;
+use ft_number::{Ack, Distance, Form, FtNumber, Proposal, Steps, Timeout, Turn};
+use std::io;
+use std::io::Write;
 
 // Around 0, the window of 64, half of the circle, and its end.
 const EDGES: [u32; 11] = [
@@ -18,205 +19,198 @@ const ISSUED: [u32; 6] = [0, 5, 1, 65, 64, 5];
 // 0 is for ever; seconds and milliseconds, the most that each form says in milliseconds.
 const TIMEOUTS: [u32; 6] = [0, 1, 5, 30000, 65535000, 4294967295];
 
-fn text(s: &[u8]) {
-    io::write_all(STDOUT, s);
+fn text(out: &mut impl Write, s: &[u8]) -> io::Result<()> {
+    out.write_all(s)
 }
 
-fn number(n: u32) {
-    text(b" ");
-    io::print_decimal(STDOUT, n as u64);
+fn number(out: &mut impl Write, n: u32) -> io::Result<()> {
+    write!(out, " {n}")
 }
 
-fn count(n: Steps) {
+fn count(out: &mut impl Write, n: Steps) -> io::Result<()> {
     match n {
-        Steps::Count(k) => number(k),
-        Steps::Unreachable => text(b" unreachable"),
+        Steps::Count(k) => number(out, k),
+        Steps::Unreachable => text(out, b" unreachable"),
     }
 }
 
-fn decision(a: Ack) {
+fn decision(out: &mut impl Write, a: Ack) -> io::Result<()> {
     match a {
         Ack::Releases(k) => {
-            text(b" releases");
-            number(k);
+            text(out, b" releases")?;
+            number(out, k)
         }
-        Ack::SequenceError => text(b" sequence error"),
+        Ack::SequenceError => text(out, b" sequence error"),
     }
 }
 
 // A signed number.
-fn signed(z: i32) {
-    if z < 0 {
-        text(b" -");
-        io::print_decimal(STDOUT, -(z as i64) as u64);
-    } else {
-        number(z as u32);
-    }
+fn signed(out: &mut impl Write, z: i32) -> io::Result<()> {
+    write!(out, " {z}")
 }
 
-fn turn(t: Turn) {
+fn turn(out: &mut impl Write, t: Turn) -> io::Result<()> {
     match t {
         Turn::InTurn(k) => {
-            text(b" left out");
-            number(k);
+            text(out, b" left out")?;
+            number(out, k)
         }
-        Turn::OutOfTurn => text(b" out of turn"),
-        Turn::ZeroNumber => text(b" zero number"),
+        Turn::OutOfTurn => text(out, b" out of turn"),
+        Turn::ZeroNumber => text(out, b" zero number"),
     }
 }
 
-fn way(d: Distance) {
+fn way(out: &mut impl Write, d: Distance) -> io::Result<()> {
     match d {
-        Distance::Steps(z) => signed(z),
-        Distance::Refused => text(b" refused"),
+        Distance::Steps(z) => signed(out, z),
+        Distance::Refused => text(out, b" refused"),
     }
 }
 
 // The start of a line: a rule's name and two numbers.
-fn start(name: &[u8], a: u32, b: u32) {
-    text(name);
-    number(a);
-    number(b);
+fn start(out: &mut impl Write, name: &[u8], a: u32, b: u32) -> io::Result<()> {
+    text(out, name)?;
+    number(out, a)?;
+    number(out, b)
 }
 
-fn end() {
-    text(b"\n");
+fn end(out: &mut impl Write) -> io::Result<()> {
+    text(out, b"\n")
 }
 
-fn steps(a: u32, b: u32) {
-    start(b"steps", a, b);
-    count(ft_number::steps_between(FtNumber(a), FtNumber(b)));
-    end();
+fn steps(out: &mut impl Write, a: u32, b: u32) -> io::Result<()> {
+    start(out, b"steps", a, b)?;
+    count(out, ft_number::steps_between(FtNumber(a), FtNumber(b)))?;
+    end(out)
 }
 
-fn distance(a: u32, b: u32) {
-    start(b"distance", a, b);
-    way(ft_number::signed_distance(FtNumber(a), FtNumber(b)));
-    end();
+fn distance(out: &mut impl Write, a: u32, b: u32) -> io::Result<()> {
+    start(out, b"distance", a, b)?;
+    way(out, ft_number::signed_distance(FtNumber(a), FtNumber(b)))?;
+    end(out)
 }
 
-fn advance(a: u32, b: u32) {
-    start(b"advance", a, b);
-    number(ft_number::advance(FtNumber(a), b).0);
-    end();
+fn advance(out: &mut impl Write, a: u32, b: u32) -> io::Result<()> {
+    start(out, b"advance", a, b)?;
+    number(out, ft_number::advance(FtNumber(a), b).0)?;
+    end(out)
 }
 
 // The next number, on an unresumed connection and on a resumed one.
-fn next(a: u32, b: u32) {
-    start(b"next", a, b);
-    turn(ft_number::judge_turn(FtNumber(a), FtNumber(b), false));
-    end();
-    start(b"next resumed", a, b);
-    turn(ft_number::judge_turn(FtNumber(a), FtNumber(b), true));
-    end();
+fn next(out: &mut impl Write, a: u32, b: u32) -> io::Result<()> {
+    start(out, b"next", a, b)?;
+    turn(out, ft_number::judge_turn(FtNumber(a), FtNumber(b), false))?;
+    end(out)?;
+    start(out, b"next resumed", a, b)?;
+    turn(out, ft_number::judge_turn(FtNumber(a), FtNumber(b), true))?;
+    end(out)
 }
 
-fn successor(a: u32) {
-    text(b"successor");
-    number(a);
-    number(ft_number::successor(FtNumber(a)).0);
-    end();
+fn successor(out: &mut impl Write, a: u32) -> io::Result<()> {
+    text(out, b"successor")?;
+    number(out, a)?;
+    number(out, ft_number::successor(FtNumber(a)).0)?;
+    end(out)
 }
 
 // One number: its successor, and with each edge the rules of a pair.
-fn edge(a: u32) {
-    successor(a);
-    let mut j: usize = 0;
-    while j < 11 {
-        steps(a, EDGES[j]);
-        distance(a, EDGES[j]);
-        advance(a, EDGES[j]);
-        next(a, EDGES[j]);
-        j += 1;
+fn edge(out: &mut impl Write, a: u32) -> io::Result<()> {
+    successor(out, a)?;
+    for j in 0..11 {
+        steps(out, a, EDGES[j])?;
+        distance(out, a, EDGES[j])?;
+        advance(out, a, EDGES[j])?;
+        next(out, a, EDGES[j])?;
     }
+    Ok(())
 }
 
-fn acknowledgement(r: u32, i: u32, a: u32) {
-    start(b"acknowledge", r, i);
-    number(a);
-    decision(ft_number::acknowledge(FtNumber(r), FtNumber(i), FtNumber(a)));
-    end();
+fn acknowledgement(out: &mut impl Write, r: u32, i: u32, a: u32) -> io::Result<()> {
+    start(out, b"acknowledge", r, i)?;
+    number(out, a)?;
+    decision(
+        out,
+        ft_number::acknowledge(FtNumber(r), FtNumber(i), FtNumber(a)),
+    )?;
+    end(out)
 }
 
 // Each edge as an acknowledgement of one window.
-fn window(r: u32, i: u32) {
-    let mut j: usize = 0;
-    while j < 11 {
-        acknowledgement(r, i, EDGES[j]);
-        j += 1;
+fn window(out: &mut impl Write, r: u32, i: u32) -> io::Result<()> {
+    for j in 0..11 {
+        acknowledgement(out, r, i, EDGES[j])?;
     }
+    Ok(())
 }
 
-fn timeout(a: u32, b: u32) {
-    start(b"lesser timeout", a, b);
-    number(ft_number::lesser_timeout(a, b));
-    end();
+fn timeout(out: &mut impl Write, a: u32, b: u32) -> io::Result<()> {
+    start(out, b"lesser timeout", a, b)?;
+    number(out, ft_number::lesser_timeout(a, b))?;
+    end(out)
 }
 
-fn timeouts(a: u32) {
-    let mut j: usize = 0;
-    while j < 6 {
-        timeout(a, TIMEOUTS[j]);
-        j += 1;
+fn timeouts(out: &mut impl Write, a: u32) -> io::Result<()> {
+    for j in 0..6 {
+        timeout(out, a, TIMEOUTS[j])?;
     }
+    Ok(())
 }
 
 // A timeout as its form says it.
-fn said(t: Timeout) {
+fn said(out: &mut impl Write, t: Timeout) -> io::Result<()> {
     match t {
         Timeout::Seconds(s) => {
-            text(b" seconds");
-            number(s as u32);
+            text(out, b" seconds")?;
+            number(out, s as u32)
         }
         Timeout::Milliseconds(n) => {
-            text(b" milliseconds");
-            number(n);
+            text(out, b" milliseconds")?;
+            number(out, n)
         }
     }
 }
 
 // What is proposed, and that in milliseconds.
-fn proposal(p: Proposal) {
+fn proposal(out: &mut impl Write, p: Proposal) -> io::Result<()> {
     let t = ft_number::proposed_timeout(p);
-    text(b"proposed");
-    said(t);
-    text(b" is");
-    number(ft_number::milliseconds(t));
-    end();
+    text(out, b"proposed")?;
+    said(out, t)?;
+    text(out, b" is")?;
+    number(out, ft_number::milliseconds(t))?;
+    end(out)
 }
 
 // The default of each form, and each form's proposals at the ends of its range.
-fn proposals() {
-    proposal(Proposal::NotGiven(Form::Draft));
-    proposal(Proposal::Given(Timeout::Seconds(0)));
-    proposal(Proposal::Given(Timeout::Seconds(5)));
-    proposal(Proposal::Given(Timeout::Seconds(65535)));
-    proposal(Proposal::NotGiven(Form::Published));
-    proposal(Proposal::Given(Timeout::Milliseconds(0)));
-    proposal(Proposal::Given(Timeout::Milliseconds(5)));
-    proposal(Proposal::Given(Timeout::Milliseconds(4294967295)));
+fn proposals(out: &mut impl Write) -> io::Result<()> {
+    proposal(out, Proposal::NotGiven(Form::Draft))?;
+    proposal(out, Proposal::Given(Timeout::Seconds(0)))?;
+    proposal(out, Proposal::Given(Timeout::Seconds(5)))?;
+    proposal(out, Proposal::Given(Timeout::Seconds(65535)))?;
+    proposal(out, Proposal::NotGiven(Form::Published))?;
+    proposal(out, Proposal::Given(Timeout::Milliseconds(0)))?;
+    proposal(out, Proposal::Given(Timeout::Milliseconds(5)))?;
+    proposal(out, Proposal::Given(Timeout::Milliseconds(4294967295)))
 }
 
-fn edges() {
-    let mut i: usize = 0;
-    while i < 11 {
-        edge(EDGES[i]);
-        i += 1;
+fn edges(out: &mut impl Write) -> io::Result<()> {
+    for i in 0..11 {
+        edge(out, EDGES[i])?;
     }
+    Ok(())
 }
 
 // The tables of six: each window, and each timeout with each.
-fn tables() {
-    let mut i: usize = 0;
-    while i < 6 {
-        window(RELEASED[i], ISSUED[i]);
-        timeouts(TIMEOUTS[i]);
-        i += 1;
+fn tables(out: &mut impl Write) -> io::Result<()> {
+    for i in 0..6 {
+        window(out, RELEASED[i], ISSUED[i])?;
+        timeouts(out, TIMEOUTS[i])?;
     }
+    Ok(())
 }
 
-fn main() {
-    edges();
-    tables();
-    proposals();
+fn main(rt: HostRuntime) -> io::Result<()> {
+    let mut out = rt.stdout();
+    edges(&mut out)?;
+    tables(&mut out)?;
+    proposals(&mut out)
 }

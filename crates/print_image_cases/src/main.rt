@@ -1,30 +1,39 @@
 // Runs print_image's work on each file that its arguments name, after a line with the file's name.
 // The files and the expected lines are made by tests/images/make.py.
 #![tactic(auto)]
-use libc::STDOUT_FILENO;
+
+use std::io;
+use std::io::Write;
+use std::rt::{Env, Files};
 
 // Prints the image that the argument names, and answers whether there was one.
-fn print_argument(index: usize) -> bool {
-    let mut path = io::buffer();
-    let length = os::arg(index, &mut path);
+fn print_argument<R: Env + Files, O: Write, E: Write>(
+    rt: &R,
+    index: usize,
+    out: &mut O,
+    err: &mut E,
+) -> io::Result<bool> {
+    let mut path = [0u8; 4096];
+    let length = arguments::read_argument(rt, index, &mut path);
     if length == 0 {
-        return false;
+        return Ok(false);
     }
-    let fd = os::open_read(&path[..length]);
-    if fd < 0 {
-        os::fail(&path[..length]);
-        return false;
-    }
-    io::write_all(STDOUT_FILENO, &path[..length]);
-    io::write_all(STDOUT_FILENO, b"\n");
-    image_report::lines::print_image(fd);
-    libc::close(fd);
-    true
+    let Some(mut file) = arguments::opened(rt, &path[..length], err) else {
+        return Ok(false);
+    };
+    out.write_all(&path[..length])?;
+    out.write_all(b"\n")?;
+    image_report::lines::print_image(&mut file, out)?;
+    Ok(true)
 }
 
-fn main() {
-    let mut index: usize = 1;
-    while index < 1000 && print_argument(index) {
-        index += 1;
+fn main(rt: HostRuntime) -> io::Result<()> {
+    let mut out = rt.stdout();
+    let mut err = rt.stderr();
+    for index in 1..1000 {
+        if !print_argument(&rt, index, &mut out, &mut err)? {
+            break;
+        }
     }
+    Ok(())
 }

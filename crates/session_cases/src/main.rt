@@ -6,8 +6,11 @@
 // NAME is printed in front of what comes of the line; it may be empty. The words and their numbers stand in words.rt. The message is in
 // hexadecimal, or `from` and the place that sent it last; few words have one.
 #![tactic(auto)]
+
 use calls::Phase;
 use places::{Cabinet, Cabinets};
+use std::io;
+use std::io::Write;
 
 mod calling;
 mod places;
@@ -17,7 +20,7 @@ mod show;
 mod words;
 
 // Plays a script on five new places.
-fn play_script(script: &[u8]) {
+fn play_script(to: &mut impl Write, script: &[u8]) -> io::Result<()> {
     let mut images = [0u8; 5 * image::IMAGE_SIZE];
     let mut outputs = [0u8; 5 * 512];
     let idle = Cabinet {
@@ -25,15 +28,22 @@ fn play_script(script: &[u8]) {
         written: 0,
     };
     playing::play(
+        to,
         &mut images,
         &mut outputs,
         script,
         Cabinets { at: [idle; 5] },
-    );
+    )
 }
 
-fn main() {
+// What came of the script is played, also where a read failed after it.
+fn main(rt: HostRuntime) -> io::Result<()> {
     let mut text = [0u8; 180224];
-    let size = io::read_full(libc::STDIN_FILENO, &mut text);
-    play_script(&text[..size]);
+    let read = stream_reads::read_full(&mut rt.stdin(), &mut text);
+    let size = read.count;
+    play_script(&mut rt.stdout(), &text[..size])?;
+    match read.failure {
+        Some(why) => Err(why),
+        None => Ok(()),
+    }
 }

@@ -4,6 +4,8 @@ ghost use Rattle.std.specs.Prelude.{◌+◌, ◌≤◌, ◌≡◌};
 use crate::script::NONE;
 use crate::show::say;
 use calls::Phase;
+use std::io;
+use std::io::Write;
 
 const SIZE: u32 = image::IMAGE_SIZE as u32;
 
@@ -29,15 +31,21 @@ pub fn cabinet_at(c: Cabinets, place: u32) -> Cabinet {
 }
 
 // Says that a line can't be read, so that the output is not the expected one.
-pub fn refuse(c: Cabinets) -> Cabinets {
-    say(b" cannot be read\n");
-    c
+pub fn refuse(to: &mut impl Write, c: Cabinets) -> io::Result<Cabinets> {
+    say(to, b" cannot be read\n")?;
+    Ok(c)
 }
 
 // The cabinets with another phase at a place; what it sent last is forgotten only for something new.
-pub fn with_cabinet(c: Cabinets, place: u32, phase: Phase, written: usize) -> Cabinets {
+pub fn with_cabinet(
+    to: &mut impl Write,
+    c: Cabinets,
+    place: u32,
+    phase: Phase,
+    written: usize,
+) -> io::Result<Cabinets> {
     if place > 4 {
-        return refuse(c);
+        return refuse(to, c);
     }
     let i = place as usize;
     let mut next = c;
@@ -47,13 +55,13 @@ pub fn with_cabinet(c: Cabinets, place: u32, phase: Phase, written: usize) -> Ca
             phase: phase,
             written: old.written,
         };
-        return next;
+        return Ok(next);
     }
     next.at[i] = Cabinet {
         phase: phase,
         written: written,
     };
-    next
+    Ok(next)
 }
 
 // A part of the images, or of the outputs.

@@ -9,6 +9,8 @@ use crate::script::{
 };
 use crate::show::{say, show_counts, show_outcome, show_request};
 use crate::words::{Deed, deed_of};
+use std::io;
+use std::io::Write;
 
 // Puts what a place sent last to the start of `msg`; how many bytes, or UNREADABLE.
 fn load_sent(place: u32, outputs: &[u8], c: Cabinets, msg: &mut [u8]) -> usize {
@@ -37,13 +39,14 @@ fn load_message(text: &[u8], outputs: &[u8], c: Cabinets, msg: &mut [u8]) -> usi
 
 // Makes a call at a place, and prints what it answered.
 fn play_call(
+    to: &mut impl Write,
     images: &mut [u8],
     outputs: &mut [u8],
     c: Cabinets,
     call: Call,
     n: Numbers,
     msg: &[u8],
-) -> Cabinets {
+) -> io::Result<Cabinets> {
     let own = cabinet_at(c, n.place);
     let phase = own.phase;
     let lent = image_part(n.place, images.len());
@@ -55,87 +58,110 @@ fn play_call(
     let image = &mut images[start..end];
     let out = &mut outputs[room..room_end];
     let o = make(call, n, image, phase, msg, out);
-    show_outcome(o, image, out);
+    show_outcome(to, o, image, out)?;
     let next = o.phase;
-    with_cabinet(c, n.place, next, o.written)
+    with_cabinet(to, c, n.place, next, o.written)
 }
 
 // Prints the counts of the image at a place.
-fn play_counts(images: &[u8], c: Cabinets, place: u32) -> Cabinets {
+fn play_counts(
+    to: &mut impl Write,
+    images: &[u8],
+    c: Cabinets,
+    place: u32,
+) -> io::Result<Cabinets> {
     let image = image_part(place, images.len());
     let start = image.start;
     let end = image.end;
-    show_counts(&images[start..end]);
-    c
+    show_counts(to, &images[start..end])?;
+    Ok(c)
 }
 
 // Prints the Request at a label word of the image at a place.
-fn play_request(images: &[u8], c: Cabinets, n: Numbers) -> Cabinets {
+fn play_request(
+    to: &mut impl Write,
+    images: &[u8],
+    c: Cabinets,
+    n: Numbers,
+) -> io::Result<Cabinets> {
     let image = image_part(n.place, images.len());
     let start = image.start;
     let end = image.end;
-    show_request(&images[start..end], n.second);
-    c
+    show_request(to, &images[start..end], n.second)?;
+    Ok(c)
 }
 
 // A title is a name alone.
-fn end_line(c: Cabinets) -> Cabinets {
-    say(b"\n");
-    c
+fn end_line(to: &mut impl Write, c: Cabinets) -> io::Result<Cabinets> {
+    say(to, b"\n")?;
+    Ok(c)
 }
 
 // Copies a block, or the image, and the phase from another place.
-fn copy(images: &mut [u8], c: Cabinets, n: Numbers) -> Cabinets {
-    let to = block_start(n.place, n.third);
+fn copy(to: &mut impl Write, images: &mut [u8], c: Cabinets, n: Numbers) -> io::Result<Cabinets> {
+    let target = block_start(n.place, n.third);
     let from = block_start(n.second, n.fourth);
-    if !copy_bytes(images, to, from, copied_size(n.place, n.third)) {
-        return refuse(c);
+    if !copy_bytes(images, target, from, copied_size(n.place, n.third)) {
+        return refuse(to, c);
     }
     let source = cabinet_at(c, n.second);
     let phase = source.phase;
-    with_cabinet(c, n.place, phase, 0)
+    with_cabinet(to, c, n.place, phase, 0)
 }
 
 // Puts another byte at an offset in an image.
-fn spoil(images: &mut [u8], c: Cabinets, n: Numbers) -> Cabinets {
+fn spoil(to: &mut impl Write, images: &mut [u8], c: Cabinets, n: Numbers) -> io::Result<Cabinets> {
     let at = behind(block_start(n.place, 0), n.second);
     if at >= images.len() {
-        return refuse(c);
+        return refuse(to, c);
     }
     images[at] = (n.third % 256) as u8;
-    c
+    Ok(c)
 }
 
 // Prints the name of a line, and plays what stands behind it.
-fn play_line(images: &mut [u8], outputs: &mut [u8], c: Cabinets, line: &[u8]) -> Cabinets {
-    say(before(line, b':'));
+fn play_line(
+    to: &mut impl Write,
+    images: &mut [u8],
+    outputs: &mut [u8],
+    c: Cabinets,
+    line: &[u8],
+) -> io::Result<Cabinets> {
+    say(to, before(line, b':'))?;
     let step = after(after(line, b':'), b' ');
     let mut msg = [0u8; 512];
     let size = load_message(after(after(step, b':'), b' '), outputs, c, &mut msg);
     if size > 512 {
-        return refuse(c);
+        return refuse(to, c);
     }
     let call = before(step, b':');
     let n = read_numbers(after(call, b' '));
     match deed_of(before(call, b' '), n) {
-        Deed::Make(call) => play_call(images, outputs, c, call, n, first(&msg, size)),
-        Deed::Title => end_line(c),
-        Deed::Counts => play_counts(images, c, n.place),
-        Deed::Request => play_request(images, c, n),
-        Deed::Copy => copy(images, c, n),
-        Deed::Spoil => spoil(images, c, n),
-        Deed::Put(phase) => with_cabinet(c, n.place, phase, 0),
-        Deed::Unknown => refuse(c),
+        Deed::Make(call) => play_call(to, images, outputs, c, call, n, first(&msg, size)),
+        Deed::Title => end_line(to, c),
+        Deed::Counts => play_counts(to, images, c, n.place),
+        Deed::Request => play_request(to, images, c, n),
+        Deed::Copy => copy(to, images, c, n),
+        Deed::Spoil => spoil(to, images, c, n),
+        Deed::Put(phase) => with_cabinet(to, c, n.place, phase, 0),
+        Deed::Unknown => refuse(to, c),
     }
 }
 
 // Plays every line of the script.
-pub fn play(images: &mut [u8], outputs: &mut [u8], script: &[u8], idle: Cabinets) {
+pub fn play(
+    to: &mut impl Write,
+    images: &mut [u8],
+    outputs: &mut [u8],
+    script: &[u8],
+    idle: Cabinets,
+) -> io::Result<()> {
     let mut c = idle;
     let mut rest = script;
     while rest.len() > 0 {
-        c = play_line(images, outputs, c, before(rest, b'\n'));
+        c = play_line(to, images, outputs, c, before(rest, b'\n'))?;
         let next = after(rest, b'\n');
         rest = next;
     }
+    Ok(())
 }

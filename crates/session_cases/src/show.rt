@@ -4,134 +4,140 @@ use calls::{Answer, Outcome, Phase};
 use ft_number::MessageId;
 use image::Counts;
 use image_report::Report;
+use std::io;
+use std::io::Write;
 use tlv::IdField;
 
-const STDOUT: i32 = 1;
-
-pub fn say(s: &[u8]) {
-    io::write_all(STDOUT, s);
+pub fn say(to: &mut impl Write, s: &[u8]) -> io::Result<()> {
+    to.write_all(s)
 }
 
-fn number(name: &[u8], n: u64) {
-    say(name);
-    io::print_decimal(STDOUT, n);
+fn number(to: &mut impl Write, name: &[u8], n: u64) -> io::Result<()> {
+    say(to, name)?;
+    write!(to, "{n}")
 }
 
 // Bytes in hexadecimal: a block at most, and no message is longer.
-fn hex(bytes: &[u8]) {
+fn hex(to: &mut impl Write, bytes: &[u8]) -> io::Result<()> {
     if bytes.len() > 512 {
-        return;
+        return Ok(());
     }
     let mut line = [0u8; 1024];
     let end = text::put_hex(&mut line, 0, bytes);
-    say(first(&line, end));
+    say(to, first(&line, end))
 }
 
 // The answer's number, and the block that a refused image names.
-fn show_answer(answer: Answer) {
-    number(b": ", calls::answer_number(answer) as u64);
+fn show_answer(to: &mut impl Write, answer: Answer) -> io::Result<()> {
+    number(to, b": ", calls::answer_number(answer) as u64)?;
     match answer {
-        Answer::BadBlock(b) => number(b" block ", b as u64),
-        Answer::BadField(b) => number(b" block ", b as u64),
-        _ => {}
+        Answer::BadBlock(b) => number(to, b" block ", b as u64),
+        Answer::BadField(b) => number(to, b" block ", b as u64),
+        _ => Ok(()),
     }
 }
 
-fn show_phase(phase: Phase) {
+fn show_phase(to: &mut impl Write, phase: Phase) -> io::Result<()> {
     match phase {
-        Phase::Idle => say(b", Idle"),
-        Phase::InitWait(v) => number(b", InitWait ", v.timeout as u64),
+        Phase::Idle => say(to, b", Idle"),
+        Phase::InitWait(v) => number(to, b", InitWait ", v.timeout as u64),
         Phase::UpFT(u) => {
-            number(b", UpFT ", u.sent as u64);
+            number(to, b", UpFT ", u.sent as u64)?;
             if u.resumed {
-                say(b" resumed");
+                say(to, b" resumed")?;
             }
+            Ok(())
         }
-        Phase::UpPlain => say(b", UpPlain"),
-        Phase::Failed => say(b", Failed"),
+        Phase::UpPlain => say(to, b", UpPlain"),
+        Phase::Failed => say(to, b", Failed"),
     }
 }
 
 // The check of a block: four bytes that stand for all its bytes.
-fn show_check(image: &[u8], block: usize) {
+fn show_check(to: &mut impl Write, image: &[u8], block: usize) -> io::Result<()> {
     if block > image.len() / 512 {
-        return;
+        return Ok(());
     }
     let at = block * 512 + 508;
     let end = at + 4;
     if image.len() < end {
-        return;
+        return Ok(());
     }
-    say(b" ");
-    hex(&image[at..end]);
+    say(to, b" ")?;
+    hex(to, &image[at..end])
 }
 
 // The checks of the further blocks that are named by their bits, in their order.
-fn show_further(image: &[u8], further: u32) {
+fn show_further(to: &mut impl Write, image: &[u8], further: u32) -> io::Result<()> {
     let mut left = further;
-    let mut b = image::REQUEST_BLOCK;
-    while b < image::BLOCK_COUNT {
+    for b in image::REQUEST_BLOCK..image::BLOCK_COUNT {
         if left % 2 == 1 {
-            show_check(image, b);
+            show_check(to, image, b)?;
         }
         left = left / 2;
-        b += 1;
     }
+    Ok(())
 }
 
 // What the owner has to store, each block with its check: the slot, the further blocks, block 0.
-fn show_stores(image: &[u8], slot: usize, further: u32, block0: bool) {
-    number(b", slot ", slot as u64);
+fn show_stores(
+    to: &mut impl Write,
+    image: &[u8],
+    slot: usize,
+    further: u32,
+    block0: bool,
+) -> io::Result<()> {
+    number(to, b", slot ", slot as u64)?;
     if slot != 0 {
-        show_check(image, slot);
+        show_check(to, image, slot)?;
     }
-    number(b", further ", further as u64);
-    show_further(image, further);
+    number(to, b", further ", further as u64)?;
+    show_further(to, image, further)?;
     if !block0 {
-        say(b", block0 false");
-        return;
+        return say(to, b", block0 false");
     }
-    say(b", block0 true");
-    show_check(image, 0);
+    say(to, b", block0 true")?;
+    show_check(to, image, 0)
 }
 
 // How many messages were left out, if any were.
-fn show_leftout(leftout: u32) {
+fn show_leftout(to: &mut impl Write, leftout: u32) -> io::Result<()> {
     if leftout != 0 {
-        number(b", left out ", leftout as u64);
+        number(to, b", left out ", leftout as u64)?;
     }
+    Ok(())
 }
 
 // The output, on a line of its own; the bytes after it are not printed.
-fn show_output(out: &[u8], written: usize) {
+fn show_output(to: &mut impl Write, out: &[u8], written: usize) -> io::Result<()> {
     if written == 0 {
-        return;
+        return Ok(());
     }
-    say(b"  ");
-    hex(first(out, written));
-    say(b"\n");
+    say(to, b"  ")?;
+    hex(to, first(out, written))?;
+    say(to, b"\n")
 }
 
 // An outcome, and the output on a line of its own.
-pub fn show_outcome(o: Outcome, image: &[u8], out: &[u8]) {
+pub fn show_outcome(to: &mut impl Write, o: Outcome, image: &[u8], out: &[u8]) -> io::Result<()> {
     let answer = o.answer;
     let phase = o.phase;
-    show_answer(answer);
-    show_phase(phase);
-    number(b", written ", o.written as u64);
-    show_stores(image, o.slot, o.further, o.block0);
-    show_leftout(o.leftout);
-    say(b"\n");
-    show_output(out, o.written);
+    show_answer(to, answer)?;
+    show_phase(to, phase)?;
+    number(to, b", written ", o.written as u64)?;
+    show_stores(to, image, o.slot, o.further, o.block0)?;
+    show_leftout(to, o.leftout)?;
+    say(to, b"\n")?;
+    show_output(to, out, o.written)
 }
 
-fn show_numbers(c: Counts) {
-    number(b" released ", c.released.0 as u64);
-    number(b" issued ", c.issued.0 as u64);
-    number(b" secured ", c.secured.0 as u64);
-    number(b" held ", c.held as u64);
-    number(b" pended ", c.pended as u64);
-    number(b" labels ", c.labels as u64);
+fn show_numbers(to: &mut impl Write, c: Counts) -> io::Result<()> {
+    number(to, b" released ", c.released.0 as u64)?;
+    number(to, b" issued ", c.issued.0 as u64)?;
+    number(to, b" secured ", c.secured.0 as u64)?;
+    number(to, b" held ", c.held as u64)?;
+    number(to, b" pended ", c.pended as u64)?;
+    number(to, b" labels ", c.labels as u64)
 }
 
 // The open Request at a label word; none too in an image that is refused, and where there is no such word.
@@ -149,24 +155,24 @@ fn request_at(image: &[u8], place: u32) -> IdField {
 }
 
 // Whether a label word is an open Request's, and its ID.
-pub fn show_request(image: &[u8], place: u32) {
+pub fn show_request(to: &mut impl Write, image: &[u8], place: u32) -> io::Result<()> {
     match request_at(image, place) {
-        IdField::Absent => say(b" open 0 id 0\n"),
+        IdField::Absent => say(to, b" open 0 id 0\n"),
         IdField::Id(id) => {
-            number(b" open 1 id ", id.0 as u64);
-            say(b"\n");
+            number(to, b" open 1 id ", id.0 as u64)?;
+            say(to, b"\n")
         }
     }
 }
 
 // The counts of an image.
-pub fn show_counts(image: &[u8]) {
+pub fn show_counts(to: &mut impl Write, image: &[u8]) -> io::Result<()> {
     match image_report::report_of(image) {
-        Report::Counted(c) => show_numbers(c),
+        Report::Counted(c) => show_numbers(to, c)?,
         Report::Refused(answer, block) => {
-            number(b" refused ", answer as u64);
-            number(b" block ", block as u64);
+            number(to, b" refused ", answer as u64)?;
+            number(to, b" block ", block as u64)?;
         }
     }
-    say(b"\n");
+    say(to, b"\n")
 }

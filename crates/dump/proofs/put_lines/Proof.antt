@@ -7,33 +7,33 @@ use Rattle.dump.proofs.Lines.{After, lines_start, line_message, line-next, lines
 use Rattle.dump.proofs.put_lines.Statement.{statement}
 use Rattle.dump.proofs.put_lines.Tie as tie
 
-abbrev invariant-loop : tie.invariant-loop
-invariant-loop out₀ number pdu count at₀ end₀ k₀ out at end k = After out₀ number pdu count out at end k
+abbrev invariant-loop-k : tie.invariant-loop-k
+invariant-loop-k out₀ number pdu count at₀ end₀ k₀ out at end k = After out₀ number pdu count out at end k
 
-abbrev decreases-loop : tie.decreases-loop
-decreases-loop out₀ number pdu count at₀ end₀ k₀ out at end k = count - k
+abbrev decreases-loop-k : tie.decreases-loop-k
+decreases-loop-k out₀ number pdu count at₀ end₀ k₀ out at end k = count - k
 
 -- the message that is handed out
-message : (c : tie.After-message-part invariant-loop decreases-loop) → (8 ≤ length c.message-part.result.now)
-    × (c.before.before.loop.at + length c.message-part.result.now ≤ length c.before.before.before.before.before.args.pdu.now)
-message c = line_message _ _ _ _ _ _ _ _ c.before.before.loop.invariant c.before.loop-test.true _ c.message-part.ensures.0
+message : (c : tie.After-message_part-m invariant-loop-k decreases-loop-k) → (8 ≤ length c.message_part-m.result.now)
+    × (c.loop-k.at + length c.message_part-m.result.now ≤ length c.args.pdu.now)
+message c = line_message _ _ _ _ _ _ _ _ c.loop-k.invariant c.loop-k-test.true _ c.message_part-m.ensures.0
 
-loop-again : tie.Need-loop-preserved invariant-loop decreases-loop
+loop-again : tie.Need-loop-k-preserved invariant-loop-k decreases-loop-k
 loop-again c =
     line-next _ _ _ _ _ _ _ _
-    c.before.before.before.before.before.before.loop.invariant
-    c.before.before.before.before.before.loop-test.true
+    c.loop-k.invariant
+    c.loop-k-test.true
     _
-    c.before.before.before.before.message-part.ensures.0
+    c.message_part-m.ensures.0
     _
     _
-    c.before.before.put-line.ensures.0
-    c.before.before.put-line.ensures.1
+    c.put_line-end.ensures.0
+    c.put_line-end.ensures.1
 
-pub put-lines-spec : {M : Type 1} → statement M
-put-lines-spec =
-    let answers = tie.spec invariant-loop decreases-loop
-    (λ c. lines_start _ _ _ _ c.before.before.requires.0)
+pub put_lines_spec : {M : Type 1} → statement M
+put_lines_spec =
+    let answers = tie.spec invariant-loop-k decreases-loop-k
+    (λ c. lines_start _ _ _ _ c.requires.0)
     (λ c. search rules)
     (λ c. search rules)
     (λ c. λ κs. let m = message c.before in (m.0, omega arith))
@@ -41,6 +41,6 @@ put-lines-spec =
     (λ c. search rules)
     (λ c. search rules)
     loop-again
-    (λ c. c.before.loop.invariant.same)
-    (λ c. (lines_end _ _ _ _ _ _ _ _ c.before.loop.invariant c.loop-test.false, omega arith)) in
+    (λ c. c.loop-k.invariant.same)
+    (λ c. (lines_end _ _ _ _ _ _ _ _ c.loop-k.invariant c.loop-k-test.false, omega arith)) in
     tie.close answers

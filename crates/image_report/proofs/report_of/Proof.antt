@@ -4,13 +4,13 @@ use Rattle.image_report.proofs.Reported.{report_sound, report_counts, report_ref
 use Rattle.image_report.proofs.report_of.Statement.{statement}
 use Rattle.image_report.proofs.report_of.Tie as tie
 
-pub report-of-spec : {M : Type 1} → statement M
-report-of-spec =
+pub report_of_spec : {M : Type 1} → statement M
+report_of_spec =
     let answers = tie.spec
     (λ c κs. search rules)
     (λ c κs. search rules)
-    (λ c κs. report_sound _ c.before.before.check-image.ensures c.before.verdict-number.ensures c.if1.true)
-    (λ c. report_counts _ c.before.before.before.check-image.ensures c.before.before.verdict-number.ensures c.before.if1.true c.Counts-of.ensures)
+    (λ c κs. report_sound _ c.check_image-v.ensures c.verdict_number-n.ensures c.if-n-eq0.true)
+    (λ c. report_counts _ c.check_image-v.ensures c.verdict_number-n.ensures c.if-n-eq0.true c.counts_of.ensures)
     (λ c κs. search rules)
-    (λ c. report_refusal _ c.before.before.before.check-image.ensures c.before.before.verdict-number.ensures c.before.if1.false c.verdict-block.ensures) in
+    (λ c. report_refusal _ c.check_image-v.ensures c.verdict_number-n.ensures c.if-n-eq0.false c.verdict_block.ensures) in
     tie.close answers

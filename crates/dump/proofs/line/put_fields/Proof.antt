@@ -7,15 +7,15 @@ use Rattle.dump.proofs.line.put_fields.Tie as tie
 returns : tie.Need-returns
 returns c = (
   put_then (put_then (put_then
-      c.before.before.before.before.before.before.before.before.before.before.before.before.before.before.put-binding.ensures.0
-      c.before.before.before.before.before.before.before.before.before.before.put_state_lem.ensures.0)
-      c.before.before.before.before.before.before.put-ft.ensures.0)
-      c.before.before.put-request-id.ensures.0,
+      c.put_binding-end.ensures.0
+      c.put_state-end.ensures.0)
+      c.put_ft-end.ensures.0)
+      c.put_request_id.ensures.0,
   search rules,
 )
 
-pub put-fields-spec : {M : Type 1} → statement M
-put-fields-spec =
+pub put_fields_spec : {M : Type 1} → statement M
+put_fields_spec =
     let answers = tie.spec
     (λ c. search rules)
     (λ c. search rules)

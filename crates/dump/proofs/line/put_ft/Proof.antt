@@ -4,11 +4,9 @@ use Rattle.text.proofs.Pieces.{pieces}
 use Rattle.dump.proofs.line.put_ft.Statement.{statement}
 use Rattle.dump.proofs.line.put_ft.Tie as tie
 
-pub put-ft-spec : {M : Type 1} → statement M
-put-ft-spec =
+pub put_ft_spec : {M : Type 1} → statement M
+put_ft_spec =
     let answers = tie.spec
-    (λ c. search rules)
-    (λ c. search rules)
     (λ c. search rules)
     (λ c. search rules)
     (λ c. search rules)

@@ -7,20 +7,18 @@ use Rattle.dump.proofs.line.put_head.Tie as tie
 returns : tie.Need-returns
 returns c = (
   put_head _ _ _ _ _
-      c.before.before.before.before.before.before.before.before.before.before.before.before.before.before.before.before.before.before.before.before.number_in.ensures
-      c.before.before.before.before.before.before.before.before.before.before.before.before.before.before.before.before.before.before.before.id-in.ensures
-      c.before.before.before.before.before.before.before.before.before.before.before.before.before.before.before.before.before.put-decimal.ensures.0
-      c.before.before.before.before.before.before.before.before.before.before.before.before.put-number.ensures.0
-      c.before.before.before.before.before.before.before.before.put-type.ensures.0
-      c.before.before.put-number2.ensures.0,
+      c.number_in-kind.ensures
+      c.id_in-id.ensures
+      c.put_decimal-end.ensures.0
+      c.put_number-end.ensures.0
+      c.put_type-end.ensures.0
+      c.put_number.ensures.0,
   search rules,
 )
 
-pub put-head-spec : {M : Type 1} → statement M
-put-head-spec =
+pub put_head_spec : {M : Type 1} → statement M
+put_head_spec =
     let answers = tie.spec
-    (λ c. search rules)
-    (λ c. search rules)
     (λ c. search rules)
     (λ c. search rules)
     (λ c. search rules)

@@ -4,10 +4,9 @@ use Rattle.dump.proofs.Pieces.{put-line}
 use Rattle.dump.proofs.line.put_line.Statement.{statement}
 use Rattle.dump.proofs.line.put_line.Tie as tie
 
-pub put-line-spec : {M : Type 1} → statement M
-put-line-spec =
+pub put_line_spec : {M : Type 1} → statement M
+put_line_spec =
     let answers = tie.spec
-    (λ c. search rules)
     (λ c. search rules)
     (λ c. search rules)
     (λ c. search rules)

@@ -4,13 +4,12 @@ use Rattle.text.proofs.Pieces.{put_then}
 use Rattle.image_report.proofs.lines.put_line.Statement.{statement}
 use Rattle.image_report.proofs.lines.put_line.Tie as tie
 
-pub put-line-spec : {M : Type 1} → statement M
-put-line-spec =
+pub put_line_spec : {M : Type 1} → statement M
+put_line_spec =
     let answers = tie.spec
     (λ c κs. search rules)
-    (λ c κs. search rules)
     (λ c. search rules)
     (λ c κs. search rules)
     (λ c. search rules)
-    (λ c. (put_then c.before.before.before.before.before.before.before.before.before.before.before.put-text.ensures (put_then c.before.before.before.before.before.before.before.put-decimal.ensures.0 c.before.before.put-text2.ensures), search rules)) in
+    (λ c. (put_then c.put_text-after.ensures (put_then c.put_decimal-end.ensures.0 c.put_text.ensures), search rules)) in
     tie.close answers

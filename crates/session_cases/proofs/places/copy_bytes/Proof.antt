@@ -7,15 +7,15 @@ use borrow.Author.Rules.{rules}
 use Rattle.session_cases.proofs.places.copy_bytes.Statement.{statement}
 use Rattle.session_cases.proofs.places.copy_bytes.Tie as tie
 
-abbrev invariant-loop : tie.invariant-loop
-invariant-loop images₀ to from size i₀ images i = (i ≤ size) × (to + size ≤ length images) × (from + size ≤ length images) × (length images ≡ length images₀)
+abbrev invariant-loop-i : tie.invariant-loop-i
+invariant-loop-i images₀ to from size i₀ images i = (i ≤ size) × (to + size ≤ length images) × (from + size ≤ length images) × (length images ≡ length images₀)
 
-abbrev decreases-loop : tie.decreases-loop
-decreases-loop images₀ to from size i₀ images i = size - i
+abbrev decreases-loop-i : tie.decreases-loop-i
+decreases-loop-i images₀ to from size i₀ images i = size - i
 
-pub copy-bytes-spec : {M : Type 1} → statement M
-copy-bytes-spec =
-    let answers = tie.spec invariant-loop decreases-loop
+pub copy_bytes_spec : {M : Type 1} → statement M
+copy_bytes_spec =
+    let answers = tie.spec invariant-loop-i decreases-loop-i
     (λ c κs. search rules)
     (λ c. search rules)
     (λ c κs. search rules)

@@ -6,15 +6,15 @@ use borrow.Author.Rules.{rules}
 use Rattle.session_cases.proofs.script.find.Statement.{statement}
 use Rattle.session_cases.proofs.script.find.Tie as tie
 
-abbrev invariant-loop : tie.invariant-loop
-invariant-loop text separator i₀ i = i ≤ length text
+abbrev invariant-loop-i : tie.invariant-loop-i
+invariant-loop-i text separator i₀ i = i ≤ length text
 
-abbrev decreases-loop : tie.decreases-loop
-decreases-loop text separator i₀ i = length text - i
+abbrev decreases-loop-i : tie.decreases-loop-i
+decreases-loop-i text separator i₀ i = length text - i
 
 pub find_spec : {M : Type 1} → statement M
 find_spec =
-    let answers = tie.spec invariant-loop decreases-loop
+    let answers = tie.spec invariant-loop-i decreases-loop-i
     (λ c. omega arith)
     (λ c. omega arith)
     (λ c. search rules)

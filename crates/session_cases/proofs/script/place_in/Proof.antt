@@ -6,15 +6,15 @@ use borrow.Author.Rules.{rules}
 use Rattle.session_cases.proofs.script.place_in.Statement.{statement}
 use Rattle.session_cases.proofs.script.place_in.Tie as tie
 
-abbrev invariant-loop : tie.invariant-loop
-invariant-loop list word rest₀ i₀ rest i = i + length rest ≤ length list
+abbrev invariant-loop-rest : tie.invariant-loop-rest
+invariant-loop-rest list word rest₀ i₀ rest i = i + length rest ≤ length list
 
-abbrev decreases-loop : tie.decreases-loop
-decreases-loop list word rest₀ i₀ rest i = length rest
+abbrev decreases-loop-rest : tie.decreases-loop-rest
+decreases-loop-rest list word rest₀ i₀ rest i = length rest
 
-pub place-in-spec : {M : Type 1} → statement M
-place-in-spec =
-    let answers = tie.spec invariant-loop decreases-loop
+pub place_in_spec : {M : Type 1} → statement M
+place_in_spec =
+    let answers = tie.spec invariant-loop-rest decreases-loop-rest
     (λ c. omega arith)
     (λ c κs. search rules)
     (λ c κs. search rules)

@@ -7,15 +7,15 @@ use borrow.Author.Rules.{rules}
 use Rattle.session_cases.proofs.script.read_hex.Statement.{statement}
 use Rattle.session_cases.proofs.script.read_hex.Tie as tie
 
-abbrev invariant-loop : tie.invariant-loop
-invariant-loop text bytes₀ size i₀ bytes i = (i ≤ size) × (size * 2 ≡ length text) × (size ≤ length bytes) × (length bytes ≡ length bytes₀)
+abbrev invariant-loop-i : tie.invariant-loop-i
+invariant-loop-i text bytes₀ size i₀ bytes i = (i ≤ size) × (size * 2 ≡ length text) × (size ≤ length bytes) × (length bytes ≡ length bytes₀)
 
-abbrev decreases-loop : tie.decreases-loop
-decreases-loop text bytes₀ size i₀ bytes i = size - i
+abbrev decreases-loop-i : tie.decreases-loop-i
+decreases-loop-i text bytes₀ size i₀ bytes i = size - i
 
-pub read-hex-spec : {M : Type 1} → statement M
-read-hex-spec =
-    let answers = tie.spec invariant-loop decreases-loop
+pub read_hex_spec : {M : Type 1} → statement M
+read_hex_spec =
+    let answers = tie.spec invariant-loop-i decreases-loop-i
     (λ c. omega arith)
     (λ c. search rules)
     (λ c. search rules)

@@ -6,15 +6,15 @@ use borrow.Author.Rules.{rules}
 use Rattle.session_cases.proofs.script.read_number.Statement.{statement}
 use Rattle.session_cases.proofs.script.read_number.Tie as tie
 
-abbrev invariant-loop : tie.invariant-loop
-invariant-loop text n₀ i₀ n i = i ≤ length text
+abbrev invariant-loop-i : tie.invariant-loop-i
+invariant-loop-i text n₀ i₀ n i = i ≤ length text
 
-abbrev decreases-loop : tie.decreases-loop
-decreases-loop text n₀ i₀ n i = length text - i
+abbrev decreases-loop-i : tie.decreases-loop-i
+decreases-loop-i text n₀ i₀ n i = length text - i
 
-pub read-number-spec : {M : Type 1} → statement M
-read-number-spec =
-    let answers = tie.spec invariant-loop decreases-loop
+pub read_number_spec : {M : Type 1} → statement M
+read_number_spec =
+    let answers = tie.spec invariant-loop-i decreases-loop-i
     (λ c. search rules)
     (λ c. omega arith)
     (λ c. omega arith)

@@ -15,15 +15,15 @@ use Rattle.session_cases.proofs.show.request_at.Tie as tie
 sized : (im : List ℕ) {v : Verdict} {n : ℕ} → v ≡ verdict im → n ≡ verdict_number v → n ≡ 0 → length im ≡ image_size
 sized im {v} ev en z = (sound_parts im (sym ev ∙ number-sound v (sym en ∙ z))).size
 
-pub request-at-spec : {M : Type 1} → statement M
-request-at-spec =
+pub request_at_spec : {M : Type 1} → statement M
+request_at_spec =
     let answers = tie.spec
     (λ c κs. search rules)
     (λ c κs. search rules)
     (λ c. search rules)
     (λ c. search rules)
-    (λ c κs. (sized _ c.before.before.before.check-image.ensures c.before.before.verdict-number.ensures c.before.if1.false, c.if2.false))
+    (λ c κs. (sized _ c.check_image.ensures c.verdict_number.ensures c.if-verdict_number-ne0.false, c.if-place-ge-WORD_COUNT.false))
     (λ c. search rules)
-    (λ c κs. (sized _ c.before.before.before.before.before.check-image.ensures c.before.before.before.before.verdict-number.ensures c.before.before.before.if1.false, c.before.before.if2.false))
+    (λ c κs. (sized _ c.check_image.ensures c.verdict_number.ensures c.if-verdict_number-ne0.false, c.if-place-ge-WORD_COUNT.false))
     (λ c. search rules) in
     tie.close answers
