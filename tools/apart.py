@@ -9,65 +9,67 @@ of those is tried alone here, and must not have refused the names of its neighbo
 
 The gate does not run it: it is for whoever regroups edits.
 """
-import pathlib
-import shutil
-import subprocess
 import sys
-import tempfile
 
 sys.dont_write_bytecode = True
-from refusals import HEADING, ROOT, refused_by_itself  # noqa: E402
+from refusals import HEADING, refused_by_itself  # noqa: E402
+from sources import ROOT  # noqa: E402
+from tries import OWN_PROOFS, edited, prove, try_all  # noqa: E402
+
+# a line of a source that others rest on: a clause, an import of a definition, a constant
+SHARED = ("requires", "ensures", "ghost ", "const ", "#[tactic")
 
 
 class Wrong:
     def __init__(self, label, name):
-        self.label, self.name, self.lines, self.shared = label, name, [], False
+        self.label, self.name, self.pairs, self.shared = label, name, [], False
 
 
 def wrong_answers(edit):
-    """The wrong answers of an edit, each with the lines that make it."""
-    found, file = [], ""
+    """The wrong answers of an edit, each with the changes that make it."""
+    found, path, old = [], None, ""
     for line in edit.read_text().splitlines():
+        word, _, rest = line.partition(":")
+        rest = rest.removeprefix(" ")
         heading = HEADING.match(line)
         if heading:
-            found.append(Wrong(*heading.groups()))
-        elif line.startswith("file: "):
-            file = line
-        elif line.startswith("old: "):
-            found[-1].lines += [file, line]
-            found[-1].shared |= file.startswith("file: specs/") or any(word in line for word in ("now (", "ghost use", "const "))
-        elif line.startswith("new:"):
-            found[-1].lines.append(line)
+            found.append(Wrong(heading[1], heading[2]))
+        elif word == "file":
+            path = edit.parent.parent / rest.strip()
+        elif word == "old":
+            old = rest
+            code = path.relative_to(edit.parent.parent).parts[0] == "src"
+            # a function's own proof, whose names follow its code, is as much its own as the code
+            found[-1].shared |= path.name not in OWN_PROOFS and (not code or any(word in old for word in SHARED))
+        elif word == "new":
+            found[-1].pairs.append((path, old, rest))
     return found
 
 
-def tried_alone(crate, edit, copy):
-    """Tries each wrong answer alone that others may rest on, in a copy of the repository; the clashes that it shows."""
-    said, answers = [], wrong_answers(edit)
-    for wrong in (answer for answer in answers if answer.shared and len(answers) > 1):
-        place = copy / "crates" / crate / "must-fail"
-        shutil.rmtree(place, ignore_errors=True)
-        place.mkdir()
-        (place / "alone.edit").write_text("\n".join(wrong.lines) + "\n")
-        subprocess.run(["rt", "must-fail", crate], cwd=copy, capture_output=True, check=False)
-        refused = refused_by_itself((copy / "target" / "must-fail" / crate / "alone" / ".log").read_text())
-        clashes = [other.label for other in answers if other is not wrong and other.name in refused]
-        print(f"{crate}/{edit.stem} {wrong.label}: {'refuses also ' + ', '.join(clashes) if clashes else 'apart'}", flush=True)
-        said += clashes
-    return said
-
-
 def main(wanted):
-    said = []
-    with tempfile.TemporaryDirectory() as room:
-        copy = pathlib.Path(room) / "repository"
-        shutil.copytree(ROOT, copy, ignore=shutil.ignore_patterns(".git", "host", "must-fail", "inc"))
-        for edit in sorted(ROOT.glob("crates/*/must-fail/*.edit")):
-            crate = edit.parent.parent.name
-            if not wanted or crate in wanted:
-                said += tried_alone(crate, edit, copy)
-                shutil.rmtree(copy / "crates" / crate / "must-fail", ignore_errors=True)
-    print(f"{len(said)} wrong answers may be refused for another's sake")
+    tries, of, said = [], [], []
+    for edit in sorted(ROOT.glob("crates/*/must-fail/*.edit")):
+        crate = edit.parent.parent.name
+        answers = wrong_answers(edit) if not wanted or crate in wanted else []
+        for wrong in (answer for answer in answers if answer.shared and len(answers) > 1):
+            texts = edited(wrong.pairs)
+            if texts is None:
+                said.append(f"{crate}/{edit.stem} {wrong.label}: cannot be tried alone, since a text that it changes is not once in its file")
+                continue
+            tries.append((crate, texts))
+            of.append((f"{crate}/{edit.stem} {wrong.label}", wrong, answers))
+    print(*said, sep="\n", end="\n" if said else "")
+    prove(sorted({crate for crate, _ in tries}) if wanted else [])
+
+    def told(number, status, log):
+        name, wrong, answers = of[number]
+        refused = refused_by_itself(log)
+        clashes = [other.label for other in answers if other is not wrong and other.name in refused]
+        said.extend(clashes if status else [name])
+        print(f"{name}: {'refuses also ' + ', '.join(clashes) if clashes else 'apart' if status else 'is not refused alone'}", flush=True)
+
+    try_all(tries, told)
+    print(f"{len(said)} wrong answers may be refused for another's sake, or not at all")
     return 1 if said else 0
 
 

@@ -1,15 +1,37 @@
 """The crates' files as the tools read them: code without comments, `use` lines, and the names that a module has."""
+import functools
 import pathlib
 import re
+import subprocess
 
 ROOT = pathlib.Path(__file__).resolve().parent.parent
-# Rattle's own libraries, which a line of crates.txt may list beside the repository's crates
-KIT = {"bytes", "check", "io", "libc", "os"}
+# libraries of the kit that are always there: no line of crates.txt lists them
+ALWAYS = {"core", "std", "std_alloc", "std_collections", "std_heap", "std_io"}
 COMMENT = {".antt": re.compile(r"(?m)(?:^|(?<=\s))--.*$"), ".rt": re.compile(r"(?m)(?:^|(?<=\s))//.*$")}
 USE = re.compile(r"(ghost use|pub use|use) ([^\s{};]+?)(?:\.\{([^{}]*)\})?(?: as ([^\s;]+))?;?")
 DECLARATION = re.compile(r"(\s*)(abbrev |unfoldable )?(pub )?(record |data |ruleset )?([^\s(){}:]+)(?=\s)")
 CONSTRUCTORS = re.compile(r"\s+([^(){}:]+) :")
+# what a source takes, also over several lines; no `ghost use`
+CODE_USE = re.compile(r"(?m)^(pub )?use ([^;]*);")
 TYPE = re.compile(r"(?m)^(?:pub )?(struct|enum) (\w+)[^{;]*(?:\{\n(.*?)^\})?", re.S)
+
+
+@functools.lru_cache(maxsize=None)
+def kit_folder():
+    """Where the kit is: rt names the page beside which its other parts lie."""
+    return pathlib.Path(subprocess.run(["rt", "doc"], capture_output=True, text=True, check=True).stdout.strip()).parent
+
+
+@functools.lru_cache(maxsize=None)
+def kit():
+    """The kit's libraries that a line of crates.txt may list beside the repository's crates."""
+    return frozenset(path.stem for path in kit_folder().glob("rlibs/*.rlib")) - ALWAYS
+
+
+def listed():
+    """Of each crate in crates.txt what its line says before the colon beside the name, as `staticlib`, and the libraries behind it."""
+    lines = (line.partition("#")[0].partition(":") for line in (ROOT / "crates.txt").read_text().splitlines())
+    return {head.split()[0]: (head.split()[1:], libraries.split()) for head, colon, libraries in lines if colon}
 
 
 def crate_names():
@@ -23,6 +45,26 @@ def paths(crate):
 
 def code(text, suffix):
     return COMMENT[suffix].sub("", text)
+
+
+def paths_taken(item):
+    """The paths that the `use` item of a source takes, without its braces: `a::{b, c::{self, d}}` takes a::b, a::c and a::c::d."""
+    path, brace, inner = item.partition("{")
+    if not brace:
+        return ["".join(item.split(" as ")[0].split()).removesuffix("::self")]
+    parts, deep = [""], 0
+    for sign in inner.rstrip().removesuffix("}"):
+        deep += {"{": 1, "}": -1}.get(sign, 0)
+        if sign == "," and not deep:
+            parts.append("")
+        else:
+            parts[-1] += sign
+    return [taken for part in parts if part.strip() for taken in paths_taken(path.strip() + part.strip())]
+
+
+def one_by_one(text):
+    """A source with a `use` line for each path that it takes."""
+    return CODE_USE.sub(lambda item: "\n".join(f"{item[1]}use {path};" for path in paths_taken(item[2])), text)
 
 
 class Import:
@@ -67,17 +109,7 @@ class File:
         return [one for run in self.runs() for one in run]
 
 
-# ---- modules and the names that they have
-def inside(module, crate):
-    """A module as the crate itself names it: its own are Rattle·CRATE·specs.specs.M."""
-    return re.sub(rf"^Rattle·{crate}\.(specs|proofs)\.", rf"Rattle·{crate}·\1.\1.", module)
-
-
-def outside(module):
-    """A module as other crates name it: Rattle·CRATE.specs.M."""
-    return re.sub(r"^Rattle·(\w+)·(specs|proofs)\.\2\.", r"Rattle·\1.\2.", module)
-
-
+# ---- the names that modules have
 class Definition:
     def __init__(self, name, kind):
         self.name, self.kind, self.constructors = name, kind, []
@@ -103,7 +135,7 @@ def definitions(text):
 def names_of(crate, path):
     """Module and name of all that can be imported from a file; a source's types are modules of their own."""
     place = ".".join(path.relative_to(ROOT / "crates" / crate).with_suffix("").parts)
-    module, text = f"Rattle·{crate}.{place}", path.read_text()
+    module, text = f"Rattle.{crate}.{place}", path.read_text()
     if path.suffix == ".antt":
         for made in definitions(text):
             yield from ((module, name) for name in [made.name, *made.constructors])
@@ -112,4 +144,19 @@ def names_of(crate, path):
     for form, name, body in TYPE.findall(code(text, ".rt")):
         yield f"{module}.{name}", name
         if form == "enum":
-            yield from ((f"{module}.{name}.the-variants", variant) for variant in re.findall(r"(?m)^    (\w+)", body))
+            yield from ((f"{module}.{name}.TheVariants", variant) for variant in re.findall(r"(?m)^    (\w+)", body))
+
+
+# ---- must-fail edits, which change files by their text
+def changes(edit):
+    """The changes of an edit in order: the file's path, the text that is once in it, and the text in its place."""
+    path, old = None, ""
+    for line in edit.read_text().splitlines():
+        word, _, rest = line.partition(":")
+        rest = rest.removeprefix(" ")
+        if word == "file":
+            path = edit.parent.parent / rest.strip()
+        elif word == "old":
+            old = rest
+        elif word == "new":
+            yield path, old, rest

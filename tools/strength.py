@@ -10,7 +10,8 @@ import re
 import sys
 
 sys.dont_write_bytecode = True
-from refusals import HEADING, ROOT  # noqa: E402
+from refusals import HEADING  # noqa: E402
+from sources import ALWAYS, ROOT, listed, one_by_one  # noqa: E402
 
 PAGE = ROOT / "docs" / "STRENGTH.md"
 # what an owner or a reader of captures builds on: at least two wrong answers are tried on each public function of these
@@ -37,10 +38,12 @@ made in a helper, or refused in a law, that is named in brackets.
 their file. Words of statements are defined in `specs/`.
 
 """
-FUNCTION = re.compile(r"^(pub )?(?:extern \"C\" )?fn (\w+)\(", re.M)
-GHOST_USE = re.compile(r"^ghost use Rattle·(\w+)(?:·specs\.specs|\.specs)\.([\w.]+?)(?:\.\{([^}]*)\})?;", re.M)
-ENSURES = re.compile(r"ensures [^{]*\{(.*)\}\s*$", re.M)
-REQUIRES = re.compile(r"requires \{ ⌜ (.*) ⌝ \}\s*$", re.M)
+FUNCTION = re.compile(r"^(pub )?(?:extern \"C\" )?fn (\w+)[(<]", re.M)
+GHOST_USE = re.compile(r"^ghost use Rattle\.(\w+)\.specs\.([\w.]+?)(?:\.\{([^}]*)\})?;", re.M)
+CLAUSE = re.compile(r"^    (requires|ensures)\*?(?: \w+)? \{", re.M)
+EXPORTED = "#[unsafe(no_mangle)]\n"
+REEXPORTED = re.compile(r"^pub use \w+(?:::\w+)*::(\w+);", re.M)
+PROOFS = ("Proof.antt", "Answers.antt", "Invariants.antt")
 LAW = re.compile(r"\s*(?:abbrev |unfoldable )?pub (?:record |data |ruleset )?([^\s(){}:]+)(?=\s)")
 
 
@@ -61,19 +64,32 @@ def head_of(lines, mark):
     return words_above(lines[: next((n for n, line in enumerate(lines) if not line.startswith(mark)), len(lines))], mark)
 
 
+def clauses(text, kind):
+    """The texts of a function's clauses of one kind, `requires` or `ensures`."""
+    found, head = [], text[: text.find("\n{")]
+    for clause in CLAUSE.finditer(head):
+        end, deep = clause.end(), 1
+        while deep and end < len(head):
+            deep += {"{": 1, "}": -1}.get(head[end], 0)
+            end += 1
+        if clause[1] == kind:
+            found.append(" ".join(head[clause.end() : end - 1].split()))
+    return found
+
+
 class Function:
     def __init__(self, crate, path, public, name, text, cited, above):
         self.crate, self.public, self.name, self.text = crate, public, name, text
         self.promise = words_above(above.splitlines(), "//") or "-"
-        self.requires = "; ".join(f"`{clause}`" for clause in REQUIRES.findall(text)).replace("|", "\\|")
+        self.requires = "; ".join(f"`{clause}`" for clause in clauses(text, "requires")).replace("|", "\\|")
         inside = path.relative_to(crate / "src").with_suffix("").as_posix()
         self.module = "" if inside in ("lib", "main") else inside + "/"
-        clauses = " ".join(ENSURES.findall(text))
-        self.cites = [f"`{word}` ({place})" for word, place in cited.items() if re.search(rf"(?<![\w-]){re.escape(word)}(?![\w-])", clauses)]
+        promised = " ".join(clauses(text, "ensures"))
+        self.cites = [f"`{word}` ({place})" for word, place in cited.items() if re.search(rf"(?<![\w-]){re.escape(word)}(?![\w-])", promised)]
 
     def proof(self):
         place = f"proofs/{self.module}{self.name}"
-        return f"`{place}`" if (self.crate / place / "Proof.antt").is_file() else "search"
+        return f"`{place}`" if any((self.crate / place / file).is_file() for file in PROOFS) else "search"
 
 
 def definitions(crate, source):
@@ -82,7 +98,7 @@ def definitions(crate, source):
     for library, module, names in GHOST_USE.findall(source):
         place = f"specs/{module.replace('.', '/')}.antt"
         place = place if library == crate.name else f"{library}/{place}"
-        for name in names.split(",") if names and "declared" not in module else []:
+        for name in names.split(",") if names and "declared" not in module and library not in ALWAYS else []:
             cited[name.strip()] = place
     return cited
 
@@ -91,7 +107,7 @@ def functions(crate):
     """The functions of a crate by name; public are those that another crate can call."""
     found = {}
     root = crate / "src" / "lib.rt"
-    exported = re.findall(r"^pub use \w+(?:::\w+)*::(\w+);", root.read_text(), re.M) if root.is_file() else []
+    exported = REEXPORTED.findall(one_by_one(root.read_text())) if root.is_file() else []
     open_modules = re.findall(r"^pub mod (\w+);", root.read_text(), re.M) if root.is_file() else []
     for path in sorted((crate / "src").rglob("*.rt")):
         source = path.read_text()
@@ -99,7 +115,7 @@ def functions(crate):
         for this, following in zip(starts, starts[1:]):
             text = source[this.start() : following.start() if following else len(source)]
             above = source[: this.start()]
-            seen = path == root or path.stem in open_modules or this[2] in exported or above.endswith("#[no_mangle]\n")
+            seen = path == root or path.stem in open_modules or this[2] in exported or above.endswith(EXPORTED)
             found[this[2]] = Function(crate, path, bool(this[1]) and seen, this[2], text, definitions(crate, source), above)
     return found
 
@@ -123,7 +139,7 @@ def wrong_answers(crate):
     for edit in sorted((crate / "must-fail").glob("*.edit")):
         for line in edit.read_text().splitlines():
             if HEADING.match(line):
-                label, name, words = re.match(r"# (\w+) \(([\w-]+)\): (.*)", line).groups()
+                label, name, words = HEADING.match(line).groups()
                 found.append((label, name, words))
     return sorted(found)
 
@@ -151,7 +167,7 @@ def cell(answers, own):
 def called_below(function):
     """The function of a crate below that is all of the body of a function of the boundary; None where it does more."""
     body = function.text[function.text.find("\n{") :]
-    only = re.fullmatch(r"\n\{\s*(\w+)::(\w+)\([^()]*\)\s*\}\s*(?:#\[no_mangle\]\s*)?", body)
+    only = re.fullmatch(r"\n\{\s*(\w+)::(\w+)\([^()]*\)\s*\}\s*(?:#\[unsafe\(no_mangle\)\]\s*)?", body)
     return functions(ROOT / "crates" / only[1])[only[2]] if only and function.crate.name == BOUNDARY else None
 
 
@@ -247,14 +263,13 @@ def cited_in_coverage(tried):
 
 def crates():
     """The crates in the order of crates.txt."""
-    lines = (ROOT / "crates.txt").read_text().splitlines()
-    return [ROOT / "crates" / line.split(":")[0] for line in lines if ":" in line and not line.startswith("#")]
+    return [ROOT / "crates" / name for name in listed()]
 
 
 def main(check):
     faults = []
     libraries = [crate for crate in crates() if (crate / "src" / "lib.rt").is_file()]
-    sources = {crate.name: "\n".join(path.read_text() for path in sorted((crate / "src").rglob("*.rt"))) for crate in crates()}
+    sources = {crate.name: one_by_one("\n".join(path.read_text() for path in sorted((crate / "src").rglob("*.rt")))) for crate in crates()}
     made = HEAD + "".join(section(crate, sources, faults) for crate in libraries)
     faults += cited_in_coverage({(crate.name, label) for crate in libraries for label, _, _ in wrong_answers(crate)})
     if not check:

@@ -4,12 +4,15 @@
     tools/uses.py                       rewrites both in place
     tools/uses.py --check               changes nothing; names what it would rewrite, and fails where there is any
     tools/uses.py --add LOG [CRATE..]   adds the imports that a log of rt misses, and moves those of names that stand elsewhere now,
-                                        in all files or in those of some crates; drops nothing
+                                        in all files or in those of some crates; drops nothing. The log of a check in a crate's own
+                                        folder says no crate: name it
 
 A name that the file does not use is dropped, lines of one module are one, and they stand in one order: the kit, then the crates from
-the lowest to the highest, then the crate's own modules. In sources the lines that are not `ghost` stand as `rt fmt` has them. A crate's
-line in crates.txt is all that it stands on, also through others, since rt wants every crate whose types are reached; and the kit's
-libraries that its files name. It looks too that what a must-fail edit changes is once in its file.
+the lowest to the highest, then the crate's own modules. `rt tidy` drops what nothing uses from .antt files alone, and neither joins
+lines nor orders them. In sources the lines that are not `ghost` stand as `rt fmt` has them, and what is had from a library of the kit
+stays: a trait is used where its methods are called. A crate's line in crates.txt is all that it stands on, also through others, so that
+the line says it; and the kit's libraries that its files name. What stands before the colon, as `staticlib`, stays as it is. It looks
+too that what a must-fail edit changes is once in its file.
 """
 import pathlib
 import re
@@ -17,10 +20,12 @@ import sys
 
 sys.dont_write_bytecode = True
 from missing import add_missing  # noqa: E402
-from sources import KIT, ROOT, File, crate_names, paths  # noqa: E402
+from sources import ALWAYS, CODE_USE, ROOT, File, changes, crate_names, kit, listed, paths, paths_taken  # noqa: E402
 
 LIST = ROOT / "crates.txt"
 GROUPS = ("Prim", "mathlib", "native", "lib")
+# a name that stands first in a path of a source
+FIRST = re.compile(r"(?<![\w:])(\w+)::")
 # a name ends at these; at a sign too, which may stand beside a name without a blank
 NAME = r'[^\s(){};,.\[\]"]'
 SIGNS = re.compile(r"[λ←→∀⌜⌝⟨⟩:=|&!*<>@\\]+")
@@ -28,10 +33,10 @@ SIGNS = re.compile(r"[λ←→∀⌜⌝⟨⟩:=|&!*<>@\\]+")
 
 # ---- which names a file uses
 def words_of(file, holders):
-    """The names that stand by themselves: neither `x` in `Module.x` or `Type.x`, nor the field `x` behind a blank and a dot."""
+    """The names that stand by themselves: neither `x` in `Module.x` or `Type.x`, nor the field `x` of `r.x` or `(f r).x`."""
     bare = file.code
     if file.path.suffix == ".antt":
-        bare = re.sub(rf"(?<=[\s()])\.{NAME}+", " ", bare)
+        bare = re.sub(rf"(?<=\S)\.{NAME}+", " ", bare)
     bare = re.sub(rf"(?<!{NAME})({NAME}+)\.{NAME}+", lambda whole: f"{whole[1]} " if whole[1] in holders else whole[0], bare)
     tokens = set(re.findall(f"{NAME}+", bare)) | ({"[]"} if "[]" in bare else set())
     pieces = {piece for token in tokens for piece in SIGNS.split(token)}
@@ -40,7 +45,7 @@ def words_of(file, holders):
 
 def in_words(name, words):
     """Whether a name is used; of an operator any part counts."""
-    return name in words or ("_" in name and any(part in words for part in name.split("_") if part))
+    return name in words or ("◌" in name and any(part in words for part in name.split("◌") if part))
 
 
 def has_type(file, one):
@@ -54,7 +59,7 @@ def has_type(file, one):
 
 def is_used(file, one, words):
     """Whether any of an import is used; names that are not are taken out of it."""
-    if one.word == "pub use":
+    if one.word == "pub use" or (not one.logic and one.module.split("::")[0] in kit() | ALWAYS):
         return True
     if one.names is not None:
         one.names = [name for name in one.names if in_words(name.split(" as ")[-1], words)]
@@ -83,9 +88,11 @@ def merged(imports):
 
 
 def place(one, crate, order):
-    """Where an import stands: the kit's modules, the kit's libraries, the crates from the lowest to the highest, the file's own crate."""
+    """Where an import stands: the standard library, the logic's, the kit's, the crates from the lowest to the highest, the file's own crate."""
     rest = (one.module, one.names is not None, one.word)
-    library = re.match(r"Rattle·(\w+)", one.module)
+    library = re.match(r"Rattle\.(\w+)", one.module)
+    if library and library[1] in ALWAYS:
+        return (-1, 0, 0, *rest)
     if not library:
         top = one.module.split(".")[0]
         return (0, GROUPS.index(top) if top in GROUPS else len(GROUPS), 0, *rest)
@@ -114,9 +121,13 @@ def file_made(file, order):
 def libraries(file, local):
     """The crates and the kit's libraries that a file names; `local` are modules of its own crate."""
     text = "\n".join([file.code, *(one.line() for one in file.imports())])
-    named = set(re.findall(r"Rattle·(\w+)", text))
+    named = set(re.findall(r"Rattle\.(\w+)", text))
     if file.path.suffix == ".rt":
-        named |= set(re.findall(r"(?<![\w:])(\w+)::", text)) - local
+        taken = [path for _, item in CODE_USE.findall(text) for path in paths_taken(item)]
+        # `io` behind `use std::io` is no library of that name
+        brought = {path.split("::")[-1] for path in taken if "::" in path}
+        named |= {path.split("::")[0] for path in taken} - local
+        named |= set(FIRST.findall(CODE_USE.sub("", text))) - local - brought
     return named - {file.crate}
 
 
@@ -126,7 +137,7 @@ def stands_on(files):
     for crate in names:
         own = [file for file in files if file.crate == crate]
         local = {module for file in own for module in re.findall(r"(?m)^(?:pub )?mod (\w+);", file.code)}
-        found[crate] = set().union(*(libraries(file, local) for file in own)) & (names | KIT)
+        found[crate] = set().union(*(libraries(file, local) for file in own)) & (names | kit())
     return found
 
 
@@ -134,7 +145,7 @@ def reached(crate, named):
     """All crates that a crate stands on, also through others."""
     found, todo = set(), [crate]
     while todo:
-        below = named[todo.pop()] - KIT - found
+        below = named[todo.pop()] - kit() - found
         found |= below
         todo += below
     if crate in found:
@@ -152,28 +163,23 @@ def layers(named):
 
 
 def list_made(named, order, under):
-    head = [line for line in LIST.read_text().splitlines() if line.startswith("#")]
-    lines = (" ".join([f"{crate}:", *(other for other in order if other in under[crate]), *sorted(named[crate] & KIT)]) for crate in order)
+    head, stored = [line for line in LIST.read_text().splitlines() if line.startswith("#")], listed()
+    names = {crate: " ".join([crate, *stored.get(crate, ([],))[0]]) for crate in order}
+    lines = (
+        " ".join([f"{names[crate]}:", *(other for other in order if other in under[crate]), *sorted(named[crate] & kit())]) for crate in order
+    )
     return "\n".join([*head, *lines]) + "\n"
 
 
-# ---- must-fail edits, which change files by their text
 def unfit_edits(made):
-    """The texts of edits that are not once in the file as it is made, each pair applied as it is read."""
+    """The texts of must-fail edits that are not once in the file as it is made, each pair applied as it is read."""
     for edit in sorted(ROOT.glob("crates/*/must-fail/*.edit")):
-        texts, path, old = {}, None, ""
-        for line in edit.read_text().splitlines():
-            word, _, rest = line.partition(":")
-            rest = rest.removeprefix(" ")
-            if word == "file":
-                path = edit.parent.parent / rest
-                texts.setdefault(path, made.get(path, ""))
-            elif word == "old":
-                old = rest
-                if texts[path].count(old) != 1:
-                    yield f"{edit.relative_to(ROOT)}: not once in its file: {old}"
-            elif word == "new":
-                texts[path] = texts[path].replace(old, rest, 1)
+        texts = {}
+        for path, old, new in changes(edit):
+            text = texts.get(path, made.get(path, ""))
+            if text.count(old) != 1:
+                yield f"{edit.relative_to(ROOT)}: not once in its file: {old}"
+            texts[path] = text.replace(old, new, 1)
 
 
 def main(words):

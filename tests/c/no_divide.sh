@@ -16,7 +16,7 @@ divisions() {
 
 # the code of the check, with no comment, contract or import
 sources() {
-    sed -e 's://.*::' -e '/⌜/d' -e '/^ghost use/d' crates/block/src/lib.rt crates/block/src/rows.rt crates/block/src/remainder.rt
+    sed -E -e 's://.*::' -e '/^    (requires|ensures)\b/,/^\{/d' -e '/^(ghost use|#)/d' crates/block/src/lib.rt crates/block/src/rows.rt crates/block/src/remainder.rt
 }
 
 objdump --syms "$archive" | grep ' block::rows::check_rows$' >/dev/null || { echo "no_divide.sh: the check is not found in $archive"; exit 1; }

@@ -1,7 +1,7 @@
 #!/usr/bin/env bash
 # Runs ldp_dump, print_image and convert_image as people start them, with a file's name, --help, what they refuse and what cannot be read, and compares what
 # they write on both outputs, and of convert_image the file that it makes. Then tools/install.sh with what it refuses.
-# rt runs the programs on standard input alone; tools/build-library.sh or rt check builds them.
+# rt ci runs the programs on their stored input alone; tools/build-library.sh builds them.
 set -euo pipefail
 cd "$(dirname "$0")/../.."
 room=$(mktemp -d)
