@@ -147,16 +147,7 @@ reach_named t m Touched.Nothing l e = no cc
 
 mapping_type_lem : (x : MessageType) → LabelType x LabelMessage.Mapping → x ≡ MessageType.Mapping
 mapping_type_lem MessageType.Mapping of_mapping = refl
-mapping_type_lem MessageType.Notification x'' = elim x'' [ ]
-mapping_type_lem MessageType.Initialization x3 = elim x3 [ ]
-mapping_type_lem MessageType.KeepAlive x4 = elim x4 [ ]
-mapping_type_lem MessageType.Address x5 = elim x5 [ ]
-mapping_type_lem MessageType.AddressWithdraw x6 = elim x6 [ ]
-mapping_type_lem MessageType.Request x7 = elim x7 [ ]
-mapping_type_lem MessageType.Withdraw x8 = elim x8 [ ]
-mapping_type_lem MessageType.Release x9 = elim x9 [ ]
-mapping_type_lem MessageType.Abort x10 = elim x10 [ ]
-mapping_type_lem MessageType.Other x11 = elim x11 [ ]
+mapping_type_lem x none = elim none [ ]
 
 -- the place is that of the rules
 reached-takes : (t : Table) (x : Meets) (p : Bool) (m : LabelMessage) (touched : Touched) → taken_by t.words (Received x m p (reached t m touched)) ≡ takes_at t.words x m p touched

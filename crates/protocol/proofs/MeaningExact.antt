@@ -43,36 +43,7 @@ unfolding answered_at answers
 no_answer g LabelMessage.Mapping MessageType.Mapping q of_mapping other t = absurd (true≢false other)
 no_answer g LabelMessage.Withdraw MessageType.Withdraw q of_withdraw other t = rw q
 no_answer g LabelMessage.Release MessageType.Release q of_release other t = rw q
-no_answer g LabelMessage.Mapping MessageType.Notification q x8 other t = elim x8 [ ]
-no_answer g LabelMessage.Mapping MessageType.Initialization q x9 other t = elim x9 [ ]
-no_answer g LabelMessage.Mapping MessageType.KeepAlive q x10 other t = elim x10 [ ]
-no_answer g LabelMessage.Mapping MessageType.Address q x11 other t = elim x11 [ ]
-no_answer g LabelMessage.Mapping MessageType.AddressWithdraw q x12 other t = elim x12 [ ]
-no_answer g LabelMessage.Mapping MessageType.Request q x13 other t = elim x13 [ ]
-no_answer g LabelMessage.Mapping MessageType.Withdraw q x14 other t = elim x14 [ ]
-no_answer g LabelMessage.Mapping MessageType.Release q x15 other t = elim x15 [ ]
-no_answer g LabelMessage.Mapping MessageType.Abort q x16 other t = elim x16 [ ]
-no_answer g LabelMessage.Mapping MessageType.Other q x17 other t = elim x17 [ ]
-no_answer g LabelMessage.Withdraw MessageType.Notification q x9 other t = elim x9 [ ]
-no_answer g LabelMessage.Withdraw MessageType.Initialization q x10 other t = elim x10 [ ]
-no_answer g LabelMessage.Withdraw MessageType.KeepAlive q x11 other t = elim x11 [ ]
-no_answer g LabelMessage.Withdraw MessageType.Address q x12 other t = elim x12 [ ]
-no_answer g LabelMessage.Withdraw MessageType.AddressWithdraw q x13 other t = elim x13 [ ]
-no_answer g LabelMessage.Withdraw MessageType.Mapping q x14 other t = elim x14 [ ]
-no_answer g LabelMessage.Withdraw MessageType.Request q x15 other t = elim x15 [ ]
-no_answer g LabelMessage.Withdraw MessageType.Release q x16 other t = elim x16 [ ]
-no_answer g LabelMessage.Withdraw MessageType.Abort q x17 other t = elim x17 [ ]
-no_answer g LabelMessage.Withdraw MessageType.Other q x18 other t = elim x18 [ ]
-no_answer g LabelMessage.Release MessageType.Notification q x10 other t = elim x10 [ ]
-no_answer g LabelMessage.Release MessageType.Initialization q x11 other t = elim x11 [ ]
-no_answer g LabelMessage.Release MessageType.KeepAlive q x12 other t = elim x12 [ ]
-no_answer g LabelMessage.Release MessageType.Address q x13 other t = elim x13 [ ]
-no_answer g LabelMessage.Release MessageType.AddressWithdraw q x14 other t = elim x14 [ ]
-no_answer g LabelMessage.Release MessageType.Mapping q x15 other t = elim x15 [ ]
-no_answer g LabelMessage.Release MessageType.Request q x16 other t = elim x16 [ ]
-no_answer g LabelMessage.Release MessageType.Withdraw q x17 other t = elim x17 [ ]
-no_answer g LabelMessage.Release MessageType.Abort q x18 other t = elim x18 [ ]
-no_answer g LabelMessage.Release MessageType.Other q x19 other t = elim x19 [ ]
+no_answer g m x q none other t = elim none [ ]
 
 -- a message of that effect over the table t, which is one of a state
 module _ (t : Table) (v : IsValid t.words) (g : Message) (m : LabelMessage) (x : Meets) (request : x.request ≡ Nowhere) (other : is_mapping m ≡ false)

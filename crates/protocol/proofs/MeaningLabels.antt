@@ -59,20 +59,7 @@ pub effect_of_lem : (x : MessageType) (m : LabelMessage) → LabelType x m → (
 effect_of_lem MessageType.Mapping LabelMessage.Mapping of_mapping t = refl
 effect_of_lem MessageType.Withdraw LabelMessage.Withdraw of_withdraw t = refl
 effect_of_lem MessageType.Release LabelMessage.Release of_release t = refl
-effect_of_lem MessageType.Notification m x'' t = elim x'' [ ]
-effect_of_lem MessageType.Initialization m x3 t = elim x3 [ ]
-effect_of_lem MessageType.KeepAlive m x4 t = elim x4 [ ]
-effect_of_lem MessageType.Address m x5 t = elim x5 [ ]
-effect_of_lem MessageType.AddressWithdraw m x6 t = elim x6 [ ]
-effect_of_lem MessageType.Mapping LabelMessage.Withdraw x8 t = elim x8 [ ]
-effect_of_lem MessageType.Mapping LabelMessage.Release x9 t = elim x9 [ ]
-effect_of_lem MessageType.Request m x8 t = elim x8 [ ]
-effect_of_lem MessageType.Withdraw LabelMessage.Mapping x10 t = elim x10 [ ]
-effect_of_lem MessageType.Withdraw LabelMessage.Release x11 t = elim x11 [ ]
-effect_of_lem MessageType.Release LabelMessage.Mapping x11 t = elim x11 [ ]
-effect_of_lem MessageType.Release LabelMessage.Withdraw x12 t = elim x12 [ ]
-effect_of_lem MessageType.Abort m x11 t = elim x11 [ ]
-effect_of_lem MessageType.Other m x12 t = elim x12 [ ]
+effect_of_lem x m none t = elim none [ ]
 
 module _ (tb : Table) (g : Message) (m : LabelMessage) where
   label_of_lem : LabelType g.typename m → (x : Field) → g.label ≡ x → (f : Fec) → g.fec ≡ f → {l : ℕ} → Touches (reached tb m (touched_by x f)) l → Touching tb g m l
