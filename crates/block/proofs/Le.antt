@@ -7,21 +7,12 @@ use native.Mathlib.Omega.{arith}
 use lib.Bits.{bit_and, and_block, and_mask}
 use lib.ListN.{get_or}
 use Rattle.octets.specs.Bytes.{Bytes}
-use Rattle.octets.specs.Part.{part}
-use Rattle.octets.proofs.Part.{part-at}
 use Rattle.block.specs.Rows.{le_at, paired}
 
 -- each step is uniform, the first too
 pub le_at-suc : (w : ℕ) (s : List ℕ) (at : ℕ) → le_at (suc w) s at ≡ le_at w s at + get_or s (at + w) 0 * 256 ^ w
 le_at-suc zero s at = rw add-zero (omega arith)
 le_at-suc (suc w) s at = refl
-
--- a part's number is the list's
-pub le_at-part : (w : ℕ) (s : List ℕ) (at e : ℕ) → at + w ≤ e → le_at w (part s at e) 0 ≡ le_at w s at
-le_at-part zero s at e h = refl
-le_at-part (suc w) s at e h =
-    let start : 0 + w ≡ w = omega arith in
-    rw (le_at-suc w (part s at e) 0, le_at-suc w s at, le_at-part w s at e (omega arith), start, part-at s at e w (omega arith))
 
 -- the low 16 bits of each half of 64
 abbrev low_words : ℕ

@@ -45,10 +45,7 @@ left_is m (suc k) x l =
 pub shifted : (k : ℕ) → k ≤ 16 → 65535 * 2 ^ k % 2 ^ 32 ≡ 65535 * 2 ^ k
 shifted k l = shl_exact 16 k 32 (omega arith) (omega arith)
 
--- the low half, and the low bytes of two words
-pub low_half : (x : ℕ) → bit_and x 4294967295 ≡ x % 4294967296
-low_half x = and_mask x 32
-
+-- the low bytes of two words
 low_bytes : (x y : ℕ) → y < 65536 → bit_and (x * 65536 + y) 0x00FF00FF ≡ x % 256 * 65536 + y % 256
 low_bytes x y l = and_block 16 x 255 y 255 l (omega arith) ∙ rw (and_mask x 8, and_mask y 8)
 

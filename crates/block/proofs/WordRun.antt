@@ -49,12 +49,6 @@ words-spelled n ws s t at e h =
     get_run-spelled (replicate n 4) ws s t at e fits
 
 -- ---- words stored one after the other: what is left to be written, from word i on
-pub words-start : (n : ℕ) (ws s : List ℕ) (at : ℕ) → laid s at (word_bytes n ws) ≡ laid s (at + 0 * 4) (word_bytes (n - 0) (drop 0 ws))
-words-start n ws s at =
-    let all : n - 0 ≡ n = omega arith in
-    let start : at + 0 * 4 ≡ at = omega arith in
-    rw (all, start)
-
 pub words-turn : (n : ℕ) (ws s : List ℕ) (at i : ℕ) → i < n → n ≤ length ws
     → laid s (at + i * 4) (word_bytes (n - i) (drop i ws))
     ≡ laid (laid s (at + i * 4) (bytes 4 (get_or ws i 0))) (at + (i + 1) * 4) (word_bytes (n - (i + 1)) (drop (i + 1) ws))

@@ -1,18 +1,18 @@
 -- Bytes that are all zero, one by one. Assumes nothing.
+use Rattle.std.proofs.Common.{◌↔◌, IsTrue}
 use Prim.Native.Nat.{ℕ, zero, suc, ◌+◌, ◌-◌, ◌≤◌, ◌<◌}
-use mathlib.Core.Bool.{true}
+use mathlib.Core.Bool.{Bool, true, false}
 use mathlib.Core.List.{List, [], ◌∷◌}
 use mathlib.Core.Path.{◌≡◌, refl, sym, ◌∙◌}
-use native.Mathlib.Numerals.{add-one}
 use native.Mathlib.Omega.{arith}
 use lib.Dec.{eqb}
 use lib.ListN.{length, get_or, take, drop, replicate, length-take, length-drop, drop_of_length-le}
-use lib.Seq.{drop-cons, get_or-drop, get_or-take}
+use lib.Seq.{get_or-drop, get_or-take}
 use borrow.Author.Tests.{eqb-true, eq-eqb}
 use Rattle.octets.specs.Laid.{laid}
 use Rattle.octets.specs.Part.{part}
 use Rattle.octets.specs.Pick.{both}
-use Rattle.octets.proofs.Choice.{both_true}
+use Rattle.octets.proofs.Choice.{both_true, by_test}
 use Rattle.octets.proofs.Fill.{length_zeros, zeros_at}
 use Rattle.octets.proofs.Part.{part-at, part_same}
 use Rattle.block.specs.Check.{check_at}
@@ -26,10 +26,6 @@ pub all_zero_one : (x : ℕ) (rest : List ℕ) → all_zero (x ∷ rest) ≡ bot
 unfolding all_zero
 all_zero_one x rest = refl
 
--- the byte at i, and the rest
-pub all_zero-turn : (s : List ℕ) (i : ℕ) → i < length s → all_zero (drop i s) ≡ both (eqb (get_or s i 0) 0) (all_zero (drop (i + 1) s))
-all_zero-turn s i l = rw (add-one, drop-cons s i 0, all_zero_one)
-
 pub zero-bytes : (s : List ℕ) → all_zero s ≡ true → (i : ℕ) → get_or s i 0 ≡ 0
 zero-bytes [] h i = refl
 zero-bytes (x ∷ rest) h zero = eqb-true _ _ (both_true (eqb x 0) (all_zero rest) (rw all_zero_one at h)).0
@@ -39,11 +35,23 @@ pub bytes-zero : (s : List ℕ) → ((i : ℕ) → i < length s → get_or s i 0
 bytes-zero [] z = all_zero_none
 bytes-zero (x ∷ rest) z = simp (all_zero_one, eq-eqb x 0 (z 0 (omega arith)), bytes-zero rest (λ i l. z (suc i) (omega arith)))
 
+-- a test of each byte
+pub zero_by : (s : List ℕ) (r : Bool) → (IsTrue r ↔ ((i : ℕ) → i < length s → get_or s i 0 ≡ 0)) → r ≡ all_zero s
+zero_by s true h = sym (bytes-zero s (h.0 refl))
+zero_by s false h = by_test (all_zero s) (λ t. absurd (no (h.1 (λ i l. zero-bytes s t i)))) (λ f. sym f)
+  where
+    no : IsTrue false → ⊥
+    no e = cc
+
 -- zeros from some byte on
 pub zero_from : (s : List ℕ) (k : ℕ) → all_zero (drop k s) ≡ true → (i : ℕ) → k ≤ i → get_or s i 0 ≡ 0
 zero_from s k z i l =
     let place : k + (i - k) ≡ i = omega arith in
     rw place at (sym (get_or-drop k s (i - k) 0) ∙ zero-bytes (drop k s) z (i - k))
+
+-- and so from any later one
+pub zero_further : (s : List ℕ) (k m : ℕ) → k ≤ m → all_zero (drop k s) ≡ true → all_zero (drop m s) ≡ true
+zero_further s k m h z = bytes-zero (drop m s) (λ i l. get_or-drop m s i 0 ∙ zero_from s k z (m + i) (omega arith))
 
 -- past the end there are only zeros
 pub zero_past : (s : List ℕ) (k : ℕ) → length s ≤ k → all_zero (drop k s) ≡ true
@@ -57,11 +65,12 @@ pub cleared-zero : (s : List ℕ) (at n e : ℕ) → at + n ≤ length s → e �
 cleared-zero s at n e room h = rw (part_same s at e (replicate n 0) (omega arith) (omega arith) (length_zeros n ∙ omega arith)) (zeros_zero n)
 
 -- of a block's bytes up to its check
-pub body_zero : (b : List ℕ) (end k : ℕ) → end ≤ k → all_zero (part b end check_at) ≡ true → all_zero (drop k (take check_at b)) ≡ true
-body_zero b end k h z =
-    bytes-zero (drop k (take check_at b)) (λ i l.
-    let inside : k + i < 508 = omega (arith, simp (length-take, length-drop) at l) in
-    let place : end + (k + i - end) ≡ k + i = omega arith in
-    get_or-drop k (take check_at b) i 0
-    ∙ get_or-take 508 b (k + i) 0 inside
-    ∙ rw place at (sym (part-at b end check_at (k + i - end) (omega arith)) ∙ zero-bytes (part b end check_at) z (k + i - end)))
+pub body_zero : (b : List ℕ) (end : ℕ) → all_zero (part b end check_at) ≡ true
+    → all_zero (drop end (take check_at b)) ≡ true
+body_zero b end z =
+    bytes-zero (drop end (take check_at b)) (λ i l.
+    let inside : end + i < 508 = omega (arith, simp (length-take, length-drop) at l) in
+    get_or-drop end (take check_at b) i 0
+    ∙ get_or-take 508 b (end + i) 0 inside
+    ∙ sym (part-at b end check_at i (omega arith))
+    ∙ zero-bytes (part b end check_at) z i)

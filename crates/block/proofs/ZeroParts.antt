@@ -4,7 +4,7 @@ use mathlib.Core.Bool.{true, false, false≢true}
 use mathlib.Core.List.{List, [], ◌∷◌, ◌++◌}
 use mathlib.Core.Logic.{⊎_elim}
 use mathlib.Core.Path.{◌≡◌, refl, sym, ap, ◌∙◌}
-use native.Mathlib.Nat.{suc-mul, pow-suc}
+use native.Mathlib.Nat.{suc-mul}
 use native.Mathlib.Omega.{arith}
 use lib.Bits.{bit_or, or_add_and, and_le_l, and_le_r}
 use lib.Dec.{eqb}
@@ -14,7 +14,6 @@ use borrow.Author.Tests.{eq-eqb, ne_eqb, eqb-true, eqb-false}
 use Rattle.octets.specs.Pick.{both}
 use Rattle.octets.proofs.Be.{pos}
 use Rattle.octets.proofs.Choice.{by_test, below_or_not}
-use Rattle.block.specs.Bits.{bits_at}
 use Rattle.block.specs.Rows.{le_at}
 use Rattle.block.specs.Zeros.{all_zero}
 use Rattle.block.proofs.Le.{le_at-suc}
@@ -65,16 +64,13 @@ or_parts : (s : List ℕ) (at n m x y : ℕ) → eqb x 0 ≡ all_zero (take n (d
     → eqb (bit_or x y) 0 ≡ all_zero (take (n + m) (drop at s))
 or_parts s at n m x y p q = or-zero x y ∙ rw (p, q, take-add n m (drop at s), all_zero_join, drop-drop n at s)
 
--- 8 * 2 ^ k bytes, joined bit by bit
-pub bits_zero : (k : ℕ) (s : List ℕ) (at : ℕ) {x : ℕ} → x ≡ bits_at k s at → at + 8 * 2 ^ k ≤ length s → eqb x 0 ≡ all_zero (take (8 * 2 ^ k) (drop at s))
-bits_zero zero s at e h = rw e (le-zero s at 8 h)
-bits_zero (suc k) s at e h =
-    let n : ℕ = 8 * 2 ^ k in
-    let twice : 8 * 2 ^ suc k ≡ n + n = omega (arith, pow-suc 2 k) in
-    rw (e, twice)
-    (or_parts s at n n (bits_at k s at) (bits_at k s (at + n))
-    (bits_zero k s at refl (omega arith))
-    (bits_zero k s (at + n) refl (omega arith)))
+-- eight bytes more, joined bit by bit
+pub joined_more : (s : List ℕ) (at i x y : ℕ) → eqb x 0 ≡ all_zero (take (8 * i) (drop at s))
+    → y ≡ le_at 8 s (at + 8 * i) → at + 8 * (i + 1) ≤ length s
+    → eqb (bit_or x y) 0 ≡ all_zero (take (8 * (i + 1)) (drop at s))
+joined_more s at i x y p e h =
+    let more : 8 * (i + 1) ≡ 8 * i + 8 = omega arith in
+    rw more (or_parts s at (8 * i) 8 x y p (rw e (le-zero s (at + 8 * i) 8 (omega arith))))
 
 -- ---- parts of a list
 module _ (s : List ℕ) (at n : ℕ) where
@@ -108,13 +104,11 @@ zero_all s k n h m z =
     (λ t. t ∙ sym (bytes-zero s (λ j l. zero_to s k (length s - n) n z (omega arith) t j (omega arith))))
     (λ f. f ∙ part-set s (length s - n) n f)
 
--- the first 8 * 2 ^ k and the last
-pub ends_all : (k : ℕ) (s : List ℕ) {x y : ℕ} → 8 * 2 ^ k ≤ length s → length s ≤ 8 * 2 ^ k + 8 * 2 ^ k → x ≡ bits_at k s 0 → y ≡ bits_at k s (length s - 8 * 2 ^ k)
+-- the first n and the last
+pub ends_all : (s : List ℕ) (n x y : ℕ) → n ≤ length s → length s ≤ n + n → eqb x 0 ≡ all_zero (take n s)
+    → eqb y 0 ≡ all_zero (take n (drop (length s - n) s))
     → eqb (bit_or x y) 0 ≡ all_zero s
-ends_all k s {x} {y} h m ex ey =
-    let n : ℕ = 8 * 2 ^ k in
-    let p : eqb x 0 ≡ all_zero (take n (drop 0 s)) = bits_zero k s 0 ex (omega arith) in
-    let q : eqb y 0 ≡ all_zero (take n (drop (length s - n) s)) = bits_zero k s (length s - n) ey (omega arith) in
+ends_all s n x y h m p q =
     or-zero x y
     ∙ by_test (eqb x 0)
     (λ t. rw t (q ∙ zero_all s n n h m (λ j l. part_bytes s 0 n (sym p ∙ t) j (omega arith) (omega arith))))

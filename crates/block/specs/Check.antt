@@ -1,10 +1,8 @@
 -- A block of the stored image, 512 bytes, and its check. "Bytes 508 to 511 of each block: A then B, 16 bits each. Start A=1, B=0;
 -- for each of the 254 big-endian 16-bit words before them, A becomes A+word, B becomes B+A, both modulo 65,535."
-use Rattle.std.specs.Prelude.{ℕ, ◌+◌, ◌*◌, ◌%◌, Bool, List, [], ◌∷◌, ◌++◌, eqb, ltb, length, take}
+use Rattle.std.specs.Prelude.{Option, Some, None, ℕ, ◌+◌, ◌*◌, ◌%◌, Bool, List, [], ◌∷◌, ◌++◌, eqb, ltb, length, take}
 use Rattle.octets.specs.Be.{be_at, bytes}
 use Rattle.octets.specs.Pick.{pick}
-use Rattle.block.specs.declared.BlockCheck.{BlockCheck}
-use Rattle.block.specs.declared.BlockCheck.TheVariants.{Check, TooShort}
 
 abbrev pub block_size : ℕ
 block_size = 512
@@ -32,5 +30,5 @@ unfoldable pub sealed : List ℕ → List ℕ
 sealed body = body ++ bytes 4 (check_of body)
 
 -- the check of the first 508 of any bytes; refused where there are fewer
-unfoldable pub block_check_of : List ℕ → BlockCheck
-block_check_of b = pick (ltb (length b) check_at) TooShort (Check (check_of (take check_at b)))
+unfoldable pub block_check_of : List ℕ → Option ℕ
+block_check_of b = pick (ltb (length b) check_at) None (Some (check_of (take check_at b)))

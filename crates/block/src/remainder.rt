@@ -20,9 +20,7 @@ pub fn remainder(x: u32, shifts: u32) -> u32
     ensures { result ≡ x % 65535 }
 {
     let mut rest = x;
-    let mut shift = shifts;
-    while shift > 0 {
-        shift -= 1;
+    for shift in (0..shifts).rev() {
         rest = taken(rest, MODULUS << shift);
     }
     rest

@@ -7,9 +7,7 @@ ghost use Rattle.block.specs.Zeros.{all_zero};
 
 use crate::remainder::remainder;
 
-// One more than a half of a number holds, the low 16 bits of each half, the low half, and the low bytes of two words.
-const HALF: u64 = 4294967296;
-
+// The low 16 bits of each half of a number, the low half, and the low bytes of two words.
 const LOW_WORDS: u64 = 0x0000FFFF0000FFFF;
 
 const LOW_HALF: u64 = 0x00000000FFFFFFFF;
@@ -25,26 +23,12 @@ struct Rows {
     running: u64,
 }
 
-fn wide(x: u8) -> u64
-    ensures { (result ≡ x) × (result < 256) }
-{
-    x as u64
-}
-
-// The four bytes from `at` on.
-fn four(s: &[u8], at: usize) -> u64
-    requires { at + 4 ≤ length s.now }
-    ensures { (result ≡ le_at 4 s.now at) × (result < 4294967296) }
-{
-    wide(s[at]) + wide(s[at + 1]) * 256 + wide(s[at + 2]) * 65536 + wide(s[at + 3]) * 16777216
-}
-
 // Eight bytes: at constant places the compiler reads them at once.
 fn eight(s: &[u8]) -> u64
     requires { length s.now ≡ 8 }
     ensures { result ≡ le_at 8 s.now 0 }
 {
-    four(s, 0) + four(s, 4) * HALF
+    u64::from_le_bytes([s[0], s[1], s[2], s[3], s[4], s[5], s[6], s[7]])
 }
 
 // The eight bytes from `at` on.
@@ -60,7 +44,7 @@ fn word(s: &[u8], at: usize) -> u64
     requires { at + 2 ≤ length s.now }
     ensures { result ≡ le_at 2 s.now at }
 {
-    wide(s[at]) + wide(s[at + 1]) * 256
+    u64::from(u16::from_le_bytes([s[at], s[at + 1]]))
 }
 
 // The words at `at` and four bytes on, each in a half.
@@ -97,8 +81,7 @@ fn whole_rows(s: &[u8], rows: usize) -> Rows
         odd: 0,
         running: 0,
     };
-    let mut i: usize = 0;
-    while i < rows {
+    for i in 0..rows {
         let at = i * 16;
         sums = add_row(
             sums,
@@ -107,7 +90,6 @@ fn whole_rows(s: &[u8], rows: usize) -> Rows
             two_words(s, at + 8),
             two_words(s, at + 10),
         );
-        i += 1;
     }
     sums
 }
@@ -143,6 +125,7 @@ fn halves(x: u64) -> u64
 }
 
 // Two words side by side, each with its bytes swapped back: 256 times as much, modulo 65,535.
+#[tactic(auto, using(crate::proofs::Subtraction::both_swapped))]
 fn swapped(high: u32, low: u32) -> u32
     requires { (high < 65536) × (low < 65536) }
     ensures { result ≡ (high % 256 * 256 + high / 256) * 65536 + (low % 256 * 256 + low / 256) }

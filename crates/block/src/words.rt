@@ -8,10 +8,8 @@ pub fn load_words(s: &[u8], at: usize, words: &mut [u32])
     requires { at + length words.old * 4 ≤ length s.now }
     ensures { words.new ≡ words_at (length words.old) s.now at }
 {
-    let mut i: usize = 0;
-    while i < words.len() {
-        words[i] = octets::get_u32(s, at + i * 4);
-        i += 1;
+    for (i, word) in words.iter_mut().enumerate() {
+        *word = octets::get_u32(s, at + i * 4);
     }
 }
 
@@ -20,9 +18,7 @@ pub fn store_words(s: &mut [u8], at: usize, words: &[u32])
     requires { at + length words.now * 4 ≤ length s.old }
     ensures { s.new ≡ laid s.old at (word_bytes (length words.now) words.now) }
 {
-    let mut i: usize = 0;
-    while i < words.len() {
-        octets::put_u32(s, at + i * 4, words[i]);
-        i += 1;
+    for (i, word) in words.iter().enumerate() {
+        octets::put_u32(s, at + i * 4, *word);
     }
 }

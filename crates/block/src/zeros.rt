@@ -1,51 +1,27 @@
 // Bytes that are all zero, looked at 128 at a time; the last 128 may overlap those before them.
-ghost use Rattle.std.specs.Prelude.{◌+◌, ◌≤◌, ◌<◌, ◌≡◌, length};
-ghost use Rattle.block.specs.Bits.{bits_at};
+ghost use Rattle.std.specs.Prelude.{◌+◌, ◌*◌, ◌≤◌, ◌<◌, ◌≡◌, length, take, drop, eqb};
 ghost use Rattle.block.specs.Zeros.{all_zero};
 
 use crate::rows;
 
-// Sixteen bytes from `at` on, joined bit by bit: zero where they all are. So too 32, 64 and 128.
-fn sixteen(s: &[u8], at: usize) -> u64
-    requires { at + 16 ≤ length s.now }
-    ensures { result ≡ bits_at 1 s.now at }
+// N times eight bytes from `at` on, joined bit by bit: zero where they all are.
+#[tactic(auto, using(crate::proofs::ZeroBytes::all_zero_none, crate::proofs::ZeroParts::joined_more))]
+fn joined<const N: usize>(s: &[u8], at: usize) -> u64
+    requires { at + 8 * N ≤ length s.now }
+    ensures { eqb result 0 ≡ all_zero (take (8 * N) (drop at s.now)) }
 {
-    rows::get_eight(s, at) | rows::get_eight(s, at + 8)
-}
-
-fn thirty_two(s: &[u8], at: usize) -> u64
-    requires { at + 32 ≤ length s.now }
-    ensures { result ≡ bits_at 2 s.now at }
-{
-    sixteen(s, at) | sixteen(s, at + 16)
-}
-
-fn sixty_four(s: &[u8], at: usize) -> u64
-    requires { at + 64 ≤ length s.now }
-    ensures { result ≡ bits_at 3 s.now at }
-{
-    thirty_two(s, at) | thirty_two(s, at + 32)
-}
-
-fn one_twenty_eight(s: &[u8], at: usize) -> u64
-    requires { at + 128 ≤ length s.now }
-    ensures { result ≡ bits_at 4 s.now at }
-{
-    sixty_four(s, at) | sixty_four(s, at + 64)
+    let mut bits = 0;
+    for i in 0..N {
+        bits |= rows::get_eight(s, at + 8 * i);
+    }
+    bits
 }
 
 // Whether every byte is zero, byte by byte.
 fn each_is_zero(s: &[u8]) -> bool
     ensures { result ≡ all_zero s.now }
 {
-    let mut i: usize = 0;
-    while i < s.len() {
-        if s[i] != 0 {
-            return false;
-        }
-        i += 1;
-    }
-    true
+    s.iter().all(|x| *x == 0)
 }
 
 // The same for fewer than 128 bytes: the first sixteen, 32 or 64 and the last, which may overlap.
@@ -57,12 +33,12 @@ fn few_are_zero(s: &[u8]) -> bool
         return each_is_zero(s);
     }
     if s.len() < 32 {
-        return sixteen(s, 0) | sixteen(s, s.len() - 16) == 0;
+        return joined::<2>(s, 0) | joined::<2>(s, s.len() - 16) == 0;
     }
     if s.len() < 64 {
-        return thirty_two(s, 0) | thirty_two(s, s.len() - 32) == 0;
+        return joined::<4>(s, 0) | joined::<4>(s, s.len() - 32) == 0;
     }
-    sixty_four(s, 0) | sixty_four(s, s.len() - 64) == 0
+    joined::<8>(s, 0) | joined::<8>(s, s.len() - 64) == 0
 }
 
 // Whether every byte is zero.
@@ -72,12 +48,10 @@ pub fn all_zero(s: &[u8]) -> bool
     if s.len() < 128 {
         return few_are_zero(s);
     }
-    let mut i: usize = 0;
-    while i < s.len() / 128 {
-        if one_twenty_eight(s, i * 128) != 0 {
+    for i in 0..s.len() / 128 {
+        if joined::<16>(s, i * 128) != 0 {
             return false;
         }
-        i += 1;
     }
-    one_twenty_eight(s, s.len() - 128) == 0
+    joined::<16>(s, s.len() - 128) == 0
 }

@@ -1,13 +1,11 @@
 -- "Fields: the ranges above; R to I no longer than held, and I not zero unless R is; label words by the rules below."
 -- "With kept 0, bytes 4 to 507 are zero."
-use Rattle.std.specs.Prelude.{ℕ, ◌%◌, ◌≤◌, ◌<◌, Bool, true, false, List, ◌≡◌, leb, ltb, eqb}
+use Rattle.std.specs.Prelude.{Option, Some, None, ℕ, ◌%◌, ◌≤◌, ◌<◌, Bool, true, false, List, ◌≡◌, leb, ltb, eqb}
 use Rattle.octets.specs.Be.{be_at}
 use Rattle.octets.specs.Part.{part}
 use Rattle.octets.specs.Pick.{pick, both}
 use Rattle.block.specs.Check.{check_at}
 use Rattle.block.specs.Zeros.{all_zero}
-use Rattle.ft_number.specs.declared.Steps.{Steps}
-use Rattle.ft_number.specs.declared.Steps.TheVariants.{Count, Unreachable}
 use Rattle.ft_number.specs.Circle.{steps_of}
 use Rattle.label_list.specs.Valid.{valid_of}
 use Rattle.block0.specs.declared.Header.{Header}
@@ -16,9 +14,9 @@ use Rattle.block0.specs.declared.Version.TheVariants.{One, Two}
 use Rattle.block0.specs.Layout.{slot_count, version_number, header_by, labels_by, released_header, no_labels_by}
 
 -- no more than n steps; where nothing leads from R to I, I is zero and R is not
-abbrev pub at_most : ℕ → Steps → Bool
-at_most n (Count k) = leb k n
-at_most n Unreachable = false
+abbrev pub at_most : ℕ → Option ℕ → Bool
+at_most n (Some k) = leb k n
+at_most n None = false
 
 -- byte 23 bears 2 and 4, each or none, and no other bit
 unfoldable pub marks_ok : ℕ → Bool

@@ -14,7 +14,7 @@ ghost use Rattle.block0.specs.Fields.{at_most, header_ok, early_ok, fields_by};
 ghost use Rattle.block0.specs.Layout.{version_number, labels_at, places, header_by, labels_by, header_of, labels_of};
 ghost use Rattle.block0.specs.Updates.{header_timeout};
 
-use ft_number::{FtNumber, Steps};
+use ft_number::FtNumber;
 
 mod writing;
 
@@ -23,12 +23,12 @@ pub use writing::{write_block0, write_header, write_label, write_released};
 // The version of the image. They differ in block 0 alone: where the agreed timeout stands, in which unit, and how many label words there are.
 #[derive(Clone, Copy)]
 pub enum Version {
-    One,
-    Two,
+    One = 1,
+    Two = 2,
 }
 
 // What block 0 says beside its label words. The timeout is in seconds in version 1, in milliseconds in version 2.
-#[derive(Clone, Copy)]
+#[derive(Clone, Copy, PartialEq, Eq)]
 pub struct Header {
     pub released: FtNumber,
     pub issued: FtNumber,
@@ -55,10 +55,7 @@ const LABELS_AT: usize = 32;
 fn version_number(version: Version) -> u32
     ensures { result ≡ version_number version }
 {
-    match version {
-        Version::One => 1,
-        Version::Two => 2,
-    }
+    version as u32
 }
 
 // Where the label words start. They end where the check begins.
@@ -75,13 +72,11 @@ pub fn labels_at(version: Version) -> usize
 pub fn word_count(version: Version) -> usize
     ensures { (result ≡ places version) × (result ≤ 120) }
 {
-    match version {
-        Version::One => MOST_WORDS,
-        Version::Two => label_list::WORD_COUNT,
-    }
+    (block::CHECK_AT - labels_at(version)) / 4
 }
 
 // The numbers of block 0 with a timeout that is given: all others stand in one place in either version.
+#[tactic(auto, unfolding(crate::specs::Layout::header_by))]
 fn read_with(block: &[u8], timeout: u32) -> Header
     requires { length block.now ≡ block_size }
     ensures { result ≡ header_timeout (header_of block.now) timeout }
@@ -92,7 +87,7 @@ fn read_with(block: &[u8], timeout: u32) -> Header
         secured: FtNumber(octets::get_u32(block, 12)),
         first: octets::get_u16(block, 16),
         held: octets::get_u16(block, 18),
-        timeout: timeout,
+        timeout,
         kept: octets::get_u8(block, 22),
         marks: octets::get_u8(block, 23),
         keepalive: octets::get_u16(block, 24),
@@ -101,6 +96,7 @@ fn read_with(block: &[u8], timeout: u32) -> Header
 }
 
 // The numbers of block 0, in version 2.
+#[tactic(auto, unfolding(crate::specs::Layout::header_by))]
 pub fn read_header(block: &[u8]) -> Header
     requires { length block.now ≡ block_size }
     ensures { result ≡ header_of block.now }
@@ -109,6 +105,7 @@ pub fn read_header(block: &[u8]) -> Header
 }
 
 // The agreed timeout, in the version's unit.
+#[tactic(auto, unfolding(crate::specs::Layout::header_by))]
 fn read_timeout(block: &[u8], version: Version) -> u32
     requires { length block.now ≡ block_size }
     ensures { result ≡ (header_by version block.now).timeout }
@@ -120,6 +117,7 @@ fn read_timeout(block: &[u8], version: Version) -> u32
 }
 
 // The numbers of block 0, in either version.
+#[tactic(auto, unfolding(crate::specs::Layout::header_by))]
 pub fn read_version(block: &[u8], version: Version) -> Header
     requires { length block.now ≡ block_size }
     ensures { result ≡ header_by version block.now }
@@ -128,6 +126,7 @@ pub fn read_version(block: &[u8], version: Version) -> Header
 }
 
 // The label words of block 0.
+#[tactic(auto, unfolding(crate::specs::Layout::labels_by))]
 pub fn read_labels(block: &[u8], version: Version, words: &mut [u32])
     requires { (length block.now ≡ block_size) × (length words.old ≡ places version) }
     ensures { words.new ≡ labels_by version block.now }
@@ -136,6 +135,7 @@ pub fn read_labels(block: &[u8], version: Version, words: &mut [u32])
 }
 
 // The label word at a place of block 0, in version 2.
+#[tactic(auto, unfolding(crate::specs::Layout::labels_by))]
 pub fn read_label(block: &[u8], place: usize) -> u32
     requires { (length block.now ≡ block_size) × (place < word_count) }
     ensures { result ≡ get_or (labels_of block.now) place 0 }
@@ -147,31 +147,19 @@ pub fn read_label(block: &[u8], place: usize) -> u32
 fn issued_are_held(h: Header) -> bool
     ensures { result ≡ at_most h.held (steps_of h.released.0 h.issued.0) }
 {
-    match ft_number::steps_between(h.released, h.issued) {
-        Steps::Count(n) => n <= h.held as u32,
-        Steps::Unreachable => false,
-    }
+    ft_number::steps_between(h.released, h.issued).is_some_and(|n| n <= h.held as u32)
 }
 
+#[tactic(auto, unfolding(crate::specs::Fields::header_ok, crate::specs::Fields::marks_ok))]
 fn header_is_valid(h: Header) -> bool
     ensures { result ≡ header_ok h }
 {
-    if h.first >= SLOT_COUNT {
-        return false;
-    }
-    if h.held > SLOT_COUNT {
-        return false;
-    }
-    if h.kept > 1 {
-        return false;
-    }
-    if h.marks >= 8 {
-        return false;
-    }
-    if h.marks % 2 != 0 {
-        return false;
-    }
-    issued_are_held(h)
+    h.first < SLOT_COUNT
+        && h.held <= SLOT_COUNT
+        && h.kept <= 1
+        && h.marks < 8
+        && h.marks % 2 == 0
+        && issued_are_held(h)
 }
 
 // Bytes 20 and 21, zero in version 2.
@@ -213,10 +201,8 @@ fn has_code_at(block: &[u8], at: usize, code: u8) -> bool
     requires { (length block.now ≡ block_size) × (at + 4 ≤ block_size) × (code < 16) }
     ensures { result ≡ has_code code (be_at 4 block.now at) }
 {
-    if octets::get_u8(block, at + 1) / 16 != code {
-        return false;
-    }
-    octets::get_u32(block, at) / label_list::LABEL_COUNT == code as u32
+    octets::get_u8(block, at + 1) / 16 == code
+        && octets::get_u32(block, at) / label_list::LABEL_COUNT == code as u32
 }
 
 // Whether one of so many words from a place on has a code.
@@ -224,12 +210,10 @@ fn any_has_code(block: &[u8], start: usize, count: usize, code: u8) -> bool
     requires { (length block.now ≡ block_size) × (start + count * 4 ≤ block_size) × (code < 16) }
     ensures { result ≡ any (has_code code) (words_at count block.now start) }
 {
-    let mut i: usize = 0;
-    while i < count {
+    for i in 0..count {
         if has_code_at(block, start + i * 4, code) {
             return true;
         }
-        i += 1;
     }
     false
 }
@@ -240,10 +224,8 @@ fn has_code(block: &[u8], version: Version, code: u8) -> bool
     ensures { result ≡ any (has_code code) (labels_by version block.now) }
 {
     let start = labels_at(version);
-    if block::zeros::all_zero(&block[start..block::CHECK_AT]) {
-        return false;
-    }
-    any_has_code(block, start, word_count(version), code)
+    !block::zeros::all_zero(&block[start..block::CHECK_AT])
+        && any_has_code(block, start, word_count(version), code)
 }
 
 // Whether a label is used without protection, in version 2.

@@ -1,4 +1,5 @@
 -- A state that is stored is read back, from a sound image: once for all calls. Assumes nothing.
+use Rattle.std.specs.Prelude.{Option, Some, None}
 use Prim.Native.Nat.{ℕ, ◌+◌, ◌-◌, ◌<◌, ◌≤◌}
 use mathlib.Core.Bool.{Bool, true, false, false≢true}
 use mathlib.Core.List.{List, [], ◌∷◌, ◌++◌}
@@ -11,8 +12,6 @@ use lib.ListN.{length, drop, set, length-append, length-drop, replicate, get_or}
 use borrow.Author.Tests.{eq-eqb, le-leb, leb-true}
 use Rattle.octets.specs.Pick.{pick}
 use Rattle.block.specs.Run.{Words}
-use Rattle.ft_number.specs.declared.Steps.{Steps}
-use Rattle.ft_number.specs.declared.Steps.TheVariants.{Count, Unreachable}
 use Rattle.ft_number.specs.Circle.{steps_of}
 use Rattle.label_list.specs.Counting.{counting}
 use Rattle.label_list.specs.Find.{any}
@@ -50,9 +49,9 @@ use Rattle.call_meaning.specs.Medium.{Same}
 use Rattle.call_meaning.proofs.Slots.{both_same}
 
 -- ---- the state that a sound image stands for
-window_of : (n : ℕ) (x : Steps) → at_most n x ≡ true → record { steps : ℕ; reaches : x ≡ Count steps; within : steps ≤ n }
-window_of n (Count k) e = record { steps = k; reaches = refl; within = leb-true k n e }
-window_of n Unreachable e = absurd (false≢true e)
+window_of : (n : ℕ) (x : Option ℕ) → at_most n x ≡ true → record { steps : ℕ; reaches : x ≡ Some steps; within : steps ≤ n }
+window_of n (Some k) e = record { steps = k; reaches = refl; within = leb-true k n e }
+window_of n None e = absurd (false≢true e)
 
 pub image_window : (im : List ℕ) → IsSound im → Window (state_of im)
 image_window im s =

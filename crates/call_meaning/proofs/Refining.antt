@@ -1,4 +1,5 @@
 -- A call on an image that stands is the protocol's step on the state that the image stands for, and what it leaves stands: once for all calls. Assumes nothing.
+use Rattle.std.specs.Prelude.{Result}
 use Prim.Native.Nat.{ℕ, ◌≤◌}
 use mathlib.Core.Bool.{true, false}
 use mathlib.Core.List.{List}
@@ -7,7 +8,7 @@ use lib.ListN.{length, take}
 use Rattle.octets.specs.Laid.{laid}
 use Rattle.octets.proofs.Choice.{by_test}
 use Rattle.octets.proofs.Laid.{take-laid}
-use Rattle.image.specs.declared.Verdict.{Verdict}
+use Rattle.image.specs.declared.ImageFault.{ImageFault}
 use Rattle.image.proofs.Changes.{break_decodes, release_decodes}
 use Rattle.image.proofs.Sound.{parts_sound}
 use Rattle.protocol.specs.declared.Answer.{Answer}
@@ -41,7 +42,7 @@ module _ (im : List ℕ) (ph : Phase) (st : Standing im ph) (o : List ℕ) (slot
   settles : call_of im ph o slots f (settle a (state_of im) ph d) ≡ settle_of a ph im o (step_stored im slots f d o)
   settles =
       call_settles im ph o slots f a (state_of im) d e
-      ∙ ap (λ (v : Verdict). settle_of (checked v a) ph im o (step_stored im slots f d o)) (parts_sound im st.sound)
+      ∙ ap (λ (v : Result Unit ImageFault). settle_of (checked v a) ph im o (step_stored im slots f d o)) (parts_sound im st.sound)
 
   -- and what it leaves stands
   pub call_stands : Stands (call_of im ph o slots f (settle a (state_of im) ph d))

@@ -10,7 +10,7 @@ ghost use Rattle.call_numbers.specs.Opening.{id_of};
 
 use ft_number::MessageId;
 use session_numbers::{
-    Given, OutcomeNumbers, SessionNumbers, outcome_numbers, phase_given, refuse_unknown,
+    OutcomeNumbers, SessionNumbers, outcome_numbers, phase_given, refuse_unknown,
 };
 
 // The connection has failed.
@@ -18,11 +18,11 @@ pub fn connection_failed(image: &mut [u8], s: SessionNumbers) -> OutcomeNumbers
     ensures { shown result image.new [] ≡ shown_call s image.old [] (λ ph. connection_failed_of image.old ph) }
 {
     match phase_given(s) {
-        Given::Known(phase) => {
+        Some(phase) => {
             let o = timers::connection_failed(image, phase);
             outcome_numbers(s, o)
         }
-        Given::Unknown => refuse_unknown(image, s),
+        None => refuse_unknown(image, s),
     }
 }
 
@@ -31,11 +31,11 @@ pub fn time_passed(image: &mut [u8], s: SessionNumbers, elapsed: u32) -> Outcome
     ensures { shown result image.new [] ≡ shown_call s image.old [] (λ ph. time_passed_of image.old ph elapsed) }
 {
     match phase_given(s) {
-        Given::Known(phase) => {
+        Some(phase) => {
             let o = timers::time_passed(image, phase, elapsed);
             outcome_numbers(s, o)
         }
-        Given::Unknown => refuse_unknown(image, s),
+        None => refuse_unknown(image, s),
     }
 }
 
@@ -44,11 +44,11 @@ pub fn submit(image: &mut [u8], s: SessionNumbers, msg: &[u8]) -> OutcomeNumbers
     ensures { shown result image.new [] ≡ shown_call s image.old [] (λ ph. submit_of image.old ph msg.now) }
 {
     match phase_given(s) {
-        Given::Known(phase) => {
+        Some(phase) => {
             let o = submit::submit(image, phase, msg);
             outcome_numbers(s, o)
         }
-        Given::Unknown => refuse_unknown(image, s),
+        None => refuse_unknown(image, s),
     }
 }
 
@@ -57,11 +57,11 @@ pub fn send_next(image: &mut [u8], s: SessionNumbers, ack: bool, out: &mut [u8])
     ensures { shown result image.new out.new ≡ shown_call s image.old out.old (λ ph. send_of image.old ph ack out.old) }
 {
     match phase_given(s) {
-        Given::Known(phase) => {
+        Some(phase) => {
             let o = send::send_next(image, phase, ack, out);
             outcome_numbers(s, o)
         }
-        Given::Unknown => refuse_unknown(image, s),
+        None => refuse_unknown(image, s),
     }
 }
 
@@ -70,11 +70,11 @@ pub fn keepalive(image: &[u8], s: SessionNumbers, id: u32, out: &mut [u8]) -> Ou
     ensures { shown result image.now out.new ≡ shown_call s image.now out.old (λ ph. keepalive_of image.now ph (id_of id) out.old) }
 {
     match phase_given(s) {
-        Given::Known(phase) => {
+        Some(phase) => {
             let o = connect::keepalive(image, phase, MessageId(id), out);
             outcome_numbers(s, o)
         }
-        Given::Unknown => refuse_unknown(image, s),
+        None => refuse_unknown(image, s),
     }
 }
 
@@ -83,10 +83,10 @@ pub fn receive(image: &mut [u8], s: SessionNumbers, msg: &[u8]) -> OutcomeNumber
     ensures { shown result image.new [] ≡ shown_call s image.old [] (λ ph. receive_of image.old ph msg.now) }
 {
     match phase_given(s) {
-        Given::Known(phase) => {
+        Some(phase) => {
             let o = receive::receive(image, phase, msg);
             outcome_numbers(s, o)
         }
-        Given::Unknown => refuse_unknown(image, s),
+        None => refuse_unknown(image, s),
     }
 }

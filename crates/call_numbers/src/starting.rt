@@ -10,7 +10,7 @@ use calls::Phase;
 use ft_number::{Form, MessageId, Proposal, Timeout};
 use message_writer::OwnParameters;
 use session_numbers::{
-    Given, OutcomeNumbers, SessionNumbers, outcome_numbers, phase_given, refuse_unknown, session_of,
+    OutcomeNumbers, SessionNumbers, outcome_numbers, phase_given, refuse_unknown, session_of,
 };
 
 // A new image.
@@ -88,11 +88,11 @@ pub fn open(
     };
     let proposed = proposal_of(given, form_of(published), proposal);
     match phase_given(s) {
-        Given::Known(phase) => {
+        Some(phase) => {
             let o = connect::open_session(image, phase, MessageId(id), parameters, proposed, out);
             outcome_numbers(s, o)
         }
-        Given::Unknown => refuse_unknown(image, s),
+        None => refuse_unknown(image, s),
     }
 }
 
@@ -101,10 +101,10 @@ pub fn init_received(image: &mut [u8], s: SessionNumbers, msg: &[u8]) -> Outcome
     ensures { shown result image.new [] ≡ shown_call s image.old [] (λ ph. init_received_of image.old ph msg.now) }
 {
     match phase_given(s) {
-        Given::Known(phase) => {
+        Some(phase) => {
             let o = init::init_received(image, phase, msg);
             outcome_numbers(s, o)
         }
-        Given::Unknown => refuse_unknown(image, s),
+        None => refuse_unknown(image, s),
     }
 }

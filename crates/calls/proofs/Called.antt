@@ -1,10 +1,11 @@
 -- A call is its protocol's step, judged and settled on the image. Assumes nothing.
+use Rattle.std.specs.Prelude.{Result, Ok, Err}
 use Prim.Native.Nat.{ℕ}
 use mathlib.Core.Bool.{false}
 use mathlib.Core.List.{List}
 use mathlib.Core.Path.{◌≡◌, refl, ap, ◌∙◌}
 use Rattle.octets.proofs.Choice.{by_test}
-use Rattle.image.specs.declared.Verdict.{Verdict}
+use Rattle.image.specs.declared.ImageFault.{ImageFault}
 use Rattle.image.specs.Verdict.{verdict}
 use Rattle.protocol.specs.declared.Answer.{Answer}
 use Rattle.protocol.specs.declared.Phase.{Phase}
@@ -19,11 +20,11 @@ use Rattle.calls.specs.Storing.{Further, Slots}
 use Rattle.calls.proofs.Ends.{settle_other}
 
 -- restore's checks refuse what is refused
-pub checked_refused : (v : Verdict) (a : Answer) → is_done a ≡ false → is_done (checked v a) ≡ false
-checked_refused Verdict.Sound a n = n
-checked_refused Verdict.WrongSize a n = refl
-checked_refused (Verdict.BadBlock b) a n = refl
-checked_refused (Verdict.BadField b) a n = refl
+pub checked_refused : (v : Result Unit ImageFault) (a : Answer) → is_done a ≡ false → is_done (checked v a) ≡ false
+checked_refused (Ok tt) a n = n
+checked_refused (Err ImageFault.WrongSize) a n = refl
+checked_refused (Err (ImageFault.BadBlock b)) a n = refl
+checked_refused (Err (ImageFault.BadField b)) a n = refl
 
 module _ (im : List ℕ) (ph : Phase) (o : List ℕ) (slots : Slots) (f : Further) (a : Answer) (s : State) (d : Step) (e : d.answer ≡ Answer.Done) where
   pub call_settles : call_of im ph o slots f (settle a s ph d) ≡ settle_of (checked (verdict im) a) ph im o (step_stored im slots f d o)

@@ -1,9 +1,9 @@
 -- The steps from R to I as a count, and the phases that an image allows, by block 0's numbers. Assumes nothing.
+use Rattle.std.specs.Prelude.{Option}
 use Prim.Native.Nat.{ℕ}
 use mathlib.Core.Bool.{Bool}
 use mathlib.Core.List.{List}
 use mathlib.Core.Path.{◌≡◌, refl}
-use Rattle.ft_number.specs.declared.Steps.{Steps}
 use Rattle.ft_number.specs.Circle.{steps_of}
 use Rattle.block0.specs.declared.Header.{Header}
 use Rattle.image.specs.State.{decode}
@@ -12,7 +12,7 @@ use Rattle.protocol.specs.Phases.{count_of, issued_count, phase_fits}
 use Rattle.protocol.specs.State.{State}
 use Rattle.calls.specs.State.{state_by, state_of, state_of_numbers}
 
-pub issued_is : (s : State) (x t : Steps) → x ≡ steps_of s.released.0 s.issued.0 → x ≡ t → count_of t ≡ issued_count s
+pub issued_is : (s : State) (x t : Option ℕ) → x ≡ steps_of s.released.0 s.issued.0 → x ≡ t → count_of t ≡ issued_count s
 unfolding issued_count
 issued_is s x t e g = rw (← e, g)
 

@@ -23,21 +23,6 @@ use Rattle.image.specs.Verdict.{IsSound}
 use Rattle.image.proofs.Ranges.{labels-count}
 use Rattle.image.proofs.Same.{store_same, store-changed}
 
-pub header_eq : {a b : Header} → a.released.0 ≡ b.released.0 → a.issued.0 ≡ b.issued.0 → a.secured.0 ≡ b.secured.0 → a.first ≡ b.first
-    → a.held ≡ b.held → a.timeout ≡ b.timeout → a.kept ≡ b.kept → a.marks ≡ b.marks → a.keepalive ≡ b.keepalive → a.maxpdu ≡ b.maxpdu → a ≡ b
-header_eq e₁ e₂ e₃ e₄ e₅ e₆ e₇ e₈ e₉ e₁₀ = λ i. record {
-  released = record { 0 = e₁ i };
-  issued = record { 0 = e₂ i };
-  secured = record { 0 = e₃ i };
-  first = e₄ i;
-  held = e₅ i;
-  timeout = e₆ i;
-  kept = e₇ i;
-  marks = e₈ i;
-  keepalive = e₉ i;
-  maxpdu = e₁₀ i;
-}
-
 -- the numbers of a header that a function was given have their widths
 pub header_fits : {h : Header} {vs : List Val} → Is (row the_type) h vs → Fits h
 header_fits g = record {

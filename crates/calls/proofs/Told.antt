@@ -1,4 +1,5 @@
 -- The further block that a call tells, by what stood at its place before. Assumes nothing.
+use Rattle.std.specs.Prelude.{Option, Some}
 use Prim.Native.Nat.{ℕ, ◌-◌, ◌*◌, ◌%◌, ◌≤◌, ◌<◌}
 use mathlib.Core.List.{List}
 use mathlib.Core.Logic.{◌≢◌}
@@ -12,8 +13,6 @@ use Rattle.octets.specs.Pick.{pick}
 use Rattle.octets.proofs.Choice.{by_test}
 use Rattle.octets.proofs.Differ.{differ_self}
 use Rattle.ft_number.specs.declared.MessageId.{MessageId}
-use Rattle.label_list.specs.declared.Found.{Found}
-use Rattle.label_list.specs.declared.Found.TheVariants.{At}
 use Rattle.label_list.specs.Find.{FoundIn}
 use Rattle.label_list.specs.Word.{word_count}
 use Rattle.label_list.proofs.Reached.{found_place}
@@ -105,5 +104,5 @@ module _ (im : List ℕ) (place entry : ℕ) {before : ℕ} (eb : before ≡ get
   entry_second n high low = let two : entry_block place - request_block ≡ 2 = omega arith in rw (← eb, ne_eqb before entry n, two)
 
 -- a place that was found among the image's words is one of them
-pub found_place_in : (im : List ℕ) (f : Found) (i : ℕ) → FoundIn (decode im).labels f → f ≡ At i → i < word_count
+pub found_place_in : (im : List ℕ) (f : Option ℕ) (i : ℕ) → FoundIn (decode im).labels f → f ≡ Some i → i < word_count
 found_place_in im f i inside e = rw (labels-count im) at (found_place (decode im).labels f i inside e)

@@ -1,10 +1,10 @@
 -- What a call leaves: its outcome, the image and the output. A call is restore's checks, then the protocol's step on the state that the image stands for,
 -- and what that makes of the state is stored.
-use Rattle.std.specs.Prelude.{ℕ, ◌+◌, ◌*◌, Bool, false, List, [], ◌∷◌, length}
+use Rattle.std.specs.Prelude.{Result, Ok, Err, ℕ, ◌+◌, ◌*◌, Bool, false, List, [], ◌∷◌, length}
 use Rattle.octets.specs.Differ.{differ}
 use Rattle.octets.specs.Laid.{laid}
 use Rattle.octets.specs.Pick.{pick}
-use Rattle.image.specs.declared.Verdict.{Verdict}
+use Rattle.image.specs.declared.ImageFault.{ImageFault}
 use Rattle.image.specs.Sizes.{block, further}
 use Rattle.image.specs.Verdict.{verdict}
 use Rattle.protocol.specs.declared.Answer.{Answer}
@@ -79,11 +79,11 @@ unfoldable pub settle_of : Answer → Phase → List ℕ → List ℕ → After 
 settle_of a ph im o done = left_by (effect_of a) a ph im o done
 
 -- "In the orders 12 means all restore's checks (12, 10, 11), made by every call on an image"
-abbrev pub checked : Verdict → Answer → Answer
-checked Verdict.Sound a = a
-checked Verdict.WrongSize a = Answer.WrongSize
-checked (Verdict.BadBlock b) a = Answer.BadBlock b
-checked (Verdict.BadField b) a = Answer.BadField b
+abbrev pub checked : Result Unit ImageFault → Answer → Answer
+checked (Ok tt) a = a
+checked (Err ImageFault.WrongSize) a = Answer.WrongSize
+checked (Err (ImageFault.BadBlock b)) a = Answer.BadBlock b
+checked (Err (ImageFault.BadField b)) a = Answer.BadField b
 
 -- "12, 1": restore's checks, and then the phase that the image rules out; only then the call's own tests
 unfoldable pub admitted_on : List ℕ → Phase → Answer → Answer

@@ -1,10 +1,8 @@
 -- How a state of the protocol is stored in an image: "A call stores at most one slot, one that isn't live, and then block 0.";
 -- 02: between them a further block, 65, 66 or 67.
-use Rattle.std.specs.Prelude.{ℕ, ◌+◌, List}
+use Rattle.std.specs.Prelude.{Option, Some, None, ℕ, ◌+◌, List}
 use Rattle.octets.specs.Pick.{pick}
 use Rattle.ft_number.specs.declared.MessageId.{MessageId}
-use Rattle.label_list.specs.declared.Found.{Found}
-use Rattle.label_list.specs.declared.Found.TheVariants.{At, Nowhere}
 use Rattle.block0.specs.declared.Header.{Header}
 use Rattle.image.specs.Sizes.{block_of, slot_at}
 use Rattle.image.specs.State.{decode, store_slot, store_id, store_entry, store0}
@@ -40,9 +38,9 @@ pub data Further : Type 0 where
   put-entry : ℕ → ℕ → Further
 
 -- 02: "Only a Mapping that takes a word": its entry is put at the place of that word
-abbrev pub entry_put : Found → ℕ → Further
-entry_put (At place) entry = put-entry place entry
-entry_put Nowhere entry = same
+abbrev pub entry_put : Option ℕ → ℕ → Further
+entry_put (Some place) entry = put-entry place entry
+entry_put None entry = same
 
 -- what becomes of the ring of slots: nothing; a message is put behind the newest; the oldest so many are free; it is empty, and begins at slot 0
 pub data Slots : Type 0 where

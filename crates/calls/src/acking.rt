@@ -31,14 +31,12 @@ pub fn release_labels(image: &[u8], count: usize, words: &mut [u32])
     requires { IsSound image.now × (count ≤ (decode image.now).header.held) }
     ensures { words.new ≡ released_labels (take count (decode image.now).queue) words.old }
 {
-    let mut i: usize = 0;
-    while i < count {
+    for i in 0..count {
         release_label(
             words,
             image::held_kind(image, i),
             image::held_label(image, i),
         );
-        i += 1;
     }
 }
 
@@ -59,12 +57,10 @@ pub fn frees_none(image: &[u8], count: usize) -> bool
     requires { IsSound image.now × (count ≤ (decode image.now).header.held) }
     ensures { result ≡ frees_none (take count (decode image.now).queue) }
 {
-    let mut i = 0;
-    while i < count {
+    for i in 0..count {
         if frees_label(image::held_kind(image, i)) {
             return false;
         }
-        i += 1;
     }
     true
 }

@@ -6,17 +6,17 @@ ghost use Rattle.calls.specs.Outcomes.{checked, admitted_on, refusal};
 use crate::answers::is_done;
 use crate::phases::phase_fits;
 use crate::{Answer, Outcome, Phase};
-use image::Verdict;
+use image::ImageFault;
 
 // Restore's checks, as an answer.
 pub fn check(image: &[u8]) -> Answer
     ensures { result ≡ checked (verdict image.now) Answer.Done }
 {
     match image::check_image(image) {
-        Verdict::Sound => Answer::Done,
-        Verdict::WrongSize => Answer::WrongSize,
-        Verdict::BadBlock(b) => Answer::BadBlock(b),
-        Verdict::BadField(b) => Answer::BadField(b),
+        Ok(()) => Answer::Done,
+        Err(ImageFault::WrongSize) => Answer::WrongSize,
+        Err(ImageFault::BadBlock(b)) => Answer::BadBlock(b),
+        Err(ImageFault::BadField(b)) => Answer::BadField(b),
     }
 }
 

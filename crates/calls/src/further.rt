@@ -8,7 +8,6 @@ ghost use Rattle.calls.specs.Further.{further_told};
 ghost use Rattle.calls.specs.Storing.{put_id, put-entry, entry_put, further_stored};
 
 use ft_number::MessageId;
-use label_list::Found;
 
 // Stores an ID at its place of block 65; the bit of that block, 0 where the ID stood there already.
 pub fn store_id(image: &mut [u8], place: usize, id: MessageId) -> u32
@@ -40,12 +39,12 @@ pub fn store_entry(image: &mut [u8], place: usize, entry: u64) -> u32
 }
 
 // Stores the entry of a label that takes a word, at the place of that word; nothing where it takes none.
-pub fn store_taken(image: &mut [u8], place: Found, entry: u64) -> u32
+pub fn store_taken(image: &mut [u8], place: Option<usize>, entry: u64) -> u32
     requires { (length image.old ≡ image_size) × FoundIn (decode image.old).labels place }
     ensures { (image.new ≡ further_stored image.old (entry_put place entry)) × (result ≡ further_told image.old (entry_put place entry)) }
 {
     match place {
-        Found::At(i) => store_entry(image, i, entry),
-        Found::Nowhere => 0,
+        Some(i) => store_entry(image, i, entry),
+        None => 0,
     }
 }

@@ -5,15 +5,14 @@ ghost use Rattle.calls.specs.State.{state_of_numbers};
 
 use crate::Phase;
 use block0::Header;
-use ft_number::Steps;
 
 // How many of the held messages have a number: the steps from R to I.
 pub fn issued_count(h: Header) -> u32
     ensures { result ≡ issued_count (state_of_numbers h) }
 {
     match ft_number::steps_between(h.released, h.issued) {
-        Steps::Count(k) => k,
-        Steps::Unreachable => 0,
+        Some(k) => k,
+        None => 0,
     }
 }
 

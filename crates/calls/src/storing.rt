@@ -12,37 +12,7 @@ use block0::Header;
 fn same_numbers(a: Header, b: Header) -> bool
     ensures { (result ≡ true → a ≡ b) × (result ≡ false → a ≢ b) }
 {
-    if a.released.0 != b.released.0 {
-        return false;
-    }
-    if a.issued.0 != b.issued.0 {
-        return false;
-    }
-    if a.secured.0 != b.secured.0 {
-        return false;
-    }
-    if a.first != b.first {
-        return false;
-    }
-    if a.held != b.held {
-        return false;
-    }
-    if a.timeout != b.timeout {
-        return false;
-    }
-    if a.kept != b.kept {
-        return false;
-    }
-    if a.marks != b.marks {
-        return false;
-    }
-    if a.keepalive != b.keepalive {
-        return false;
-    }
-    if a.maxpdu != b.maxpdu {
-        return false;
-    }
-    true
+    a == b
 }
 
 // Whether the image says these numbers and words already: each word is compared where it stands, up to the first that is another.
@@ -53,12 +23,10 @@ fn says(image: &[u8], h: Header, words: &[u32]) -> bool
     if !same_numbers(h, image::header_of(image)) {
         return false;
     }
-    let mut i: usize = 0;
-    while i < words.len() {
-        if words[i] != image::label_at(image, i) {
+    for (i, &word) in words.iter().enumerate() {
+        if word != image::label_at(image, i) {
             return false;
         }
-        i += 1;
     }
     true
 }

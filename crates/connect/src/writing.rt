@@ -11,18 +11,17 @@ ghost use Rattle.connect.specs.Writers.{open_of, keepalive_of};
 use block0::Header;
 use calls::{Answer, Outcome, Phase, Waiting};
 use ft_number::{FtNumber, MessageId, Proposal};
-use message_writer::{OwnParameters, Written};
-use tlv::FtField;
+use message_writer::OwnParameters;
 
 // The ACK that our Init bears, and with it R: of kept state alone.
-fn kept_ack(h: Header) -> FtField
+fn kept_ack(h: Header) -> Option<FtNumber>
     ensures { result ≡ kept_ack (state_of_numbers h) }
 {
     let secured = h.secured;
     if h.kept == 1 {
-        return FtField::Number(secured);
+        return Some(secured);
     }
-    FtField::Absent
+    None
 }
 
 // Whether Open may come in the phase.
@@ -52,25 +51,25 @@ fn is_up(phase: Phase) -> bool
 }
 
 // The ACK that a KeepAlive bears: in UpFT alone.
-fn alive_ack(phase: Phase, secured: FtNumber) -> FtField
+fn alive_ack(phase: Phase, secured: FtNumber) -> Option<FtNumber>
     ensures { result ≡ alive_ack phase secured }
 {
     match phase {
-        Phase::Idle => FtField::Absent,
-        Phase::InitWait(_) => FtField::Absent,
-        Phase::UpFT(_) => FtField::Number(secured),
-        Phase::UpPlain => FtField::Absent,
-        Phase::Failed => FtField::Absent,
+        Phase::Idle => None,
+        Phase::InitWait(_) => None,
+        Phase::UpFT(_) => Some(secured),
+        Phase::UpPlain => None,
+        Phase::Failed => None,
     }
 }
 
 // What is answered to what was written: the phase is then `next`.
-fn answer_written(written: Written, phase: Phase, next: Phase) -> Outcome
+fn answer_written(written: Option<usize>, phase: Phase, next: Phase) -> Outcome
     ensures { result ≡ written_as written phase next }
 {
     match written {
-        Written::TooShort => calls::refuse(Answer::OutputTooShort, phase),
-        Written::Bytes(n) => Outcome {
+        None => calls::refuse(Answer::OutputTooShort, phase),
+        Some(n) => Outcome {
             answer: Answer::Done,
             phase: next,
             written: n,

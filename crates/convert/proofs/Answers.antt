@@ -1,4 +1,5 @@
 -- The answers of a conversion, by the tests that lead to each. Assumes nothing.
+use Rattle.std.specs.Prelude.{Result, Ok, Err}
 use Prim.Native.Nat.{ℕ, ◌-◌, ◌%◌, ◌≤◌, ◌<◌}
 use mathlib.Core.Bool.{Bool, true, false, not}
 use mathlib.Core.List.{List, ◌++◌}
@@ -6,7 +7,7 @@ use mathlib.Core.Path.{◌≡◌, sym, ap, ◌∙◌}
 use native.Mathlib.Omega.{arith}
 use lib.Dec.{eqb, leb}
 use lib.ListN.{length, take, drop, replicate}
-use borrow.Author.Tests.{eq-eqb, ne_eqb, lt-ltb, le-ltb, not-true, not-false}
+use borrow.Author.Tests.{lt-ltb, le-ltb, not-true, not-false}
 use Rattle.octets.specs.Be.{be_at}
 use Rattle.octets.specs.Laid.{laid}
 use Rattle.octets.specs.Pick.{both}
@@ -20,14 +21,13 @@ use Rattle.block0.specs.declared.Version.TheVariants.{One, Two}
 use Rattle.block0.specs.Layout.{labels_at, places, header_by, labels_by, block_by}
 use Rattle.block0.specs.Updates.{header_timeout}
 use Rattle.block0.proofs.Written.{length-block0}
-use Rattle.image.specs.declared.Verdict.{Verdict}
+use Rattle.image.specs.declared.ImageFault.{ImageFault}
 use Rattle.image.specs.Sizes.{image_size, block}
 use Rattle.image.specs.State.{decode_by}
-use Rattle.image.specs.Verdict.{verdict_by, verdict_number}
+use Rattle.image.specs.Verdict.{verdict_by}
 use Rattle.image.proofs.Ranges.{words_count}
-use Rattle.image.proofs.Scans.{number-sound}
 use Rattle.image.proofs.Sound.{sound_parts}
-use Rattle.convert.specs.declared.Conversion.TheVariants.{Done, Refused, Immovable, NoRoom}
+use Rattle.convert.specs.declared.ConversionFault.{ConversionFault}
 use Rattle.convert.specs.Convert.{converted, convert_of}
 use Rattle.convert.specs.Move.{other, timeout_moved, header_moved, list_moved, movable, image_moved}
 use Rattle.convert.proofs.Kept.{words_moved}
@@ -77,24 +77,28 @@ moved_put v image out {copy} {b} size room ec eb =
 
 -- ---- the answers
 -- an image that passes has its size
-pub passes_size : (v : Version) (image : List ℕ) {r : Verdict} → r ≡ verdict_by v image → {n : ℕ} → n ≡ verdict_number r → n ≡ 0 → length image ≡ image_size
-passes_size v image {r} er en z = (sound_parts {v = v} image (sym er ∙ number-sound r (sym en ∙ z))).size
+pub passes_size : (v : Version) (image : List ℕ) {r : Result Unit ImageFault} → r ≡ verdict_by v image → r ≡ Ok tt
+    → length image ≡ image_size
+passes_size v image er passes = (sound_parts {v = v} image (sym er ∙ passes)).size
 
-module _ (v : Version) (image out : List ℕ) {r : Verdict} (er : r ≡ verdict_by v image) {n : ℕ} (en : n ≡ verdict_number r) where
-  pub refused : (n ≡ 0 → ⊥) → converted (Refused r) out ≡ convert_of v image out
+module _ (v : Version) (image out : List ℕ) {r : Result Unit ImageFault} (er : r ≡ verdict_by v image) where
+  pub refused : {fault : ImageFault} → r ≡ Err fault
+      → converted (Err (ConversionFault.Image fault)) out ≡ convert_of v image out
   unfolding convert_of
-  refused bad = simp (← er, ← en, ne_eqb n 0 bad)
+  refused faulty = rw (← er, faulty)
 
-  module _ (passes : n ≡ 0) {t : Bool} (et : t ≡ movable v (decode_by v image).header (decode_by v image).labels) where
-    pub immovable : not t ≡ true → converted Immovable out ≡ convert_of v image out
+  module _ (passes : r ≡ Ok tt) {t : Bool}
+      (et : t ≡ movable v (decode_by v image).header (decode_by v image).labels) where
+    pub immovable : not t ≡ true → converted (Err ConversionFault.Immovable) out ≡ convert_of v image out
     unfolding convert_of
-    immovable bad = simp (← er, ← en, eq-eqb n 0 passes, ← et, not-true t bad)
+    immovable bad = simp (← er, passes, ← et, not-true t bad)
 
     module _ (moves : not t ≡ false) where
-      pub no_room : length out < image_size → converted NoRoom out ≡ convert_of v image out
+      pub no_room : length out < image_size → converted (Err ConversionFault.NoRoom) out ≡ convert_of v image out
       unfolding convert_of
-      no_room short = simp (← er, ← en, eq-eqb n 0 passes, ← et, not-false t moves, lt-ltb (length out) image_size short)
+      no_room short = simp (← er, passes, ← et, not-false t moves, lt-ltb (length out) image_size short)
 
-      pub done : image_size ≤ length out → {x : List ℕ} → x ≡ laid out 0 (image_moved v image) → converted Done x ≡ convert_of v image out
+      pub done : image_size ≤ length out → {x : List ℕ} → x ≡ laid out 0 (image_moved v image)
+          → converted (Ok tt) x ≡ convert_of v image out
       unfolding convert_of
-      done room ex = simp (← er, ← en, eq-eqb n 0 passes, ← et, not-false t moves, le-ltb (length out) image_size room, ex)
+      done room ex = simp (← er, passes, ← et, not-false t moves, le-ltb (length out) image_size room, ex)

@@ -1,57 +1,60 @@
 -- What a conversion that answers 0 leaves, and when it answers 16. Assumes nothing.
+use Rattle.std.specs.Prelude.{Result, Ok, Err}
 use Prim.Native.Nat.{ℕ, ◌<◌, ◌≤◌}
 use mathlib.Core.Bool.{true, false, not}
 use mathlib.Core.List.{List}
 use mathlib.Core.Logic.{◌≢◌}
 use mathlib.Core.Path.{◌≡◌, refl, sym, ap, ◌∙◌}
 use native.Mathlib.Omega.{arith}
-use lib.Dec.{eqb, ltb}
+use lib.Dec.{ltb}
 use lib.ListN.{length, take, drop}
 use lib.Seq.{drop_at}
-use borrow.Author.Tests.{eqb-true, eqb-false, ltb-false, not-true, not-false}
+use borrow.Author.Tests.{ltb-false}
 use Rattle.octets.specs.Bytes.{Bytes}
 use Rattle.octets.specs.Laid.{laid}
 use Rattle.octets.proofs.Choice.{by_test, pick_all}
 use Rattle.octets.proofs.Laid.{laid_front, take-laid}
 use Rattle.block0.specs.declared.Version.{Version}
-use Rattle.image.specs.declared.Verdict.TheVariants.{Sound}
+use Rattle.image.specs.declared.ImageFault.{ImageFault}
 use Rattle.image.specs.Sizes.{block, block_count, image_size}
 use Rattle.image.specs.State.{decode_by}
-use Rattle.image.specs.Verdict.{IsSoundBy, refuses, verdict_by, verdict_number}
-use Rattle.image.proofs.Scans.{named_block, number-sound}
+use Rattle.image.specs.Verdict.{IsSoundBy, verdict_by}
+use Rattle.image.proofs.Scans.{named_block}
 use Rattle.image.proofs.Sound.{parts_sound, sound_parts}
-use Rattle.convert.specs.declared.Conversion.{Conversion}
-use Rattle.convert.specs.declared.Conversion.TheVariants.{Done, Refused, Immovable, NoRoom}
-use Rattle.convert.specs.Convert.{Converted, converted, conversion_block, conversion_number, convert_of}
+use Rattle.convert.specs.declared.ConversionFault.{ConversionFault}
+use Rattle.convert.specs.Convert.{Converted, converted, conversion_block, convert_of}
 use Rattle.convert.specs.Move.{image_moved, movable, other, state_moved}
 use Rattle.convert.proofs.Answers.{done, immovable}
 use Rattle.convert.proofs.Kept.{other_twice}
 use Rattle.convert.proofs.Moved.{moved_back, moved_decodes, moved_movable, moved_other, moved_sound}
 
--- two answers of different numbers
-numbers_apart : (c d : Conversion) → c ≡ d → conversion_number c ≢ conversion_number d → ⊥
-numbers_apart c d e apart = apart (ap conversion_number e)
+-- restore's checks pass an image, or find a fault
+by_verdict : {A : Type 0} (r : Result Unit ImageFault) → (r ≡ Ok tt → A) → ((fault : ImageFault) → r ≡ Err fault → A)
+    → A
+by_verdict (Ok tt) passes faulty = passes refl
+by_verdict (Err fault) passes faulty = faulty fault refl
 
 -- ---- an image that passes, and room
 module _ (v : Version) (image out : List ℕ) (s : IsSoundBy v image) (room : image_size ≤ length out) where
-  passes : verdict_number (verdict_by v image) ≡ 0
-  passes = ap verdict_number (parts_sound image s)
+  pub moves : movable v (decode_by v image).header (decode_by v image).labels ≡ true
+      → convert_of v image out ≡ converted (Ok tt) (laid out 0 (image_moved v image))
+  moves m = sym (done v image out refl (parts_sound image s) refl (ap not m) room refl)
 
-  pub moves : movable v (decode_by v image).header (decode_by v image).labels ≡ true → convert_of v image out ≡ converted Done (laid out 0 (image_moved v image))
-  moves m = sym (done v image out refl refl passes refl (ap not m) room refl)
-
-  pub stays : movable v (decode_by v image).header (decode_by v image).labels ≡ false → convert_of v image out ≡ converted Immovable out
-  stays f = sym (immovable v image out refl refl passes refl (ap not f))
+  pub stays : movable v (decode_by v image).header (decode_by v image).labels ≡ false
+      → convert_of v image out ≡ converted (Err ConversionFault.Immovable) out
+  stays f = sym (immovable v image out refl (parts_sound image s) refl (ap not f))
 
   -- where the answer is not 16 it is 0
-  pub moves_else : (convert_of v image out).answer ≢ Immovable → (convert_of v image out).answer ≡ Done
+  pub moves_else : (convert_of v image out).answer ≢ Err ConversionFault.Immovable
+      → (convert_of v image out).answer ≡ Ok tt
   moves_else not16 =
       by_test (movable v (decode_by v image).header (decode_by v image).labels)
       (λ m. ap (λ a. a.answer) (moves m))
       (λ f. absurd (not16 (ap (λ a. a.answer) (stays f))))
 
   -- where it is 16 no image of the other version, moved, is this one
-  pub stays_else : (convert_of v image out).answer ≡ Immovable → (t : List ℕ) → IsSoundBy (other v) t → Bytes t
+  pub stays_else : (convert_of v image out).answer ≡ Err ConversionFault.Immovable
+      → (t : List ℕ) → IsSoundBy (other v) t → Bytes t
       → movable (other v) (decode_by (other v) t).header (decode_by (other v) t).labels ≡ true → image_moved (other v) t ≢ image
   stays_else is16 t st byte mt e =
       let back : movable (other (other v)) (decode_by (other (other v)) image).header (decode_by (other (other v)) image).labels ≡ true =
@@ -59,7 +62,9 @@ module _ (v : Version) (image out : List ℕ) (s : IsSoundBy v image) (room : im
       ∙ moved_movable (other v) t st byte mt in
       let m : movable v (decode_by v image).header (decode_by v image).labels ≡ true =
       ap (λ (w : Version). movable w (decode_by w image).header (decode_by w image).labels) (sym (other_twice v)) ∙ back in
-      numbers_apart Done Immovable (sym (ap (λ a. a.answer) (moves m)) ∙ is16) (λ z. omega arith)
+      let apart : ◌≡◌ {A = Result Unit ConversionFault} (Ok tt) (Err ConversionFault.Immovable) =
+      sym (ap (λ a. a.answer) (moves m)) ∙ is16 in
+      cc
 
 -- ---- the answer 0
 -- what it tells
@@ -68,44 +73,46 @@ pub record Moves (v : Version) (image out : List ℕ) : Type 0 where
   pub movable : movable v (decode_by v image).header (decode_by v image).labels ≡ true
   pub room : image_size ≤ length out
 
-pub done_moves : (v : Version) (image out : List ℕ) → (convert_of v image out).answer ≡ Done → Moves v image out
+pub done_moves : (v : Version) (image out : List ℕ) → (convert_of v image out).answer ≡ Ok tt → Moves v image out
 unfolding convert_of
 done_moves v image out e =
-    by_test (refuses (verdict_by v image))
-    (λ bad. absurd (numbers_apart (Refused (verdict_by v image)) Done (rw bad at e) (eqb-false (verdict_number (verdict_by v image)) 0 (not-true (eqb (verdict_number (verdict_by v image)) 0) bad))))
-    (λ fine. by_test (movable v (decode_by v image).header (decode_by v image).labels)
+    by_verdict (verdict_by v image)
+    (λ passes. by_test (movable v (decode_by v image).header (decode_by v image).labels)
     (λ m. by_test (ltb (length out) image_size)
-    (λ short. absurd (numbers_apart NoRoom Done (rw (fine, m, short) at e) (λ z. omega arith)))
-    (λ room. record {
-      sound = sound_parts image (number-sound (verdict_by v image) (eqb-true (verdict_number (verdict_by v image)) 0 (not-false (eqb (verdict_number (verdict_by v image)) 0) fine)));
-      movable = m;
-      room = ltb-false (length out) image_size room;
-    }))
-    (λ f. absurd (numbers_apart Immovable Done (rw (fine, f) at e) (λ z. omega arith))))
+    (λ short. let apart = rw (passes, m, short) at e in cc)
+    (λ room. record { sound = sound_parts image passes; movable = m; room = ltb-false (length out) image_size room }))
+    (λ f. let apart = rw (passes, f) at e in cc))
+    (λ fault faulty. let apart = rw faulty at e in cc)
 
 -- any other answer leaves the output
-pub else_same : (v : Version) (image out : List ℕ) → (convert_of v image out).answer ≢ Done → (convert_of v image out).out ≡ out
+pub else_same : (v : Version) (image out : List ℕ) → (convert_of v image out).answer ≢ Ok tt
+    → (convert_of v image out).out ≡ out
 unfolding convert_of
 else_same v image out other =
-    by_test (refuses (verdict_by v image))
-    (λ bad. rw bad)
-    (λ fine. by_test (movable v (decode_by v image).header (decode_by v image).labels)
-    (λ m. by_test (ltb (length out) image_size) (λ short. rw (fine, m, short)) (λ room. absurd (other (rw (fine, m, room)))))
-    (λ f. rw (fine, f)))
+    by_verdict (verdict_by v image)
+    (λ passes. by_test (movable v (decode_by v image).header (decode_by v image).labels)
+    (λ m. by_test (ltb (length out) image_size) (λ short. rw (passes, m, short))
+    (λ room. absurd (other (rw (passes, m, room)))))
+    (λ f. rw (passes, f)))
+    (λ fault faulty. rw faulty)
 
 -- the block that an answer names is a block of the image
 pub answer_below : (v : Version) (image out : List ℕ) → conversion_block (convert_of v image out).answer < block_count
 unfolding convert_of
 answer_below v image out =
-    pick_all (λ (a : Converted). conversion_block a.answer < block_count) (refuses (verdict_by v image)) (named_block v image)
-    (pick_all (λ (a : Converted). conversion_block a.answer < block_count) (not (movable v (decode_by v image).header (decode_by v image).labels)) (omega arith)
-    (pick_all (λ (a : Converted). conversion_block a.answer < block_count) (ltb (length out) image_size) (omega arith) (omega arith)))
+    by_verdict (verdict_by v image)
+    (λ passes. rw passes
+    (pick_all (λ (a : Converted). conversion_block a.answer < block_count)
+    (not (movable v (decode_by v image).header (decode_by v image).labels)) (omega arith)
+    (pick_all (λ (a : Converted). conversion_block a.answer < block_count) (ltb (length out) image_size) (omega arith)
+    (omega arith))))
+    (λ fault faulty. rw faulty (rw faulty at (named_block v image)))
 
 -- the image that stands in the output
 abbrev pub written : Version → List ℕ → List ℕ → List ℕ
 written v image out = take image_size (convert_of v image out).out
 
-module _ (v : Version) (image out : List ℕ) (e : (convert_of v image out).answer ≡ Done) (byte : Bytes image) where
+module _ (v : Version) (image out : List ℕ) (e : (convert_of v image out).answer ≡ Ok tt) (byte : Bytes image) where
   given : Moves v image out
   given = done_moves v image out e
 
@@ -126,7 +133,7 @@ module _ (v : Version) (image out : List ℕ) (e : (convert_of v image out).answ
       ∙ ap (λ (k : ℕ). drop k out) long
 
   -- it passes restore's checks of its version
-  pub converted-sound : verdict_by (other v) (written v image out) ≡ Sound
+  pub converted-sound : verdict_by (other v) (written v image out) ≡ Ok tt
   converted-sound = ap (verdict_by (other v)) converted_is ∙ parts_sound (image_moved v image) (moved_sound v image given.sound byte given.movable)
 
   -- it stands for the same state, in its own unit
@@ -138,9 +145,10 @@ module _ (v : Version) (image out : List ℕ) (e : (convert_of v image out).answ
   converted-other c apart = ap (λ (i : List ℕ). block i c) converted_is ∙ moved_other v image given.sound byte given.movable c apart
 
   -- 02: "back and forth gives the same bytes wherever a move is possible"
-  pub converted_back : (out₂ : List ℕ) → image_size ≤ length out₂ → convert_of (other v) (written v image out) out₂ ≡ converted Done (laid out₂ 0 image)
+  pub converted_back : (out₂ : List ℕ) → image_size ≤ length out₂
+      → convert_of (other v) (written v image out) out₂ ≡ converted (Ok tt) (laid out₂ 0 image)
   converted_back out₂ room =
       let s : IsSoundBy (other v) (image_moved v image) = moved_sound v image given.sound byte given.movable in
       ap (λ (i : List ℕ). convert_of (other v) i out₂) converted_is
       ∙ moves (other v) (image_moved v image) out₂ s room (moved_movable v image given.sound byte given.movable)
-      ∙ ap (λ (i : List ℕ). converted Done (laid out₂ 0 i)) (moved_back v image given.sound byte given.movable)
+      ∙ ap (λ (i : List ℕ). converted (Ok tt) (laid out₂ 0 i)) (moved_back v image given.sound byte given.movable)

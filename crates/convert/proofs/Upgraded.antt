@@ -1,5 +1,6 @@
 -- Upgrade in the field: an image of version 1 that an earlier release stored, extended and moved to version 2, passes restore's checks, and holds and lists
 -- the same, its labels as of other FECs, where the last of its 120 label words is free. Assumes nothing.
+use Rattle.std.specs.Prelude.{Ok}
 use Prim.Native.Nat.{ℕ, ◌≤◌}
 use mathlib.Core.Bool.{true}
 use mathlib.Core.List.{List}
@@ -10,14 +11,12 @@ use Rattle.octets.specs.Bytes.{Bytes}
 use Rattle.octets.specs.Laid.{laid}
 use Rattle.label_list.specs.Word.{is_free, word_count}
 use Rattle.block0.specs.declared.Version.TheVariants.{One}
-use Rattle.image.specs.declared.Verdict.TheVariants.{Sound}
 use Rattle.image.specs.Extend.{SoundBefore, earlier_size, extend_of}
 use Rattle.image.specs.Sizes.{image_size}
 use Rattle.image.specs.State.{Contents, decode, decode_by}
 use Rattle.image.specs.Verdict.{verdict}
 use Rattle.image.proofs.Extended.{extended_decodes, extended_sound, first_ids}
 use Rattle.image.proofs.Sound.{parts_sound}
-use Rattle.convert.specs.declared.Conversion.TheVariants.{Done}
 use Rattle.convert.specs.Convert.{converted, convert_of}
 use Rattle.convert.specs.Move.{header_moved, image_moved, movable, state_moved}
 use Rattle.convert.proofs.Converted.{moves}
@@ -31,11 +30,12 @@ module _ (n : ℕ) (image : List ℕ) (s : SoundBefore One n image) (byte : Byte
 
   -- the converter answers 0
   pub upgraded : (out : List ℕ) → image_size ≤ length out
-      → convert_of One (extend_of image (earlier_size n)) out ≡ converted Done (laid out 0 (image_moved One (extend_of image (earlier_size n))))
+      → convert_of One (extend_of image (earlier_size n)) out
+      ≡ converted (Ok tt) (laid out 0 (image_moved One (extend_of image (earlier_size n))))
   upgraded out room = moves One (extend_of image (earlier_size n)) out (extended_sound One n image s) room m
 
   -- what it writes passes restore's checks
-  pub upgraded_sound : verdict (image_moved One (extend_of image (earlier_size n))) ≡ Sound
+  pub upgraded_sound : verdict (image_moved One (extend_of image (earlier_size n))) ≡ Ok tt
   upgraded_sound = parts_sound (image_moved One (extend_of image (earlier_size n))) (moved_sound One (extend_of image (earlier_size n)) (extended_sound One n image s) byte m)
 
   -- the same numbers, the timeout in milliseconds; the same words but the free one, and the IDs beside them; no entry counts; the same queue

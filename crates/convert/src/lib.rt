@@ -8,19 +8,27 @@ ghost use Rattle.block0.specs.declared.Version.TheVariants.{One, Two};
 ghost use Rattle.block0.specs.Fields.{timeout_end};
 ghost use Rattle.block0.specs.Layout.{places, header_by, labels_by, block_by};
 ghost use Rattle.block0.specs.Updates.{header_timeout};
+ghost use Rattle.convert.specs.declared.ConversionFault.TheVariants.{Image};
 ghost use Rattle.convert.specs.Convert.{converted, convert_of, conversion_number, conversion_block};
 ghost use Rattle.convert.specs.Move.{other, timeout_moved, header_moved, list_moved, movable};
 
 use block0::{Header, Version};
-use image::Verdict;
+use image::ImageFault;
 
-// What a conversion answers; the image given is refused as restore would refuse it.
+// Why an image is not converted; the image given is refused as restore would refuse it.
 #[derive(Clone, Copy)]
-pub enum Conversion {
-    Done,
-    Refused(Verdict),
+pub enum ConversionFault {
+    Image(ImageFault),
     Immovable,
     NoRoom,
+}
+
+impl From<ImageFault> for ConversionFault {
+    ghost from_gives = { λ fault e. e ≡ Image fault };
+
+    fn from(fault: ImageFault) -> ConversionFault {
+        ConversionFault::Image(fault)
+    }
 }
 
 // Where the last of the 120 label words of version 1 stands in its block 0.
@@ -30,26 +38,26 @@ const LAST_WORD: usize = 504;
 const LONGEST: u32 = 65535000;
 
 // The paper's number of an answer.
-pub fn conversion_number(c: Conversion) -> u32
+pub fn conversion_number(c: Result<(), ConversionFault>) -> u32
     ensures { result ≡ conversion_number c }
 {
     match c {
-        Conversion::Done => 0,
-        Conversion::Refused(v) => image::verdict_number(v),
-        Conversion::Immovable => 16,
-        Conversion::NoRoom => 9,
+        Ok(()) => 0,
+        Err(ConversionFault::Image(fault)) => image::verdict_number(Err(fault)),
+        Err(ConversionFault::Immovable) => 16,
+        Err(ConversionFault::NoRoom) => 9,
     }
 }
 
 // The block that an answer names; 0 where none applies.
-pub fn conversion_block(c: Conversion) -> usize
+pub fn conversion_block(c: Result<(), ConversionFault>) -> usize
     ensures { result ≡ conversion_block c }
 {
     match c {
-        Conversion::Done => 0,
-        Conversion::Refused(v) => image::verdict_block(v),
-        Conversion::Immovable => 0,
-        Conversion::NoRoom => 0,
+        Ok(()) => 0,
+        Err(ConversionFault::Image(fault)) => image::verdict_block(Err(fault)),
+        Err(ConversionFault::Immovable) => 0,
+        Err(ConversionFault::NoRoom) => 0,
     }
 }
 
@@ -143,18 +151,15 @@ fn move_block0(block: &[u8], from: Version, moved: &mut [u8])
 
 // An image of a version moved to the other. Answers 12, 10 and 11 as restore's checks of that version give them, then
 // 16, then 9; the output changes only where the answer is 0, and then no byte behind the image.
-fn convert(image: &[u8], from: Version, out: &mut [u8]) -> Conversion
+fn convert(image: &[u8], from: Version, out: &mut [u8]) -> Result<(), ConversionFault>
     ensures { converted result out.new ≡ convert_of from image.now out.old }
 {
-    let verdict = image::check_version(image, from);
-    if image::verdict_number(verdict) != 0 {
-        return Conversion::Refused(verdict);
-    }
+    image::check_version(image, from)?;
     if !is_movable(&image[0..block::BLOCK_SIZE], from) {
-        return Conversion::Immovable;
+        return Err(ConversionFault::Immovable);
     }
     if out.len() < image::IMAGE_SIZE {
-        return Conversion::NoRoom;
+        return Err(ConversionFault::NoRoom);
     }
     octets::copy_to(out, 0, image);
     move_block0(
@@ -162,18 +167,18 @@ fn convert(image: &[u8], from: Version, out: &mut [u8]) -> Conversion
         from,
         &mut out[0..block::BLOCK_SIZE],
     );
-    Conversion::Done
+    Ok(())
 }
 
 // Version 1 to version 2: 16 where the last of the 120 label words is in use.
-pub fn forward(image: &[u8], out: &mut [u8]) -> Conversion
+pub fn forward(image: &[u8], out: &mut [u8]) -> Result<(), ConversionFault>
     ensures { converted result out.new ≡ convert_of One image.now out.old }
 {
     convert(image, Version::One, out)
 }
 
 // Version 2 to version 1: 16 where the timeout is not whole seconds up to 65,535.
-pub fn back(image: &[u8], out: &mut [u8]) -> Conversion
+pub fn back(image: &[u8], out: &mut [u8]) -> Result<(), ConversionFault>
     ensures { converted result out.new ≡ convert_of Two image.now out.old }
 {
     convert(image, Version::Two, out)

@@ -4,8 +4,7 @@
 #![tactic(auto)]
 
 use arguments::Asked;
-use convert::Conversion;
-use image_report::Report;
+use convert::ConversionFault;
 use std::fs::OpenFile;
 use std::io;
 use std::io::{Read, Write};
@@ -74,29 +73,31 @@ fn store<R: Files, O: Write, E: Write>(
     }
 }
 
-fn refuse<O: Write>(answer: u32, block: usize, out: &mut O) {
+fn refuse<O: Write>(fault: ConversionFault, out: &mut O) {
     let mut line = [0u8; 186];
-    let end = image_report::lines::put_report(&mut line, Report::Refused(answer, block));
+    let end = image_report::lines::put_refusal(
+        &mut line,
+        convert::conversion_number(Err(fault)),
+        convert::conversion_block(Err(fault)),
+    );
     let _ = out.write_all(&line[..end]);
 }
 
 fn settle<R: Files, O: Write, E: Write>(
     rt: &R,
-    c: Conversion,
+    answer: Result<(), ConversionFault>,
     path: &[u8],
     image: &[u8],
     out: &mut O,
     err: &mut E,
 ) {
-    let answer = convert::conversion_number(c);
-    if answer == 0 {
-        store(rt, path, image, out, err);
-        return;
+    match answer {
+        Ok(()) => store(rt, path, image, out, err),
+        Err(fault) => refuse(fault, out),
     }
-    refuse(answer, convert::conversion_block(c), out);
 }
 
-fn move_image(forward: bool, image: &[u8], out: &mut [u8]) -> Conversion {
+fn move_image(forward: bool, image: &[u8], out: &mut [u8]) -> Result<(), ConversionFault> {
     if forward {
         return convert::forward(image, out);
     }

@@ -1,11 +1,11 @@
 -- The lines of a PDU, one message after the other: what holds after k of them, and how the next one keeps it. Assumes nothing.
+use Rattle.std.specs.Prelude.{Some}
 use Prim.Native.Nat.{ℕ, suc, ◌+◌, ◌-◌, ◌*◌, ◌≤◌, ◌<◌}
 use mathlib.Core.List.{List, [], ◌∷◌, ◌++◌, append-nil, append_assoc}
 use mathlib.Core.Path.{◌≡◌, refl, sym, ap, ◌∙◌}
 use native.Mathlib.Nat.{sub-zero}
 use native.Mathlib.Omega.{arith}
 use lib.ListN.{length}
-use Rattle.pdu.specs.declared.Opened.{Opened}
 use Rattle.pdu.specs.Pdu.{message_place, place_bytes, opened_of}
 use Rattle.pdu.specs.Split.{handed_out}
 use Rattle.pdu.proofs.Split.{Reach, Next, reach_next, opened_reach}
@@ -26,7 +26,7 @@ module _ (before : List ℕ) (number : ℕ) (pdu : List ℕ) (count : ℕ) where
     pub room : end ≤ 2 * at + 311 * k
     pub same : length out ≡ length before
 
-  pub lines_start : opened_of pdu ≡ Opened.Whole count → After before 10 0 0
+  pub lines_start : opened_of pdu ≡ Some count → After before 10 0 0
   lines_start e =
       let r = opened_reach pdu count e in
       record {

@@ -1,4 +1,5 @@
 -- The parts of a message that was read, as its line shows them. Assumes nothing.
+use Rattle.std.specs.Prelude.{Option, Some}
 use Prim.Native.Nat.{ℕ, ◌+◌, ◌≤◌}
 use mathlib.Core.Bool.{Bool, true, false}
 use mathlib.Core.List.{List}
@@ -13,7 +14,6 @@ use Rattle.tlv.specs.declared.walk.Tlv.{Tlv}
 use Rattle.tlv.specs.Value.{part_at}
 use Rattle.tlv.proofs.Places.{Lies, found_lies}
 use Rattle.message.specs.declared.Message.{Message}
-use Rattle.message.specs.declared.Reading.{Reading}
 use Rattle.message.specs.Reading.{message_of, reading_of}
 use Rattle.message.proofs.Laws.{Whole, whole, whole_fec, whole-parameters}
 use Rattle.dump.specs.Fields.{PartsWithin}
@@ -30,10 +30,10 @@ parameters-short m place l = go (eqb place 0) refl
     go true q = omega arith
     go false q = omega (arith, eqb-true (be_at 2 m (place + 2)) 14 (l (eqb-false place 0 q)).fits)
 
-pub read_within : (m : List ℕ) (g : Message) (r : Reading) → r ≡ reading_of m → r ≡ Reading.Whole g → PartsWithin m g
+pub read_within : (m : List ℕ) (g : Message) (r : Option Message) → r ≡ reading_of m → r ≡ Some g → PartsWithin m g
 unfolding message_of
 read_within m g r q e =
-    let reading : reading_of m ≡ Reading.Whole g = sym q ∙ e in
+    let reading : reading_of m ≡ Some g = sym q ∙ e in
     let w : Whole m g = whole m g reading in
     let short : (part_at m g.found.parameters).end ≤ (part_at m g.found.parameters).start + 14 =
     parameters-short m g.found.parameters (found_lies m g.found w.tlvs).parameters in

@@ -5,7 +5,7 @@ ghost use Rattle.message.specs.Reading.{reading_of};
 ghost use Rattle.dump.specs.Fields.{value_of, binding_text, state_text, ft_texts, fields_text, PartsWithin};
 ghost use Rattle.dump.specs.Line.{head_text, reading_text, line_of, line_room};
 
-use message::{Message, Reading};
+use message::Message;
 use tlv::Part;
 
 // The number of the PDU, that of the message in it, the type and the message ID.
@@ -92,8 +92,8 @@ fn put_reading(out: &mut [u8], at: usize, m: &[u8]) -> usize
     ensures upper_bound { result ≤ at + (2 * length m.now + 240) }
 {
     match message::read_message(m) {
-        Reading::Malformed => text::put_text(out, at, b" malformed"),
-        Reading::Whole(g) => put_fields(out, at, m, g),
+        None => text::put_text(out, at, b" malformed"),
+        Some(g) => put_fields(out, at, m, g),
     }
 }
 

@@ -6,8 +6,8 @@ ghost use Rattle.std.specs.Prelude.{◌+◌, ◌*◌, ◌≤◌, ◌++◌, ◌�
 ghost use Rattle.text.specs.Text.{decimal, Put};
 ghost use Rattle.dump_fields.specs.Field.{bytes_text, type_text, fec_text, label_text, status_text, parameters_text, bit, reconnect_text, timeout_text, session_text, ft_text, request_id_text};
 
-use ft_number::Timeout;
-use tlv::{Fec, Field, FtField, IdField, Parameters, Session};
+use ft_number::{FtNumber, MessageId, Timeout};
+use tlv::{Fec, Parameters, Session};
 
 // A name and then bytes in hexadecimal; `-` where there is none.
 pub fn put_bytes(out: &mut [u8], at: usize, name: &[u8], value: &[u8]) -> usize
@@ -44,40 +44,38 @@ pub fn put_type(out: &mut [u8], at: usize, number: u16) -> usize
 }
 
 // The FEC's value.
-pub fn put_fec(out: &mut [u8], at: usize, fec: Fec, value: &[u8]) -> usize
+pub fn put_fec(out: &mut [u8], at: usize, fec: Option<Fec>, value: &[u8]) -> usize
     requires { at + (2 * length value.now + 6) ≤ length out.old }
     ensures put { Put out.old at (fec_text fec value.now) out.new result }
     ensures upper_bound { result ≤ at + (2 * length value.now + 6) }
 {
     match fec {
-        Fec::Absent => at,
-        Fec::Wildcard => put_bytes(out, at, b" fec ", value),
-        Fec::Prefix(_) => put_bytes(out, at, b" fec ", value),
-        Fec::Other => put_bytes(out, at, b" fec ", value),
+        None => at,
+        Some(_) => put_bytes(out, at, b" fec ", value),
     }
 }
 
 // The label.
-pub fn put_label(out: &mut [u8], at: usize, label: Field) -> usize
+pub fn put_label(out: &mut [u8], at: usize, label: Option<u32>) -> usize
     requires { at + 27 ≤ length out.old }
     ensures put { Put out.old at (label_text label) out.new result }
     ensures upper_bound { result ≤ at + 27 }
 {
     match label {
-        Field::Absent => at,
-        Field::Value(n) => put_number(out, at, b" label ", n as u64),
+        None => at,
+        Some(n) => put_number(out, at, b" label ", n as u64),
     }
 }
 
 // The status code, its E and F bits too.
-pub fn put_status(out: &mut [u8], at: usize, status: Field) -> usize
+pub fn put_status(out: &mut [u8], at: usize, status: Option<u32>) -> usize
     requires { at + 19 ≤ length out.old }
     ensures put { Put out.old at (status_text status) out.new result }
     ensures upper_bound { result ≤ at + 19 }
 {
     match status {
-        Field::Absent => at,
-        Field::Value(n) => {
+        None => at,
+        Some(n) => {
             let mut code = [0u8; 4];
             octets::put_u32(&mut code, 0, n);
             put_bytes(out, at, b" status 0x", &code)
@@ -86,17 +84,19 @@ pub fn put_status(out: &mut [u8], at: usize, status: Field) -> usize
 }
 
 // The session parameters' value.
-pub fn put_parameters(out: &mut [u8], at: usize, parameters: Parameters, value: &[u8]) -> usize
+pub fn put_parameters(
+    out: &mut [u8],
+    at: usize,
+    parameters: Option<Parameters>,
+    value: &[u8],
+) -> usize
     requires { at + (2 * length value.now + 9) ≤ length out.old }
     ensures put { Put out.old at (parameters_text parameters value.now) out.new result }
     ensures upper_bound { result ≤ at + (2 * length value.now + 9) }
 {
     match parameters {
-        Parameters::Absent => at,
-        Parameters::Given {
-            keepalive: _,
-            pdulength: _,
-        } => put_bytes(out, at, b" params ", value),
+        None => at,
+        Some(_) => put_bytes(out, at, b" params ", value),
     }
 }
 
@@ -129,37 +129,37 @@ fn put_timeout(out: &mut [u8], at: usize, reconnect: bool, timeout: Timeout) -> 
 }
 
 // The R bit and the timeout of FT Session.
-pub fn put_session(out: &mut [u8], at: usize, session: Session) -> usize
+pub fn put_session(out: &mut [u8], at: usize, session: Option<Session>) -> usize
     requires { at + 56 ≤ length out.old }
     ensures put { Put out.old at (session_text session) out.new result }
     ensures upper_bound { result ≤ at + 56 }
 {
     match session {
-        Session::Absent => at,
-        Session::Given { reconnect, timeout } => put_timeout(out, at, reconnect, timeout),
+        None => at,
+        Some(s) => put_timeout(out, at, s.reconnect, s.timeout),
     }
 }
 
 // The number of FT Protection or of FT ACK, under its name.
-pub fn put_ft_number(out: &mut [u8], at: usize, name: &[u8], field: FtField) -> usize
+pub fn put_ft_number(out: &mut [u8], at: usize, name: &[u8], field: Option<FtNumber>) -> usize
     requires { at + length name.now + 20 ≤ length out.old }
     ensures put { Put out.old at (ft_text name.now field) out.new result }
     ensures upper_bound { result ≤ at + length name.now + 20 }
 {
     match field {
-        FtField::Absent => at,
-        FtField::Number(n) => put_number(out, at, name, n.0 as u64),
+        None => at,
+        Some(n) => put_number(out, at, name, n.0 as u64),
     }
 }
 
 // The ID of the Request that the message names.
-pub fn put_request_id(out: &mut [u8], at: usize, requestid: IdField) -> usize
+pub fn put_request_id(out: &mut [u8], at: usize, requestid: Option<MessageId>) -> usize
     requires { at + 32 ≤ length out.old }
     ensures put { Put out.old at (request_id_text requestid) out.new result }
     ensures upper_bound { result ≤ at + 32 }
 {
     match requestid {
-        IdField::Absent => at,
-        IdField::Id(id) => put_number(out, at, b" request-id ", id.0 as u64),
+        None => at,
+        Some(id) => put_number(out, at, b" request-id ", id.0 as u64),
     }
 }

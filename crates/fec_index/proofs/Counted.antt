@@ -2,14 +2,14 @@
 use Prim.Native.Nat.{ℕ, zero, suc, ◌+◌, ◌-◌, ◌*◌, ◌/◌, ◌≤◌, ◌<◌}
 use mathlib.Core.Bool.{Bool, true, false, false≢true, not}
 use mathlib.Core.List.{List, [], ◌∷◌}
-use mathlib.Core.Logic.{⊎_elim, inl, inr}
+use mathlib.Core.Logic.{⊎_elim}
 use mathlib.Core.Path.{◌≡◌, refl, sym, ap, ◌∙◌}
 use native.Mathlib.Nat.{zero-add}
 use native.Mathlib.Omega.{arith}
-use lib.Dec.{eqb, leb, ltb}
+use lib.Dec.{eqb}
 use lib.ListN.{length, get_or, drop, replicate, drop_of_length-le, get_or-eq_default}
 use lib.Seq.{drop-cons}
-use borrow.Author.Tests.{eqb-true, leb-true, leb-false, lt-ltb, le-ltb, not-true, not-false}
+use borrow.Author.Tests.{eqb-true, not-true, not-false}
 use Rattle.octets.specs.Be.{be_at}
 use Rattle.octets.specs.Part.{part}
 use Rattle.octets.specs.Pick.{pick, both}
@@ -25,7 +25,6 @@ use Rattle.label_list.specs.declared.Side.TheVariants.{Given, Used}
 use Rattle.label_list.specs.Counting.{counting}
 use Rattle.label_list.specs.Word.{code_of, lists_label, on_side}
 use Rattle.label_list.proofs.Counting.{counting-at, counting-length, counting_none}
-use Rattle.label_list.proofs.Standing.{given_in, given_out, used_in, used_out}
 use Rattle.word_block.specs.Layout.{block_words, is_empty, no_words, place_count, rest_zero, words_end}
 use Rattle.fec_index.specs.Entries.{all_entries, entries_of, entries_ok, entry_count, entry_ok, word_span, is_entry, words_beside}
 use Rattle.fec_index.proofs.Paired.{entry_none}
@@ -87,7 +86,7 @@ all_here es i inside inv =
     let n : i + 1 ≡ suc i = omega arith in
     rw n (rw e at inv)
 
--- ---- whether a word lists a label, by its code
+-- ---- a free word lists no label
 lists_coded : (w : ℕ) {b : Bool} → (b ≡ pick (on_side Given (code_of w)) true (on_side Used (code_of w))) → b ≡ lists_label w
 unfolding lists_label
 lists_coded w e = e
@@ -95,24 +94,6 @@ lists_coded w e = e
 pub lists_none : (w : ℕ) → code_of w ≡ 0 → false ≡ lists_label w
 unfolding on_side
 lists_none w e = lists_coded w (rw e)
-
-pub lists_request : (w : ℕ) → code_of w ≡ 7 → false ≡ lists_label w
-unfolding on_side
-lists_request w e = lists_coded w (rw e)
-
-pub lists_below : (w : ℕ) → (code_of w ≡ 0 → ⊥) → (code_of w ≡ 7 → ⊥) → ltb (code_of w) 10 ≡ lists_label w
-lists_below w some asked =
-    let c : ℕ = code_of w in
-    lists_coded w
-    (by_test (leb c 2)
-    (λ t. let l : c ≤ 2 = leb-true c 2 t in rw (lt-ltb c 10 (omega arith), ← given_in c (inl (omega arith, omega arith))))
-    (λ f. let h : 2 < c = leb-false c 2 f in
-    by_test (leb c 6)
-    (λ t. let l : c ≤ 6 = leb-true c 6 t in rw (lt-ltb c 10 (omega arith), ← given_out c (λ x. omega arith) (λ x. omega arith), ← used_in c (omega arith) (omega arith)))
-    (λ f. let g : 6 < c = leb-false c 6 f in
-    by_test (leb c 9)
-    (λ t. let l : c ≤ 9 = leb-true c 9 t in rw (lt-ltb c 10 (omega arith), ← given_in c (inr (omega arith, omega arith))))
-    (λ f. let k : 9 < c = leb-false c 9 f in rw (le-ltb c 10 (omega arith), ← given_out c (λ x. omega arith) (λ x. omega arith), ← used_out c (λ x. omega arith))))))
 
 -- ---- beside words that stand in some bytes
 module _ (n : ℕ) (s : List ℕ) (at : ℕ) (b : List ℕ) where

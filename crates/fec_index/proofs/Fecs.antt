@@ -1,4 +1,5 @@
 -- The entry of a FEC is right: it is masked once, and masked again it is the same. Assumes nothing.
+use Rattle.std.specs.Prelude.{Option, Some}
 use Prim.Native.Nat.{ℕ, ◌+◌, ◌-◌, ◌*◌, ◌/◌, ◌%◌, ◌^◌, ◌≤◌, ◌<◌}
 use mathlib.Core.Bool.{true}
 use mathlib.Core.List.{List}
@@ -52,7 +53,7 @@ prefix_right value byte p =
     let low : masked_to n v ≤ v = masked_low n v in
     fields_right_lem n (masked_to n v) (entry_of (prefix_of value)) refl (prefix_length_lem value p) (omega arith) (masked_twice n v)
 
-pub fec_right : (value : List ℕ) → Bytes value → entry_ok (entry_by (fec_of value)) ≡ true
+pub fec_right : (value : List ℕ) → Bytes value → entry_ok (entry_by (Some (fec_of value))) ≡ true
 unfolding fec_of
 fec_right value byte =
     by_test (is_wildcard value) (λ w. rw w none_right) (λ w. rw w
@@ -71,5 +72,5 @@ part_bytes m a b byte i =
 pub at_right : (m : List ℕ) → Bytes m → (place : ℕ) → entry_ok (entry_by (fec_at m place)) ≡ true
 unfolding fec_at
 at_right m byte place =
-    pick_all (λ (f : Fec). entry_ok (entry_by f) ≡ true) (eqb place 0) none_right
+    pick_all (λ (f : Option Fec). entry_ok (entry_by f) ≡ true) (eqb place 0) none_right
     (fec_right (part m (place + 4) (place + 4 + be_at 2 m (place + 2))) (part_bytes m (place + 4) (place + 4 + be_at 2 m (place + 2)) byte))

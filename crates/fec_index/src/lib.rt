@@ -9,7 +9,7 @@ ghost use Rattle.block.specs.Run.{words_at};
 ghost use Rattle.label_list.specs.Word.{lists_label};
 ghost use Rattle.tlv.specs.Element.{masked_to};
 ghost use Rattle.word_block.specs.Layout.{block_words, word_block};
-ghost use Rattle.fec_index.specs.Entries.{entry_count, word_span, entries_of, pair_put, entry_ok, entries_ok};
+ghost use Rattle.fec_index.specs.Entries.{entry_count, entries_of, pair_put, entry_ok, entries_ok};
 
 // The places of entries in a block.
 pub const ENTRY_COUNT: usize = 60;
@@ -32,10 +32,8 @@ pub fn read_entries(block: &[u8], entries: &mut [u64])
     requires { (length block.now ≡ block_size) × (length entries.old ≡ entry_count) }
     ensures { entries.new ≡ entries_of block.now }
 {
-    let mut i: usize = 0;
-    while i < entries.len() {
-        entries[i] = read_entry(block, i);
-        i += 1;
+    for (i, entry) in entries.iter_mut().enumerate() {
+        *entry = read_entry(block, i);
     }
 }
 
@@ -48,37 +46,15 @@ pub fn write_entry(block: &mut [u8], place: usize, entry: u64)
     word_block::write_word(block, place * 2 + 1, (entry % HALF) as u32);
 }
 
-// Whether a word lists a label.
-fn lists_label(word: u32) -> bool
-    ensures { result ≡ lists_label word }
-{
-    let code = word / label_list::LABEL_COUNT;
-    if code == 0 {
-        return false;
-    }
-    if code == 7 {
-        return false;
-    }
-    code < 10
-}
-
-// The bits with those past the length zero.
-fn masked_to(length: u64, bits: u64) -> u64
-    requires { (length ≤ 32) × (bits < word_span) }
-    ensures { result ≡ masked_to length bits }
-{
-    let past = 32 - length;
-    (bits >> past) << past
-}
-
 // Whether an entry is right: zeros, or 1, the length, two zeros, and the prefix with zeros past its length.
+#[tactic(auto, unfolding(crate::specs::Entries::entry_ok, crate::specs::Entries::is_entry))]
 fn entry_is_valid(entry: u64) -> bool
     ensures { result ≡ entry_ok entry }
 {
     if entry == 0 {
         return true;
     }
-    let upper = entry / HALF;
+    let upper = (entry / HALF) as u32;
     if upper / 16777216 != 1 {
         return false;
     }
@@ -89,18 +65,16 @@ fn entry_is_valid(entry: u64) -> bool
     if upper % 65536 != 0 {
         return false;
     }
-    let prefix = entry % HALF;
-    masked_to(length, prefix) == prefix
+    let prefix = (entry % HALF) as u32;
+    tlv::element::masked_to(length, prefix) == prefix
 }
 
 // Whether the entry beside a word is right, where it counts.
+#[tactic(auto, using(crate::proofs::Counted::none_right))]
 fn place_is_valid(word: u32, entry: u64) -> bool
     ensures { result ≡ entry_ok (pick (lists_label word) entry 0) }
 {
-    if !lists_label(word) {
-        return true;
-    }
-    entry_is_valid(entry)
+    !label_list::lists_label(word) || entry_is_valid(entry)
 }
 
 // Whether the fields are right beside the label words that stand in some bytes: zeros behind the places, and each entry
@@ -116,12 +90,10 @@ pub fn entries_are_valid(block: &[u8], labels: &[u8], at: usize, count: usize) -
     if block::zeros::all_zero(&labels[at..end]) {
         return true;
     }
-    let mut i: usize = 0;
-    while i < count {
+    for i in 0..count {
         if !place_is_valid(octets::get_u32(labels, at + i * 4), read_entry(block, i)) {
             return false;
         }
-        i += 1;
     }
     true
 }

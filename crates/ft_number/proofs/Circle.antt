@@ -1,5 +1,6 @@
 -- What the numbers' definitions mean: `steps_of` counts successors and is the fewest there are, the count is unique within the circle, and an ACK
 -- that is right names a number on the way from R to I. Assumes nothing.
+use Rattle.std.specs.Prelude.{Option, Some, None}
 use Prim.Native.Nat.{ℕ, zero, suc, ◌+◌, ◌-◌, ◌%◌, ◌<◌, ◌≤◌}
 use mathlib.Core.Bool.{Bool, true, false}
 use mathlib.Core.Path.{◌≡◌, refl, sym, ap, ◌∙◌}
@@ -8,9 +9,6 @@ use native.Mathlib.Omega.{arith}
 use lib.Dec.{ltb}
 use borrow.Author.Tests.{ne_eqb, ltb-false}
 use Rattle.octets.specs.Pick.{pick}
-use Rattle.ft_number.specs.declared.Ack.TheVariants.{Releases, SequenceError}
-use Rattle.ft_number.specs.declared.Steps.{Steps}
-use Rattle.ft_number.specs.declared.Steps.TheVariants.{Count, Unreachable}
 use Rattle.ft_number.specs.Ack.{in_window, ack_of}
 use Rattle.ft_number.specs.Circle.{circle, next, after, forward, steps_of}
 use Rattle.ft_number.proofs.Laws.{steps_none, steps_on}
@@ -55,19 +53,19 @@ pub record Counted (a b k : ℕ) : Type 0 where
   pub some : 0 < a → 0 < b
   pub on : 0 < a → k ≡ forward a b
 
-pub counted : (a b k : ℕ) → steps_of a b ≡ Count k → Counted a b k
+pub counted : (a b k : ℕ) → steps_of a b ≡ Some k → Counted a b k
 unfolding steps_of
 counted zero b k e = record { from_none = λ z. cc; some = λ l. absurd (omega arith); on = λ l. absurd (omega arith) }
 counted (suc a) zero k e =
-    let n : steps_of (suc a) zero ≡ Unreachable = simp (ne_eqb (suc a) 0 (λ (z : suc a ≡ 0). omega arith)) in
+    let n : steps_of (suc a) zero ≡ None = simp (ne_eqb (suc a) 0 (λ (z : suc a ≡ 0). omega arith)) in
     let z : ◌≡◌ {A = ℕ} 0 1 = cc in
     absurd (omega arith)
 counted (suc a) (suc b) k e =
-    let n : Count (forward (suc a) (suc b)) ≡ steps_of (suc a) (suc b) = steps_on (suc a) (suc b) (λ z. omega arith) (λ z. omega arith) refl in
+    let n : Some (forward (suc a) (suc b)) ≡ steps_of (suc a) (suc b) = steps_on (suc a) (suc b) (λ z. omega arith) (λ z. omega arith) refl in
     record { from_none = λ z. absurd (omega arith); some = λ l. omega arith; on = λ l. cc }
 
 -- k steps are k successors
-pub steps_reach : (a b k : ℕ) → a ≤ circle → b ≤ circle → steps_of a b ≡ Count k → after k a ≡ b
+pub steps_reach : (a b k : ℕ) → a ≤ circle → b ≤ circle → steps_of a b ≡ Some k → after k a ≡ b
 steps_reach zero b zero ha hb e = let c = counted zero b zero e in after_none 0 ∙ c.from_none refl
 steps_reach zero b (suc k) ha hb e = let c = counted zero b (suc k) e in after_is (suc k) 0 ha (omega arith) ∙ omega (arith, c.from_none refl)
 steps_reach (suc a) b zero ha hb e =
@@ -78,7 +76,7 @@ steps_reach (suc a) b (suc k) ha hb e =
     after_is (suc k) (suc a) ha (omega arith) ∙ omega (arith, c.some (omega arith), c.on (omega arith))
 
 -- and no fewer lead there
-pub steps_fewest : (a b k j : ℕ) → a ≤ circle → steps_of a b ≡ Count k → after j a ≡ b → k ≤ j
+pub steps_fewest : (a b k j : ℕ) → a ≤ circle → steps_of a b ≡ Some k → after j a ≡ b → k ≤ j
 steps_fewest zero b k zero ha e r = omega (arith, (counted zero b k e).from_none refl, after_none 0)
 steps_fewest zero b k (suc j) ha e r = omega (arith, (counted zero b k e).from_none refl, after_is (suc j) 0 ha (omega arith))
 steps_fewest (suc a) b k zero ha e r = omega (arith, (counted (suc a) b k e).on (omega arith), after_none (suc a))
@@ -92,11 +90,11 @@ steps_unique a (suc j) zero ha hj hk e = omega (arith, after_none a, after_is (s
 steps_unique a (suc j) (suc k) ha hj hk e = omega (arith, after_is (suc j) a ha (omega arith), after_is (suc k) a ha (omega arith))
 
 -- the steps to the k-th successor are k
-pub steps-after : (a k : ℕ) → a ≤ circle → k < circle → steps_of a (after k a) ≡ Count k
-steps-after zero zero ha hk = sym (steps_none 0 (after 0 0) refl) ∙ ap Count (after_none 0)
+pub steps-after : (a k : ℕ) → a ≤ circle → k < circle → steps_of a (after k a) ≡ Some k
+steps-after zero zero ha hk = sym (steps_none 0 (after 0 0) refl) ∙ ap Some (after_none 0)
 steps-after zero (suc k) ha hk =
     let e : after (suc k) 0 ≡ suc k = after_is (suc k) 0 ha (omega arith) ∙ omega arith in
-    sym (steps_none 0 (after (suc k) 0) refl) ∙ ap Count e
+    sym (steps_none 0 (after (suc k) 0) refl) ∙ ap Some e
 steps-after (suc a) zero ha hk =
     let e : 0 ≡ forward (suc a) (suc a) = omega arith in
     rw (after_none (suc a)) (sym (steps_on (suc a) (suc a) (λ z. omega arith) (λ z. omega arith) e))
@@ -106,7 +104,7 @@ steps-after (suc a) (suc k) ha hk =
     sym (steps_on (suc a) (after (suc k) (suc a)) (λ z. omega arith) (λ z. omega arith) e)
 
 -- past the number that k steps lead to lie the rest of the steps
-pub steps-rest : (r i a k n : ℕ) → r ≤ circle → i ≤ circle → a ≤ circle → n < circle → steps_of r a ≡ Count k → steps_of r i ≡ Count n → k ≤ n → steps_of a i ≡ Count (n - k)
+pub steps-rest : (r i a k n : ℕ) → r ≤ circle → i ≤ circle → a ≤ circle → n < circle → steps_of r a ≡ Some k → steps_of r i ≡ Some n → k ≤ n → steps_of a i ≡ Some (n - k)
 steps-rest r i a k n lr li la ln ea ei few =
     let sum : (n - k) + k ≡ n = omega arith in
     let there : after (n - k) a ≡ i =
@@ -115,21 +113,21 @@ steps-rest r i a k n lr li la ln ea ei few =
 
 -- an acknowledgement that releases k names the k-th number after R, and no more than were issued
 pub record Acknowledged (r i a k : ℕ) : Type 0 where
-  pub names : steps_of r a ≡ Count k
+  pub names : steps_of r a ≡ Some k
   pub issued : ℕ
-  pub window : steps_of r i ≡ Count issued
+  pub window : steps_of r i ≡ Some issued
   pub few : k ≤ issued
 
 -- an ACK that releases k names the k-th number after R, and at least k were issued
-pub ack_releases : (r i a k : ℕ) → ack_of r i a ≡ Releases k → Acknowledged r i a k
+pub ack_releases : (r i a k : ℕ) → ack_of r i a ≡ Some k → Acknowledged r i a k
 unfolding ack_of
 ack_releases r i a k e = by (steps_of r a) (steps_of r i) refl refl e
   where
-    chosen : (j n : ℕ) (b : Bool) → ltb n j ≡ b → steps_of r a ≡ Count j → steps_of r i ≡ Count n → pick b SequenceError (Releases j) ≡ Releases k → Acknowledged r i a k
+    chosen : (j n : ℕ) (b : Bool) → ltb n j ≡ b → steps_of r a ≡ Some j → steps_of r i ≡ Some n → pick b None (Some j) ≡ Some k → Acknowledged r i a k
     chosen j n true t p q e = let z : ◌≡◌ {A = ℕ} 0 1 = cc in absurd (omega arith)
-    chosen j n false t p q e = let same : j ≡ k = cc in record { names = p ∙ ap Count same; issued = n; window = q; few = omega (arith, ltb-false n j t) }
+    chosen j n false t p q e = let same : j ≡ k = cc in record { names = p ∙ ap Some same; issued = n; window = q; few = omega (arith, ltb-false n j t) }
 
-    by : (s t : Steps) → steps_of r a ≡ s → steps_of r i ≡ t → in_window s t ≡ Releases k → Acknowledged r i a k
-    by (Count j) (Count n) p q e = chosen j n (ltb n j) refl p q e
-    by (Count j) Unreachable p q e = let z : ◌≡◌ {A = ℕ} 0 1 = cc in absurd (omega arith)
-    by Unreachable t p q e = let z : ◌≡◌ {A = ℕ} 0 1 = cc in absurd (omega arith)
+    by : (s t : Option ℕ) → steps_of r a ≡ s → steps_of r i ≡ t → in_window s t ≡ Some k → Acknowledged r i a k
+    by (Some j) (Some n) p q e = chosen j n (ltb n j) refl p q e
+    by (Some j) None p q e = let z : ◌≡◌ {A = ℕ} 0 1 = cc in absurd (omega arith)
+    by None t p q e = let z : ◌≡◌ {A = ℕ} 0 1 = cc in absurd (omega arith)

@@ -1,4 +1,5 @@
 -- Laws of the definitions on numbers, over plain values: the functions' proofs cite them. Assume nothing.
+use Rattle.std.specs.Prelude.{Option, Some, None}
 use Prim.Native.Nat.{ℕ, zero, suc, ◌≤◌, ◌<◌, ◌-◌, ◌^◌, min}
 use mathlib.Core.Path.{◌≡◌, refl}
 use native.Mathlib.Omega.{arith}
@@ -7,11 +8,6 @@ use borrow.Author.Tests.{le-leb, lt-leb, le-ltb, lt-ltb, eq-eqb, ne_eqb}
 use mir.Facts.{to_z_pos, to_z-of_z}
 use mir.Syntax.{Width, w32}
 use mir.Val.{hbits, SFits, to_z, of_z}
-use Rattle.ft_number.specs.declared.Ack.TheVariants.{Releases, SequenceError}
-use Rattle.ft_number.specs.declared.Distance.{Distance}
-use Rattle.ft_number.specs.declared.Distance.TheVariants.{Refused}
-use Rattle.ft_number.specs.declared.Steps.{Steps}
-use Rattle.ft_number.specs.declared.Steps.TheVariants.{Count, Unreachable}
 use Rattle.ft_number.specs.Ack.{ack_of}
 use Rattle.ft_number.specs.Circle.{circle, forward, steps_of}
 use Rattle.ft_number.specs.Distance.{distance_of}
@@ -24,32 +20,32 @@ lesser_of_lem zero b r h = h.0 refl
 lesser_of_lem (suc a) zero r h = h.1 refl
 lesser_of_lem (suc a) (suc b) r h = h.2 (omega arith) (omega arith)
 
-pub steps_none : (a b : ℕ) → a ≡ 0 → Count b ≡ steps_of a b
+pub steps_none : (a b : ℕ) → a ≡ 0 → Some b ≡ steps_of a b
 unfolding steps_of
 steps_none a b h = rw (eq-eqb a 0 h)
 
-pub steps_never : (a b : ℕ) → (a ≡ 0 → ⊥) → b ≡ 0 → Unreachable ≡ steps_of a b
+pub steps_never : (a b : ℕ) → (a ≡ 0 → ⊥) → b ≡ 0 → None ≡ steps_of a b
 unfolding steps_of
 steps_never a b h k = simp (ne_eqb a 0 h, eq-eqb b 0 k)
 
-pub steps_on : (a b : ℕ) {d : ℕ} → (a ≡ 0 → ⊥) → (b ≡ 0 → ⊥) → d ≡ forward a b → Count d ≡ steps_of a b
+pub steps_on : (a b : ℕ) {d : ℕ} → (a ≡ 0 → ⊥) → (b ≡ 0 → ⊥) → d ≡ forward a b → Some d ≡ steps_of a b
 unfolding steps_of
 steps_on a b h k e = simp (ne_eqb a 0 h, ne_eqb b 0 k, e)
 
-pub unreachable : (r i a : ℕ) {s : Steps} → s ≡ steps_of r a → s ≡ Unreachable → SequenceError ≡ ack_of r i a
+pub unreachable : (r i a : ℕ) {s : Option ℕ} → s ≡ steps_of r a → s ≡ None → None ≡ ack_of r i a
 unfolding ack_of
 unreachable r i a e g = rw (← e, g)
 
-module _ (r i a : ℕ) {s t : Steps} {k : ℕ} (e₁ : s ≡ steps_of r a) (g₁ : s ≡ Count k) (e₂ : t ≡ steps_of r i) where
-  pub none_issued : t ≡ Unreachable → SequenceError ≡ ack_of r i a
+module _ (r i a : ℕ) {s t : Option ℕ} {k : ℕ} (e₁ : s ≡ steps_of r a) (g₁ : s ≡ Some k) (e₂ : t ≡ steps_of r i) where
+  pub none_issued : t ≡ None → None ≡ ack_of r i a
   unfolding ack_of
   none_issued g₂ = rw (← e₁, ← e₂, g₁, g₂)
 
-  pub releases : {n : ℕ} → t ≡ Count n → k ≤ n → Releases k ≡ ack_of r i a
+  pub releases : {n : ℕ} → t ≡ Some n → k ≤ n → Some k ≡ ack_of r i a
   unfolding ack_of
   releases g₂ h = rw (← e₁, ← e₂, g₁, g₂, le-ltb _ _ h)
 
-  pub past : {n : ℕ} → t ≡ Count n → n < k → SequenceError ≡ ack_of r i a
+  pub past : {n : ℕ} → t ≡ Some n → n < k → None ≡ ack_of r i a
   unfolding ack_of
   past g₂ h = rw (← e₁, ← e₂, g₁, g₂, lt-ltb _ _ h)
 
@@ -68,19 +64,18 @@ module _ (w : Width) (m : ℕ) (h : m < 2 ^ hbits w) where
   pub minus : to_z w (of_z w (pos 0 -ℤ to_z w m)) ≡ neg_ℤ (pos m)
   minus = rw minus_is (to_z-of_z (neg_fits w m h))
 
-pub refused_from : (a b : ℕ) → a ≡ 0 → Refused ≡ distance_of a b
+pub refused : (a b : ℕ) → ((a ≡ 0 → ⊥) → b ≡ 0) → None ≡ distance_of a b
 unfolding distance_of
-refused_from a b h = rw (eq-eqb a 0 h)
-
-pub refused_to : (a b : ℕ) → (a ≡ 0 → ⊥) → b ≡ 0 → Refused ≡ distance_of a b
-unfolding distance_of
-refused_to a b h k = simp (ne_eqb a 0 h, eq-eqb b 0 k)
+refused zero b h = refl
+refused (suc a) b h =
+    let some : suc a ≡ 0 → ⊥ = λ z. omega arith in
+    simp (ne_eqb (suc a) 0 some, eq-eqb b 0 (h some))
 
 module _ (a b : ℕ) {d : ℕ} (h : a ≡ 0 → ⊥) (k : b ≡ 0 → ⊥) (e : d ≡ forward a b) where
-  pub ahead : d ≤ 2147483647 → Distance.Steps (to_z w32 d) ≡ distance_of a b
+  pub ahead : d ≤ 2147483647 → Some (to_z w32 d) ≡ distance_of a b
   unfolding distance_of
   ahead l = simp (ne_eqb a 0 h, ne_eqb b 0 k, ← e, le-leb d 2147483647 l, to_z_pos w32 {n = d} (omega arith))
 
-  pub behind : 2147483647 < d → Distance.Steps (to_z w32 (of_z w32 (pos 0 -ℤ to_z w32 (circle - d)))) ≡ distance_of a b
+  pub behind : 2147483647 < d → Some (to_z w32 (of_z w32 (pos 0 -ℤ to_z w32 (circle - d)))) ≡ distance_of a b
   unfolding distance_of
   behind l = simp (ne_eqb a 0 h, ne_eqb b 0 k, ← e, lt-leb d 2147483647 l, minus w32 (circle - d) (omega arith))

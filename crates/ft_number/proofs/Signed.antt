@@ -1,4 +1,5 @@
 -- What the signed distance means: so many successors lead forward from one number to the other, or back. Assumes nothing.
+use Rattle.std.specs.Prelude.{Option, Some, None}
 use Prim.Native.Nat.{ℕ, zero, suc, ◌+◌, ◌-◌, ◌%◌, ◌<◌, ◌≤◌}
 use mathlib.Core.Bool.{Bool, true, false}
 use mathlib.Core.Path.{◌≡◌, refl, sym, ap, ◌∙◌}
@@ -7,8 +8,6 @@ use lib.Dec.{leb}
 use lib.IntN.{ℤ, pos, negsuc, neg_ℤ}
 use borrow.Author.Tests.{leb-true, leb-false, le-leb, lt-leb, ne_eqb}
 use Rattle.octets.specs.Pick.{pick}
-use Rattle.ft_number.specs.declared.Distance.{Distance}
-use Rattle.ft_number.specs.declared.Distance.TheVariants.{Steps, Refused}
 use Rattle.ft_number.specs.Circle.{circle, after, forward}
 use Rattle.ft_number.specs.Distance.{half, shorter, distance_of}
 use Rattle.ft_number.proofs.Circle.{after_none, after_is}
@@ -19,7 +18,7 @@ Leads a b (pos k) = (after k a ≡ b) × (k ≤ half) × (forward a b ≡ k)
 Leads a b (negsuc k) = (after (suc k) b ≡ a) × (suc k ≤ half) × (forward a b + suc k ≡ circle)
 
 -- the distance between two numbers on the circle is given
-pub distance_is : (a b : ℕ) → 0 < a → 0 < b → distance_of a b ≡ Steps (shorter (forward a b))
+pub distance_is : (a b : ℕ) → 0 < a → 0 < b → distance_of a b ≡ Some (shorter (forward a b))
 unfolding distance_of
 distance_is a b la lb = simp (ne_eqb a 0 (λ (z : a ≡ 0). omega arith), ne_eqb b 0 (λ (z : b ≡ 0). omega arith))
 
@@ -41,9 +40,9 @@ module _ (a b : ℕ) (la : 0 < a) (ha : a ≤ circle) (lb : 0 < b) (hb : b ≤ c
       by false e = let l : half < forward a b = leb-false _ _ e in back (circle - forward a b) (omega arith) (omega arith) (omega arith)
 
 -- the same way walked from its other end
-abbrev pub negated : Distance → Distance
-negated (Steps z) = Steps (neg_ℤ z)
-negated Refused = Refused
+abbrev pub negated : Option ℤ → Option ℤ
+negated (Some z) = Some (neg_ℤ z)
+negated None = None
 
 neg_neg : (z : ℤ) → neg_ℤ (neg_ℤ z) ≡ z
 neg_neg (pos zero) = refl
@@ -75,5 +74,5 @@ distance_antisymmetric (suc a) zero ha hb = simp (ne_eqb (suc a) 0 (λ (z : suc 
 distance_antisymmetric (suc a) (suc b) ha hb =
     let e : forward (suc b) (suc a) ≡ (circle - forward (suc a) (suc b)) % circle = omega arith in
     distance_is (suc b) (suc a) (omega arith) (omega arith)
-    ∙ ap Steps (ap shorter e ∙ shorter_back (forward (suc a) (suc b)) (omega arith))
+    ∙ ap Some (ap shorter e ∙ shorter_back (forward (suc a) (suc b)) (omega arith))
     ∙ sym (ap negated (distance_is (suc a) (suc b) (omega arith) (omega arith)))

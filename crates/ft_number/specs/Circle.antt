@@ -1,8 +1,6 @@
 -- FT numbers on a circle: "FT numbers run 1 to 0xFFFFFFFF, then 1 again; 0 is "none" and its successor is 1."
-use Rattle.std.specs.Prelude.{ℕ, zero, suc, ◌+◌, ◌-◌, ◌%◌, eqb}
+use Rattle.std.specs.Prelude.{Option, Some, None, ℕ, zero, suc, ◌+◌, ◌-◌, ◌%◌, eqb}
 use Rattle.octets.specs.Pick.{pick}
-use Rattle.ft_number.specs.declared.Steps.{Steps}
-use Rattle.ft_number.specs.declared.Steps.TheVariants.{Count, Unreachable}
 
 -- how many numbers the circle has: 1 to 0xFFFFFFFF
 abbrev pub circle : ℕ
@@ -22,5 +20,5 @@ abbrev pub forward : ℕ → ℕ → ℕ
 forward a b = (b + circle - a) % circle
 
 -- how many successors lead from a to b: from "none" to n it is n, and nothing leads from a number to "none"
-unfoldable pub steps_of : ℕ → ℕ → Steps
-steps_of a b = pick (eqb a 0) (Count b) (pick (eqb b 0) Unreachable (Count (forward a b)))
+unfoldable pub steps_of : ℕ → ℕ → Option ℕ
+steps_of a b = pick (eqb a 0) (Some b) (pick (eqb b 0) None (Some (forward a b)))

@@ -9,40 +9,18 @@ ghost use Rattle.ft_number.specs.Timeout.{lesser_of, millis_of, default_in, prop
 ghost use Rattle.ft_number.specs.Turn.{farthest, number_turn};
 
 // An FT sequence number: 1 to 0xFFFFFFFF, then 1 again; 0 is "none".
-#[derive(Clone, Copy)]
+#[derive(Clone, Copy, PartialEq, Eq)]
 pub struct FtNumber(pub u32);
 
 // A message ID. It is another type, so that no rule on FT numbers can be handed one.
 #[derive(Clone, Copy)]
 pub struct MessageId(pub u32);
 
-// How many successors lead from one number to another.
+// Why the number of a protected message is not one that may come next: it is out of turn, or zero.
 #[derive(Clone, Copy)]
-pub enum Steps {
-    Count(u32),
-    Unreachable,
-}
-
-// What an acknowledgement does.
-#[derive(Clone, Copy)]
-pub enum Ack {
-    Releases(u32),
-    SequenceError,
-}
-
-// What the number of a protected message is: in turn, with how many were left out before it, out of turn, or zero.
-#[derive(Clone, Copy)]
-pub enum Turn {
-    InTurn(u32),
+pub enum TurnError {
     OutOfTurn,
     ZeroNumber,
-}
-
-// The shorter way round; refused with a zero.
-#[derive(Clone, Copy)]
-pub enum Distance {
-    Steps(i32),
-    Refused,
 }
 
 // The forms of FT Session: the draft's, which counts seconds, and the published one of RFC 3479, which counts milliseconds.
@@ -68,6 +46,9 @@ pub enum Proposal {
 
 // How many numbers the circle has.
 const CIRCLE: u32 = 4294967295;
+
+// The steps forward that are the shorter way round.
+const HALF: u32 = 2147483647;
 
 // The seconds proposed where the owner gives none.
 const DEFAULT_TIMEOUT: u16 = 30;
@@ -100,37 +81,25 @@ fn places(a: u32, b: u32) -> u32
 }
 
 // How many successors lead from one number to another, or that none do.
-pub fn steps_between(from: FtNumber, to: FtNumber) -> Steps
+#[tactic(auto, using(crate::proofs::Laws::steps_none, crate::proofs::Laws::steps_never, crate::proofs::Laws::steps_on))]
+pub fn steps_between(from: FtNumber, to: FtNumber) -> Option<u32>
     ensures { result ≡ steps_of from.0 to.0 }
 {
-    let a = from.0;
-    let b = to.0;
-    if a == 0 {
-        return Steps::Count(b);
+    match (from.0, to.0) {
+        (0, b) => Some(b),
+        (_, 0) => None,
+        (a, b) => Some(places(a, b)),
     }
-    if b == 0 {
-        return Steps::Unreachable;
-    }
-    Steps::Count(places(a, b))
 }
 
 // How many held messages an acknowledgement releases, or that it names none of them: a sequence error.
-pub fn acknowledge(released: FtNumber, issued: FtNumber, ack: FtNumber) -> Ack
+#[tactic(auto, using(crate::proofs::Laws::releases, crate::proofs::Laws::past, crate::proofs::Laws::none_issued, crate::proofs::Laws::unreachable))]
+pub fn acknowledge(released: FtNumber, issued: FtNumber, ack: FtNumber) -> Option<u32>
     ensures { result ≡ ack_of released.0 issued.0 ack.0 }
 {
-    match steps_between(released, ack) {
-        Steps::Count(k) => match steps_between(released, issued) {
-            Steps::Count(n) => {
-                if k <= n {
-                    Ack::Releases(k)
-                } else {
-                    Ack::SequenceError
-                }
-            }
-            Steps::Unreachable => Ack::SequenceError,
-        },
-        Steps::Unreachable => Ack::SequenceError,
-    }
+    let k = steps_between(released, ack)?;
+    let n = steps_between(released, issued)?;
+    if k <= n { Some(k) } else { None }
 }
 
 // How many steps ahead of the last number secured the next one may be.
@@ -141,43 +110,36 @@ fn steps_allowed(resumed: bool) -> u32
 }
 
 // Whether a number is the next after the last one secured, and how many were left out before it.
-pub fn judge_turn(secured: FtNumber, number: FtNumber, resumed: bool) -> Turn
+#[tactic(auto, using(crate::proofs::Turns::turn_never, crate::proofs::Turns::turn_same, crate::proofs::Turns::turn_far, crate::proofs::Turns::turn_in))]
+pub fn judge_turn(secured: FtNumber, number: FtNumber, resumed: bool) -> Result<u32, TurnError>
     ensures { result ≡ number_turn resumed secured.0 number.0 }
 {
     if number.0 == 0 {
-        return Turn::ZeroNumber;
+        return Err(TurnError::ZeroNumber);
     }
-    match steps_between(secured, number) {
-        Steps::Count(k) => {
-            if k == 0 {
-                return Turn::OutOfTurn;
-            }
-            if steps_allowed(resumed) < k {
-                return Turn::OutOfTurn;
-            }
-            Turn::InTurn(k - 1)
-        }
-        Steps::Unreachable => Turn::OutOfTurn,
+    let Some(k) = steps_between(secured, number) else {
+        return Err(TurnError::OutOfTurn);
+    };
+    if k == 0 || steps_allowed(resumed) < k {
+        return Err(TurnError::OutOfTurn);
     }
+    Ok(k - 1)
 }
 
 // The signed distance between two numbers, the shorter way round; refused with a zero.
-pub fn signed_distance(from: FtNumber, to: FtNumber) -> Distance
+pub fn signed_distance(from: FtNumber, to: FtNumber) -> Option<i32>
     ensures { result ≡ distance_of from.0 to.0 }
 {
     let a = from.0;
     let b = to.0;
-    if a == 0 {
-        return Distance::Refused;
-    }
-    if b == 0 {
-        return Distance::Refused;
+    if a == 0 || b == 0 {
+        return None;
     }
     let d = places(a, b);
-    if d <= 2147483647 {
-        Distance::Steps(d as i32)
+    if d <= HALF {
+        Some(d as i32)
     } else {
-        Distance::Steps(-((CIRCLE - d) as i32))
+        Some(-((CIRCLE - d) as i32))
     }
 }
 
@@ -191,7 +153,7 @@ pub fn lesser_timeout(a: u32, b: u32) -> u32
     if b == 0 {
         return a;
     }
-    if a <= b { a } else { b }
+    a.min(b)
 }
 
 // A timeout in milliseconds; 0 stays 0, for ever.

@@ -1,12 +1,11 @@
 -- The counts of an image. Assumes nothing.
+use Rattle.std.specs.Prelude.{Option, Some, None}
 use Prim.Native.Nat.{ℕ, ◌-◌, ◌≤◌}
 use mathlib.Core.Bool.{true}
 use mathlib.Core.List.{List}
 use mathlib.Core.Path.{◌≡◌, sym, ◌∙◌}
 use lib.Dec.{leb}
 use borrow.Author.Tests.{leb-true}
-use Rattle.ft_number.specs.declared.Steps.{Steps}
-use Rattle.ft_number.specs.declared.Steps.TheVariants.{Count, Unreachable}
 use Rattle.ft_number.specs.Circle.{steps_of}
 use Rattle.label_list.specs.Find.{listed_count}
 use Rattle.label_list.specs.Word.{word_count}
@@ -19,18 +18,18 @@ use Rattle.image.specs.State.{Contents, decode}
 use Rattle.image.proofs.Ranges.{labels-count}
 
 -- ---- the pended
-module _ (h : Header) (s : Steps) (e : s ≡ steps_of h.released.0 h.issued.0) where
-  pub issued_low : at_most h.held (steps_of h.released.0 h.issued.0) ≡ true → (n : ℕ) → s ≡ Count n → n ≤ h.held
+module _ (h : Header) (s : Option ℕ) (e : s ≡ steps_of h.released.0 h.issued.0) where
+  pub issued_low : at_most h.held (steps_of h.released.0 h.issued.0) ≡ true → (n : ℕ) → s ≡ Some n → n ≤ h.held
   issued_low w n q =
-      let steps : steps_of h.released.0 h.issued.0 ≡ Count n = sym e ∙ q in
+      let steps : steps_of h.released.0 h.issued.0 ≡ Some n = sym e ∙ q in
       let t : leb n h.held ≡ true = rw steps at w in
       leb-true n h.held t
 
-  pub pended-count : (n : ℕ) → s ≡ Count n → h.held - n ≡ pended_of h
+  pub pended-count : (n : ℕ) → s ≡ Some n → h.held - n ≡ pended_of h
   unfolding pended_of
   pended-count n q = rw (← e, q)
 
-  pub pended_all : s ≡ Unreachable → h.held ≡ pended_of h
+  pub pended_all : s ≡ None → h.held ≡ pended_of h
   unfolding pended_of
   pended_all q = rw (← e, q)
 

@@ -1,4 +1,5 @@
 -- Two images that differ in entries that do not count stand for the same, and are judged alike. Assumes nothing.
+use Rattle.std.specs.Prelude.{Result, Err}
 use Prim.Native.Nat.{ℕ, ◌+◌, ◌-◌, ◌*◌, ◌<◌}
 use mathlib.Core.Bool.{Bool, not}
 use mathlib.Core.List.{List}
@@ -21,9 +22,8 @@ use Rattle.block0.specs.Layout.{header_by, labels_by}
 use Rattle.fec_index.specs.Entries.{all_entries, entries_of, entries_ok, entry_count, words_beside}
 use Rattle.fec_index.proofs.Counted.{listed_at}
 use Rattle.slot.specs.Layout.{slot_message}
+use Rattle.image.specs.declared.ImageFault.{ImageFault}
 use Rattle.image.specs.declared.Judgement.{Judgement}
-use Rattle.image.specs.declared.Verdict.{Verdict}
-use Rattle.image.specs.declared.Verdict.TheVariants.{WrongSize}
 use Rattle.image.specs.CountedAlike.{CountedAlike}
 use Rattle.image.specs.Ring.{ring}
 use Rattle.image.specs.Sizes.{request_block, index_block, image_size, block, block_of, slot_at}
@@ -108,7 +108,7 @@ module _ (v : Version) (image t : List ℕ) (a : CountedAlike v image t) where
   pub alike_judged : verdict_by v t ≡ verdict_by v image
   unfolding verdict_by
   alike_judged =
-      ap₂ (λ (n : ℕ) (r : Verdict). pick (not (eqb n image_size)) WrongSize r) a.size
+      ap₂ (λ (n : ℕ) (r : Result Unit ImageFault). pick (not (eqb n image_size)) (Err ImageFault.WrongSize) r) a.size
       (looked-judged v t
       ∙ ap (λ (z : List ℕ). first_fault (bytes_judged v t) (looked (header_by v z))) zeroth
       ∙ fault_same (bytes_judged v t) (bytes_judged v image) (looked (header_by v (block image 0))) (λ b l. judged_alike b)

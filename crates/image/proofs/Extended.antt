@@ -1,5 +1,6 @@
 -- An image of an earlier size, extended: its blocks are as they were, so it passes the checks of its version and stands for the same, its labels as of other
 -- FECs; and what `extend` answers. Assumes nothing.
+use Rattle.std.specs.Prelude.{Ok, Err}
 use Prim.Native.Nat.{ℕ, zero, suc, ◌+◌, ◌-◌, ◌*◌, ◌%◌, ◌≤◌, ◌<◌}
 use mathlib.Core.Bool.{false}
 use mathlib.Core.List.{List}
@@ -32,7 +33,7 @@ use Rattle.fec_index.proofs.Paired.{entry_none}
 use Rattle.request_ids.specs.Fields.{IdsGood}
 use Rattle.request_ids.proofs.Counted.{word_block_good}
 use Rattle.slot.specs.Layout.{slot_message}
-use Rattle.image.specs.declared.Verdict.TheVariants.{WrongSize, Sound}
+use Rattle.image.specs.declared.ImageFault.{ImageFault}
 use Rattle.image.specs.Extend.{earlier_size, extended_contents, extended_from, extend_of, extend_verdict, SoundBefore}
 use Rattle.image.specs.Ring.{ring}
 use Rattle.image.specs.Sizes.{request_block, index_block, block_count, image_size, block, block_of, slot_at}
@@ -164,25 +165,25 @@ module _ (v : Version) (n : ℕ) (image : List ℕ) (s : SoundBefore v n image) 
   extended_decodes = ap (decode_by v) (extend_is image s.size n s.few) ∙ from_decodes v n image s
 
 -- of an image of version 2 restore's checks are passed
-pub extended_passes : (n : ℕ) (image : List ℕ) → SoundBefore Two n image → verdict (extend_of image (earlier_size n)) ≡ Sound
+pub extended_passes : (n : ℕ) (image : List ℕ) → SoundBefore Two n image → verdict (extend_of image (earlier_size n)) ≡ Ok tt
 extended_passes n image s = parts_sound (extend_of image (earlier_size n)) (extended_sound Two n image s)
 
 -- ---- its answers
 module _ (s : List ℕ) (stored : ℕ) where
-  pub extend_size : (length s ≡ image_size → ⊥) → (WrongSize ≡ extend_verdict s stored) × (s ≡ extend_of s stored)
+  pub extend_size : (length s ≡ image_size → ⊥) → ((Err ImageFault.WrongSize) ≡ extend_verdict s stored) × (s ≡ extend_of s stored)
   unfolding extend_verdict extend_of
   extend_size h = simp (ne_eqb (length s) image_size h) (refl, refl)
 
   module _ (size : length s ≡ image_size) where
-    pub extend_first : stored ≡ earlier_size 0 → {t : List ℕ} → t ≡ extended_from s request_block → (Sound ≡ extend_verdict s stored) × (t ≡ extend_of s stored)
+    pub extend_first : stored ≡ earlier_size 0 → {t : List ℕ} → t ≡ extended_from s request_block → ((Ok tt) ≡ extend_verdict s stored) × (t ≡ extend_of s stored)
     unfolding extend_verdict extend_of
     extend_first h e = simp (eq-eqb (length s) image_size size, eq-eqb stored (earlier_size 0) h) (refl, e)
 
     module _ (other : stored ≡ earlier_size 0 → ⊥) where
-      pub extend_second : stored ≡ earlier_size 1 → {t : List ℕ} → t ≡ extended_from s index_block → (Sound ≡ extend_verdict s stored) × (t ≡ extend_of s stored)
+      pub extend_second : stored ≡ earlier_size 1 → {t : List ℕ} → t ≡ extended_from s index_block → ((Ok tt) ≡ extend_verdict s stored) × (t ≡ extend_of s stored)
       unfolding extend_verdict extend_of
       extend_second h e = simp (eq-eqb (length s) image_size size, ne_eqb stored (earlier_size 0) other, eq-eqb stored (earlier_size 1) h) (refl, e)
 
-      pub extend_stored : (stored ≡ earlier_size 1 → ⊥) → (WrongSize ≡ extend_verdict s stored) × (s ≡ extend_of s stored)
+      pub extend_stored : (stored ≡ earlier_size 1 → ⊥) → ((Err ImageFault.WrongSize) ≡ extend_verdict s stored) × (s ≡ extend_of s stored)
       unfolding extend_verdict extend_of
       extend_stored h = simp (eq-eqb (length s) image_size size, ne_eqb stored (earlier_size 0) other, ne_eqb stored (earlier_size 1) h) (refl, refl)

@@ -1,4 +1,5 @@
 -- The first fault of the blocks in an order, whatever judges them. Assumes nothing.
+use Rattle.std.specs.Prelude.{Result, Ok, Err}
 use Prim.Native.Nat.{ℕ, zero, suc, ◌<◌}
 use mathlib.Core.Bool.{true}
 use mathlib.Core.List.{List, [], ◌∷◌, ◌++◌}
@@ -9,10 +10,9 @@ use lib.ListN.{length, get_or}
 use borrow.Author.Tests.{eq-eqb}
 use Rattle.octets.proofs.Choice.{no, pick_all}
 use Rattle.label_list.specs.Find.{any}
+use Rattle.image.specs.declared.ImageFault.{ImageFault}
 use Rattle.image.specs.declared.Judgement.{Judgement}
 use Rattle.image.specs.declared.Judgement.TheVariants.{Good, BadCheck, BadFields, Idle}
-use Rattle.image.specs.declared.Verdict.{Verdict}
-use Rattle.image.specs.declared.Verdict.TheVariants.{Sound, WrongSize, BadBlock, BadField}
 use Rattle.image.specs.Verdict.{fault_then, first_fault, verdict_block}
 
 -- only the blocks of the order count
@@ -24,13 +24,11 @@ fault_same j k (b ∷ bs) same =
     rw (here, fault_same j k bs (λ c l. same c (pick_all (λ t. t ≡ true) (eqb c b) refl l)))
 
 -- ---- one order behind another
-abbrev pub verdict_then : Verdict → Verdict → Verdict
-verdict_then Sound rest = rest
-verdict_then WrongSize rest = WrongSize
-verdict_then (BadBlock b) rest = BadBlock b
-verdict_then (BadField b) rest = BadField b
+abbrev pub verdict_then : Result Unit ImageFault → Result Unit ImageFault → Result Unit ImageFault
+verdict_then (Ok tt) rest = rest
+verdict_then (Err fault) rest = Err fault
 
-pub fault_then_lem : (j : Judgement) (b : ℕ) (v w : Verdict) → fault_then j b (verdict_then v w) ≡ verdict_then (fault_then j b v) w
+pub fault_then_lem : (j : Judgement) (b : ℕ) (v w : Result Unit ImageFault) → fault_then j b (verdict_then v w) ≡ verdict_then (fault_then j b v) w
 fault_then_lem Good b v w = refl
 fault_then_lem BadCheck b v w = refl
 fault_then_lem BadFields b v w = refl
@@ -48,32 +46,32 @@ NoFault BadCheck = ⊥
 NoFault BadFields = ⊥
 NoFault Idle = Unit {0}
 
-fault_not : (v : Judgement) (b : ℕ) (rest : Verdict) → fault_then v b rest ≡ Sound → NoFault v × (rest ≡ Sound)
+fault_not : (v : Judgement) (b : ℕ) (rest : Result Unit ImageFault) → fault_then v b rest ≡ Ok tt → NoFault v × (rest ≡ Ok tt)
 fault_not Good b rest h = (tt, h)
 fault_not BadCheck b rest h = let z : ◌≡◌ {A = ℕ} 0 1 = cc in no z
 fault_not BadFields b rest h = let z : ◌≡◌ {A = ℕ} 0 1 = cc in no z
 fault_not Idle b rest h = (tt, h)
 
-not_fault : (v : Judgement) (b : ℕ) (rest : Verdict) → NoFault v → fault_then v b rest ≡ rest
+not_fault : (v : Judgement) (b : ℕ) (rest : Result Unit ImageFault) → NoFault v → fault_then v b rest ≡ rest
 not_fault Good b rest h = refl
 not_fault BadCheck b rest h = absurd h
 not_fault BadFields b rest h = absurd h
 not_fault Idle b rest h = refl
 
-pub faultless_each : (j : ℕ → Judgement) (bs : List ℕ) → first_fault j bs ≡ Sound → (i : ℕ) → i < length bs → NoFault (j (get_or bs i 0))
+pub faultless_each : (j : ℕ → Judgement) (bs : List ℕ) → first_fault j bs ≡ Ok tt → (i : ℕ) → i < length bs → NoFault (j (get_or bs i 0))
 unfolding first_fault
 faultless_each j [] h i l = absurd (omega arith)
 faultless_each j (b ∷ bs) h zero l = (fault_not (j b) b (first_fault j bs) h).0
 faultless_each j (b ∷ bs) h (suc i) l = faultless_each j bs (fault_not (j b) b (first_fault j bs) h).1 i (omega arith)
 
-pub each_faultless : (j : ℕ → Judgement) (bs : List ℕ) → ((i : ℕ) → i < length bs → NoFault (j (get_or bs i 0))) → first_fault j bs ≡ Sound
+pub each_faultless : (j : ℕ → Judgement) (bs : List ℕ) → ((i : ℕ) → i < length bs → NoFault (j (get_or bs i 0))) → first_fault j bs ≡ Ok tt
 unfolding first_fault
 each_faultless j [] each = refl
 each_faultless j (b ∷ bs) each =
     rw (not_fault (j b) b (first_fault j bs) (each 0 (omega arith))) (each_faultless j bs (λ i l. each (suc i) (omega arith)))
 
 -- ---- the block that is named
-fault_below : (v : Judgement) (b : ℕ) (rest : Verdict) (n : ℕ) → b < n → verdict_block rest < n → verdict_block (fault_then v b rest) < n
+fault_below : (v : Judgement) (b : ℕ) (rest : Result Unit ImageFault) (n : ℕ) → b < n → verdict_block rest < n → verdict_block (fault_then v b rest) < n
 fault_below Good b rest n l m = m
 fault_below BadCheck b rest n l m = l
 fault_below BadFields b rest n l m = l

@@ -1,4 +1,5 @@
 -- The IDs beside the label words, as an image stores them: what counts of them as words are freed and taken. Assumes nothing.
+use Rattle.std.specs.Prelude.{None}
 use Prim.Native.Nat.{ℕ, ◌≤◌, ◌<◌}
 use mathlib.Core.Bool.{true, false, true≢false}
 use mathlib.Core.List.{List}
@@ -11,7 +12,6 @@ use borrow.Author.Tests.{eqb-true, eqb-false}
 use Rattle.octets.proofs.Choice.{by_test}
 use Rattle.octets.proofs.Fill.{zeros_at, length_zeros}
 use Rattle.ft_number.specs.declared.MessageId.{MessageId}
-use Rattle.label_list.specs.declared.Found.TheVariants.{Nowhere}
 use Rattle.label_list.specs.Find.{any}
 use Rattle.label_list.specs.Requests.{open_ids, once_of, open_at}
 use Rattle.label_list.specs.Word.{word_count, code_of, request_code, request_word, is_request}
@@ -68,7 +68,7 @@ ids-taken image place id room =
 
 -- under an ID that is not open
 pub once_asked : (image : List ℕ) (place : ℕ) (id : MessageId) → once_of (decode image).labels (stored_ids image) ≡ true
-    → open_at id (decode image).labels (decode image).ids ≡ Nowhere
+    → open_at id (decode image).labels (decode image).ids ≡ None
     → once_of (set (decode image).labels place request_word) (set (stored_ids image) place id.0) ≡ true
 unfolding decode
 once_asked image place id once none =

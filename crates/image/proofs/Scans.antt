@@ -1,4 +1,5 @@
 -- The blocks that restore looks at, and the clauses of `verdict` by the tests that lead to each answer. Assumes nothing.
+use Rattle.std.specs.Prelude.{Result, Ok, Err}
 use Prim.Native.Nat.{ℕ, zero, suc, ◌+◌, ◌-◌, ◌%◌, ◌≤◌, ◌<◌}
 use mathlib.Core.Bool.{Bool, true, false, not}
 use mathlib.Core.List.{List, [], ◌∷◌, ◌++◌}
@@ -25,11 +26,10 @@ use Rattle.block0.proofs.Judged.{header_either}
 use Rattle.fec_index.specs.Entries.{words_beside}
 use Rattle.fec_index.proofs.Counted.{empty_right}
 use Rattle.request_ids.specs.Fields.{ids_ok}
-use Rattle.slot.specs.declared.SlotVerdict.{SlotVerdict}
+use Rattle.slot.specs.declared.SlotFault.{SlotFault}
 use Rattle.slot.specs.Fields.{slot_ok, slot_verdict, slot_verdict_number}
+use Rattle.image.specs.declared.ImageFault.{ImageFault}
 use Rattle.image.specs.declared.Judgement.{Judgement}
-use Rattle.image.specs.declared.Verdict.{Verdict}
-use Rattle.image.specs.declared.Verdict.TheVariants.{Sound, WrongSize, BadBlock, BadField}
 use Rattle.image.specs.Ring.{ring}
 use Rattle.image.specs.Sizes.{request_block, index_block, further, further_count, block_count, image_size, block, blocks_from, block_of, slot_at}
 use Rattle.image.specs.State.{decode, NotLive}
@@ -123,10 +123,10 @@ idle-judged image k room idle = rw (not-zeroth k, none (header_by Two (block ima
 
 -- ---- the live slots, in a loop that has come to slot i
 -- what is said of a slot's bytes
-abbrev verdict_judged : SlotVerdict → Judgement
-verdict_judged SlotVerdict.Good = Judgement.Good
-verdict_judged SlotVerdict.BadCheck = Judgement.BadCheck
-verdict_judged SlotVerdict.BadFields = Judgement.BadFields
+abbrev verdict_judged : Result Unit SlotFault → Judgement
+verdict_judged (Ok tt) = Judgement.Good
+verdict_judged (Err SlotFault.BadCheck) = Judgement.BadCheck
+verdict_judged (Err SlotFault.BadFields) = Judgement.BadFields
 
 pub slot_fields : (v : Version) (s : List ℕ) (k : ℕ) → k < slot_count → fields_right v s (block_of k) ≡ slot_ok (block s (block_of k))
 slot_fields v s k room = rw (not-zeroth k, le-leb (block_of k) slot_count (omega arith))
@@ -149,7 +149,7 @@ slot-judged s b = by (sound (block s b)) (slot_ok (block s b))
   where
     by : (c f : Bool)
         → pick (not c) Judgement.BadCheck (pick (not f) Judgement.BadFields Judgement.Good)
-        ≡ verdict_judged (pick (not c) SlotVerdict.BadCheck (pick (not f) SlotVerdict.BadFields SlotVerdict.Good))
+        ≡ verdict_judged (pick (not c) (Err SlotFault.BadCheck) (pick (not f) (Err SlotFault.BadFields) (Ok tt)))
     by true true = refl
     by true false = refl
     by false f = refl
@@ -158,12 +158,12 @@ slot-judged s b = by (sound (block s b)) (slot_ok (block s b))
 pub slot-numbered : (v : Version) (s : List ℕ) (k : ℕ) → k < slot_count → judgement_number (bytes_judged v s (block_of k)) ≡ slot_verdict_number (slot_verdict (block s (block_of k)))
 slot-numbered v s k room = rw (slot-bytes v s k room, slot-judged s (block_of k)) (by (slot_verdict (block s (block_of k))))
   where
-    by : (j : SlotVerdict) → judgement_number (verdict_judged j) ≡ slot_verdict_number j
-    by SlotVerdict.Good = refl
-    by SlotVerdict.BadCheck = refl
-    by SlotVerdict.BadFields = refl
+    by : (j : Result Unit SlotFault) → judgement_number (verdict_judged j) ≡ slot_verdict_number j
+    by (Ok tt) = refl
+    by (Err SlotFault.BadCheck) = refl
+    by (Err SlotFault.BadFields) = refl
 
-pub fault_numbered : (j : Judgement) (b : ℕ) (rest : Verdict) → judgement_number j ≢ 0 → verdict_number (fault_then j b rest) ≡ judgement_number j
+pub fault_numbered : (j : Judgement) (b : ℕ) (rest : Result Unit ImageFault) → judgement_number j ≢ 0 → verdict_number (fault_then j b rest) ≡ judgement_number j
 fault_numbered Judgement.Good b rest bad = absurd (bad refl)
 fault_numbered Judgement.BadCheck b rest bad = refl
 fault_numbered Judgement.BadFields b rest bad = refl
@@ -176,15 +176,15 @@ module _ (s : List ℕ) (f n : ℕ) where
       let g : n - 0 ≡ n = omega arith in
       rw (e, g)
 
-  module _ (i : ℕ) (all : Verdict) where
-    pub scan_end : n ≤ i → first_fault (slot_judged s) (ring block_of (f + i) (n - i)) ≡ all → Sound ≡ all
+  module _ (i : ℕ) (all : Result Unit ImageFault) where
+    pub scan_end : n ≤ i → first_fault (slot_judged s) (ring block_of (f + i) (n - i)) ≡ all → (Ok tt) ≡ all
     unfolding first_fault ring
     scan_end l inv =
         let none : n - i ≡ 0 = omega arith in
         rw none at inv
 
     module _ (left : i < n) (inv : first_fault (slot_judged s) (ring block_of (f + i) (n - i)) ≡ all)
-        {b : List ℕ} (eb : b ≡ block s ((f + i) % slot_count + 1)) {v : SlotVerdict} (ev : v ≡ slot_verdict b) where
+        {b : List ℕ} (eb : b ≡ block s ((f + i) % slot_count + 1)) {v : Result Unit SlotFault} (ev : v ≡ slot_verdict b) where
       -- slot i, and then the rest
       turned : fault_then (verdict_judged v) ((f + i) % slot_count + 1) (first_fault (slot_judged s) (ring block_of (f + (i + 1)) (n - (i + 1)))) ≡ all
       unfolding first_fault ring
@@ -193,13 +193,13 @@ module _ (s : List ℕ) (f n : ℕ) where
           let next : f + i + 1 ≡ f + (i + 1) = omega arith in
           rw (ev, eb, ← slot-judged s ((f + i) % slot_count + 1)) (rw (more, next) at inv)
 
-      pub scan_check : v ≡ SlotVerdict.BadCheck → BadBlock ((f + i) % slot_count + 1) ≡ all
+      pub scan_check : v ≡ Err SlotFault.BadCheck → (Err (ImageFault.BadBlock ((f + i) % slot_count + 1))) ≡ all
       scan_check h = rw h at turned
 
-      pub scan_fields : v ≡ SlotVerdict.BadFields → BadField ((f + i) % slot_count + 1) ≡ all
+      pub scan_fields : v ≡ Err SlotFault.BadFields → (Err (ImageFault.BadField ((f + i) % slot_count + 1))) ≡ all
       scan_fields h = rw h at turned
 
-      pub scan_next : v ≡ SlotVerdict.Good → first_fault (slot_judged s) (ring block_of (f + (i + 1)) (n - (i + 1))) ≡ all
+      pub scan_next : v ≡ Ok tt → first_fault (slot_judged s) (ring block_of (f + (i + 1)) (n - (i + 1))) ≡ all
       scan_next h = rw h at turned
 
 -- ---- block 65
@@ -215,28 +215,28 @@ unasked v z b et none er = er ∙ rw (none_once (labels_by v z) (denied et none)
 -- ---- one of the further blocks
 module _ (v : Version) (s : List ℕ) (n : ℕ) (past : slot_count < n) {b : List ℕ} (eb : b ≡ block s n) where
   one_judged : {t : Bool} → t ≡ sound b
-      → pick (not t) (BadBlock n) (pick (not (further_ok (labels_by v (block s 0)) n (block s n))) (BadField n) Sound) ≡ fault_then (bytes_judged v s n) n Sound
+      → pick (not t) (Err (ImageFault.BadBlock n)) (pick (not (further_ok (labels_by v (block s 0)) n (block s n))) (Err (ImageFault.BadField n)) (Ok tt)) ≡ fault_then (bytes_judged v s n) n (Ok tt)
   unfolding bytes_judged
   one_judged {t} et = rw (further_fields v s n past, ← eb, ← et) (by t (further_ok (labels_by v (block s 0)) n b))
     where
-      by : (c f : Bool) → pick (not c) (BadBlock n) (pick (not f) (BadField n) Sound) ≡ fault_then (pick (not c) Judgement.BadCheck (pick (not f) Judgement.BadFields Judgement.Good)) n Sound
+      by : (c f : Bool) → pick (not c) (Err (ImageFault.BadBlock n)) (pick (not f) (Err (ImageFault.BadField n)) (Ok tt)) ≡ fault_then (pick (not c) Judgement.BadCheck (pick (not f) Judgement.BadFields Judgement.Good)) n (Ok tt)
       by true true = refl
       by true false = refl
       by false f = refl
 
   module _ {t : Bool} (et : t ≡ sound b) where
-    pub one_check : not t ≡ true → BadBlock n ≡ fault_then (bytes_judged v s n) n Sound
+    pub one_check : not t ≡ true → (Err (ImageFault.BadBlock n)) ≡ fault_then (bytes_judged v s n) n (Ok tt)
     one_check h = rw h at (one_judged et)
 
     module _ (fine : not t ≡ false) {u : Bool} (eu : u ≡ further_ok (labels_by v (block s 0)) n (block s n)) where
-      pub one_fields : not u ≡ true → BadField n ≡ fault_then (bytes_judged v s n) n Sound
+      pub one_fields : not u ≡ true → (Err (ImageFault.BadField n)) ≡ fault_then (bytes_judged v s n) n (Ok tt)
       one_fields h = rw (fine, ← eu, h) at (one_judged et)
 
-      pub one_right : not u ≡ false → Sound ≡ fault_then (bytes_judged v s n) n Sound
+      pub one_right : not u ≡ false → (Ok tt) ≡ fault_then (bytes_judged v s n) n (Ok tt)
       one_right h = rw (fine, ← eu, h) at (one_judged et)
 
   -- one of the index that is empty
-  pub one_empty : request_block < n → {e : Bool} → e ≡ is_empty b → e ≡ true → Sound ≡ fault_then (bytes_judged v s n) n Sound
+  pub one_empty : request_block < n → {e : Bool} → e ≡ is_empty b → e ≡ true → (Ok tt) ≡ fault_then (bytes_judged v s n) n (Ok tt)
   unfolding is_empty
   one_empty index ee t =
       let empty : is_empty b ≡ true = sym ee ∙ t in
@@ -245,38 +245,32 @@ module _ (v : Version) (s : List ℕ) (n : ℕ) (past : slot_count < n) {b : Lis
       rw right at (one_judged (sym (both_true (sound b) _ empty).0))
 
 -- ---- the further blocks, in a loop that has come to block b
-module _ (v : Version) (s : List ℕ) (b : ℕ) {all : Verdict} (inv : first_fault (bytes_judged v s) (blocks_from b (block_count - b)) ≡ all) where
-  pub further_end : block_count ≤ b → Sound ≡ all
+module _ (v : Version) (s : List ℕ) (b : ℕ) {all : Result Unit ImageFault} (inv : first_fault (bytes_judged v s) (blocks_from b (block_count - b)) ≡ all) where
+  pub further_end : block_count ≤ b → (Ok tt) ≡ all
   unfolding first_fault
   further_end past =
       let none : block_count - b ≡ 0 = omega arith in
       rw none at inv
 
-  module _ (left : b < block_count) {r : Verdict} (er : r ≡ fault_then (bytes_judged v s b) b Sound) where
+  module _ (left : b < block_count) {r : Result Unit ImageFault} (er : r ≡ fault_then (bytes_judged v s b) b (Ok tt)) where
     -- block b, and then the rest
     further_turned : verdict_then r (first_fault (bytes_judged v s) (blocks_from (b + 1) (block_count - (b + 1)))) ≡ all
     unfolding first_fault
     further_turned =
         let more : block_count - b ≡ suc (block_count - (b + 1)) = omega arith in
-        ap (λ (x : Verdict). verdict_then x (first_fault (bytes_judged v s) (blocks_from (b + 1) (block_count - (b + 1))))) er
-        ∙ sym (fault_then_lem (bytes_judged v s b) b Sound (first_fault (bytes_judged v s) (blocks_from (b + 1) (block_count - (b + 1)))))
+        ap (λ (x : Result Unit ImageFault). verdict_then x (first_fault (bytes_judged v s) (blocks_from (b + 1) (block_count - (b + 1))))) er
+        ∙ sym (fault_then_lem (bytes_judged v s b) b (Ok tt) (first_fault (bytes_judged v s) (blocks_from (b + 1) (block_count - (b + 1)))))
         ∙ (rw more at inv)
 
-    pub further_size : r ≡ WrongSize → WrongSize ≡ all
-    further_size e = rw e at further_turned
+    pub further_fault : {fault : ImageFault} → r ≡ Err fault → (Err fault) ≡ all
+    further_fault e = rw e at further_turned
 
-    pub further_check : {k : ℕ} → r ≡ BadBlock k → BadBlock k ≡ all
-    further_check e = rw e at further_turned
-
-    pub further_field : {k : ℕ} → r ≡ BadField k → BadField k ≡ all
-    further_field e = rw e at further_turned
-
-    pub further-next : r ≡ Sound → first_fault (bytes_judged v s) (blocks_from (b + 1) (block_count - (b + 1))) ≡ all
+    pub further-next : r ≡ Ok tt → first_fault (bytes_judged v s) (blocks_from (b + 1) (block_count - (b + 1))) ≡ all
     further-next e = rw e at further_turned
 
 -- ---- restore's checks
 module _ (v : Version) (s : List ℕ) where
-  pub wrong_size : (length s ≡ image_size → ⊥) → WrongSize ≡ verdict_by v s
+  pub wrong_size : (length s ≡ image_size → ⊥) → (Err ImageFault.WrongSize) ≡ verdict_by v s
   unfolding verdict_by
   wrong_size h = simp (ne_eqb (length s) image_size h)
 
@@ -291,43 +285,37 @@ module _ (v : Version) (s : List ℕ) where
         ∙ sym (looked-judged v s))
 
     module _ {b : List ℕ} (eb : b ≡ block s 0) {t : Bool} (et : t ≡ sound b) where
-      pub zeroth_check : not t ≡ true → BadBlock 0 ≡ verdict_by v s
+      pub zeroth_check : not t ≡ true → (Err (ImageFault.BadBlock 0)) ≡ verdict_by v s
       unfolding bytes_judged
       zeroth_check h = simp (← eb, ← et, not-true t h) at sized
 
       module _ (fine : not t ≡ false) {u : Bool} (eu : u ≡ fields_by v b) where
-        pub zeroth_fields : not u ≡ true → BadField 0 ≡ verdict_by v s
+        pub zeroth_fields : not u ≡ true → (Err (ImageFault.BadField 0)) ≡ verdict_by v s
         unfolding bytes_judged
         zeroth_fields h = simp (← eb, ← et, not-false t fine, ← eu, not-true u h) at sized
 
         module _ (hu : not u ≡ false) {h : Header} (eh : h ≡ header_of b) {f n : ℕ} (ef : f ≡ h.first) (en : n ≡ h.held)
-            {r : Verdict} (er : r ≡ first_fault (slot_judged s) (ring block_of f n)) where
+            {r : Result Unit ImageFault} (er : r ≡ first_fault (slot_judged s) (ring block_of f n)) where
           slots-judged : verdict_then r (first_fault (bytes_judged v s) further) ≡ verdict_by v s
           unfolding bytes_judged
           slots-judged =
-              ap (λ (x : Verdict). verdict_then x (first_fault (bytes_judged v s) further)) (er ∙ slots-bytes v s f n)
+              ap (λ (x : Result Unit ImageFault). verdict_then x (first_fault (bytes_judged v s) further)) (er ∙ slots-bytes v s f n)
               ∙ (simp (← eb, ← et, not-false t fine, ← eu, not-false u hu, header_either v b, ← eh, ← ef, ← en) at sized)
 
           -- a fault of a slot is the verdict, else the further blocks decide
-          pub slots-sound : r ≡ Sound → {q : Verdict} → q ≡ first_fault (bytes_judged v s) further → q ≡ verdict_by v s
+          pub slots-sound : r ≡ Ok tt → {q : Result Unit ImageFault} → q ≡ first_fault (bytes_judged v s) further → q ≡ verdict_by v s
           slots-sound e eq = eq ∙ (rw e at slots-judged)
 
-          pub slots_size : r ≡ WrongSize → WrongSize ≡ verdict_by v s
-          slots_size e = rw e at slots-judged
-
-          pub slots_check : {k : ℕ} → r ≡ BadBlock k → BadBlock k ≡ verdict_by v s
-          slots_check e = rw e at slots-judged
-
-          pub slots_fields : {k : ℕ} → r ≡ BadField k → BadField k ≡ verdict_by v s
-          slots_fields e = rw e at slots-judged
+          pub slots_fault : {fault : ImageFault} → r ≡ Err fault → (Err fault) ≡ verdict_by v s
+          slots_fault e = rw e at slots-judged
 
 -- a verdict whose number is 0
-pub number-sound : (v : Verdict) → verdict_number v ≡ 0 → v ≡ Sound
-number-sound Sound e = refl
-number-sound WrongSize e = absurd (omega arith)
-number-sound (BadBlock b) e = absurd (omega arith)
-number-sound (BadField b) e = absurd (omega arith)
+pub number-sound : (v : Result Unit ImageFault) → verdict_number v ≡ 0 → v ≡ Ok tt
+number-sound (Ok tt) e = refl
+number-sound (Err ImageFault.WrongSize) e = absurd (omega arith)
+number-sound (Err (ImageFault.BadBlock b)) e = absurd (omega arith)
+number-sound (Err (ImageFault.BadField b)) e = absurd (omega arith)
 
 -- the image passes where the number that was answered is 0
-pub number-passes : (s : List ℕ) {v : Verdict} {n : ℕ} → v ≡ verdict s → n ≡ verdict_number v → n ≡ 0 → verdict s ≡ Sound
+pub number-passes : (s : List ℕ) {v : Result Unit ImageFault} {n : ℕ} → v ≡ verdict s → n ≡ verdict_number v → n ≡ 0 → verdict s ≡ Ok tt
 number-passes s {v} e en z = sym e ∙ number-sound v (sym en ∙ z)

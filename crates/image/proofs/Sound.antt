@@ -1,4 +1,5 @@
 -- A sound image, clause by clause, and what storing leaves of it. Assumes nothing.
+use Rattle.std.specs.Prelude.{Result, Ok, Err}
 use Prim.Native.Nat.{ℕ, zero, suc, ◌+◌, ◌-◌, ◌≤◌, ◌<◌}
 use mathlib.Core.Bool.{Bool, true, false, not}
 use mathlib.Core.List.{List}
@@ -31,11 +32,11 @@ use Rattle.request_ids.specs.Fields.{IdsGood}
 use Rattle.request_ids.proofs.Counted.{word_block_good}
 use Rattle.request_ids.proofs.Good.{good_once, good_beside}
 use Rattle.slot.proofs.Holding.{slot_for-sound, slot_for_ok}
+use Rattle.image.specs.declared.ImageFault.{ImageFault}
 use Rattle.image.specs.declared.Judgement.TheVariants.{Good, BadCheck, BadFields}
-use Rattle.image.specs.declared.Verdict.TheVariants.{Sound, WrongSize}
 use Rattle.image.specs.Sizes.{block, block_of, slot_at, image_size, request_block, index_block, further_count}
 use Rattle.image.specs.State.{NotLive, decode, store_slot, store_by, store0, stored_ids, Contents, store_id}
-use Rattle.image.specs.Verdict.{looked, fields_right, bytes_judged, verdict_by, IsSoundBy, IsSound, SlotGood, FurtherGood}
+use Rattle.image.specs.Verdict.{verdict_number, looked, fields_right, bytes_judged, verdict_by, IsSoundBy, IsSound, SlotGood, FurtherGood}
 use Rattle.image.proofs.Faults.{NoFault, faultless_each, each_faultless}
 use Rattle.image.proofs.Indexed.{Right, block_right, places-room, right_block}
 use Rattle.image.proofs.Ranges.{labels-count, words_count}
@@ -57,12 +58,15 @@ good_bytes : (v : Version) (image : List ℕ) (b : ℕ) → sound (block image b
 unfolding bytes_judged
 good_bytes v image b c f = rw (c, f) tt
 
+wrong : ◌≡◌ {A = Result Unit ImageFault} (Err ImageFault.WrongSize) (Ok tt) → ◌≡◌ {A = ℕ} 0 1
+wrong e = let z : ◌≡◌ {A = ℕ} 12 0 = ap verdict_number e in absurd (omega arith)
+
 -- a sound verdict is its clauses
-pub sound_parts : {v : Version} (image : List ℕ) → verdict_by v image ≡ Sound → IsSoundBy v image
+pub sound_parts : {v : Version} (image : List ℕ) → verdict_by v image ≡ Ok tt → IsSoundBy v image
 unfolding verdict_by
 sound_parts {v} image h =
     let z : Header = header_by v (block image 0) in
-    let p = cleared (not (eqb (length image) image_size)) WrongSize _ Sound (λ e. cc) h in
+    let p = cleared (not (eqb (length image) image_size)) (Err ImageFault.WrongSize) _ (Ok tt) wrong h in
     let each = faultless_each (bytes_judged v image) (looked z) (sym (looked-judged v image) ∙ p.1) in
     let zeroth = bytes_good v image 0 (each 0 (omega (arith, looked-length z))) in
     record {
@@ -79,7 +83,7 @@ sound_parts {v} image h =
     }
 
 -- and back
-pub parts_sound : {v : Version} (image : List ℕ) → IsSoundBy v image → verdict_by v image ≡ Sound
+pub parts_sound : {v : Version} (image : List ℕ) → IsSoundBy v image → verdict_by v image ≡ Ok tt
 unfolding verdict_by
 parts_sound {v} image s = simp (eq-eqb _ _ s.size) (looked-judged v image ∙ each_faultless (bytes_judged v image) (looked (header_by v (block image 0))) each)
   where

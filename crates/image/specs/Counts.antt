@@ -1,8 +1,6 @@
 -- What the image printer counts. "(numbers, counts, words not zero as read, code 6 included)". So an open Request
 -- counts too.
-use Rattle.std.specs.Prelude.{ℕ, ◌-◌}
-use Rattle.ft_number.specs.declared.Steps.{Steps}
-use Rattle.ft_number.specs.declared.Steps.TheVariants.{Count, Unreachable}
+use Rattle.std.specs.Prelude.{Option, Some, None, ℕ, ◌-◌}
 use Rattle.ft_number.specs.Circle.{steps_of}
 use Rattle.label_list.specs.Find.{listed_count}
 use Rattle.block0.specs.declared.Header.{Header}
@@ -10,9 +8,9 @@ use Rattle.image.specs.declared.Counts.{Counts}
 use Rattle.image.specs.State.{Contents}
 
 -- "those past I are pended": of the held, those that no step from R to I reaches
-abbrev pub beyond : ℕ → Steps → ℕ
-beyond held (Count k) = held - k
-beyond held Unreachable = held
+abbrev pub beyond : ℕ → Option ℕ → ℕ
+beyond held (Some k) = held - k
+beyond held None = held
 
 unfoldable pub pended_of : Header → ℕ
 pended_of h = beyond h.held (steps_of h.released.0 h.issued.0)

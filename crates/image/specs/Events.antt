@@ -1,5 +1,5 @@
 -- What is made of a whole image: a new one, one released, one as after a break.
-use Rattle.std.specs.Prelude.{ℕ, not, List, [], eqb, length, replicate}
+use Rattle.std.specs.Prelude.{Result, Ok, Err, ℕ, not, List, [], eqb, length, replicate}
 use Rattle.octets.specs.Pick.{pick}
 use Rattle.label_list.specs.declared.SweepRule.TheVariants.{AfterBreak}
 use Rattle.label_list.specs.Counting.{counting}
@@ -7,8 +7,7 @@ use Rattle.label_list.specs.Requests.{open_ids}
 use Rattle.label_list.specs.Sweep.{swept_of}
 use Rattle.label_list.specs.Word.{word_count, lists_label}
 use Rattle.block0.specs.Layout.{released_header, no_labels}
-use Rattle.image.specs.declared.Verdict.{Verdict}
-use Rattle.image.specs.declared.Verdict.TheVariants.{Sound, WrongSize}
+use Rattle.image.specs.declared.ImageFault.{ImageFault}
 use Rattle.image.specs.Sizes.{image_size, cleared, further}
 use Rattle.image.specs.State.{Contents, decode, store}
 
@@ -30,8 +29,8 @@ unfoldable pub new_image : List ℕ
 new_image = store (cleared (replicate image_size 0) further) released_contents
 
 -- "12: image not 33,280 bytes"; 02: "12 reads the new size, in both versions"
-unfoldable pub size_verdict : List ℕ → Verdict
-size_verdict image = pick (not (eqb (length image) image_size)) WrongSize Sound
+unfoldable pub size_verdict : List ℕ → Result Unit ImageFault
+size_verdict image = pick (not (eqb (length image) image_size)) (Err ImageFault.WrongSize) (Ok tt)
 
 -- an image of another size is left as it is
 unfoldable pub formatted_image : List ℕ → List ℕ

@@ -1,6 +1,6 @@
 -- An image that an earlier release stored, 65 blocks or 66, made one of this: empty further blocks behind it. It keeps
 -- its version: one of version 1 the converter moves next.
-use Rattle.std.specs.Prelude.{ℕ, ◌+◌, ◌-◌, ◌*◌, ◌<◌, true, false, List, ◌≡◌, eqb, length, replicate}
+use Rattle.std.specs.Prelude.{Result, Ok, Err, ℕ, ◌+◌, ◌-◌, ◌*◌, ◌<◌, true, false, List, ◌≡◌, eqb, length, replicate}
 use Rattle.octets.specs.Pick.{pick}
 use Rattle.block.specs.Check.{block_size, sound}
 use Rattle.label_list.specs.Find.{any}
@@ -9,8 +9,7 @@ use Rattle.block0.specs.declared.Version.{Version}
 use Rattle.block0.specs.Coded.{has_code}
 use Rattle.block0.specs.Fields.{fields_by}
 use Rattle.block0.specs.Layout.{places, header_by, labels_by}
-use Rattle.image.specs.declared.Verdict.{Verdict}
-use Rattle.image.specs.declared.Verdict.TheVariants.{Sound, WrongSize}
+use Rattle.image.specs.declared.ImageFault.{ImageFault}
 use Rattle.image.specs.Sizes.{request_block, index_block, block_count, image_size, block, blocks_from, cleared, block_of, slot_at}
 use Rattle.image.specs.State.{Contents}
 use Rattle.image.specs.Verdict.{SlotGood, FurtherGood}
@@ -25,10 +24,10 @@ abbrev pub extended_from : List ℕ → ℕ → List ℕ
 extended_from image b = cleared image (blocks_from b (block_count - b))
 
 -- ---- in a buffer of the new size, of whose bytes so many were stored
-unfoldable pub extend_verdict : List ℕ → ℕ → Verdict
+unfoldable pub extend_verdict : List ℕ → ℕ → Result Unit ImageFault
 extend_verdict image stored =
     pick (eqb (length image) image_size)
-    (pick (eqb stored (earlier_size 0)) Sound (pick (eqb stored (earlier_size 1)) Sound WrongSize)) WrongSize
+    (pick (eqb stored (earlier_size 0)) (Ok tt) (pick (eqb stored (earlier_size 1)) (Ok tt) (Err ImageFault.WrongSize))) (Err ImageFault.WrongSize)
 
 unfoldable pub extend_of : List ℕ → ℕ → List ℕ
 extend_of image stored =

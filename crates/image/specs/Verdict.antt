@@ -1,7 +1,7 @@
 -- Restore's checks, in either version. "Restore checks size, block 0, its fields, then live slots in ring order: check,
 -- then fields." 02: block 65 is "checked after the slots", the index "checked last"; version 2 is "the only one outside
 -- the converter".
-use Rattle.std.specs.Prelude.{ℕ, ◌+◌, ◌-◌, ◌<◌, Bool, true, not, List, [], ◌∷◌, ◌++◌, ◌≡◌, eqb, leb, length}
+use Rattle.std.specs.Prelude.{Result, Ok, Err, ℕ, ◌+◌, ◌-◌, ◌<◌, Bool, true, not, List, [], ◌∷◌, ◌++◌, ◌≡◌, eqb, leb, length}
 use Rattle.octets.specs.Pick.{pick}
 use Rattle.block.specs.Check.{sound}
 use Rattle.label_list.specs.Find.{any}
@@ -13,10 +13,9 @@ use Rattle.block0.specs.Layout.{slot_count, header_by, labels_by}
 use Rattle.fec_index.specs.Entries.{entries_ok, words_beside}
 use Rattle.request_ids.specs.Fields.{ids_ok}
 use Rattle.slot.specs.Fields.{slot_ok}
+use Rattle.image.specs.declared.ImageFault.{ImageFault}
 use Rattle.image.specs.declared.Judgement.{Judgement}
 use Rattle.image.specs.declared.Judgement.TheVariants.{Good, BadCheck, BadFields, Idle}
-use Rattle.image.specs.declared.Verdict.{Verdict}
-use Rattle.image.specs.declared.Verdict.TheVariants.{Sound, WrongSize, BadBlock, BadField}
 use Rattle.image.specs.Ring.{ring}
 use Rattle.image.specs.Sizes.{image_size, slot_at, block, block_of, further, further_count, request_block, index_block}
 
@@ -62,43 +61,43 @@ judgement_number Idle = 0
 
 -- ---- the first fault
 -- block b, and then the rest: a good block is no fault, nor is an idle one
-abbrev pub fault_then : Judgement → ℕ → Verdict → Verdict
-fault_then BadCheck b rest = BadBlock b
-fault_then BadFields b rest = BadField b
+abbrev pub fault_then : Judgement → ℕ → Result Unit ImageFault → Result Unit ImageFault
+fault_then BadCheck b rest = Err (ImageFault.BadBlock b)
+fault_then BadFields b rest = Err (ImageFault.BadField b)
 fault_then Good b rest = rest
 fault_then Idle b rest = rest
 
 -- of the blocks in an order
-unfoldable pub first_fault : (ℕ → Judgement) → List ℕ → Verdict
-first_fault judgement [] = Sound
+unfoldable pub first_fault : (ℕ → Judgement) → List ℕ → Result Unit ImageFault
+first_fault judgement [] = Ok tt
 first_fault judgement (b ∷ rest) = fault_then (judgement b) b (first_fault judgement rest)
 
-unfoldable pub verdict_by : Version → List ℕ → Verdict
+unfoldable pub verdict_by : Version → List ℕ → Result Unit ImageFault
 verdict_by v image =
-    pick (not (eqb (length image) image_size)) WrongSize
+    pick (not (eqb (length image) image_size)) (Err ImageFault.WrongSize)
     (first_fault (block_judged v image) (looked (header_by v (block image 0))))
 
-abbrev pub verdict : List ℕ → Verdict
+abbrev pub verdict : List ℕ → Result Unit ImageFault
 verdict image = verdict_by Two image
 
 -- the answer's number: "10 bad block, with its number; 11 bad field, with block number; 12 image not" of its size; 02:
 -- "12 reads the new size, in both versions"
-abbrev pub verdict_number : Verdict → ℕ
-verdict_number Sound = 0
-verdict_number WrongSize = 12
-verdict_number (BadBlock b) = 10
-verdict_number (BadField b) = 11
+abbrev pub verdict_number : Result Unit ImageFault → ℕ
+verdict_number (Ok tt) = 0
+verdict_number (Err ImageFault.WrongSize) = 12
+verdict_number (Err (ImageFault.BadBlock b)) = 10
+verdict_number (Err (ImageFault.BadField b)) = 11
 
 -- any answer but 0 refuses the image
-abbrev pub refuses : Verdict → Bool
+abbrev pub refuses : Result Unit ImageFault → Bool
 refuses v = not (eqb (verdict_number v) 0)
 
 -- the block that it names: "block 0 where none applies"
-abbrev pub verdict_block : Verdict → ℕ
-verdict_block Sound = 0
-verdict_block WrongSize = 0
-verdict_block (BadBlock b) = b
-verdict_block (BadField b) = b
+abbrev pub verdict_block : Result Unit ImageFault → ℕ
+verdict_block (Ok tt) = 0
+verdict_block (Err ImageFault.WrongSize) = 0
+verdict_block (Err (ImageFault.BadBlock b)) = b
+verdict_block (Err (ImageFault.BadField b)) = b
 
 -- a slot's block that passes
 pub record SlotGood (b : List ℕ) : Type 0 where

@@ -8,7 +8,6 @@ ghost use Rattle.image.specs.Verdict.{IsSound};
 
 use crate::Counts;
 use block0::Header;
-use ft_number::Steps;
 
 // Held messages that have no number yet.
 fn count_pended(h: Header) -> u16
@@ -16,8 +15,8 @@ fn count_pended(h: Header) -> u16
     ensures { result ≡ pended_of h }
 {
     match ft_number::steps_between(h.released, h.issued) {
-        Steps::Count(n) => h.held - n as u16,
-        Steps::Unreachable => h.held,
+        Some(n) => h.held - n as u16,
+        None => h.held,
     }
 }
 

@@ -5,7 +5,7 @@ ghost use Rattle.image.specs.Events.{size_verdict, formatted_image, release_of, 
 ghost use Rattle.image.specs.Sizes.{image_size};
 ghost use Rattle.image.specs.State.{decode};
 
-use crate::Verdict;
+use crate::ImageFault;
 use label_list::SweepRule;
 
 // Released: block 0 with kept 0. The slots keep their bytes.
@@ -17,16 +17,16 @@ pub fn release(image: &mut [u8])
 }
 
 // A new image: released, with slots of zeros and empty further blocks. Bytes of another size are left as they are (12).
-pub fn format(image: &mut [u8]) -> Verdict
+pub fn format(image: &mut [u8]) -> Result<(), ImageFault>
     ensures { (result ≡ size_verdict image.old) × (image.new ≡ formatted_image image.old) }
 {
     if image.len() != crate::IMAGE_SIZE {
-        return Verdict::WrongSize;
+        return Err(ImageFault::WrongSize);
     }
     octets::zero_to(image, 0, crate::IMAGE_SIZE);
     crate::clear_from(image, crate::REQUEST_BLOCK);
     release(image);
-    Verdict::Sound
+    Ok(())
 }
 
 // Whether a break frees a label word. Where none is freed the image stays as it is.

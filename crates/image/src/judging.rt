@@ -5,38 +5,35 @@ ghost use Rattle.block.specs.Check.{block_size};
 ghost use Rattle.block0.specs.Layout.{places, labels_by};
 ghost use Rattle.fec_index.specs.Entries.{entry_count};
 ghost use Rattle.request_ids.specs.Fields.{ids_ok};
-ghost use Rattle.image.specs.declared.Verdict.TheVariants.{Sound};
 ghost use Rattle.image.specs.Ring.{ring};
 ghost use Rattle.image.specs.Sizes.{request_block, further, block_count, image_size, block, block_of};
 ghost use Rattle.image.specs.Verdict.{bytes_judged, slot_judged, fault_then, first_fault, further_ok, verdict_by, verdict};
 
-use crate::Verdict;
+use crate::ImageFault;
 use block0::Version;
-use slot::SlotVerdict;
+use slot::SlotFault;
 
 // The bytes of the label words beside one block of the index.
 const BESIDE_SIZE: usize = fec_index::ENTRY_COUNT * 4;
 
 // The live slots in ring order: the check of each, then its fields.
-fn scan_slots(image: &[u8], first: usize, held: usize) -> Verdict
+fn scan_slots(image: &[u8], first: usize, held: usize) -> Result<(), ImageFault>
     requires { (length image.now ≡ image_size) × (first < 65536) × (held < 65536) }
     ensures { result ≡ first_fault (slot_judged image.now) (ring block_of first held) }
 {
-    let mut i: usize = 0;
-    while i < held {
+    for i in 0..held {
         let b = (first + i) % crate::SLOT_COUNT + 1;
         match slot::judge_slot(crate::block_at(image, b)) {
-            SlotVerdict::Good => {}
-            SlotVerdict::BadCheck => {
-                return Verdict::BadBlock(b);
+            Ok(()) => {}
+            Err(SlotFault::BadCheck) => {
+                return Err(ImageFault::BadBlock(b));
             }
-            SlotVerdict::BadFields => {
-                return Verdict::BadField(b);
+            Err(SlotFault::BadFields) => {
+                return Err(ImageFault::BadField(b));
             }
         }
-        i += 1;
     }
-    Verdict::Sound
+    Ok(())
 }
 
 // Whether block 65's fields are right beside the label words, read into words that are lent.
@@ -91,41 +88,41 @@ fn index_is_valid(image: &[u8], version: Version, b: usize) -> bool
 }
 
 // Block 65: its check, then its fields.
-fn judge_requests(image: &[u8], version: Version) -> Verdict
+fn judge_requests(image: &[u8], version: Version) -> Result<(), ImageFault>
     requires { length image.now ≡ image_size }
-    ensures { result ≡ fault_then (bytes_judged version image.now request_block) request_block Sound }
+    ensures { result ≡ fault_then (bytes_judged version image.now request_block) request_block (Ok tt) }
 {
     if !word_block::is_sound(crate::block_at(image, crate::REQUEST_BLOCK)) {
-        return Verdict::BadBlock(crate::REQUEST_BLOCK);
+        return Err(ImageFault::BadBlock(crate::REQUEST_BLOCK));
     }
     if !requests_are_valid(image, version) {
-        return Verdict::BadField(crate::REQUEST_BLOCK);
+        return Err(ImageFault::BadField(crate::REQUEST_BLOCK));
     }
-    Verdict::Sound
+    Ok(())
 }
 
 // A block of the index: its check, then its fields. An empty one is right beside any words, which are not looked at.
-fn judge_index(image: &[u8], version: Version, b: usize) -> Verdict
+fn judge_index(image: &[u8], version: Version, b: usize) -> Result<(), ImageFault>
     requires { (length image.now ≡ image_size) × (request_block < b) × (b < block_count) }
-    ensures { result ≡ fault_then (bytes_judged version image.now b) b Sound }
+    ensures { result ≡ fault_then (bytes_judged version image.now b) b (Ok tt) }
 {
     let block = crate::block_at(image, b);
     if word_block::is_empty(block) {
-        return Verdict::Sound;
+        return Ok(());
     }
     if !block::is_sound(block) {
-        return Verdict::BadBlock(b);
+        return Err(ImageFault::BadBlock(b));
     }
     if !index_is_valid(image, version, b) {
-        return Verdict::BadField(b);
+        return Err(ImageFault::BadField(b));
     }
-    Verdict::Sound
+    Ok(())
 }
 
 // A further block.
-fn judge_block(image: &[u8], version: Version, b: usize) -> Verdict
+fn judge_block(image: &[u8], version: Version, b: usize) -> Result<(), ImageFault>
     requires { (length image.now ≡ image_size) × (request_block ≤ b) × (b < block_count) }
-    ensures { result ≡ fault_then (bytes_judged version image.now b) b Sound }
+    ensures { result ≡ fault_then (bytes_judged version image.now b) b (Ok tt) }
 {
     if b == crate::REQUEST_BLOCK {
         return judge_requests(image, version);
@@ -134,50 +131,39 @@ fn judge_block(image: &[u8], version: Version, b: usize) -> Verdict
 }
 
 // The further blocks, in their order.
-fn judge_further(image: &[u8], version: Version) -> Verdict
+fn judge_further(image: &[u8], version: Version) -> Result<(), ImageFault>
     requires { length image.now ≡ image_size }
     ensures { result ≡ first_fault (bytes_judged version image.now) further }
 {
-    let mut b = crate::REQUEST_BLOCK;
-    while b < crate::BLOCK_COUNT {
-        match judge_block(image, version, b) {
-            Verdict::Sound => {}
-            Verdict::WrongSize => return Verdict::WrongSize,
-            Verdict::BadBlock(k) => return Verdict::BadBlock(k),
-            Verdict::BadField(k) => return Verdict::BadField(k),
-        }
-        b += 1;
+    for b in crate::REQUEST_BLOCK..crate::BLOCK_COUNT {
+        judge_block(image, version, b)?;
     }
-    Verdict::Sound
+    Ok(())
 }
 
 // Restore's checks of any bytes, as an image of a version, in the paper's order: size (12), block 0's check (10), its
 // fields (11), then each live slot in ring order, then each further block, check before fields. Slots that are not live
 // are not looked at; each block is summed once, and after a fault none is read.
-pub fn check_version(image: &[u8], version: Version) -> Verdict
+pub fn check_version(image: &[u8], version: Version) -> Result<(), ImageFault>
     ensures { result ≡ verdict_by version image.now }
 {
     if image.len() != crate::IMAGE_SIZE {
-        return Verdict::WrongSize;
+        return Err(ImageFault::WrongSize);
     }
     let zeroth = crate::block_at(image, 0);
     if !block::is_sound(zeroth) {
-        return Verdict::BadBlock(0);
+        return Err(ImageFault::BadBlock(0));
     }
     if !block0::block0_is_valid(zeroth, version) {
-        return Verdict::BadField(0);
+        return Err(ImageFault::BadField(0));
     }
     let h = block0::read_header(zeroth);
-    match scan_slots(image, crate::wide(h.first), crate::wide(h.held)) {
-        Verdict::Sound => judge_further(image, version),
-        Verdict::WrongSize => Verdict::WrongSize,
-        Verdict::BadBlock(b) => Verdict::BadBlock(b),
-        Verdict::BadField(b) => Verdict::BadField(b),
-    }
+    scan_slots(image, crate::wide(h.first), crate::wide(h.held))?;
+    judge_further(image, version)
 }
 
 // Restore's checks: of an image of version 2.
-pub fn check_image(image: &[u8]) -> Verdict
+pub fn check_image(image: &[u8]) -> Result<(), ImageFault>
     ensures { result ≡ verdict image.now }
 {
     check_version(image, Version::Two)

@@ -8,7 +8,6 @@ ghost use Rattle.block.specs.Check.{block_size};
 ghost use Rattle.label_list.specs.Word.{word_count};
 ghost use Rattle.word_block.specs.Layout.{place_count, word_block, no_words};
 ghost use Rattle.fec_index.specs.Entries.{entry_count};
-ghost use Rattle.image.specs.declared.Verdict.TheVariants.{Sound};
 ghost use Rattle.image.specs.Sizes.{block_count, image_size, block, with_block, blocks_from, cleared};
 ghost use Rattle.image.specs.State.{entry_block, stored_ids, decode, stored_index};
 ghost use Rattle.image.specs.Verdict.{verdict_number, verdict_block};
@@ -30,10 +29,9 @@ pub use held::{held_kind, held_label, held_message, held_start};
 pub use judging::{check_image, check_version};
 pub use storing::{store_block0, store_entry, store_header, store_id, store_label, store_slot};
 
-// What restore's checks answer; a block or a field that is wrong, with its block's number.
+// What restore's checks find wrong: the size, or a block or a field of it, with the block's number.
 #[derive(Clone, Copy)]
-pub enum Verdict {
-    Sound,
+pub enum ImageFault {
     WrongSize,
     BadBlock(usize),
     BadField(usize),
@@ -74,26 +72,26 @@ pub const BLOCK_COUNT: usize = REQUEST_BLOCK + FURTHER_COUNT;
 pub const IMAGE_SIZE: usize = BLOCK_COUNT * block::BLOCK_SIZE;
 
 // The paper's number of a verdict.
-pub fn verdict_number(v: Verdict) -> u32
+pub fn verdict_number(v: Result<(), ImageFault>) -> u32
     ensures { result ≡ verdict_number v }
 {
     match v {
-        Verdict::Sound => 0,
-        Verdict::WrongSize => 12,
-        Verdict::BadBlock(_) => 10,
-        Verdict::BadField(_) => 11,
+        Ok(()) => 0,
+        Err(ImageFault::WrongSize) => 12,
+        Err(ImageFault::BadBlock(_)) => 10,
+        Err(ImageFault::BadField(_)) => 11,
     }
 }
 
 // The block that a verdict names; 0 where none applies.
-pub fn verdict_block(v: Verdict) -> usize
+pub fn verdict_block(v: Result<(), ImageFault>) -> usize
     ensures { result ≡ verdict_block v }
 {
     match v {
-        Verdict::Sound => 0,
-        Verdict::WrongSize => 0,
-        Verdict::BadBlock(b) => b,
-        Verdict::BadField(b) => b,
+        Ok(()) => 0,
+        Err(ImageFault::WrongSize) => 0,
+        Err(ImageFault::BadBlock(b)) => b,
+        Err(ImageFault::BadField(b)) => b,
     }
 }
 
@@ -214,9 +212,7 @@ fn clear_from(image: &mut [u8], first: usize)
     requires { (length image.old ≡ image_size) × (first ≤ block_count) }
     ensures { image.new ≡ cleared image.old (blocks_from first (block_count - first)) }
 {
-    let mut b = first;
-    while b < BLOCK_COUNT {
+    for b in first..BLOCK_COUNT {
         clear_block(image, b);
-        b += 1;
     }
 }

@@ -3,7 +3,6 @@ ghost use Rattle.std.specs.Prelude.{◌+◌, ◌*◌, ◌≤◌, ◌<◌, ◌≡
 ghost use Rattle.label_list.specs.Word.{word_count};
 ghost use Rattle.word_block.specs.Layout.{place_count};
 ghost use Rattle.block0.specs.Layout.{slot_count};
-ghost use Rattle.message.specs.declared.Submission.TheVariants.{Accepted};
 ghost use Rattle.message.specs.Storable.{longest};
 ghost use Rattle.message.specs.Submission.{submission_of};
 ghost use Rattle.image.specs.Sizes.{image_size, block};
@@ -15,7 +14,7 @@ use message::Kind;
 
 // First stage: stores a message that Submit takes in slot k, with its kind and label; every other block stays.
 pub fn store_slot(image: &mut [u8], k: usize, m: &[u8], kind: Kind, label: u32)
-    requires { (length image.old ≡ image_size) × (k < slot_count) × (length m.now ≤ longest) × (submission_of m.now ≡ Accepted kind label) }
+    requires { (length image.old ≡ image_size) × (k < slot_count) × (length m.now ≤ longest) × (submission_of m.now ≡ Ok (kind, label)) }
     ensures { image.new ≡ store_slot image.old k m.now }
 {
     let start = (k + 1) * block::BLOCK_SIZE;

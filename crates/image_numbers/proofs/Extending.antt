@@ -1,4 +1,5 @@
 -- An image of an earlier release extended: the verdict as numbers, and the blocks that were made. Assumes nothing.
+use Rattle.std.specs.Prelude.{Result, Ok, Err}
 use Prim.Native.Nat.{ℕ, ◌≤◌, ◌<◌}
 use mathlib.Core.List.{List}
 use mathlib.Core.Logic.{◌≢◌, ◌⊎◌, inl, inr, ⊎_elim}
@@ -8,7 +9,7 @@ use lib.Dec.{eqb}
 use lib.ListN.{length}
 use borrow.Author.Tests.{eqb-true}
 use Rattle.octets.proofs.Choice.{by_test}
-use Rattle.image.specs.declared.Verdict.{Verdict}
+use Rattle.image.specs.declared.ImageFault.{ImageFault}
 use Rattle.image.specs.Extend.{earlier_size, extend_verdict}
 use Rattle.image.specs.Sizes.{image_size}
 use Rattle.image.specs.Verdict.{verdict_number}
@@ -17,7 +18,7 @@ use Rattle.image_numbers.specs.Stored.{extended_numbers}
 
 -- it is refused, or one of the earlier sizes was stored
 ways : (im : List ℕ) (stored : ℕ)
-    → (extend_verdict im stored ≡ Verdict.WrongSize) ⊎ ((extend_verdict im stored ≡ Verdict.Sound) × ((stored ≡ earlier_size 0) ⊎ (stored ≡ earlier_size 1)))
+    → (extend_verdict im stored ≡ Err ImageFault.WrongSize) ⊎ ((extend_verdict im stored ≡ Ok tt) × ((stored ≡ earlier_size 0) ⊎ (stored ≡ earlier_size 1)))
 unfolding extend_verdict
 ways im stored =
     by_test (eqb (length im) image_size)
@@ -29,19 +30,19 @@ ways im stored =
     (λ f. inl (rw f))
 
 -- v is what was answered, and n its number
-module _ (im : List ℕ) (stored : ℕ) {v : Verdict} {n : ℕ} (ev : v ≡ extend_verdict im stored) (en : n ≡ verdict_number v) where
+module _ (im : List ℕ) (stored : ℕ) {v : Result Unit ImageFault} {n : ℕ} (ev : v ≡ extend_verdict im stored) (en : n ≡ verdict_number v) where
   pub extend_refused : n ≢ 0 → ◌≡◌ {A = ExtendedNumbers} (record { answer = 12; further = 0 }) (extended_numbers (extend_verdict im stored) stored)
   extend_refused h =
       ⊎_elim
-      (λ (wrong : extend_verdict im stored ≡ Verdict.WrongSize). rw wrong)
-      (λ (right : (extend_verdict im stored ≡ Verdict.Sound) × ((stored ≡ earlier_size 0) ⊎ (stored ≡ earlier_size 1))). absurd (h (en ∙ rw (ev, right.0))))
+      (λ (wrong : extend_verdict im stored ≡ Err ImageFault.WrongSize). rw wrong)
+      (λ (right : (extend_verdict im stored ≡ Ok tt) × ((stored ≡ earlier_size 0) ⊎ (stored ≡ earlier_size 1))). absurd (h (en ∙ rw (ev, right.0))))
       (ways im stored)
 
-  sizes : n ≡ 0 → (extend_verdict im stored ≡ Verdict.Sound) × ((stored ≡ earlier_size 0) ⊎ (stored ≡ earlier_size 1))
+  sizes : n ≡ 0 → (extend_verdict im stored ≡ Ok tt) × ((stored ≡ earlier_size 0) ⊎ (stored ≡ earlier_size 1))
   sizes z =
       ⊎_elim
-      (λ (wrong : extend_verdict im stored ≡ Verdict.WrongSize). let twelve : n ≡ 12 = en ∙ rw (ev, wrong) in absurd (omega arith))
-      (λ (right : (extend_verdict im stored ≡ Verdict.Sound) × ((stored ≡ earlier_size 0) ⊎ (stored ≡ earlier_size 1))). right)
+      (λ (wrong : extend_verdict im stored ≡ Err ImageFault.WrongSize). let twelve : n ≡ 12 = en ∙ rw (ev, wrong) in absurd (omega arith))
+      (λ (right : (extend_verdict im stored ≡ Ok tt) × ((stored ≡ earlier_size 0) ⊎ (stored ≡ earlier_size 1))). right)
       (ways im stored)
 
   -- of 65 blocks

@@ -1,4 +1,5 @@
 -- What a stored image holds, as the boundary shows it. Assumes nothing.
+use Rattle.std.specs.Prelude.{Result, Ok, Err}
 use Prim.Native.Nat.{ℕ, ◌+◌, ◌≤◌, ◌<◌}
 use mathlib.Core.List.{List, [], ◌++◌}
 use mathlib.Core.Path.{◌≡◌, refl, sym, ◌∙◌}
@@ -11,7 +12,7 @@ use Rattle.label_list.specs.Find.{listed_count}
 use Rattle.label_list.specs.Word.{word_count}
 use Rattle.block0.specs.declared.Header.{Header}
 use Rattle.image.specs.declared.Counts.{Counts}
-use Rattle.image.specs.declared.Verdict.{Verdict}
+use Rattle.image.specs.declared.ImageFault.{ImageFault}
 use Rattle.image.specs.Counts.{counts_of}
 use Rattle.image.specs.Sizes.{block_count, image_size}
 use Rattle.image.specs.State.{decode, held_start}
@@ -34,7 +35,7 @@ pub count_low : (im : List ℕ) {ls : List ℕ} {k : ℕ} → ls ≡ (decode im)
 count_low im e ek = rw (ek, e) (listed_few im)
 
 -- ---- by what the checks answered: v, and its number n
-module _ (im : List ℕ) {v : Verdict} {n : ℕ} (ev : v ≡ verdict im) (en : n ≡ verdict_number v) where
+module _ (im : List ℕ) {v : Result Unit ImageFault} {n : ℕ} (ev : v ≡ verdict im) (en : n ≡ verdict_number v) where
   -- the block that they name is one of the image
   pub named_low : {b : ℕ} → b ≡ verdict_block v → b < block_count
   named_low e = rw (e, ev) (verdict_below im)
@@ -90,17 +91,17 @@ module _ (im : List ℕ) {v : Verdict} {n : ℕ} (ev : v ≡ verdict im) (en : n
 shows_none : (im : List ℕ) (place answer : ℕ) → (answer ≡ 0 → ⊥) → ShowsHeld im place (no_part_for answer)
 shows_none im place answer n = record { message = λ z. absurd (n z); inside = λ z. absurd (n z) }
 
-shows_by : (v : Verdict) (im : List ℕ) (place : ℕ) → v ≡ verdict im → ShowsHeld im place (held_by v im place)
-shows_by Verdict.Sound im place e =
+shows_by : (v : Result Unit ImageFault) (im : List ℕ) (place : ℕ) → v ≡ verdict im → ShowsHeld im place (held_by v im place)
+shows_by (Ok tt) im place e =
     by_test (ltb place (decode im).header.held)
     (λ t.
     let s : IsSound im = sound_parts im (sym e) in
     let l : place < (decode im).header.held = ltb-true place (decode im).header.held t in
     rw t (record { message = λ z. held-part im s place l; inside = λ z. held_inside im s place l }))
     (λ f. rw f (shows_none im place 8 (λ z. omega (arith, z))))
-shows_by Verdict.WrongSize im place e = shows_none im place 12 (λ z. omega (arith, z))
-shows_by (Verdict.BadBlock b) im place e = shows_none im place 10 (λ z. omega (arith, z))
-shows_by (Verdict.BadField b) im place e = shows_none im place 11 (λ z. omega (arith, z))
+shows_by (Err ImageFault.WrongSize) im place e = shows_none im place 12 (λ z. omega (arith, z))
+shows_by (Err (ImageFault.BadBlock b)) im place e = shows_none im place 10 (λ z. omega (arith, z))
+shows_by (Err (ImageFault.BadField b)) im place e = shows_none im place 11 (λ z. omega (arith, z))
 
 pub shows_held : (im : List ℕ) (place : ℕ) → ShowsHeld im place (held_of im place)
 unfolding held_of

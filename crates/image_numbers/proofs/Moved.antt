@@ -1,4 +1,5 @@
 -- A conversion names no block but one of the image, and is shown as numbers. Assumes nothing.
+use Rattle.std.specs.Prelude.{Result}
 use Prim.Native.Nat.{ℕ, ◌<◌}
 use mathlib.Core.List.{List}
 use mathlib.Core.Logic.{◌≢◌}
@@ -7,14 +8,14 @@ use lib.ListN.{length}
 use borrow.Author.Tests.{eq-eqb, ne_eqb}
 use Rattle.block0.specs.declared.Version.{Version}
 use Rattle.image.specs.Sizes.{image_size, block_count}
-use Rattle.convert.specs.declared.Conversion.{Conversion}
+use Rattle.convert.specs.declared.ConversionFault.{ConversionFault}
 use Rattle.convert.specs.Convert.{converted, convert_of, conversion_number, conversion_block}
 use Rattle.convert.proofs.Converted.{answer_below}
 use Rattle.image_numbers.specs.declared.ConvertedNumbers.{ConvertedNumbers}
 use Rattle.image_numbers.specs.Converting.{converted_numbers, converted_shown, conversion_shown}
 
 -- ---- the numbers of an answer
-module _ (c : Conversion) {n b : ℕ} (en : n ≡ conversion_number c) (eb : b ≡ conversion_block c) where
+module _ (c : Result Unit ConversionFault) {n b : ℕ} (en : n ≡ conversion_number c) (eb : b ≡ conversion_block c) where
   pub converted_refused : n ≢ 0 → ◌≡◌ {A = ConvertedNumbers} (record { answer = n; block = b; length = 0 }) (converted_numbers c)
   converted_refused h = rw (← en, ← eb, ne_eqb n 0 h)
 
@@ -22,7 +23,7 @@ module _ (c : Conversion) {n b : ℕ} (en : n ≡ conversion_number c) (eb : b �
   converted-done z = rw (← en, ← eb, eq-eqb n 0 z)
 
 -- ---- the call
-module _ (v : Version) (im out : List ℕ) {c : Conversion} {o : List ℕ} (e : converted c o ≡ convert_of v im out) where
+module _ (v : Version) (im out : List ℕ) {c : Result Unit ConversionFault} {o : List ℕ} (e : converted c o ≡ convert_of v im out) where
   pub converted_low : conversion_block c < block_count
   converted_low = rw (← e) at (answer_below v im out)
 

@@ -1,4 +1,5 @@
 -- The prefix of the label that a word lists, read from the word as the boundary shows it and from the stored entry. Assumes nothing.
+use Rattle.std.specs.Prelude.{Result, Ok, Err}
 use Prim.Native.Nat.{ℕ, ◌/◌, ◌%◌, ◌<◌}
 use mathlib.Core.Bool.{true, false, true≢false}
 use mathlib.Core.List.{List}
@@ -15,7 +16,7 @@ use Rattle.label_list.proofs.Counting.{counting-length}
 use Rattle.word_block.specs.Layout.{place_count}
 use Rattle.fec_index.specs.Entries.{word_span}
 use Rattle.fec_index.proofs.Counted.{listed_at}
-use Rattle.image.specs.declared.Verdict.{Verdict}
+use Rattle.image.specs.declared.ImageFault.{ImageFault}
 use Rattle.image.specs.Sizes.{image_size}
 use Rattle.image.specs.State.{decode, stored_index}
 use Rattle.image.specs.Verdict.{verdict}
@@ -44,31 +45,31 @@ module _ (im : List ℕ) (place : ℕ) {w : ℕ} (shown : w ≡ label_at im plac
   unfolding label_at prefix_at
   prefix_none n = by (verdict im) (rw shown at n)
     where
-      by : (v : Verdict) → lists_label (label_by v (decode im).labels place) ≡ false → no_prefix ≡ prefix_by v (decode im).index place
-      by Verdict.Sound f =
+      by : (v : Result Unit ImageFault) → lists_label (label_by v (decode im).labels place) ≡ false → no_prefix ≡ prefix_by v (decode im).index place
+      by (Ok tt) f =
           by_test (ltb place word_count)
           (λ t. let none : lists_label (get_or (decode im).labels place 0) ≡ false = rw t at f in
           let zero : get_or (decode im).index place 0 ≡ 0 = index_at im place ∙ rw none in rw zero)
           (λ past. rw (index_past im place past))
-      by Verdict.WrongSize f = refl
-      by (Verdict.BadBlock b) f = refl
-      by (Verdict.BadField b) f = refl
+      by (Err ImageFault.WrongSize) f = refl
+      by (Err (ImageFault.BadBlock b)) f = refl
+      by (Err (ImageFault.BadField b)) f = refl
 
   module _ (lists : lists_label w ≡ true) where
     -- no refusal is shown so
-    parts : (verdict im ≡ Verdict.Sound) × (place < word_count) × (lists_label (get_or (decode im).labels place 0) ≡ true)
+    parts : (verdict im ≡ Ok tt) × (place < word_count) × (lists_label (get_or (decode im).labels place 0) ≡ true)
     unfolding label_at
     parts = by (verdict im) refl (rw shown at lists)
       where
-        by : (v : Verdict) → verdict im ≡ v → lists_label (label_by v (decode im).labels place) ≡ true
-            → (verdict im ≡ Verdict.Sound) × (place < word_count) × (lists_label (get_or (decode im).labels place 0) ≡ true)
-        by Verdict.Sound e t =
+        by : (v : Result Unit ImageFault) → verdict im ≡ v → lists_label (label_by v (decode im).labels place) ≡ true
+            → (verdict im ≡ Ok tt) × (place < word_count) × (lists_label (get_or (decode im).labels place 0) ≡ true)
+        by (Ok tt) e t =
             by_test (ltb place word_count)
             (λ y. (e, ltb-true place word_count y, rw y at t))
             (λ n. absurd (true≢false (sym (rw n at t) ∙ refused_lists)))
-        by Verdict.WrongSize e t = absurd (true≢false (sym t ∙ refused_lists))
-        by (Verdict.BadBlock b) e t = absurd (true≢false (sym t ∙ refused_lists))
-        by (Verdict.BadField b) e t = absurd (true≢false (sym t ∙ refused_lists))
+        by (Err ImageFault.WrongSize) e t = absurd (true≢false (sym t ∙ refused_lists))
+        by (Err (ImageFault.BadBlock b)) e t = absurd (true≢false (sym t ∙ refused_lists))
+        by (Err (ImageFault.BadField b)) e t = absurd (true≢false (sym t ∙ refused_lists))
 
     pub prefix_fits : (length im ≡ image_size) × (place < place_count)
     prefix_fits = ((sound_parts im parts.0).size, omega (arith, parts.1))

@@ -1,4 +1,5 @@
 -- The Request that is open at a place of an image, read from its label word as the boundary shows it. Assumes nothing.
+use Rattle.std.specs.Prelude.{Result, Ok, Err}
 use Prim.Native.Nat.{ℕ, ◌<◌}
 use mathlib.Core.Bool.{true}
 use mathlib.Core.List.{List}
@@ -13,7 +14,7 @@ use Rattle.label_list.specs.Word.{word_count, request_word, is_request}
 use Rattle.label_list.proofs.Counting.{counting-at}
 use Rattle.label_list.proofs.OpenIds.{request_inside}
 use Rattle.label_list.proofs.Standing.{request_word_lem}
-use Rattle.image.specs.declared.Verdict.{Verdict}
+use Rattle.image.specs.declared.ImageFault.{ImageFault}
 use Rattle.image.specs.Sizes.{image_size}
 use Rattle.image.specs.State.{decode, stored_ids}
 use Rattle.image.specs.Verdict.{verdict}
@@ -30,21 +31,21 @@ id-stored im place t = counting-at 0 is_request (decode im).labels (stored_ids i
 -- ---- by the word that is shown
 module _ (words ids : List ℕ) (place : ℕ) where
   -- it is no Request's
-  closed_by : (v : Verdict) → length words ≡ word_count → label_by v words place ≢ request_word → no_request ≡ request_by v words ids place
-  closed_by Verdict.Sound size n =
+  closed_by : (v : Result Unit ImageFault) → length words ≡ word_count → label_by v words place ≢ request_word → no_request ≡ request_by v words ids place
+  closed_by (Ok tt) size n =
       by_test (is_request (get_or words place 0))
       (λ t. absurd (n (rw (lt-ltb place word_count (rw (← size) (request_inside words place t))) (request_word_lem (get_or words place 0) t))))
       (λ f. rw f)
-  closed_by Verdict.WrongSize size n = refl
-  closed_by (Verdict.BadBlock b) size n = refl
-  closed_by (Verdict.BadField b) size n = refl
+  closed_by (Err ImageFault.WrongSize) size n = refl
+  closed_by (Err (ImageFault.BadBlock b)) size n = refl
+  closed_by (Err (ImageFault.BadField b)) size n = refl
 
   -- it is one's: no refusal is shown so
-  sound_by : (v : Verdict) → label_by v words place ≡ request_word → (v ≡ Verdict.Sound) × (get_or words place 0 ≡ request_word)
-  sound_by Verdict.Sound e = (refl, by_test (ltb place word_count) (λ t. rw t at e) (λ f. absurd (omega (arith, rw f at e))))
-  sound_by Verdict.WrongSize e = absurd (omega (arith, e))
-  sound_by (Verdict.BadBlock b) e = absurd (omega (arith, e))
-  sound_by (Verdict.BadField b) e = absurd (omega (arith, e))
+  sound_by : (v : Result Unit ImageFault) → label_by v words place ≡ request_word → (v ≡ Ok tt) × (get_or words place 0 ≡ request_word)
+  sound_by (Ok tt) e = (refl, by_test (ltb place word_count) (λ t. rw t at e) (λ f. absurd (omega (arith, rw f at e))))
+  sound_by (Err ImageFault.WrongSize) e = absurd (omega (arith, e))
+  sound_by (Err (ImageFault.BadBlock b)) e = absurd (omega (arith, e))
+  sound_by (Err (ImageFault.BadField b)) e = absurd (omega (arith, e))
 
 module _ (im : List ℕ) (place : ℕ) {w : ℕ} (shown : w ≡ label_at im place) where
   pub request_none : w ≢ request_word → no_request ≡ open_request im place
@@ -52,7 +53,7 @@ module _ (im : List ℕ) (place : ℕ) {w : ℕ} (shown : w ≡ label_at im plac
   request_none n = closed_by (decode im).labels (decode im).ids place (verdict im) (labels-count im) (λ e. n (shown ∙ e))
 
   module _ (e : w ≡ request_word) where
-    parts : (verdict im ≡ Verdict.Sound) × (get_or (decode im).labels place 0 ≡ request_word)
+    parts : (verdict im ≡ Ok tt) × (get_or (decode im).labels place 0 ≡ request_word)
     unfolding label_at
     parts = sound_by (decode im).labels (decode im).ids place (verdict im) (sym shown ∙ e)
 

@@ -1,12 +1,12 @@
 -- What a stored image holds, as numbers: "restore's checks: 0, 12, 10, 11" come first, and then what `decode` says of an image that passes them.
-use Rattle.std.specs.Prelude.{ℕ, ◌≤◌, not, List, [], ◌++◌, ◌≡◌, ltb, length, get_or, drop}
+use Rattle.std.specs.Prelude.{Result, ℕ, ◌≤◌, not, List, [], ◌++◌, ◌≡◌, ltb, length, get_or, drop}
 use Rattle.octets.specs.Part.{part}
 use Rattle.octets.specs.Pick.{pick}
 use Rattle.label_list.specs.Find.{listed_count}
 use Rattle.label_list.specs.Word.{word_count}
 use Rattle.block0.specs.declared.Header.{Header}
 use Rattle.image.specs.declared.Counts.{Counts}
-use Rattle.image.specs.declared.Verdict.{Verdict}
+use Rattle.image.specs.declared.ImageFault.{ImageFault}
 use Rattle.image.specs.Counts.{counts_of}
 use Rattle.image.specs.State.{Contents, decode, held_start, held_end}
 use Rattle.image.specs.Verdict.{verdict, verdict_number, refuses, verdict_block}
@@ -55,7 +55,7 @@ whole_summary h c = record {
   marks = h.marks;
 }
 
-abbrev pub summary_by : Verdict → Contents → SummaryNumbers
+abbrev pub summary_by : Result Unit ImageFault → Contents → SummaryNumbers
 summary_by v s = pick (refuses v) (refused_summary (verdict_number v) (verdict_block v)) (whole_summary s.header (counts_of s))
 
 unfoldable pub summary_of : List ℕ → SummaryNumbers
@@ -80,7 +80,7 @@ words_listed labels ws =
     words_shown (record { answer = answer_number Answer.Done; block = 0; count = listed_count labels }) (labels ++ drop word_count ws)
 
 -- "12, 10, 11, then 9 where words_len is less"
-abbrev pub words_by : Verdict → List ℕ → List ℕ → WordsShown
+abbrev pub words_by : Result Unit ImageFault → List ℕ → List ℕ → WordsShown
 words_by v labels ws =
     pick (refuses v) (words_refused (verdict_number v) (verdict_block v) ws)
     (pick (ltb (length ws) word_count) (words_refused (answer_number Answer.OutputTooShort) 0 ws) (words_listed labels ws))
@@ -90,7 +90,7 @@ words_of im ws = words_by (verdict im) (decode im).labels ws
 
 -- ---- a message held
 -- "the message held at that place, 0 the oldest, as a part of the image; 12, 10, 11; 8 where none is held there"
-abbrev pub held_by : Verdict → List ℕ → ℕ → PartNumbers
+abbrev pub held_by : Result Unit ImageFault → List ℕ → ℕ → PartNumbers
 held_by v im place =
     pick (refuses v) (no_part_for (verdict_number v))
     (pick (not (ltb place (decode im).header.held)) (no_part_for (answer_number Answer.NothingUnsent))

@@ -6,9 +6,9 @@ ghost use Rattle.convert.specs.Convert.{convert_of, conversion_block};
 ghost use Rattle.image_numbers.specs.Converting.{converted_numbers, converted_shown, conversion_shown};
 
 use crate::ConvertedNumbers;
-use convert::Conversion;
+use convert::ConversionFault;
 
-fn converted_numbers(c: Conversion) -> ConvertedNumbers
+fn converted_numbers(c: Result<(), ConversionFault>) -> ConvertedNumbers
     requires { conversion_block c < block_count }
     ensures { result ≡ converted_numbers c }
 {

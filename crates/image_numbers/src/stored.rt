@@ -5,7 +5,6 @@ ghost use Rattle.image.specs.Extend.{extend_verdict, extend_of};
 ghost use Rattle.image_numbers.specs.Stored.{check_number, label_at, open_request, no_prefix, prefix_at, extended_numbers};
 
 use crate::{ExtendedNumbers, PrefixNumbers, RequestNumbers};
-use block::BlockCheck;
 
 // What stands for no number: no check and no label word is so large.
 const NONE: u32 = 4294967295;
@@ -15,8 +14,8 @@ pub fn block_check(block: &[u8]) -> u32
     ensures { result ≡ check_number (block_check_of block.now) }
 {
     match block::block_check(block) {
-        BlockCheck::Check(c) => c,
-        BlockCheck::TooShort => NONE,
+        Some(c) => c,
+        None => NONE,
     }
 }
 

@@ -1,9 +1,9 @@
 -- The printer's lines: "released 0", "issued 0", "secured 0", "held 1", "pended 1", "labels 1", or "one line, as `refused 10 block 3`".
-use Rattle.std.specs.Prelude.{ℕ, List, ◌++◌}
+use Rattle.std.specs.Prelude.{Result, Ok, Err, ℕ, List, ◌++◌}
 use Rattle.text.specs.Text.{ascii, decimal}
 use Rattle.image.specs.declared.Counts.{Counts}
-use Rattle.image_report.specs.declared.Report.{Report}
-use Rattle.image_report.specs.declared.Report.TheVariants.{Counted, Refused}
+use Rattle.image.specs.declared.ImageFault.{ImageFault}
+use Rattle.image.specs.Verdict.{verdict_number, verdict_block}
 
 -- no report is longer: six lines of a name, at most 20 digits and the line's end
 abbrev pub report_room : ℕ
@@ -24,6 +24,7 @@ counted_text c = numbers_text c ++ counts_text c
 abbrev pub refused_text : ℕ → ℕ → List ℕ
 refused_text answer block = ascii "refused " ++ (decimal answer ++ line (ascii " block ") block)
 
-abbrev pub text_of : Report → List ℕ
-text_of (Counted c) = counted_text c
-text_of (Refused answer block) = refused_text answer block
+-- a refusal has the number of its fault, and the block that this names
+abbrev pub text_of : Result Counts ImageFault → List ℕ
+text_of (Ok c) = counted_text c
+text_of (Err fault) = refused_text (verdict_number (Err fault)) (verdict_block (Err fault))

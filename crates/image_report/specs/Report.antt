@@ -1,16 +1,15 @@
 -- What the image printer says of an image: its counts (`image/specs/Counts.antt`); "A refused image gives one line".
-use Rattle.std.specs.Prelude.{ℕ, List}
-use Rattle.octets.specs.Pick.{pick}
-use Rattle.image.specs.declared.Verdict.{Verdict}
+use Rattle.std.specs.Prelude.{Result, Ok, Err, ℕ, List}
+use Rattle.image.specs.declared.Counts.{Counts}
+use Rattle.image.specs.declared.ImageFault.{ImageFault}
 use Rattle.image.specs.Counts.{counts_of}
 use Rattle.image.specs.State.{Contents, decode}
-use Rattle.image.specs.Verdict.{verdict, verdict_number, refuses, verdict_block}
-use Rattle.image_report.specs.declared.Report.{Report}
-use Rattle.image_report.specs.declared.Report.TheVariants.{Counted, Refused}
+use Rattle.image.specs.Verdict.{verdict}
 
--- the counts of an image that restore's checks pass; the number of any other verdict, and the block that it names
-abbrev pub report_by : Verdict → Contents → Report
-report_by v s = pick (refuses v) (Refused (verdict_number v) (verdict_block v)) (Counted (counts_of s))
+-- the counts of an image that restore's checks pass; of any other the fault that they find
+abbrev pub report_by : Result Unit ImageFault → Contents → Result Counts ImageFault
+report_by (Ok tt) s = Ok (counts_of s)
+report_by (Err fault) s = Err fault
 
-unfoldable pub report_of : List ℕ → Report
+unfoldable pub report_of : List ℕ → Result Counts ImageFault
 report_of image = report_by (verdict image) (decode image)

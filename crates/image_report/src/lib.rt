@@ -4,25 +4,15 @@
 ghost use Rattle.std.specs.Prelude.{◌≡◌};
 ghost use Rattle.image_report.specs.Report.{report_of};
 
-use image::Counts;
+use image::{Counts, ImageFault};
 
 pub mod lines;
 
-// The counts, or the refusal's number and the block that it names.
-#[derive(Clone, Copy)]
-pub enum Report {
-    Counted(Counts),
-    Refused(u32, usize),
-}
-
-// What any bytes say that may be an image: released, issued, secured, held, pended, label words in use; or a refusal's number and block.
-pub fn report_of(image: &[u8]) -> Report
+// What any bytes say that may be an image: released, issued, secured, held, pended, label words in use; or why they are
+// refused.
+pub fn report_of(image: &[u8]) -> Result<Counts, ImageFault>
     ensures { result ≡ report_of image.now }
 {
-    let v = image::check_image(image);
-    let n = image::verdict_number(v);
-    if n == 0 {
-        return Report::Counted(image::counts_of(image));
-    }
-    Report::Refused(n, image::verdict_block(v))
+    image::check_image(image)?;
+    Ok(image::counts_of(image))
 }

@@ -3,8 +3,7 @@ ghost use Rattle.std.specs.Prelude.{◌+◌, ◌≤◌, length};
 ghost use Rattle.text.specs.Text.{Put};
 ghost use Rattle.image_report.specs.Lines.{report_room, line, numbers_text, counts_text, refused_text, text_of};
 
-use crate::Report;
-use image::Counts;
+use image::{Counts, ImageFault};
 use std::io;
 use std::io::{Read, Write};
 
@@ -39,7 +38,8 @@ fn put_counts(out: &mut [u8], at: usize, c: Counts) -> usize
     put_line(out, pended, b"labels ", c.labels as u64)
 }
 
-fn put_refusal(out: &mut [u8], answer: u32, block: usize) -> usize
+// Puts a refusal's one line at the start of `out` and answers its length; no byte after it changes.
+pub fn put_refusal(out: &mut [u8], answer: u32, block: usize) -> usize
     requires { report_room ≤ length out.old }
     ensures put { Put out.old 0 (refused_text answer block) out.new result }
     ensures upper_bound { result ≤ report_room }
@@ -50,17 +50,21 @@ fn put_refusal(out: &mut [u8], answer: u32, block: usize) -> usize
 }
 
 // Puts a report at the start of `out` and answers its length; no byte after it changes.
-pub fn put_report(out: &mut [u8], report: Report) -> usize
+pub fn put_report(out: &mut [u8], report: Result<Counts, ImageFault>) -> usize
     requires { report_room ≤ length out.old }
     ensures put { Put out.old 0 (text_of report) out.new result }
     ensures upper_bound { result ≤ report_room }
 {
     match report {
-        Report::Counted(c) => {
+        Ok(c) => {
             let end = put_numbers(out, c);
             put_counts(out, end, c)
         }
-        Report::Refused(answer, block) => put_refusal(out, answer, block),
+        Err(fault) => put_refusal(
+            out,
+            image::verdict_number(Err(fault)),
+            image::verdict_block(Err(fault)),
+        ),
     }
 }
 

@@ -1,10 +1,11 @@
 -- The returns of `init_received`. Assumes nothing.
+use Rattle.std.specs.Prelude.{Ok, Err, Result, Option}
 use Prim.Native.Nat.{ℕ}
 use mathlib.Core.Bool.{true, false}
 use mathlib.Core.List.{List, []}
-use mathlib.Core.Path.{◌≡◌, refl, ◌∙◌, sym}
+use mathlib.Core.Path.{ap, sym, ◌≡◌, refl, ◌∙◌}
 use Rattle.block0.specs.declared.Header.{Header}
-use Rattle.message.specs.declared.Reading.{Reading}
+use Rattle.message.specs.declared.Message.{Message}
 use Rattle.message.specs.Reading.{reading_of}
 use Rattle.image.specs.State.{decode}
 use Rattle.image.specs.Verdict.{IsSound}
@@ -50,7 +51,7 @@ module _ (im : List ℕ) (ph : Phase) (m : List ℕ) where
       unfolding effect_of own
       init_barred f p = owned (rw f (own_refused Answer.WrongPhase ph im [] (begun_on im ph (init_start (state_of im) ph m)) refl p))
 
-      module _ (w : awaits ph ≡ true) {h : Header} {p : ℕ} {rd : Reading} {st : Start} (eh : h ≡ (decode im).header) (ep : p ≡ proposal_of ph) (er : rd ≡ reading_of m)
+      module _ (w : awaits ph ≡ true) {h : Header} {p : ℕ} {rd : Option Message} {st : Result Start Answer} (eh : h ≡ (decode im).header) (ep : p ≡ proposal_of ph) (er : rd ≡ reading_of m)
           (es : st ≡ start_of (state_of_numbers h) p rd) where
         start_is : st ≡ init_start (state_of im) ph m
         start_is = es ∙ rw (eh, ep, er) (start_alone (decode im).header (decode im).labels (decode im).ids (decode im).index (decode im).queue (proposal_of ph) (reading_of m))
@@ -58,13 +59,15 @@ module _ (im : List ℕ) (ph : Phase) (m : List ℕ) where
         pub init_fits : IsSound im → StartFits (decode im).header.held st
         init_fits s = rw (es, eh) (start_fits (decode im).header (sound_valid im s).window p rd)
 
-        module _ {a : Answer} (ea : a ≡ start_answer st) where
-          settled : {x : After} → x ≡ settle_of a ph im [] (begun_on im ph st) → x ≡ init_received_of im ph m
-          unfolding own
-          settled q = owned (rw (w, ← start_is, ← ea) q)
+        -- what the start is answered
+        settled : {a : Answer} → a ≡ start_answer st → {x : After} → x ≡ settle_of a ph im [] (begun_on im ph st) → x ≡ init_received_of im ph m
+        unfolding own
+        settled ea q = owned (rw (w, ← start_is, ← ea) q)
 
-          pub init_settled : {x : After} → is_done a ≡ false → x ≡ settle_of a ph im [] (untouched a ph im []) → x ≡ init_received_of im ph m
-          init_settled n q = settled (q ∙ settle_other a ph im [] (untouched a ph im []) (begun_on im ph st) n)
+        pub init_settled : IsSound im → {a : Answer} → st ≡ Err a → {x : After} → x ≡ settle_of a ph im [] (untouched a ph im []) → x ≡ init_received_of im ph m
+        init_settled s {a} e q =
+            let n : is_done a ≡ false = rw e at (init_fits s) in
+            settled (sym (ap start_answer e)) (q ∙ settle_other a ph im [] (untouched a ph im []) (begun_on im ph st) n)
 
-          pub init-begun : {x : After} → is_done a ≡ true → x ≡ begun_on im ph st → x ≡ init_received_of im ph m
-          init-begun d q = settled (own_done a ph im [] (begun_on im ph st) d q)
+        pub init-begun : {start : Start} → st ≡ Ok start → {x : After} → x ≡ begun_on im ph (Ok start) → x ≡ init_received_of im ph m
+        init-begun e q = settled (sym (ap start_answer e)) (rw (← e) at (own_done Answer.Done ph im [] (begun_on im ph _) refl q))

@@ -1,4 +1,5 @@
 -- What the functions store that begin a session is the start's state. Assumes nothing.
+use Rattle.std.specs.Prelude.{Result, Ok, Err}
 use Prim.Native.Nat.{ℕ, ◌-◌}
 use mathlib.Core.Bool.{Bool}
 use mathlib.Core.List.{List, []}
@@ -52,20 +53,20 @@ released_is im e = (ap (λ x. x.image) e, ap (λ x. x.outcome.block0) e ∙ ap (
 
 -- ---- the session begun
 -- no slot is written
-slotless : (im : List ℕ) (st : Start) → 0 ≡ slot_named im (start_slots st)
-slotless im (Start.Refused a) = refl
-slotless im Start.Plain = refl
-slotless im (Start.Fresh t) = refl
-slotless im (Start.Resumed t k a) = refl
+slotless : (im : List ℕ) (st : Result Start Answer) → 0 ≡ slot_named im (start_slots st)
+slotless im (Err a) = refl
+slotless im (Ok Start.Plain) = refl
+slotless im (Ok (Start.Fresh t)) = refl
+slotless im (Ok (Start.Resumed t k a)) = refl
 
 -- the further blocks keep their bytes
-furtherless : (im : List ℕ) → length im ≡ image_size → (st : Start) (s : State) → further_bits im (stored im (start_slots st) same s) ≡ 0
-furtherless im size (Start.Refused a) s = further_none im size _ _
-furtherless im size Start.Plain s = further_none im size _ _
-furtherless im size (Start.Fresh t) s = further_none im size _ _
-furtherless im size (Start.Resumed t k a) s = further_none im size _ _
+furtherless : (im : List ℕ) → length im ≡ image_size → (st : Result Start Answer) (s : State) → further_bits im (stored im (start_slots st) same s) ≡ 0
+furtherless im size (Err a) s = further_none im size _ _
+furtherless im size (Ok Start.Plain) s = further_none im size _ _
+furtherless im size (Ok (Start.Fresh t)) s = further_none im size _ _
+furtherless im size (Ok (Start.Resumed t k a)) s = further_none im size _ _
 
-pub begun_is : (im : List ℕ) → length im ≡ image_size → (ph : Phase) (st : Start) {im' : List ℕ} {next : Phase} {b : Bool}
+pub begun_is : (im : List ℕ) → length im ≡ image_size → (ph : Phase) (st : Result Start Answer) {im' : List ℕ} {next : Phase} {b : Bool}
     → im' ≡ stored im (start_slots st) same (start_state (state_of im) st) → next ≡ start_phase ph st → b ≡ differ (block im 0) (block im' 0)
     → after_with (record { answer = Answer.Done; phase = next; written = 0; slot = 0; block0 = b; further = 0; leftout = 0 }) im' [] ≡ begun_on im ph st
 unfolding begun_on laid

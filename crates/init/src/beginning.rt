@@ -1,10 +1,10 @@
 // The session that the peer's Init begins: released, fresh, or resumed.
-ghost use Rattle.std.specs.Prelude.{◌≤◌, [], ◌≡◌};
+ghost use Rattle.std.specs.Prelude.{◌≤◌, [], ◌≡◌, Ok};
 ghost use Rattle.octets.specs.Differ.{differ};
 ghost use Rattle.image.specs.Sizes.{block};
 ghost use Rattle.image.specs.State.{decode};
 ghost use Rattle.image.specs.Verdict.{IsSound};
-ghost use Rattle.protocol.specs.Init.{fresh, resumed, start_phase, start_state};
+ghost use Rattle.protocol.specs.Init.{fresh, resumed, begun_phase, start_state};
 ghost use Rattle.protocol.specs.Phases.{awaits, proposal_of, up_with};
 ghost use Rattle.protocol.specs.State.{released_state};
 ghost use Rattle.calls.specs.Outcomes.{after_with};
@@ -13,7 +13,7 @@ ghost use Rattle.calls.specs.Storing.{same, empty, fewer, stored};
 ghost use Rattle.init.specs.Fitting.{StartFits};
 ghost use Rattle.init.specs.Received.{start_slots, begun_on, init_received_of};
 
-use crate::judging::{judge_start, start_answer};
+use crate::judging::judge_start;
 use block0::Header;
 use calls::{Answer, Outcome, Phase, Progress};
 use ft_number::FtNumber;
@@ -93,13 +93,12 @@ fn store_released(image: &mut [u8]) -> bool
     o.block0
 }
 
-// Stores the state that a start leads to; a refusal leaves the image as it is. Whether block 0 changed.
+// Stores the state that a start leads to. Whether block 0 changed.
 fn store_start(image: &mut [u8], start: Start) -> bool
-    requires { IsSound image.old × StartFits (decode image.old).header.held start }
-    ensures { (image.new ≡ stored image.old (start_slots start) same (start_state (state_of image.old) start)) × (result ≡ differ (block image.old 0) (block image.new 0)) }
+    requires { IsSound image.old × StartFits (decode image.old).header.held (Ok start) }
+    ensures { (image.new ≡ stored image.old (start_slots (Ok start)) same (start_state (state_of image.old) (Ok start))) × (result ≡ differ (block image.old 0) (block image.new 0)) }
 {
     match start {
-        Start::Refused(_) => false,
         Start::Plain => store_released(image),
         Start::Fresh(terms) => store_fresh(image, terms),
         Start::Resumed(terms, count, ack) => store_resumed(image, terms, count, ack),
@@ -117,11 +116,10 @@ fn up_ft(resumed: bool) -> Phase
 }
 
 // The phase that a start leads to.
-fn start_phase(start: Start, phase: Phase) -> Phase
-    ensures { result ≡ start_phase phase start }
+fn begun_phase(start: Start) -> Phase
+    ensures { result ≡ begun_phase start }
 {
     match start {
-        Start::Refused(_) => phase,
         Start::Plain => Phase::UpPlain,
         Start::Fresh(_) => up_ft(false),
         Start::Resumed(_, _, _) => up_ft(true),
@@ -130,12 +128,12 @@ fn start_phase(start: Start, phase: Phase) -> Phase
 
 // Begins the session.
 fn begin(image: &mut [u8], phase: Phase, start: Start) -> Outcome
-    requires { IsSound image.old × StartFits (decode image.old).header.held start }
-    ensures { after_with result image.new [] ≡ begun_on image.old phase start }
+    requires { IsSound image.old × StartFits (decode image.old).header.held (Ok start) }
+    ensures { after_with result image.new [] ≡ begun_on image.old phase (Ok start) }
 {
     Outcome {
         answer: Answer::Done,
-        phase: start_phase(start, phase),
+        phase: begun_phase(start),
         written: 0,
         slot: 0,
         block0: store_start(image, start),
@@ -156,10 +154,8 @@ pub fn init_received(image: &mut [u8], phase: Phase, msg: &[u8]) -> Outcome
         return calls::refuse(Answer::WrongPhase, phase);
     }
     let h = image::header_of(image);
-    let start = judge_start(h, proposal_of(phase), message::read_message(msg));
-    let answer = start_answer(start);
-    if !calls::is_done(answer) {
-        return calls::settle(image, answer, phase);
+    match judge_start(h, proposal_of(phase), message::read_message(msg)) {
+        Ok(start) => begin(image, phase, start),
+        Err(answer) => calls::settle(image, answer, phase),
     }
-    begin(image, phase, start)
 }

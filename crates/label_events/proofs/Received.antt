@@ -1,10 +1,10 @@
 -- A message of the peer's is received, and the Request that it ends has ended: the ways through the definition. Assumes nothing.
+use Rattle.std.specs.Prelude.{Option, None}
 use Prim.Native.Nat.{ℕ}
 use mathlib.Core.Bool.{Bool, true, not}
 use mathlib.Core.List.{List}
 use mathlib.Core.Path.{◌≡◌, refl, ◌∙◌, sym}
 use Rattle.octets.proofs.Choice.{pick_all}
-use Rattle.label_list.specs.declared.Found.{Found}
 use Rattle.label_list.specs.declared.LabelMessage.{LabelMessage}
 use Rattle.label_list.specs.Find.{find_of}
 use Rattle.label_list.specs.Rules.{received_side, code_received}
@@ -23,15 +23,15 @@ use Rattle.label_events.proofs.Written.{placed_in}
 
 module _ (words : List ℕ) (x : Meets) (message : LabelMessage) (protected : Bool) where
   -- the change is the same, planned before the Request is ended or after
-  pub received_same : (room : Found) (label : ℕ) → received_change (ended_at x.request words) room x.another message protected label ≡ received_change words room x.another message protected label
+  pub received_same : (room : Option ℕ) (label : ℕ) → received_change (ended_at x.request words) room x.another message protected label ≡ received_change words room x.another message protected label
   unfolding received_change
   received_same room label = rw (ended-code words (received_side message) label x.request, ended_find words (received_side message) label x.request)
 
-  abbrev room : Found
+  abbrev room : Option ℕ
   room = room_at x.request x.spare words
 
   -- the answer, the place taken and the list afterwards
-  abbrev Answered : List ℕ → Touched → Reception → Found → List ℕ → Type 0
+  abbrev Answered : List ℕ → Touched → Reception → Option ℕ → List ℕ → Type 0
   Answered entries t a taken after =
       (a ≡ (received_beside words entries x message protected t).0)
       × (taken ≡ takes_at words x message protected t)
@@ -51,7 +51,7 @@ module _ (words : List ℕ) (x : Meets) (message : LabelMessage) (protected : Bo
           (code_received message protected (code_at (ended_at x.request words) (received_side message) label))
           (found_in_lem (stands_for (received_side message) label) (ended_at x.request words) refl) (room-still_in x.request x.spare words)))
 
-      pub received_label : (entries : List ℕ) {t : Touched} {place taken : Found} {a : Reception} {after : List ℕ}
+      pub received_label : (entries : List ℕ) {t : Touched} {place taken : Option ℕ} {a : Reception} {after : List ℕ}
           → t ≡ Touched.Label label → place ≡ received_place words message t → a ≡ reception_of change → taken ≡ taken_at place change → after ≡ changed mid change
           → Answered entries t a taken after
       unfolding received_with received_beside
@@ -60,7 +60,7 @@ module _ (words : List ℕ) (x : Meets) (message : LabelMessage) (protected : Bo
           (rw (et, ← same) ea, rw (et, ← planned) (rw (ep, et) at ek), rw (et, ← same, ← ended) el)
 
     -- a message that names no label
-    module _ (entries : List ℕ) {a : Reception} {taken : Found} (ea : a ≡ Taken) (ek : taken ≡ Found.Nowhere) where
+    module _ (entries : List ℕ) {a : Reception} {taken : Option ℕ} (ea : a ≡ Taken) (ek : taken ≡ None) where
       pub received_every : {t : Touched} {after : List ℕ} → t ≡ Touched.Every → after ≡ every_received message (λ k. true) mid
           → Answered entries t a taken after
       unfolding received_with received_beside

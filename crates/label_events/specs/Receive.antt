@@ -1,8 +1,6 @@
 -- A message of the peer's is received: the answer and the list afterwards.
-use Rattle.std.specs.Prelude.{ℕ, Bool, true, false, not, List}
+use Rattle.std.specs.Prelude.{Option, None, ℕ, Bool, true, false, not, List}
 use Rattle.octets.specs.Pick.{pick}
-use Rattle.label_list.specs.declared.Found.{Found}
-use Rattle.label_list.specs.declared.Found.TheVariants.{Nowhere}
 use Rattle.label_list.specs.declared.LabelMessage.{LabelMessage}
 use Rattle.label_list.specs.declared.LabelMessage.TheVariants.{Mapping, Withdraw, Release}
 use Rattle.label_list.specs.declared.SweepRule.TheVariants.{WithdrawAll, ReleaseAll}
@@ -26,11 +24,11 @@ reception_number Taken = 0
 reception_number NoRoom = 21
 
 -- where the label stands that a message names, on the message's own side; one that names none has no place
-unfoldable pub received_place : List ℕ → LabelMessage → Touched → Found
+unfoldable pub received_place : List ℕ → LabelMessage → Touched → Option ℕ
 received_place words message (Touched.Label label) = find_of (stands_for (received_side message) label) words
-received_place words message Touched.Every = Nowhere
-received_place words message (Touched.Prefix entry) = Nowhere
-received_place words message Touched.Nothing = Nowhere
+received_place words message Touched.Every = None
+received_place words message (Touched.Prefix entry) = None
+received_place words message Touched.Nothing = None
 
 -- of the messages only a Mapping brings an entry
 abbrev pub moves_by : LabelMessage → Bool → Bool
@@ -40,7 +38,7 @@ moves_by Release another = false
 
 -- 01: "Labels 0 to 15 are never listed, and passed on when received"; so is what is no label of 20 bits. `another`: the message's FEC
 -- has another entry than the label
-unfoldable pub received_change : List ℕ → Found → Bool → LabelMessage → Bool → ℕ → Change
+unfoldable pub received_change : List ℕ → Option ℕ → Bool → LabelMessage → Bool → ℕ → Change
 received_change words room another message protected label =
     pick (not (listable label)) Change.Keep
     (placed_at (moves_by message another) (find_of (stands_for (received_side message) label) words) room label
@@ -51,12 +49,12 @@ abbrev pub planned_by : List ℕ → Meets → LabelMessage → Bool → ℕ →
 planned_by words x message protected label = received_change words (room_at x.request x.spare words) x.another message protected label
 
 -- where a message takes a word for its label
-abbrev pub takes_at : List ℕ → Meets → LabelMessage → Bool → Touched → Found
+abbrev pub takes_at : List ℕ → Meets → LabelMessage → Bool → Touched → Option ℕ
 takes_at words x message protected (Touched.Label label) =
     taken_at (received_place words message (Touched.Label label)) (planned_by words x message protected label)
-takes_at words x message protected Touched.Every = Nowhere
-takes_at words x message protected (Touched.Prefix entry) = Nowhere
-takes_at words x message protected Touched.Nothing = Nowhere
+takes_at words x message protected Touched.Every = None
+takes_at words x message protected (Touched.Prefix entry) = None
+takes_at words x message protected Touched.Nothing = None
 
 abbrev pub reception_of : Change → Reception
 reception_of Change.Keep = Taken
@@ -71,7 +69,7 @@ every_received Withdraw reached words = reached_of words reached WithdrawAll
 every_received Release reached words = reached_of words reached ReleaseAll
 
 -- "of another FEC it is accepted and changes no label here"; a word that is needed is taken at `room`
-unfoldable pub received_with : List ℕ → Found → Bool → LabelMessage → Bool → Reach → Reception × List ℕ
+unfoldable pub received_with : List ℕ → Option ℕ → Bool → LabelMessage → Bool → Reach → Reception × List ℕ
 received_with words room another message protected (Label label) =
     (reception_of (received_change words room another message protected label), changed words (received_change words room another message protected label))
 received_with words room another message protected (Those reached) = (Taken, every_received message reached words)

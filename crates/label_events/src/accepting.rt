@@ -4,25 +4,25 @@ ghost use Rattle.label_events.specs.Accept.{plan_of, plan_change, acceptance_of,
 ghost use Rattle.label_events.specs.Ack.{acked_of};
 
 use crate::changing::{code_at, make_change, plan_change};
-use crate::{Acceptance, Accepted, Change, Plan};
+use crate::{Acceptance, Accepted, Change};
 use label_list::{
-    FIRST_LABEL, Found, LABEL_COUNT, LabelMessage, Next, code_accepted, code_acked, find_label,
-    sent_side, word_of,
+    FIRST_LABEL, LABEL_COUNT, LabelMessage, code_accepted, code_acked, find_label, sent_side,
+    word_of,
 };
 
-fn plan_accept(words: &[u32], message: LabelMessage, label: u32) -> Plan
+fn plan_accept(words: &[u32], message: LabelMessage, label: u32) -> Option<Change>
     ensures { result ≡ plan_of words.now message label }
 {
     if label < FIRST_LABEL {
-        return Plan::Refused;
+        return None;
     }
     if label >= LABEL_COUNT {
-        return Plan::Refused;
+        return None;
     }
     let place = find_label(words, sent_side(message), label);
     match code_accepted(message, code_at(words, place)) {
-        Next::Code(code) => Plan::Allowed(plan_change(words, place, label, code)),
-        Next::NotAllowed => Plan::Refused,
+        Some(code) => Some(plan_change(words, place, label, code)),
+        None => None,
     }
 }
 
@@ -42,14 +42,14 @@ pub fn accept(words: &mut [u32], message: LabelMessage, label: u32) -> Accepted
     ensures { (result.acceptance ≡ (accepted_of words.old message label).0) × (result.change ≡ plan_change (plan_of words.old message label)) × (words.new ≡ (accepted_of words.old message label).1) }
 {
     match plan_accept(words, message, label) {
-        Plan::Allowed(change) => {
+        Some(change) => {
             make_change(words, change);
             Accepted {
                 acceptance: acceptance(change),
                 change: change,
             }
         }
-        Plan::Refused => Accepted {
+        None => Accepted {
             acceptance: Acceptance::NotAllowed,
             change: Change::Keep,
         },
@@ -61,9 +61,9 @@ pub fn release_by_ack(words: &mut [u32], message: LabelMessage, label: u32)
     ensures { words.new ≡ acked_of words.old message label }
 {
     match find_label(words, sent_side(message), label) {
-        Found::At(i) => {
+        Some(i) => {
             words[i] = word_of(label, code_acked(message, words[i] / LABEL_COUNT));
         }
-        Found::Nowhere => {}
+        None => {}
     }
 }

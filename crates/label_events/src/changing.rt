@@ -6,81 +6,81 @@ ghost use Rattle.label_events.specs.Change.{ChangeIn, code_in, take_free, change
 ghost use Rattle.label_events.specs.Requests.{where_free, room_at};
 
 use crate::Change;
-use label_list::{Found, LABEL_COUNT, REQUEST_WORD, Wanted, find, word_of};
+use label_list::{LABEL_COUNT, REQUEST_WORD, Wanted, find, word_of};
 
 // The code of the word found; 0 where there is none.
-pub fn code_at(words: &[u32], place: Found) -> u32
+pub fn code_at(words: &[u32], place: Option<usize>) -> u32
     requires { FoundIn words.now place }
     ensures { (result ≡ code_in words.now place) × (result < 4096) }
 {
     match place {
-        Found::At(i) => words[i] / LABEL_COUNT,
-        Found::Nowhere => 0,
+        Some(i) => words[i] / LABEL_COUNT,
+        None => 0,
     }
 }
 
 // A spare place, where the word there is free.
-fn where_free(words: &[u32], spare: Found) -> Found
+fn where_free(words: &[u32], spare: Option<usize>) -> Option<usize>
     ensures { result ≡ where_free spare words.now }
 {
     match spare {
-        Found::At(i) => {
+        Some(i) => {
             if words.len() <= i {
-                return Found::Nowhere;
+                return None;
             }
             if words[i] != 0 {
-                return Found::Nowhere;
+                return None;
             }
-            Found::At(i)
+            Some(i)
         }
-        Found::Nowhere => Found::Nowhere,
+        None => None,
     }
 }
 
 // The word for a label that needs one: that of the Request which the message ends, else the spare one.
-pub fn room_at(words: &[u32], request: Found, spare: Found) -> Found
+pub fn room_at(words: &[u32], request: Option<usize>, spare: Option<usize>) -> Option<usize>
     ensures { result ≡ room_at request spare words.now }
 {
     match request {
-        Found::At(i) => {
+        Some(i) => {
             if i < words.len() {
                 if words[i] == REQUEST_WORD {
-                    return Found::At(i);
+                    return Some(i);
                 }
             }
             where_free(words, spare)
         }
-        Found::Nowhere => where_free(words, spare),
+        None => where_free(words, spare),
     }
 }
 
-fn take_free(room: Found, word: u32) -> Change
+fn take_free(room: Option<usize>, word: u32) -> Change
     ensures { result ≡ take_free room word }
 {
     match room {
-        Found::At(free) => Change::Put(free, word),
-        Found::Nowhere => Change::NoRoom,
+        Some(free) => Change::Put(free, word),
+        None => Change::NoRoom,
     }
 }
 
-fn move_to(from: usize, room: Found, word: u32) -> Change
+fn move_to(from: usize, room: Option<usize>, word: u32) -> Change
     ensures { result ≡ move_to from room word }
 {
     match room {
-        Found::At(free) => Change::Move(from, free, word),
-        Found::Nowhere => Change::NoRoom,
+        Some(free) => Change::Move(from, free, word),
+        None => Change::NoRoom,
     }
 }
 
 // The change that gives the label, found at that place, that code; a label that has no place takes the first free word.
-pub fn plan_change(words: &[u32], place: Found, label: u32, code: u32) -> Change
+pub fn plan_change(words: &[u32], place: Option<usize>, label: u32, code: u32) -> Change
     requires { (label < label_count) × (code < 4096) }
     ensures { result ≡ change_at place (find_of is_free words.now) label code }
 {
     let word = word_of(label, code);
     match place {
-        Found::At(i) => Change::Put(i, word),
-        Found::Nowhere => {
+        Some(i) => Change::Put(i, word),
+        None => {
             if code == 0 {
                 return Change::Keep;
             }
@@ -90,19 +90,25 @@ pub fn plan_change(words: &[u32], place: Found, label: u32, code: u32) -> Change
 }
 
 // The same, where a label that needs a word takes the one at `room`, and one that moves leaves its own.
-pub fn plan_place(moves: bool, place: Found, room: Found, label: u32, code: u32) -> Change
+pub fn plan_place(
+    moves: bool,
+    place: Option<usize>,
+    room: Option<usize>,
+    label: u32,
+    code: u32,
+) -> Change
     requires { (label < label_count) × (code < 4096) }
     ensures { result ≡ placed_at moves place room label code }
 {
     let word = word_of(label, code);
     match place {
-        Found::At(i) => {
+        Some(i) => {
             if moves {
                 return move_to(i, room, word);
             }
             Change::Put(i, word)
         }
-        Found::Nowhere => {
+        None => {
             if code == 0 {
                 return Change::Keep;
             }
@@ -112,17 +118,17 @@ pub fn plan_place(moves: bool, place: Found, room: Found, label: u32, code: u32)
 }
 
 // The place at which a label that stood at `place` takes a word by that change.
-pub fn taken_at(place: Found, change: Change) -> Found
+pub fn taken_at(place: Option<usize>, change: Change) -> Option<usize>
     ensures { result ≡ taken_at place change }
 {
     match change {
-        Change::Keep => Found::Nowhere,
+        Change::Keep => None,
         Change::Put(to, _) => match place {
-            Found::At(_) => Found::Nowhere,
-            Found::Nowhere => Found::At(to),
+            Some(_) => None,
+            None => Some(to),
         },
-        Change::Move(_, to, _) => Found::At(to),
-        Change::NoRoom => Found::Nowhere,
+        Change::Move(_, to, _) => Some(to),
+        Change::NoRoom => None,
     }
 }
 

@@ -11,7 +11,6 @@ mod requests;
 
 pub use accepting::{accept, release_by_ack};
 pub use changing::taken_at;
-use label_list::Found;
 pub use protecting::judge_protection;
 pub use receiving::{receive, received_place};
 pub use requests::{abort, ask, end_request};
@@ -24,13 +23,6 @@ pub enum Change {
     Put(usize, u32),
     Move(usize, usize, u32),
     NoRoom,
-}
-
-// Whether a message of ours may be sent, and the change that it makes.
-#[derive(Clone, Copy)]
-pub enum Plan {
-    Allowed(Change),
-    Refused,
 }
 
 // The answer to a message of ours: 0, 6, 13.
@@ -59,15 +51,15 @@ pub enum Reception {
 #[derive(Clone, Copy)]
 pub struct Receipt {
     pub reception: Reception,
-    pub taken: Found,
+    pub taken: Option<usize>,
 }
 
 // What a message of the peer's meets beside the words: the place of the Request that it ends, the place of a word that is free for it, and whether
 // its FEC has another entry than its label.
 #[derive(Clone, Copy)]
 pub struct Meets {
-    pub request: Found,
-    pub spare: Found,
+    pub request: Option<usize>,
+    pub spare: Option<usize>,
     pub another: bool,
 }
 

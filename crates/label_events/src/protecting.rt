@@ -7,7 +7,7 @@ ghost use Rattle.label_events.specs.Receive.{received_place};
 use crate::Touched;
 use crate::changing::code_at;
 use label_list::{
-    Found, LabelMessage, Protection, Wanted, any_guarded, code_protection, find, received_side,
+    LabelMessage, Protection, Wanted, any_guarded, code_protection, find, received_side,
 };
 
 fn protection_of_every(words: &[u32], message: LabelMessage, protected: bool) -> Protection
@@ -17,8 +17,8 @@ fn protection_of_every(words: &[u32], message: LabelMessage, protected: bool) ->
         return Protection::Right;
     }
     match find(words, Wanted::ProtectedOn(received_side(message))) {
-        Found::At(_) => Protection::Missing,
-        Found::Nowhere => Protection::Right,
+        Some(_) => Protection::Missing,
+        None => Protection::Right,
     }
 }
 
@@ -45,7 +45,7 @@ fn protection_of_prefix(
 pub fn judge_protection(
     words: &[u32],
     entries: &[u64],
-    place: Found,
+    place: Option<usize>,
     message: LabelMessage,
     protected: bool,
     touched: Touched,

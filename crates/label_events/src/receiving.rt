@@ -7,20 +7,20 @@ use crate::changing::{code_at, make_change, plan_place, room_at, taken_at};
 use crate::requests::end_request;
 use crate::{Change, Meets, Receipt, Reception, Touched};
 use label_list::{
-    FIRST_LABEL, Found, LABEL_COUNT, LabelMessage, SweepRule, code_received, find_label,
-    received_side, sweep, sweep_beside,
+    FIRST_LABEL, LABEL_COUNT, LabelMessage, SweepRule, code_received, find_label, received_side,
+    sweep, sweep_beside,
 };
 
 // The place of the label that a received message names, on the message's own side; none where it names none. Found once, for its
 // protection and for its change.
-pub fn received_place(words: &[u32], message: LabelMessage, touched: Touched) -> Found
+pub fn received_place(words: &[u32], message: LabelMessage, touched: Touched) -> Option<usize>
     ensures { result ≡ received_place words.now message touched }
 {
     match touched {
         Touched::Label(label) => find_label(words, received_side(message), label),
-        Touched::Every => Found::Nowhere,
-        Touched::Prefix(_) => Found::Nowhere,
-        Touched::Nothing => Found::Nowhere,
+        Touched::Every => None,
+        Touched::Prefix(_) => None,
+        Touched::Nothing => None,
     }
 }
 
@@ -37,7 +37,7 @@ fn moves_by(message: LabelMessage, another: bool) -> bool
 
 fn plan_received(
     words: &[u32],
-    place: Found,
+    place: Option<usize>,
     meets: Meets,
     message: LabelMessage,
     protected: bool,
@@ -92,11 +92,11 @@ fn receive_beside(words: &mut [u32], entries: &[u64], entry: u64, message: Label
 
 // A message that names no label is taken, and no label takes a word.
 fn unnamed() -> Receipt
-    ensures { (result.reception ≡ Reception.Taken) × (result.taken ≡ Found.Nowhere) }
+    ensures { (result.reception ≡ Reception.Taken) × (result.taken ≡ None) }
 {
     Receipt {
         reception: Reception::Taken,
-        taken: Found::Nowhere,
+        taken: None,
     }
 }
 
@@ -106,7 +106,7 @@ fn unnamed() -> Receipt
 pub fn receive(
     words: &mut [u32],
     entries: &[u64],
-    place: Found,
+    place: Option<usize>,
     meets: Meets,
     message: LabelMessage,
     protected: bool,

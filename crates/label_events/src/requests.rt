@@ -5,7 +5,7 @@ ghost use Rattle.label_events.specs.Requests.{asked_plan, aborted_plan, ids_put,
 
 use crate::{Acceptance, Accepted, Change};
 use ft_number::MessageId;
-use label_list::{Found, REQUEST_WORD, Wanted, find, find_request};
+use label_list::{REQUEST_WORD, Wanted, find, find_request};
 
 // Accepts a Request of that ID: its word and its ID are written at the first free word. Refused, NotAllowed (6) where the ID is open already,
 // NoRoom (13) where no word is free, both lists stay as they were. The change says which word is another now.
@@ -14,12 +14,12 @@ pub fn ask(words: &mut [u32], ids: &mut [u32], id: MessageId) -> Accepted
     ensures { (result.acceptance ≡ (accepted_by words.old (asked_plan words.old ids.old id)).0) × (result.change ≡ plan_change (asked_plan words.old ids.old id)) × (words.new ≡ (accepted_by words.old (asked_plan words.old ids.old id)).1) × (ids.new ≡ ids_put ids.old (plan_change (asked_plan words.old ids.old id)) id) }
 {
     match find_request(words, ids, id) {
-        Found::At(_) => Accepted {
+        Some(_) => Accepted {
             acceptance: Acceptance::NotAllowed,
             change: Change::Keep,
         },
-        Found::Nowhere => match find(words, Wanted::Free) {
-            Found::At(i) => {
+        None => match find(words, Wanted::Free) {
+            Some(i) => {
                 words[i] = REQUEST_WORD;
                 ids[i] = id.0;
                 Accepted {
@@ -27,7 +27,7 @@ pub fn ask(words: &mut [u32], ids: &mut [u32], id: MessageId) -> Accepted
                     change: Change::Put(i, REQUEST_WORD),
                 }
             }
-            Found::Nowhere => Accepted {
+            None => Accepted {
                 acceptance: Acceptance::NoRoom,
                 change: Change::NoRoom,
             },
@@ -40,14 +40,14 @@ pub fn abort(words: &mut [u32], ids: &[u32], id: MessageId) -> Accepted
     ensures { (result.acceptance ≡ (accepted_by words.old (aborted_plan words.old ids.now id)).0) × (result.change ≡ plan_change (aborted_plan words.old ids.now id)) × (words.new ≡ (accepted_by words.old (aborted_plan words.old ids.now id)).1) }
 {
     match find_request(words, ids, id) {
-        Found::At(i) => {
+        Some(i) => {
             words[i] = 0;
             Accepted {
                 acceptance: Acceptance::Taken,
                 change: Change::Put(i, 0),
             }
         }
-        Found::Nowhere => Accepted {
+        None => Accepted {
             acceptance: Acceptance::NotAllowed,
             change: Change::Keep,
         },
@@ -55,11 +55,11 @@ pub fn abort(words: &mut [u32], ids: &[u32], id: MessageId) -> Accepted
 }
 
 // Ends the Request at that place, if one is open there: its word is free then.
-pub fn end_request(words: &mut [u32], request: Found)
+pub fn end_request(words: &mut [u32], request: Option<usize>)
     ensures { words.new ≡ ended_at request words.old }
 {
     match request {
-        Found::At(i) => {
+        Some(i) => {
             if words.len() <= i {
                 return;
             }
@@ -67,6 +67,6 @@ pub fn end_request(words: &mut [u32], request: Found)
                 words[i] = 0;
             }
         }
-        Found::Nowhere => {}
+        None => {}
     }
 }

@@ -1,14 +1,16 @@
 -- Words and the entries beside them: a loop that has passed i places. Assumes nothing.
-use Prim.Native.Nat.{ℕ, zero, suc, ◌+◌, ◌≤◌, ◌<◌}
-use mathlib.Core.Bool.{Bool, true, false}
+use Rattle.std.specs.List.{list_any, zip}
+use Prim.Native.Nat.{ℕ, zero, suc, ◌+◌, ◌≤◌, ◌<◌, min}
+use mathlib.Core.Bool.{Bool}
 use mathlib.Core.List.{List, [], ◌∷◌}
+use mathlib.Core.Logic.{◌⊎◌, ⊎_elim, inl, inr}
 use mathlib.Core.Path.{◌≡◌, refl, ap, ◌∙◌}
 use native.Mathlib.Numerals.{add-one}
 use native.Mathlib.Omega.{arith}
 use lib.Dec.{eqb}
-use lib.ListN.{length, get_or, set, length-set, drop, drop_of_length-le}
-use lib.Seq.{drop-cons}
+use lib.ListN.{length, get_or, set, length-set}
 use Rattle.octets.specs.Pick.{both}
+use Rattle.octets.proofs.Choice.{by_test, below_or_not}
 use Rattle.label_list.specs.Beside.{besides, any_beside}
 
 -- the first i words are rewritten
@@ -44,6 +46,9 @@ to_last f (suc i) (w ∷ ws) [] h = refl
 to_last f zero (w ∷ ws) (x ∷ xs) h = absurd (omega arith)
 to_last f (suc i) (w ∷ ws) (x ∷ xs) h = ap (λ (l : List ℕ). f w x ∷ l) (to_last f i ws xs (omega arith))
 
+ended : (m n i : ℕ) → min m n ≤ i → (n ≤ i) ⊎ (m ≤ i)
+ended m n i h = ⊎_elim (λ (more : i < m). inl (omega arith)) (λ (all : m ≤ i). inr all) (below_or_not i m)
+
 pub record BesideMapped (f : ℕ → ℕ → ℕ) (start entries words : List ℕ) (i : ℕ) : Type 0 where
   pub inside : i ≤ length words
   pub same : length words ≡ length start
@@ -63,37 +68,20 @@ module _ (f : ℕ → ℕ → ℕ) (start entries : List ℕ) where
           done = rw (e, m.done, add-one) (to_suc f i start entries (omega (arith, m.same)) k);
         }
 
-    pub beside_all : length words ≤ i → words ≡ besides f start entries
-    beside_all h = m.done ∙ to_all f i start entries (omega (arith, m.same))
+    -- the shorter list has ended
+    pub beside_end : min (length start) (length entries) ≤ i → words ≡ besides f start entries
+    beside_end h =
+        m.done
+        ∙ ⊎_elim
+        (λ (few : length entries ≤ i). to_last f i start entries few)
+        (λ (all : length start ≤ i). to_all f i start entries all)
+        (ended (length start) (length entries) i h)
 
-    pub beside_last : length entries ≤ i → words ≡ besides f start entries
-    beside_last h = m.done ∙ to_last f i start entries h
-
--- whether one of the rest passes
-module _ (test : ℕ → Bool) (entry : ℕ) (words entries : List ℕ) where
-  abbrev pub any_from : ℕ → Bool
-  any_from i = any_beside test entry (drop i words) (drop i entries)
-
-  pub any-start : any_beside test entry words entries ≡ any_from 0
-  any-start = refl
-
-  module _ (i : ℕ) (h : i < length words) (k : i < length entries) where
-    pub any_here : both (eqb (get_or entries i 0) entry) (test (get_or words i 0)) ≡ true → any_from i ≡ true
-    unfolding any_beside
-    any_here e = rw (drop-cons words i 0 h, drop-cons entries i 0 k, e)
-
-    pub any_next : both (eqb (get_or entries i 0) entry) (test (get_or words i 0)) ≡ false → any_from i ≡ any_from (i + 1)
-    unfolding any_beside
-    any_next e = rw (drop-cons words i 0 h, drop-cons entries i 0 k, e, add-one)
-
-  pub any_end : (i : ℕ) → length words ≤ i → any_from i ≡ false
-  unfolding any_beside
-  any_end i h = rw (drop_of_length-le words h)
-
-  pub any_last : (i : ℕ) → length entries ≤ i → any_from i ≡ false
-  unfolding any_beside
-  any_last i h = rw (drop_of_length-le entries h) (none_beside (drop i words))
-    where
-      none_beside : (ws : List ℕ) → any_beside test entry ws [] ≡ false
-      none_beside [] = refl
-      none_beside (w ∷ ws) = refl
+-- whether one of the pairs passes
+pub any_zip : (test : ℕ → Bool) (entry : ℕ) (words entries : List ℕ)
+    → list_any (λ (p : ℕ × ℕ). both (eqb p.1 entry) (test p.0)) (zip words entries) ≡ any_beside test entry words entries
+unfolding any_beside
+any_zip test entry [] xs = refl
+any_zip test entry (w ∷ ws) [] = refl
+any_zip test entry (w ∷ ws) (x ∷ xs) =
+    by_test (both (eqb x entry) (test w)) (λ t. rw t) (λ f. rw f (any_zip test entry ws xs))

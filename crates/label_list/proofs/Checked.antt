@@ -1,5 +1,5 @@
 -- Laws of validity: a check that has come down to word i. Assumes nothing.
-use Prim.Native.Nat.{ℕ, zero, suc, ◌-◌, ◌≤◌, ◌<◌}
+use Prim.Native.Nat.{ℕ, zero, suc, ◌+◌, ◌-◌, ◌≤◌, ◌<◌}
 use mathlib.Core.Bool.{true, false, false≢true}
 use mathlib.Core.List.{List, [], ◌∷◌}
 use mathlib.Core.Logic.{◌≢◌}
@@ -71,31 +71,38 @@ module _ (words : List ℕ) where
   checked_all (suc i) c h = absurd (omega arith)
 
   module _ {before : List ℕ} (i : ℕ) (c : Checked words before i) where
-    pub checked_known : MarksTell (later words i) before
-    checked_known = rw later_is c.known
+    -- the words behind the one that is looked at
+    abbrev behind : List ℕ
+    behind = later words (i - 1 + 1)
 
     module _ (more : 0 < i) where
-      step : drop (i - 1) words ≡ get_or words (i - 1) 0 ∷ later words i
+      behind_is : behind ≡ drop i words
+      behind_is = let next : i - 1 + 1 ≡ i = omega arith in rw next (later_is words i)
+
+      pub checked_known : MarksTell behind before
+      checked_known = rw behind_is c.known
+
+      step : drop (i - 1) words ≡ get_or words (i - 1) 0 ∷ behind
       step =
           let next : suc (i - 1) ≡ i = omega arith in
           let inside : i - 1 < length words = omega (arith, c.inside) in
-          rw (later_is, drop-cons words (i - 1) 0, next)
+          rw (behind_is, drop-cons words (i - 1) 0, next)
 
-      valid_step : both (valid_word (get_or words (i - 1) 0) (later words i)) (valid_of (later words i)) ≡ valid_of (drop (i - 1) words)
+      valid_step : both (valid_word (get_or words (i - 1) 0) (behind)) (valid_of (behind)) ≡ valid_of (drop (i - 1) words)
       unfolding valid_of
       valid_step = rw step
 
-      pub checked_bad : false ≡ valid_word (get_or words (i - 1) 0) (later words i) → false ≡ valid_of words
+      pub checked_bad : false ≡ valid_word (get_or words (i - 1) 0) (behind) → false ≡ valid_of words
       checked_bad bad =
           by_test
           (valid_of words)
           (λ all. absurd (false≢true (bad ∙ (both_true _ _ (valid_step ∙ valid_drop words (i - 1) all)).0)))
           sym
 
-      pub checked-more : {marks : List ℕ} → true ≡ valid_word (get_or words (i - 1) 0) (later words i) → MarksTell (get_or words (i - 1) 0 ∷ later words i) marks → Checked words marks (i - 1)
+      pub checked-more : {marks : List ℕ} → true ≡ valid_word (get_or words (i - 1) 0) (behind) → MarksTell (get_or words (i - 1) 0 ∷ behind) marks → Checked words marks (i - 1)
       checked-more good known =
           record {
             inside = omega (arith, c.inside);
-            right = sym valid_step ∙ rw (← good, later_is) c.right;
+            right = sym valid_step ∙ rw (← good, behind_is) c.right;
             known = rw step known;
           }

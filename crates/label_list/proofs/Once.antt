@@ -1,8 +1,9 @@
 -- Laws of the IDs that stand once: the table of their marks, and a check that has come down to word i. Assumes nothing.
-use Prim.Native.Nat.{ℕ, zero, suc, ◌-◌, ◌%◌, ◌≤◌, ◌<◌}
+use Rattle.std.specs.Prelude.{Option}
+use Prim.Native.Nat.{ℕ, zero, suc, ◌+◌, ◌-◌, ◌%◌, ◌≤◌, ◌<◌, min}
 use mathlib.Core.Bool.{true, false, not, false≢true}
 use mathlib.Core.List.{List, [], ◌∷◌}
-use mathlib.Core.Logic.{◌≢◌}
+use mathlib.Core.Logic.{◌≢◌, ⊎_elim}
 use mathlib.Core.Path.{◌≡◌, refl, sym, ap, ◌∙◌}
 use native.Mathlib.Omega.{arith}
 use lib.Dec.{eqb}
@@ -10,9 +11,8 @@ use lib.ListN.{length, get_or, set, drop, drop_of_length-le}
 use lib.Seq.{drop-cons}
 use borrow.Author.Tests.{eq-eqb, ne_eqb}
 use Rattle.octets.specs.Pick.{both}
-use Rattle.octets.proofs.Choice.{both_true, by_test}
+use Rattle.octets.proofs.Choice.{both_true, by_test, below_or_not}
 use Rattle.ft_number.specs.declared.MessageId.{MessageId}
-use Rattle.label_list.specs.declared.Found.{Found}
 use Rattle.label_list.specs.Find.{is_found}
 use Rattle.label_list.specs.Marks.{IdsTell}
 use Rattle.label_list.specs.Requests.{open_from, open_at, once_word, once_of}
@@ -53,7 +53,7 @@ module _ (w x : ℕ) (ws xs : List ℕ) {marks : List ℕ} (m : IdsTell ws xs ma
     id-marked e = (ap not (sym (m.unmarked x e)) ∙ once_is, tells_set m others (omega arith))
 
     -- its place was marked before: the search tells
-    pub id_sought : get_or marks (x % 256) 0 ≢ 0 → {id : MessageId} {f : Found} → id.0 ≡ x → f ≡ open_at id ws xs → (not (is_found f) ≡ once_word w x ws xs) × IdsTell (w ∷ ws) (x ∷ xs) marks
+    pub id_sought : get_or marks (x % 256) 0 ≢ 0 → {id : MessageId} {f : Option ℕ} → id.0 ≡ x → f ≡ open_at id ws xs → (not (is_found f) ≡ once_word w x ws xs) × IdsTell (w ∷ ws) (x ∷ xs) marks
     unfolding open_at
     id_sought marked same is = (rw (is, same) once_is, tells_again m others marked)
 
@@ -79,53 +79,67 @@ once_drop (w ∷ ws) (x ∷ xs) (suc i) e = once_drop ws xs i (both_true (once_w
 
 -- The check of the lists, from the end of the shorter down.
 module _ (words ids : List ℕ) where
-  pub passed_words : {marks : List ℕ} (i : ℕ) → length marks ≡ 256 → i ≡ length words → i ≤ length ids → Passed words ids marks i
+  passed_words : {marks : List ℕ} (i : ℕ) → length marks ≡ 256 → i ≡ length words → i ≤ length ids → Passed words ids marks i
   unfolding once_of
   passed_words i long is h =
       let past : length words ≤ i = omega arith in
       let end : drop i words ≡ [] = drop_of_length-le words past in
       record { in_words = omega arith; in_ids = h; right = rw end; known = rw end (record { size = long; unmarked = λ id e. refl }) }
 
-  pub passed-ids : {marks : List ℕ} (i : ℕ) → length marks ≡ 256 → i ≡ length ids → i ≤ length words → Passed words ids marks i
+  passed-ids : {marks : List ℕ} (i : ℕ) → length marks ≡ 256 → i ≡ length ids → i ≤ length words → Passed words ids marks i
   passed-ids i long is h =
       let past : length ids ≤ i = omega arith in
       let end : drop i ids ≡ [] = drop_of_length-le ids past in
       let none = no_ids (drop i words) in
       record { in_words = h; in_ids = omega arith; right = rw end none.0; known = rw end (record { size = long; unmarked = λ id e. none.1 id }) }
 
+  pub passed_end : {marks : List ℕ} (i : ℕ) → length marks ≡ 256 → i ≡ min (length words) (length ids) → Passed words ids marks i
+  passed_end i long is =
+      ⊎_elim
+      (λ (more : length words < length ids). passed_words i long (omega arith) (omega arith))
+      (λ (few : length ids ≤ length words). passed-ids i long (omega arith) (omega arith))
+      (below_or_not (length words) (length ids))
+
   pub passed_all : {marks : List ℕ} (i : ℕ) → Passed words ids marks i → i ≤ 0 → true ≡ once_of words ids
   passed_all zero p h = sym p.right
   passed_all (suc i) p h = absurd (omega arith)
 
   module _ {before : List ℕ} (i : ℕ) (p : Passed words ids before i) where
-    pub passed_known : IdsTell (later words i) (later ids i) before
-    passed_known = rw (later_is words i, later_is ids i) p.known
+    -- what stands behind the place that is looked at
+    abbrev behind : List ℕ → List ℕ
+    behind list = later list (i - 1 + 1)
 
     module _ (more : 0 < i) where
-      step : (list : List ℕ) → i ≤ length list → drop (i - 1) list ≡ get_or list (i - 1) 0 ∷ later list i
+      behind_is : (list : List ℕ) → behind list ≡ drop i list
+      behind_is list = let next : i - 1 + 1 ≡ i = omega arith in rw next (later_is list i)
+
+      pub passed_known : IdsTell (behind words) (behind ids) before
+      passed_known = rw (behind_is words, behind_is ids) p.known
+
+      step : (list : List ℕ) → i ≤ length list → drop (i - 1) list ≡ get_or list (i - 1) 0 ∷ behind list
       step list h =
           let next : suc (i - 1) ≡ i = omega arith in
           let inside : i - 1 < length list = omega arith in
-          rw (later_is, drop-cons list (i - 1) 0, next)
+          rw (behind_is list, drop-cons list (i - 1) 0, next)
 
-      once_step : both (once_word (get_or words (i - 1) 0) (get_or ids (i - 1) 0) (later words i) (later ids i)) (once_of (later words i) (later ids i))
+      once_step : both (once_word (get_or words (i - 1) 0) (get_or ids (i - 1) 0) (behind words) (behind ids)) (once_of (behind words) (behind ids))
           ≡ once_of (drop (i - 1) words) (drop (i - 1) ids)
       unfolding once_of
       once_step = rw (step words p.in_words, step ids p.in_ids)
 
-      pub passed_twice : false ≡ once_word (get_or words (i - 1) 0) (get_or ids (i - 1) 0) (later words i) (later ids i) → false ≡ once_of words ids
+      pub passed_twice : false ≡ once_word (get_or words (i - 1) 0) (get_or ids (i - 1) 0) (behind words) (behind ids) → false ≡ once_of words ids
       passed_twice bad =
           by_test
           (once_of words ids)
           (λ all. absurd (false≢true (bad ∙ (both_true _ _ (once_step ∙ once_drop words ids (i - 1) all)).0)))
           sym
 
-      pub passed-more : {marks : List ℕ} → true ≡ once_word (get_or words (i - 1) 0) (get_or ids (i - 1) 0) (later words i) (later ids i)
-          → IdsTell (get_or words (i - 1) 0 ∷ later words i) (get_or ids (i - 1) 0 ∷ later ids i) marks → Passed words ids marks (i - 1)
+      pub passed-more : {marks : List ℕ} → true ≡ once_word (get_or words (i - 1) 0) (get_or ids (i - 1) 0) (behind words) (behind ids)
+          → IdsTell (get_or words (i - 1) 0 ∷ behind words) (get_or ids (i - 1) 0 ∷ behind ids) marks → Passed words ids marks (i - 1)
       passed-more good known =
           record {
             in_words = omega (arith, p.in_words);
             in_ids = omega (arith, p.in_ids);
-            right = sym once_step ∙ rw (← good, later_is words i, later_is ids i) p.right;
+            right = sym once_step ∙ rw (← good, behind_is words, behind_is ids) p.right;
             known = rw (step words p.in_words, step ids p.in_ids) known;
           }

@@ -1,4 +1,5 @@
 -- What the search for an open Request finds, over indices, and that no ID stands twice; both as words are freed and taken. Assumes nothing.
+use Rattle.std.specs.Prelude.{Option, Some, None}
 use Prim.Native.Nat.{ℕ, zero, suc, ◌≤◌, ◌<◌}
 use mathlib.Core.Bool.{Bool, true, not, true≢false, false≢true}
 use mathlib.Core.List.{List, [], ◌∷◌}
@@ -12,8 +13,6 @@ use borrow.Author.Tests.{eq-eqb, eqb-true, eqb-false}
 use Rattle.octets.specs.Pick.{pick, both}
 use Rattle.octets.proofs.Choice.{by_test, both_true, below_or_not}
 use Rattle.ft_number.specs.declared.MessageId.{MessageId}
-use Rattle.label_list.specs.declared.Found.{Found}
-use Rattle.label_list.specs.declared.Found.TheVariants.{At, Nowhere}
 use Rattle.label_list.specs.Counting.{counting}
 use Rattle.label_list.specs.Find.{find_from, find_of, is_found}
 use Rattle.label_list.specs.Requests.{open_ids, open_from, open_at, RequestAt, once_of}
@@ -71,66 +70,66 @@ request_inside words i e =
 
 -- What is found: an open Request of that ID, and the first; where nothing is found there is none.
 module _ (id : ℕ) (words ids : List ℕ) where
-  found_hit : (f : Found) → f ≡ open_from id 0 words ids → f ≡ find_of is_hit (hits id words ids)
+  found_hit : (f : Option ℕ) → f ≡ open_from id 0 words ids → f ≡ find_of is_hit (hits id words ids)
   unfolding find_of
   found_hit f e = e ∙ open_hits id 0 words ids
 
-  from_found : (i : ℕ) → At i ≡ open_from id 0 words ids → RequestAt words ids id i
-  from_found i e = hit_request id words ids i (found_passes is_hit (hits id words ids) i (found_hit (At i) e) refl)
+  from_found : (i : ℕ) → Some i ≡ open_from id 0 words ids → RequestAt words ids id i
+  from_found i e = hit_request id words ids i (found_passes is_hit (hits id words ids) i (found_hit (Some i) e) refl)
 
-  from_first : (i j : ℕ) → At i ≡ open_from id 0 words ids → RequestAt words ids id j → i ≤ j
+  from_first : (i j : ℕ) → Some i ≡ open_from id 0 words ids → RequestAt words ids id j → i ≤ j
   from_first i j e r =
       ⊎_elim
-      (λ (h : j < i). absurd (true≢false (sym (request_hit id words ids j r) ∙ passed_over_lem is_hit (hits id words ids) (found_hit (At i) e) j h)))
+      (λ (h : j < i). absurd (true≢false (sym (request_hit id words ids j r) ∙ passed_over_lem is_hit (hits id words ids) (found_hit (Some i) e) j h)))
       (λ (h : i ≤ j). h)
       (below_or_not j i)
 
-  from_none : (j : ℕ) → Nowhere ≡ open_from id 0 words ids → RequestAt words ids id j → ⊥
+  from_none : (j : ℕ) → None ≡ open_from id 0 words ids → RequestAt words ids id j → ⊥
   from_none j e r =
       ⊎_elim
-      (λ (h : j < length (hits id words ids)). true≢false (sym (request_hit id words ids j r) ∙ passed_over_lem is_hit (hits id words ids) (found_hit Nowhere e) j h))
+      (λ (h : j < length (hits id words ids)). true≢false (sym (request_hit id words ids j r) ∙ passed_over_lem is_hit (hits id words ids) (found_hit None e) j h))
       (λ (h : length (hits id words ids) ≤ j). let z : get_or (hits id words ids) j 0 ≡ 0 = past_end (hits id words ids) j h in false≢true (rw z at (request_hit id words ids j r)))
       (below_or_not j (length (hits id words ids)))
 
   -- and the other way
-  from_absent : (f : Found) → f ≡ open_from id 0 words ids → ((j : ℕ) → RequestAt words ids id j → ⊥) → f ≡ Nowhere
-  from_absent (At i) e none = absurd (none i (from_found i e))
-  from_absent Nowhere e none = refl
+  from_absent : (f : Option ℕ) → f ≡ open_from id 0 words ids → ((j : ℕ) → RequestAt words ids id j → ⊥) → f ≡ None
+  from_absent (Some i) e none = absurd (none i (from_found i e))
+  from_absent None e none = refl
 
-  from_there : (f : Found) (i : ℕ) → f ≡ open_from id 0 words ids → RequestAt words ids id i → ((j : ℕ) → RequestAt words ids id j → i ≤ j) → f ≡ At i
-  from_there (At k) i e r first =
+  from_there : (f : Option ℕ) (i : ℕ) → f ≡ open_from id 0 words ids → RequestAt words ids id i → ((j : ℕ) → RequestAt words ids id j → i ≤ j) → f ≡ Some i
+  from_there (Some k) i e r first =
       let below : k ≤ i = from_first k i e r in
       let above : i ≤ k = first k (from_found k e) in
       let same : k ≡ i = omega arith in
-      ap At same
-  from_there Nowhere i e r first = absurd (from_none i e r)
+      ap Some same
+  from_there None i e r first = absurd (from_none i e r)
 
 -- The same of the search, for those above.
 module _ (id : MessageId) (words ids : List ℕ) where
-  pub found_request : (i : ℕ) → open_at id words ids ≡ At i → RequestAt words ids id.0 i
+  pub found_request : (i : ℕ) → open_at id words ids ≡ Some i → RequestAt words ids id.0 i
   unfolding open_at
   found_request i e = from_found id.0 words ids i (sym e)
 
-  pub found_first : (i j : ℕ) → open_at id words ids ≡ At i → RequestAt words ids id.0 j → i ≤ j
+  pub found_first : (i j : ℕ) → open_at id words ids ≡ Some i → RequestAt words ids id.0 j → i ≤ j
   unfolding open_at
   found_first i j e = from_first id.0 words ids i j (sym e)
 
-  pub nowhere_request : (j : ℕ) → open_at id words ids ≡ Nowhere → RequestAt words ids id.0 j → ⊥
+  pub nowhere_request : (j : ℕ) → open_at id words ids ≡ None → RequestAt words ids id.0 j → ⊥
   unfolding open_at
   nowhere_request j e = from_none id.0 words ids j (sym e)
 
-  pub request_nowhere : ((j : ℕ) → RequestAt words ids id.0 j → ⊥) → open_at id words ids ≡ Nowhere
+  pub request_nowhere : ((j : ℕ) → RequestAt words ids id.0 j → ⊥) → open_at id words ids ≡ None
   unfolding open_at
   request_nowhere none = from_absent id.0 words ids (open_from id.0 0 words ids) refl none
 
-  pub request_found : (i : ℕ) → RequestAt words ids id.0 i → ((j : ℕ) → RequestAt words ids id.0 j → i ≤ j) → open_at id words ids ≡ At i
+  pub request_found : (i : ℕ) → RequestAt words ids id.0 i → ((j : ℕ) → RequestAt words ids id.0 j → i ≤ j) → open_at id words ids ≡ Some i
   unfolding open_at
   request_found i r first = from_there id.0 words ids (open_from id.0 0 words ids) i refl r first
 
 -- ---- no ID stands twice: two open Requests of one ID are one
-not_found : (f : Found) → not (is_found f) ≡ true → f ≡ Nowhere
-not_found (At i) e = absurd (false≢true e)
-not_found Nowhere e = refl
+not_found : (f : Option ℕ) → not (is_found f) ≡ true → f ≡ None
+not_found (Some i) e = absurd (false≢true e)
+not_found None e = refl
 
 next-request : (w x : ℕ) (ws xs : List ℕ) (id i : ℕ) → RequestAt (w ∷ ws) (x ∷ xs) id (suc i) → RequestAt ws xs id i
 next-request w x ws xs id i r = record { request = r.request; inside = omega (arith, r.inside); same = r.same }
@@ -143,7 +142,7 @@ once_alone : (w x : ℕ) (ws xs : List ℕ) → once_of (w ∷ ws) (x ∷ xs) �
 unfolding once_of
 once_alone w x ws xs e id j p q =
     let parts = both_true (pick (is_request w) (not (is_found (open_from x 0 ws xs))) true) (once_of ws xs) e in
-    let none : open_from x 0 ws xs ≡ Nowhere = not_found (open_from x 0 ws xs) (rw p.request at parts.0) in
+    let none : open_from x 0 ws xs ≡ None = not_found (open_from x 0 ws xs) (rw p.request at parts.0) in
     from_none x ws xs j (sym none) (rw p.same q)
 
 pub once_means : (words ids : List ℕ) → once_of words ids ≡ true → (id i j : ℕ) → RequestAt words ids id i → RequestAt words ids id j → i ≡ j
@@ -165,14 +164,14 @@ means_once (w ∷ ws) (x ∷ xs) h =
     let rest : once_of ws xs ≡ true = means_once ws xs (λ id i j p q.
     let same : suc i ≡ suc j = h id (suc i) (suc j) (request-next w x ws xs id i p) (request-next w x ws xs id j q) in
     omega arith) in
-    let alone : is_request w ≡ true → open_from x 0 ws xs ≡ Nowhere = λ asked.
+    let alone : is_request w ≡ true → open_from x 0 ws xs ≡ None = λ asked.
     from_absent x ws xs (open_from x 0 ws xs) refl (λ j q.
     let same : zero ≡ suc j = h x zero (suc j) (record { request = asked; inside = omega arith; same = refl }) (request-next w x ws xs x j q) in
     omega arith) in
     by_test (is_request w) (λ t. rw (t, alone t) rest) (λ f. rw f rest)
 
 -- so an open Request of that ID is the one that the search finds
-pub once_found : (id : MessageId) (words ids : List ℕ) (i : ℕ) → once_of words ids ≡ true → RequestAt words ids id.0 i → open_at id words ids ≡ At i
+pub once_found : (id : MessageId) (words ids : List ℕ) (i : ℕ) → once_of words ids ≡ true → RequestAt words ids id.0 i → open_at id words ids ≡ Some i
 once_found id words ids i e r =
     request_found id words ids i r (λ j q. let same : i ≡ j = once_means words ids e id.0 i j r q in omega arith)
 
@@ -227,7 +226,7 @@ module _ (words ids : List ℕ) (i : ℕ) (id : MessageId) where
       sym r.same ∙ get_or-set_same ids i id.0 0 inside
 
   -- a Request is asked under an ID that is not open
-  pub once_taken : once_of words ids ≡ true → open_at id words ids ≡ Nowhere → once_of (set words i request_word) (set ids i id.0) ≡ true
+  pub once_taken : once_of words ids ≡ true → open_at id words ids ≡ None → once_of (set words i request_word) (set ids i id.0) ≡ true
   once_taken e none = means_once (set words i request_word) (set ids i id.0) (λ x j k p q.
       by_test
       (eqb j i)

@@ -1,12 +1,11 @@
 -- A code that a rule gives has room in a word of 32 bits, as the code before it had. Assumes nothing.
+use Rattle.std.specs.Prelude.{Option, Some, None}
 use Prim.Native.Nat.{ℕ, ◌<◌}
 use mathlib.Core.Bool.{Bool, true, false}
 use lib.Dec.{lit<, leb, eqb}
 use Rattle.octets.proofs.Choice.{pick_all}
 use Rattle.label_list.specs.declared.LabelMessage.{LabelMessage}
 use Rattle.label_list.specs.declared.LabelMessage.TheVariants.{Mapping, Withdraw, Release}
-use Rattle.label_list.specs.declared.Next.{Next}
-use Rattle.label_list.specs.declared.Next.TheVariants.{Code, NotAllowed}
 use Rattle.label_list.specs.declared.SweepRule.{SweepRule}
 use Rattle.label_list.specs.declared.SweepRule.TheVariants.{WithdrawAll, ReleaseAll, AfterBreak}
 use Rattle.label_list.specs.Rules.{code_accepted, code_acked, code_received, code_swept}
@@ -15,9 +14,9 @@ use Rattle.label_list.specs.Word.{without_protection}
 abbrev pub Small : ℕ → Type 0
 Small code = code < 4096
 
-abbrev pub SmallNext : Next → Type 0
-SmallNext (Code code) = Small code
-SmallNext NotAllowed = Unit {0}
+abbrev pub SmallNext : Option ℕ → Type 0
+SmallNext (Some code) = Small code
+SmallNext None = Unit {0}
 
 pub accepted_small : (m : LabelMessage) (c : ℕ) → SmallNext (code_accepted m c)
 unfolding code_accepted

@@ -1,18 +1,20 @@
 -- Laws of the searches: a loop that has passed i words, and what was found. Assumes nothing.
+use Rattle.std.proofs.lemmas.Iterator.Adapters.{position_from-zero}
+use Rattle.std.specs.List.{filter, position_from, position_or_len}
+use Rattle.std.specs.Option.{is_some}
+use Rattle.std.specs.Prelude.{Option, Some, None}
 use Prim.Native.Nat.{ℕ, zero, suc, ◌+◌, ◌-◌, ◌≤◌, ◌<◌}
-use mathlib.Core.Bool.{Bool, true, false}
+use mathlib.Core.Bool.{Bool, true, false, not, cond}
 use mathlib.Core.List.{List, [], ◌∷◌}
-use mathlib.Core.Logic.{◌≢◌}
 use mathlib.Core.Path.{◌≡◌, refl, sym, ap, ◌∙◌}
 use native.Mathlib.Numerals.{add-one}
 use native.Mathlib.Omega.{arith}
+use lib.Dec.{eqb, ltb}
 use lib.ListN.{length, get_or, drop, take, length-drop, drop_of_length-le, set}
 use lib.Seq.{drop-cons, take_all}
-use borrow.Author.Tests.{ne_eqb}
+use borrow.Author.Tests.{not-true, not-false}
 use Rattle.octets.specs.Pick.{pick}
 use Rattle.octets.proofs.Choice.{by_test, no}
-use Rattle.label_list.specs.declared.Found.{Found}
-use Rattle.label_list.specs.declared.Found.TheVariants.{At, Nowhere}
 use Rattle.label_list.specs.Find.{find_of, find_from, next_of, any, is_found, listed_count}
 use Rattle.label_list.specs.Word.{is_free}
 
@@ -34,11 +36,11 @@ module _ (test : ℕ → Bool) (words : List ℕ) (i : ℕ) where
   unfolding next_of
   next_more h e = rw (drop-cons words i 0 h, e, add-one)
 
-  pub next_found : i < length words → test (get_or words i 0) ≡ true → next_of test words i ≡ At i
+  pub next_found : i < length words → test (get_or words i 0) ≡ true → next_of test words i ≡ Some i
   unfolding next_of
   next_found h e = rw (drop-cons words i 0 h, e)
 
-  pub next_end : length words ≤ i → next_of test words i ≡ Nowhere
+  pub next_end : length words ≤ i → next_of test words i ≡ None
   unfolding next_of
   next_end h = rw (drop_of_length-le words h)
 
@@ -50,16 +52,16 @@ pub record Led (test wanted : ℕ → Bool) (words : List ℕ) (i place : ℕ) :
   pub rest : next_of wanted words i ≡ next_of wanted words place
 
 module _ (test wanted : ℕ → Bool) (wider : (w : ℕ) → test w ≡ false → wanted w ≡ false) (words : List ℕ) where
-  led : (n i place : ℕ) → i + n ≡ length words → next_of test words i ≡ At place → Led test wanted words i place
+  led : (n i place : ℕ) → i + n ≡ length words → next_of test words i ≡ Some place → Led test wanted words i place
   led zero i place size e =
-      let none : Nowhere ≡ At place = sym (next_end test words i (omega arith)) ∙ e in
+      let none : None ≡ Some place = sym (next_end test words i (omega arith)) ∙ e in
       no cc
   led (suc n) i place size e =
       let h : i < length words = omega arith in
       by_test
       (test (get_or words i 0))
       (λ t.
-      let here : At i ≡ At place = sym (next_found test words i h t) ∙ e in
+      let here : Some i ≡ Some place = sym (next_found test words i h t) ∙ e in
       let same : i ≡ place = cc in
       rw (← same) (record { ahead = omega arith; inside = h; passes = t; rest = refl }))
       (λ f.
@@ -71,35 +73,45 @@ module _ (test wanted : ℕ → Bool) (wider : (w : ℕ) → test w ≡ false �
         rest = next_more wanted words i h (wider (get_or words i 0) f) ∙ next.rest;
       })
 
-  none_from : (n i : ℕ) → i + n ≡ length words → next_of test words i ≡ Nowhere → next_of wanted words i ≡ Nowhere
+  none_from : (n i : ℕ) → i + n ≡ length words → next_of test words i ≡ None → next_of wanted words i ≡ None
   none_from zero i size e = next_end wanted words i (omega arith)
   none_from (suc n) i size e =
       let h : i < length words = omega arith in
       by_test
       (test (get_or words i 0))
-      (λ t. let found : At i ≡ Nowhere = sym (next_found test words i h t) ∙ e in no cc)
+      (λ t. let found : Some i ≡ None = sym (next_found test words i h t) ∙ e in no cc)
       (λ f.
       next_more wanted words i h (wider (get_or words i 0) f) ∙ none_from n (i + 1) (omega arith) (sym (next_more test words i h f) ∙ e))
 
-  module _ (i : ℕ) (h : i ≤ length words) {f : Found} (is : f ≡ next_of test words i) where
-    pub led_to : (place : ℕ) → f ≡ At place → Led test wanted words i place
+  module _ (i : ℕ) (h : i ≤ length words) {f : Option ℕ} (is : f ≡ next_of test words i) where
+    pub led_to : (place : ℕ) → f ≡ Some place → Led test wanted words i place
     led_to place e = led (length words - i) i place (omega arith) (sym is ∙ e)
 
-    pub led_nowhere : f ≡ Nowhere → next_of wanted words i ≡ Nowhere
+    pub led_nowhere : f ≡ None → next_of wanted words i ≡ None
     led_nowhere e = none_from (length words - i) i (omega arith) (sym is ∙ e)
+
+-- A search by the library is the same.
+position_found : (test : ℕ → Bool) (k : ℕ) (words : List ℕ) → position_from test k words ≡ find_from test k words
+position_found test k [] = refl
+position_found test k (w ∷ ws) = by_test (test w) (λ t. rw t) (λ f. rw (f, add-one) (position_found test (suc k) ws))
+
+pub found_first : (test : ℕ → Bool) (words : List ℕ)
+    → cond (ltb (position_or_len test words) (length words)) (Some (position_or_len test words)) None ≡ find_of test words
+unfolding find_of
+found_first test words = position_from-zero test words ∙ position_found test 0 words
 
 -- A word that does not pass is another now, which does not pass either.
 find_set_from : (test : ℕ → Bool) (k : ℕ) (words : List ℕ) (i w : ℕ) → test (get_or words i 0) ≡ false → test w ≡ false → find_from test k (set words i w) ≡ find_from test k words
 find_set_from test k [] i w was now = refl
 find_set_from test k (v ∷ vs) zero w was now = rw (was, now)
-find_set_from test k (v ∷ vs) (suc i) w was now = ap (pick (test v) (At k)) (find_set_from test (suc k) vs i w was now)
+find_set_from test k (v ∷ vs) (suc i) w was now = ap (pick (test v) (Some k)) (find_set_from test (suc k) vs i w was now)
 
 pub find_set : (test : ℕ → Bool) (words : List ℕ) (i w : ℕ) → test (get_or words i 0) ≡ false → test w ≡ false → find_of test (set words i w) ≡ find_of test words
 unfolding find_of
 find_set test words = find_set_from test 0 words
 
 -- A search finds a word exactly if any word passes.
-found_pick : (b : Bool) (k : ℕ) (f : Found) (rest : Bool) → is_found f ≡ rest → is_found (pick b (At k) f) ≡ pick b true rest
+found_pick : (b : Bool) (k : ℕ) (f : Option ℕ) (rest : Bool) → is_found f ≡ rest → is_found (pick b (Some k) f) ≡ pick b true rest
 found_pick true k f rest e = refl
 found_pick false k f rest e = e
 
@@ -108,42 +120,23 @@ unfolding any
 found_from test k [] = refl
 found_from test k (w ∷ ws) = found_pick (test w) k (find_from test (suc k) ws) (any test ws) (found_from test (suc k) ws)
 
-pub found_any : (test : ℕ → Bool) (words : List ℕ) {f : Found} → f ≡ find_of test words → is_found f ≡ any test words
+pub found_any : (test : ℕ → Bool) (words : List ℕ) {f : Option ℕ} → f ≡ find_of test words → is_found f ≡ any test words
 unfolding find_of
 found_any test words e = rw e (found_from test 0 words)
+
+pub none_found : (f : Option ℕ) (b : Bool) → is_some f ≡ not b → b ≡ not (is_found f)
+none_found (Some i) b e = not-true b (sym e)
+none_found None b e = not-false b (sym e)
 
 pub any_cons : (test : ℕ → Bool) (w : ℕ) (ws : List ℕ) → test w ≡ false → any test (w ∷ ws) ≡ any test ws
 unfolding any
 any_cons test w ws e = rw e
 
--- A count that has passed i words.
-pub record Counted (words : List ℕ) (count i : ℕ) : Type 0 where
-  pub inside : i ≤ length words
-  pub low : count ≤ i
-  pub rest : listed_count words ≡ count + listed_count (drop i words)
-
-module _ (words : List ℕ) where
-  pub counted_none : Counted words 0 0
-  counted_none = record { inside = omega arith; low = omega arith; rest = omega arith }
-
-  module _ (count i : ℕ) (s : Counted words count i) where
-    pub counted_listed : i < length words → get_or words i 0 ≢ 0 → Counted words (count + 1) (i + 1)
-    unfolding listed_count is_free
-    counted_listed h e =
-        let step : listed_count (drop i words) ≡ suc (listed_count (drop (i + 1) words)) = rw (drop-cons words i 0 h, ne_eqb (get_or words i 0) 0 e, add-one) in
-        record { inside = omega arith; low = omega arith; rest = omega arith }
-
-    pub counted_free : i < length words → get_or words i 0 ≡ 0 → Counted words count (i + 1)
-    unfolding listed_count is_free
-    counted_free h e =
-        let step : listed_count (drop i words) ≡ listed_count (drop (i + 1) words) = rw (drop-cons words i 0 h, e, add-one) in
-        record { inside = omega arith; low = omega arith; rest = omega arith }
-
-    pub counted_all : length words ≤ i → count ≡ listed_count words
-    unfolding listed_count
-    counted_all h =
-        let none : listed_count (drop i words) ≡ 0 = rw (drop_of_length-le words h) in
-        omega (arith, s.rest)
+-- The words that are listed, by a filter.
+pub filter_listed : (words : List ℕ) → length (filter (λ w. not (eqb w 0)) words) ≡ listed_count words
+unfolding listed_count is_free
+filter_listed [] = refl
+filter_listed (w ∷ ws) = by_test (eqb w 0) (λ t. rw t (filter_listed ws)) (λ f. rw f (ap suc (filter_listed ws)))
 
 -- No more words are listed than there are.
 pub listed_most : (words : List ℕ) → listed_count words ≤ length words

@@ -1,4 +1,5 @@
 -- The first word that is free in the old list too: it is free in both, and where words are only freed since then the first that was free in the old one. Assumes nothing.
+use Rattle.std.specs.Prelude.{Some}
 use Prim.Native.Nat.{ℕ, zero, suc, ◌<◌}
 use mathlib.Core.List.{List, [], ◌∷◌}
 use mathlib.Core.Path.{◌≡◌, refl, sym, ap, ◌∙◌}
@@ -8,7 +9,6 @@ use lib.ListN.{length, get_or}
 use borrow.Author.Tests.{eqb-true, eqb-false}
 use Rattle.octets.specs.Pick.{pick}
 use Rattle.octets.proofs.Choice.{by_test}
-use Rattle.label_list.specs.declared.Found.TheVariants.{At}
 use Rattle.label_list.specs.Find.{find_from, find_of, overlaid, spare_in}
 use Rattle.label_list.specs.Word.{is_free}
 use Rattle.label_list.proofs.Reached.{found_in_lem, found_passes, found_place}
@@ -54,10 +54,10 @@ pub record SpareAt (old words : List ℕ) (i : ℕ) : Type 0 where
   pub free : get_or words i 0 ≡ 0
   pub before : get_or old i 0 ≡ 0
 
-pub spare_free : (old words : List ℕ) (i : ℕ) → spare_in old words ≡ At i → SpareAt old words i
+pub spare_free : (old words : List ℕ) (i : ℕ) → spare_in old words ≡ Some i → SpareAt old words i
 unfolding spare_in is_free
 spare_free old words i e =
-    let within : i < length (overlaid words old) = found_place (overlaid words old) (At i) i (found_in_lem is_free (overlaid words old) (sym e)) refl in
+    let within : i < length (overlaid words old) = found_place (overlaid words old) (Some i) i (found_in_lem is_free (overlaid words old) (sym e)) refl in
     let low : i < length words = rw (overlaid-length words old) at within in
     let both = overlaid-free words old i low (eqb-true (get_or (overlaid words old) i 0) 0 (found_passes is_free (overlaid words old) i refl e)) in
     record { inside = low; free = both.0; before = both.1 }

@@ -1,8 +1,6 @@
 -- A list of entries beside the label words: a rule for the words of one entry, and whether any of them passes a test. As the code goes, place by place.
-use Rattle.std.specs.Prelude.{ℕ, Bool, true, false, List, [], ◌∷◌, eqb, get_or}
+use Rattle.std.specs.Prelude.{Option, Some, None, ℕ, Bool, true, false, List, [], ◌∷◌, eqb, get_or}
 use Rattle.octets.specs.Pick.{pick, both}
-use Rattle.label_list.specs.declared.Found.{Found}
-use Rattle.label_list.specs.declared.Found.TheVariants.{At, Nowhere}
 use Rattle.label_list.specs.declared.Side.{Side}
 use Rattle.label_list.specs.declared.SweepRule.{SweepRule}
 use Rattle.label_list.specs.Find.{find_of}
@@ -29,9 +27,9 @@ any_beside test entry (w ∷ ws) [] = false
 any_beside test entry (w ∷ ws) (x ∷ xs) = pick (both (eqb x entry) (test w)) true (any_beside test entry ws xs)
 
 -- the entry of the place that was found; none is 0
-unfoldable pub entry_at : List ℕ → Found → ℕ
-entry_at entries (At i) = get_or entries i 0
-entry_at entries Nowhere = 0
+unfoldable pub entry_at : List ℕ → Option ℕ → ℕ
+entry_at entries (Some i) = get_or entries i 0
+entry_at entries None = 0
 
 -- the entry of a label on a side
 abbrev pub entry_on : List ℕ → List ℕ → Side → ℕ → ℕ

@@ -1,10 +1,8 @@
 -- The open Requests: which IDs they have, by the words and the list of IDs beside them.
 -- 02: "its message ID at the same place of a further lent list of 120 numbers ..; an ID counts only under code 7, where it stands once".
-use Rattle.std.specs.Prelude.{ℕ, suc, ◌<◌, Bool, true, not, List, [], ◌∷◌, ◌≡◌, eqb, length, get_or}
+use Rattle.std.specs.Prelude.{Option, Some, None, ℕ, suc, ◌<◌, Bool, true, not, List, [], ◌∷◌, ◌≡◌, eqb, length, get_or}
 use Rattle.octets.specs.Pick.{pick, both}
 use Rattle.ft_number.specs.declared.MessageId.{MessageId}
-use Rattle.label_list.specs.declared.Found.{Found}
-use Rattle.label_list.specs.declared.Found.TheVariants.{At, Nowhere}
 use Rattle.label_list.specs.Counting.{counting}
 use Rattle.label_list.specs.Find.{is_found}
 use Rattle.label_list.specs.Word.{is_request}
@@ -14,12 +12,12 @@ abbrev pub open_ids : List ℕ → List ℕ → List ℕ
 open_ids words ids = counting 0 is_request words ids
 
 -- the index, counted from k, of the first open Request with that ID; zero is an ID as any other
-abbrev pub open_from : ℕ → ℕ → List ℕ → List ℕ → Found
-open_from id k [] xs = Nowhere
-open_from id k (w ∷ ws) [] = Nowhere
-open_from id k (w ∷ ws) (x ∷ xs) = pick (both (is_request w) (eqb x id)) (At k) (open_from id (suc k) ws xs)
+abbrev pub open_from : ℕ → ℕ → List ℕ → List ℕ → Option ℕ
+open_from id k [] xs = None
+open_from id k (w ∷ ws) [] = None
+open_from id k (w ∷ ws) (x ∷ xs) = pick (both (is_request w) (eqb x id)) (Some k) (open_from id (suc k) ws xs)
 
-unfoldable pub open_at : MessageId → List ℕ → List ℕ → Found
+unfoldable pub open_at : MessageId → List ℕ → List ℕ → Option ℕ
 open_at id words ids = open_from id.0 0 words ids
 
 -- an open Request of that ID stands at that place

@@ -1,11 +1,9 @@
 -- What each event makes of a label's code. Code 0 stands for a label that is absent. Codes: 1 given, 2 withdrawing, 3 using, 4 asked back, 5 releasing, 6 using without protection;
 -- 02: 8 withdrawn and the ACK has come, 9 withdrawn and the Release has come.
-use Rattle.std.specs.Prelude.{ℕ, Bool, true, false, eqb, leb}
+use Rattle.std.specs.Prelude.{Option, Some, None, ℕ, Bool, true, false, eqb, leb}
 use Rattle.octets.specs.Pick.{pick}
 use Rattle.label_list.specs.declared.LabelMessage.{LabelMessage}
 use Rattle.label_list.specs.declared.LabelMessage.TheVariants.{Mapping, Withdraw, Release}
-use Rattle.label_list.specs.declared.Next.{Next}
-use Rattle.label_list.specs.declared.Next.TheVariants.{Code, NotAllowed}
 use Rattle.label_list.specs.declared.Side.{Side}
 use Rattle.label_list.specs.declared.Side.TheVariants.{Given, Used}
 use Rattle.label_list.specs.declared.SweepRule.{SweepRule}
@@ -25,10 +23,10 @@ received_side Release = Given
 
 -- 01: "Accepted for sending: Mapping, absent or 1, becomes 1; Withdraw, 1 becomes 2; Release, 3 becomes 5, 4 becomes free." Any other code does not allow the message:
 -- a label that is withdrawn is offered again only when both its Release and the ACK have come.
-unfoldable pub code_accepted : LabelMessage → ℕ → Next
-code_accepted Mapping code = pick (leb code 1) (Code 1) NotAllowed
-code_accepted Withdraw code = pick (eqb code 1) (Code 2) NotAllowed
-code_accepted Release code = pick (eqb code 3) (Code 5) (pick (eqb code 4) (Code 0) NotAllowed)
+unfoldable pub code_accepted : LabelMessage → ℕ → Option ℕ
+code_accepted Mapping code = pick (leb code 1) (Some 1) None
+code_accepted Withdraw code = pick (eqb code 1) (Some 2) None
+code_accepted Release code = pick (eqb code 3) (Some 5) (pick (eqb code 4) (Some 0) None)
 
 -- 01: "Released by ACK: Withdraw 2 becomes free; Release 5 becomes free; other codes stay."
 -- 02: "Free a withdrawn label at the second of Release and ACK. Codes 8 (the ACK) and 9 (the Release) say which one has come": 2 becomes 8, 9 becomes free.

@@ -10,6 +10,7 @@ use crate::word::LABEL_COUNT;
 use crate::{Side, SweepRule};
 
 // One word, by the entry beside it.
+#[tactic(auto, unfolding(crate::specs::Beside::word_beside))]
 fn word_beside(rule: SweepRule, entry: u64, word: u32, there: u64) -> u32
     ensures { result ≡ word_beside rule entry word there }
 {
@@ -23,13 +24,9 @@ fn word_beside(rule: SweepRule, entry: u64, word: u32, there: u64) -> u32
 pub fn sweep_beside(words: &mut [u32], entries: &[u64], entry: u64, rule: SweepRule)
     ensures { words.new ≡ swept_beside rule entry words.old entries.now }
 {
-    let mut i = 0;
-    while i < words.len() {
-        if entries.len() <= i {
-            return;
-        }
+    // By index: of what is written through a `zip` of `iter_mut` nothing is known.
+    for i in 0..words.len().min(entries.len()) {
         words[i] = word_beside(rule, entry, words[i], entries[i]);
-        i += 1;
     }
 }
 
@@ -37,25 +34,15 @@ pub fn sweep_beside(words: &mut [u32], entries: &[u64], entry: u64, rule: SweepR
 fn is_guarded(side: Side, entry: u64, word: u32, there: u64) -> bool
     ensures { result ≡ both (eqb there entry) (protected_on side word) }
 {
-    if there != entry {
-        return false;
-    }
-    needs_protection(side, word / LABEL_COUNT)
+    there == entry && needs_protection(side, word / LABEL_COUNT)
 }
 
 // Whether any word has such a code and that entry beside it.
 pub fn any_guarded(words: &[u32], entries: &[u64], entry: u64, side: Side) -> bool
     ensures { result ≡ any_beside (protected_on side) entry words.now entries.now }
 {
-    let mut i = 0;
-    while i < words.len() {
-        if entries.len() <= i {
-            return false;
-        }
-        if is_guarded(side, entry, words[i], entries[i]) {
-            return true;
-        }
-        i += 1;
-    }
-    false
+    words
+        .iter()
+        .zip(entries)
+        .any(|(word, there)| is_guarded(side, entry, *word, *there))
 }

@@ -29,13 +29,6 @@ pub enum Side {
     Used,
 }
 
-// Where a search of the words ended.
-#[derive(Clone, Copy)]
-pub enum Found {
-    At(usize),
-    Nowhere,
-}
-
 // The messages that change the list.
 #[derive(Clone, Copy)]
 pub enum LabelMessage {
@@ -50,13 +43,6 @@ pub enum SweepRule {
     WithdrawAll,
     ReleaseAll,
     AfterBreak,
-}
-
-// What a rule makes of a code where it may not allow the message.
-#[derive(Clone, Copy)]
-pub enum Next {
-    Code(u32),
-    NotAllowed,
 }
 
 // What is looked for in the words beside a label: a free word, or a word on a side that no message may touch without protection.

@@ -3,27 +3,17 @@ ghost use Rattle.std.specs.Prelude.{◌∷◌, ◌≡◌};
 ghost use Rattle.label_list.specs.Marks.{IdsTell};
 ghost use Rattle.label_list.specs.Requests.{open_at, once_word, once_of};
 
-use crate::Found;
 use crate::word::REQUEST_WORD;
 use ft_number::MessageId;
 
 // The place of the open Request with that ID.
-pub fn find_request(words: &[u32], ids: &[u32], id: MessageId) -> Found
+pub fn find_request(words: &[u32], ids: &[u32], id: MessageId) -> Option<usize>
     ensures { result ≡ open_at id words.now ids.now }
 {
-    let mut i: usize = 0;
-    while i < words.len() {
-        if ids.len() <= i {
-            return Found::Nowhere;
-        }
-        if words[i] == REQUEST_WORD {
-            if ids[i] == id.0 {
-                return Found::At(i);
-            }
-        }
-        i += 1;
-    }
-    Found::Nowhere
+    words
+        .iter()
+        .zip(ids)
+        .position(|(word, other)| *word == REQUEST_WORD && *other == id.0)
 }
 
 // Whether an ID stands in none of the later open Requests, if its word is an open Request's; it is marked then. Only where its mark is set already is it sought.
@@ -39,10 +29,7 @@ fn mark_request(word: u32, id: u32, words: &[u32], ids: &[u32], marks: &mut [u8]
         marks[place] = 1;
         return true;
     }
-    match find_request(words, ids, MessageId(id)) {
-        Found::At(_) => false,
-        Found::Nowhere => true,
-    }
+    find_request(words, ids, MessageId(id)).is_none()
 }
 
 // Whether no two open Requests have one ID: one pass from the last word that has an entry in the list of IDs to the first.
@@ -50,15 +37,8 @@ pub fn ids_stand_once(words: &[u32], ids: &[u32]) -> bool
     ensures { result ≡ once_of words.now ids.now }
 {
     let mut marks = [0u8; 256];
-    let mut i = words.len();
-    if ids.len() < i {
-        i = ids.len();
-    }
-    while 0 < i {
-        let later = &words[i..];
-        let later_ids = &ids[i..];
-        i -= 1;
-        if !mark_request(words[i], ids[i], later, later_ids, &mut marks) {
+    for i in (0..words.len().min(ids.len())).rev() {
+        if !mark_request(words[i], ids[i], &words[i + 1..], &ids[i + 1..], &mut marks) {
             return false;
         }
     }

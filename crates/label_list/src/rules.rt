@@ -4,30 +4,32 @@ ghost use Rattle.label_list.specs.Protection.{needs_protection, bars_protection,
 ghost use Rattle.label_list.specs.Rules.{sent_side, received_side, code_accepted, code_acked, code_received, code_swept};
 
 use crate::word::on_side;
-use crate::{LabelMessage, Next, Protection, Side, SweepRule};
+use crate::{LabelMessage, Protection, Side, SweepRule};
 
 // The code of a label as a message of ours is accepted for sending, or that its code does not allow it.
-pub fn code_accepted(message: LabelMessage, code: u32) -> Next
+#[tactic(auto, unfolding(crate::specs::Rules::code_accepted))]
+pub fn code_accepted(message: LabelMessage, code: u32) -> Option<u32>
     ensures { result ≡ code_accepted message code }
 {
     match message {
         LabelMessage::Mapping => match code {
-            0..=1 => Next::Code(1),
-            _ => Next::NotAllowed,
+            0..=1 => Some(1),
+            _ => None,
         },
         LabelMessage::Withdraw => match code {
-            1 => Next::Code(2),
-            _ => Next::NotAllowed,
+            1 => Some(2),
+            _ => None,
         },
         LabelMessage::Release => match code {
-            3 => Next::Code(5),
-            4 => Next::Code(0),
-            _ => Next::NotAllowed,
+            3 => Some(5),
+            4 => Some(0),
+            _ => None,
         },
     }
 }
 
 // The code of a label as a message of ours is released by an ACK.
+#[tactic(auto, unfolding(crate::specs::Rules::code_acked))]
 pub fn code_acked(message: LabelMessage, code: u32) -> u32
     ensures { result ≡ code_acked message code }
 {
@@ -46,6 +48,7 @@ pub fn code_acked(message: LabelMessage, code: u32) -> u32
 }
 
 // The code of a label as a message of the peer's is received, protected or not.
+#[tactic(auto, unfolding(crate::specs::Rules::code_received))]
 pub fn code_received(message: LabelMessage, protected: bool, code: u32) -> u32
     ensures { result ≡ code_received message protected code }
 {
@@ -53,8 +56,7 @@ pub fn code_received(message: LabelMessage, protected: bool, code: u32) -> u32
         LabelMessage::Mapping => {
             if protected {
                 match code {
-                    0 => 3,
-                    5 => 3,
+                    0 | 5 => 3,
                     _ => code,
                 }
             } else {
@@ -79,6 +81,7 @@ pub fn code_received(message: LabelMessage, protected: bool, code: u32) -> u32
 }
 
 // A rule for every label.
+#[tactic(auto, unfolding(crate::specs::Rules::code_swept))]
 pub fn code_swept(rule: SweepRule, code: u32) -> u32
     ensures { result ≡ code_swept rule code }
 {
@@ -93,49 +96,48 @@ pub fn code_swept(rule: SweepRule, code: u32) -> u32
 }
 
 // The side of the label in a message that we send.
+#[tactic(auto, unfolding(crate::specs::Rules::sent_side))]
 pub fn sent_side(message: LabelMessage) -> Side
     ensures { result ≡ sent_side message }
 {
     match message {
-        LabelMessage::Mapping => Side::Given,
-        LabelMessage::Withdraw => Side::Given,
+        LabelMessage::Mapping | LabelMessage::Withdraw => Side::Given,
         LabelMessage::Release => Side::Used,
     }
 }
 
 // The side of the label in a message that we receive.
+#[tactic(auto, unfolding(crate::specs::Rules::received_side))]
 pub fn received_side(message: LabelMessage) -> Side
     ensures { result ≡ received_side message }
 {
     match message {
-        LabelMessage::Mapping => Side::Used,
-        LabelMessage::Withdraw => Side::Used,
+        LabelMessage::Mapping | LabelMessage::Withdraw => Side::Used,
         LabelMessage::Release => Side::Given,
     }
 }
 
 // Any code of the message's own side but 6: Mapping and Withdraw 3 to 5, Release 1, 2, 8 and 9.
+#[tactic(auto, unfolding(crate::specs::Protection::needs_protection))]
 pub fn needs_protection(side: Side, code: u32) -> bool
     ensures { result ≡ needs_protection side code }
 {
-    if code == 6 {
-        return false;
-    }
-    on_side(side, code)
+    code != 6 && on_side(side, code)
 }
 
 // 01: "wrong (32) on a Mapping or Withdraw that names a label of code 6"
+#[tactic(auto, unfolding(crate::specs::Protection::bars_protection))]
 fn bars_protection(message: LabelMessage, code: u32) -> bool
     ensures { result ≡ bars_protection message code }
 {
     match message {
-        LabelMessage::Mapping => code == 6,
-        LabelMessage::Withdraw => code == 6,
+        LabelMessage::Mapping | LabelMessage::Withdraw => code == 6,
         LabelMessage::Release => false,
     }
 }
 
 // The verdict on a received message that names a label of that code: right, missing (33) or wrong (32).
+#[tactic(auto, unfolding(crate::specs::Protection::code_protection))]
 pub fn code_protection(message: LabelMessage, protected: bool, code: u32) -> Protection
     ensures { result ≡ code_protection message protected code }
 {

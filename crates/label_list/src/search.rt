@@ -5,8 +5,9 @@ ghost use Rattle.label_list.specs.Word.{stands_for};
 
 use crate::rules::needs_protection;
 use crate::word::{LABEL_COUNT, on_side};
-use crate::{Found, Side, Wanted};
+use crate::{Side, Wanted};
 
+#[tactic(auto, unfolding(crate::specs::Word::is_free))]
 fn is_wanted(wanted: Wanted, word: u32) -> bool
     ensures { result ≡ passes wanted word }
 {
@@ -17,65 +18,49 @@ fn is_wanted(wanted: Wanted, word: u32) -> bool
 }
 
 // The first word that is wanted: a free one, or one of a code on a side that needs protection.
-pub fn find(words: &[u32], wanted: Wanted) -> Found
+pub fn find(words: &[u32], wanted: Wanted) -> Option<usize>
     ensures { result ≡ find_of (passes wanted) words.now }
 {
-    let mut i: usize = 0;
-    while i < words.len() {
-        if is_wanted(wanted, words[i]) {
-            return Found::At(i);
-        }
-        i += 1;
-    }
-    Found::Nowhere
+    words.iter().position(|word| is_wanted(wanted, *word))
 }
 
 // The first word from an index on that bears the label, on either side: one short test a word.
-fn next_bearing(words: &[u32], label: u32, from: usize) -> Found
+fn next_bearing(words: &[u32], label: u32, from: usize) -> Option<usize>
     ensures { result ≡ next_of (bears_label label) words.now from }
 {
-    let mut at = from;
-    while at < words.len() {
+    for at in from..words.len() {
         if words[at] % LABEL_COUNT == label {
-            return Found::At(at);
+            return Some(at);
         }
-        at += 1;
     }
-    Found::Nowhere
+    None
 }
 
 // The first word that lists the label on that side: the side is looked at only where the label stands.
-pub fn find_label(words: &[u32], side: Side, label: u32) -> Found
+// One `position` over both tests is plainer, and makes more than one test of each word.
+pub fn find_label(words: &[u32], side: Side, label: u32) -> Option<usize>
     ensures { result ≡ find_of (stands_for side label) words.now }
 {
     let mut from: usize = 0;
     while from < words.len() {
         match next_bearing(words, label, from) {
-            Found::Nowhere => {
-                return Found::Nowhere;
+            None => {
+                return None;
             }
-            Found::At(place) => {
+            Some(place) => {
                 if on_side(side, words[place] / LABEL_COUNT) {
-                    return Found::At(place);
+                    return Some(place);
                 }
                 from = place + 1;
             }
         }
     }
-    Found::Nowhere
+    None
 }
 
 // How many words are not free, those of code 6 included.
 pub fn count_listed(words: &[u32]) -> usize
     ensures { result ≡ listed_count words.now }
 {
-    let mut count: usize = 0;
-    let mut i = 0;
-    while i < words.len() {
-        if words[i] != 0 {
-            count += 1;
-        }
-        i += 1;
-    }
-    count
+    words.iter().filter(|word| **word != 0).count()
 }

@@ -7,6 +7,7 @@ use crate::rules::code_swept;
 use crate::word::{LABEL_COUNT, word_of};
 
 // One word after a rule.
+#[tactic(auto, using(crate::proofs::Small::swept_small), unfolding(crate::specs::Sweep::word_swept))]
 pub fn word_swept(rule: SweepRule, word: u32) -> u32
     ensures { result ≡ word_swept rule word }
 {
@@ -17,9 +18,7 @@ pub fn word_swept(rule: SweepRule, word: u32) -> u32
 pub fn sweep(words: &mut [u32], rule: SweepRule)
     ensures { words.new ≡ swept_of words.old rule }
 {
-    let mut i = 0;
-    while i < words.len() {
-        words[i] = word_swept(rule, words[i]);
-        i += 1;
+    for word in words.iter_mut() {
+        *word = word_swept(rule, *word);
     }
 }

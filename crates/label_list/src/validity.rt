@@ -6,11 +6,12 @@ ghost use Rattle.label_list.specs.Marks.{mark_at, MarksTell};
 ghost use Rattle.label_list.specs.Valid.{absent, valid_word, valid_of};
 ghost use Rattle.label_list.specs.Word.{stands_for};
 
+use crate::Side;
 use crate::search::find_label;
 use crate::word::{FIRST_LABEL, LABEL_COUNT, REQUEST_WORD, on_side};
-use crate::{Found, Side};
 
 // The place of a side and a label in the table of marks.
+#[tactic(auto, unfolding(crate::specs::Marks::mark_at))]
 fn place_of(side: Side, label: u32) -> usize
     ensures { (result ≡ mark_at side label) × (result < 512) }
 {
@@ -24,10 +25,7 @@ fn place_of(side: Side, label: u32) -> usize
 fn is_absent(side: Side, label: u32, words: &[u32]) -> bool
     ensures { result ≡ absent side label words.now }
 {
-    match find_label(words, side, label) {
-        Found::At(_) => false,
-        Found::Nowhere => true,
-    }
+    find_label(words, side, label).is_none()
 }
 
 // Whether the label stands in no later word of that side; its place is marked then.
@@ -74,11 +72,8 @@ pub fn valid(words: &[u32]) -> bool
     ensures { result ≡ valid_of words.now }
 {
     let mut marks = [0u8; 512];
-    let mut i = words.len();
-    while 0 < i {
-        let later = &words[i..];
-        i -= 1;
-        if !mark_word(words[i], later, &mut marks) {
+    for i in (0..words.len()).rev() {
+        if !mark_word(words[i], &words[i + 1..], &mut marks) {
             return false;
         }
     }

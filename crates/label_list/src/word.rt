@@ -17,34 +17,27 @@ pub const FIRST_LABEL: u32 = 16;
 pub const REQUEST_WORD: u32 = 7340032;
 
 // Codes 1, 2, 8 and 9 are of labels that we gave, codes 3 to 6 of labels that we use.
+#[tactic(auto, unfolding(crate::specs::Word::on_side))]
 pub fn on_side(side: Side, code: u32) -> bool
     ensures { result ≡ on_side side code }
 {
-    match code {
-        1..=2 | 8..=9 => match side {
-            Side::Given => true,
-            Side::Used => false,
-        },
-        3..=6 => match side {
-            Side::Given => false,
-            Side::Used => true,
-        },
-        _ => false,
+    match side {
+        Side::Given => matches!(code, 1..=2 | 8..=9),
+        Side::Used => matches!(code, 3..=6),
     }
 }
 
 // Whether a word lists a label: neither a free word nor an open Request's does.
+#[tactic(auto, unfolding(crate::specs::Word::lists_label))]
 pub fn lists_label(word: u32) -> bool
     ensures { result ≡ lists_label word }
 {
     let code = word / LABEL_COUNT;
-    if on_side(Side::Given, code) {
-        return true;
-    }
-    on_side(Side::Used, code)
+    on_side(Side::Given, code) || on_side(Side::Used, code)
 }
 
 // The word of a label under a code, label + 1,048,576 x code; under code 0 a free word.
+#[tactic(auto, unfolding(crate::specs::Word::word_of))]
 pub fn word_of(label: u32, code: u32) -> u32
     requires { (label < label_count) × (code < 4096) }
     ensures { result ≡ word_of label code }

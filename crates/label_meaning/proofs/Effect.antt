@@ -1,4 +1,5 @@
 -- A change that writes one label's word keeps the list valid, gives that label its code and leaves every other. Assumes nothing.
+use Rattle.std.specs.Prelude.{Option, Some, None}
 use Prim.Native.Nat.{ℕ, ◌+◌, ◌*◌, ◌≤◌, ◌<◌}
 use mathlib.Core.Bool.{Bool, true, false, true≢false}
 use mathlib.Core.List.{List}
@@ -10,8 +11,6 @@ use lib.ListN.{length, get_or, set, length-set}
 use lib.Seq.{get_or-set_same, get_or-set_other}
 use borrow.Author.Tests.{eqb-true, eqb-false, eq-eqb, ne_eqb}
 use Rattle.octets.proofs.Choice.{by_test}
-use Rattle.label_list.specs.declared.Found.{Found}
-use Rattle.label_list.specs.declared.Found.TheVariants.{At, Nowhere}
 use Rattle.label_list.specs.declared.Side.{Side}
 use Rattle.label_list.specs.Find.{find_of}
 use Rattle.label_list.specs.Word.{label_count, label_of, code_of, word_of, is_free, on_side, request_word, stands_for}
@@ -155,34 +154,34 @@ then_effect x y = record { valid = y.valid; there = y.there; elsewhere = λ t k 
 pub keep_effect : (words : List ℕ) → IsValid words → (s : Side) (l c : ℕ) → ((j : ℕ) → stands_for s l (get_or words j 0) ≡ false) → c ≡ 0 → Effect words words s l c
 keep_effect words v s l c none z = record { valid = v; there = rw z (absent none); elsewhere = λ t k d other code. code }
 
-pub free_word : (words : List ℕ) {g : Found} (j : ℕ) → g ≡ find_of is_free words → g ≡ At j → get_or words j 0 ≡ 0
+pub free_word : (words : List ℕ) {g : Option ℕ} (j : ℕ) → g ≡ find_of is_free words → g ≡ Some j → get_or words j 0 ≡ 0
 unfolding is_free
 free_word words j e h = eqb-true (get_or words j 0) 0 (found_passes is_free words j e h)
 
 -- The place for a label that needs a word is one of a free word: the first free one is.
-abbrev pub FreeAt : List ℕ → Found → Type 0
-FreeAt words (At j) = (j < length words) × (get_or words j 0 ≡ 0)
-FreeAt words Nowhere = Unit {0}
+abbrev pub FreeAt : List ℕ → Option ℕ → Type 0
+FreeAt words (Some j) = (j < length words) × (get_or words j 0 ≡ 0)
+FreeAt words None = Unit {0}
 
-pub free_first : (words : List ℕ) (g : Found) → g ≡ find_of is_free words → FreeAt words g
-free_first words (At j) e = (found_place words (At j) j (found_in_lem is_free words e) refl, free_word words j e refl)
-free_first words Nowhere e = tt
+pub free_first : (words : List ℕ) (g : Option ℕ) → g ≡ find_of is_free words → FreeAt words g
+free_first words (Some j) e = (found_place words (Some j) j (found_in_lem is_free words e) refl, free_word words j e refl)
+free_first words None e = tt
 
 module _ (words : List ℕ) (v : IsValid words) (s : Side) (l c : ℕ) (low : 16 ≤ l) (high : l < label_count) (proper : Proper s c) where
   -- an absent label takes the free word
-  effect_free : (g : Found) → find_of (stands_for s l) words ≡ Nowhere → FreeAt words g → take_free g (word_of l c) ≢ NoRoom → Effect words (changed words (take_free g (word_of l c))) s l c
+  effect_free : (g : Option ℕ) → find_of (stands_for s l) words ≡ None → FreeAt words g → take_free g (word_of l c) ≢ NoRoom → Effect words (changed words (take_free g (word_of l c))) s l c
   unfolding changed
-  effect_free (At j) e h room =
+  effect_free (Some j) e h room =
       write_effect words v s l c j (word_of l c) h.0 (inl h.1)
       (λ k p. absurd (true≢false (sym p ∙ found_none words s l e k))) (word_written s l c low high proper)
-  effect_free Nowhere e h room = absurd (room refl)
+  effect_free None e h room = absurd (room refl)
 
-  pub effect_found : (f g : Found) → f ≡ find_of (stands_for s l) words → FreeAt words g → change_at f g l c ≢ NoRoom → Effect words (changed words (change_at f g l c)) s l c
+  pub effect_found : (f g : Option ℕ) → f ≡ find_of (stands_for s l) words → FreeAt words g → change_at f g l c ≢ NoRoom → Effect words (changed words (change_at f g l c)) s l c
   unfolding change_at changed
-  effect_found (At i) g e h = λ room.
+  effect_found (Some i) g e h = λ room.
       let here : stands_for s l (get_or words i 0) ≡ true = found_passes (stands_for s l) words i e refl in
-      write_effect words v s l c i (word_of l c) (found_place words (At i) i (found_in_lem (stands_for s l) words e) refl) (inr here) (λ j p. v.once s l j i p here) (word_written s l c low high proper)
-  effect_found Nowhere g e h =
+      write_effect words v s l c i (word_of l c) (found_place words (Some i) i (found_in_lem (stands_for s l) words e) refl) (inr here) (λ j p. v.once s l j i p here) (word_written s l c low high proper)
+  effect_found None g e h =
       ⊎_elim
       (λ (z : c ≡ 0). rw (eq-eqb c 0 z) (λ room. keep_effect words v s l c (found_none words s l (sym e)) z))
       (λ (on : on_side s c ≡ true).
@@ -191,23 +190,23 @@ module _ (words : List ℕ) (v : IsValid words) (s : Side) (l c : ℕ) (low : 16
       proper
 
   -- a listed label moves into a free word, and its own is free then
-  move_effect : (i : ℕ) (g : Found) → At i ≡ find_of (stands_for s l) words → FreeAt words g → move_to i g (word_of l c) ≢ NoRoom → Effect words (changed words (move_to i g (word_of l c))) s l c
+  move_effect : (i : ℕ) (g : Option ℕ) → Some i ≡ find_of (stands_for s l) words → FreeAt words g → move_to i g (word_of l c) ≢ NoRoom → Effect words (changed words (move_to i g (word_of l c))) s l c
   unfolding changed
-  move_effect i (At j) e h room =
+  move_effect i (Some j) e h room =
       let here : stands_for s l (get_or words i 0) ≡ true = found_passes (stands_for s l) words i e refl in
-      let inside : i < length words = found_place words (At i) i (found_in_lem (stands_for s l) words e) refl in
+      let inside : i < length words = found_place words (Some i) i (found_in_lem (stands_for s l) words e) refl in
       let left : Effect words (set words i 0) s l 0 = write_effect words v s l 0 i 0 inside (inr here) (λ k p. v.once s l k i p here) (inl (refl, refl)) in
       let free : get_or (set words i 0) j 0 ≡ 0 = at-index words i 0 inside (λ (x : ℕ). x ≡ 0) j (λ same. refl) (λ apart. h.1) in
       then_effect left
       (write_effect (set words i 0) left.valid s l c j (word_of l c) (rw (length-set words i 0) h.0) (inl free)
       (λ k p. absurd (true≢false (sym p ∙ absent_means left.there k))) (word_written s l c low high proper))
-  move_effect i Nowhere e h room = absurd (room refl)
+  move_effect i None e h room = absurd (room refl)
 
-  pub effect_placed : (b : Bool) (f g : Found) → f ≡ find_of (stands_for s l) words → FreeAt words g → placed_at b f g l c ≢ NoRoom → Effect words (changed words (placed_at b f g l c)) s l c
+  pub effect_placed : (b : Bool) (f g : Option ℕ) → f ≡ find_of (stands_for s l) words → FreeAt words g → placed_at b f g l c ≢ NoRoom → Effect words (changed words (placed_at b f g l c)) s l c
   unfolding placed_at
-  effect_placed true (At i) g e h = move_effect i g e h
-  effect_placed true Nowhere g e h = effect_found Nowhere g e h
+  effect_placed true (Some i) g e h = move_effect i g e h
+  effect_placed true None g e h = effect_found None g e h
   effect_placed false f g e h = effect_found f g e h
 
-  pub change_effect : (room : Found) → FreeAt words room → change_with words room s l c ≢ NoRoom → Effect words (changed words (change_with words room s l c)) s l c
+  pub change_effect : (room : Option ℕ) → FreeAt words room → change_with words room s l c ≢ NoRoom → Effect words (changed words (change_with words room s l c)) s l c
   change_effect room free = effect_found (find_of (stands_for s l) words) room refl free

@@ -1,4 +1,5 @@
 -- A Withdraw or Release of the peer's acts on exactly the labels that it touches, named or not. Assumes nothing.
+use Rattle.std.specs.Prelude.{Option}
 use Prim.Native.Nat.{ℕ, suc, ◌<◌}
 use mathlib.Core.Bool.{Bool, true, false, true≢false}
 use mathlib.Core.List.{List, [], ◌∷◌, map}
@@ -9,7 +10,6 @@ use lib.Dec.{eqb}
 use lib.ListN.{length, get_or}
 use borrow.Author.Tests.{eqb-true, eqb-false}
 use Rattle.octets.proofs.Choice.{by_test}
-use Rattle.label_list.specs.declared.Found.{Found}
 use Rattle.label_list.specs.declared.LabelMessage.{LabelMessage}
 use Rattle.label_list.specs.declared.LabelMessage.TheVariants.{Mapping, Withdraw, Release}
 use Rattle.label_list.specs.declared.Side.{Side}
@@ -90,7 +90,7 @@ listed-code words v x Release p other t k touches listed =
     release_happens words v x p t k c (code_received Release p c) touches refl listed (λ q. refl)
 
 -- none of those that are touched is listed: no word changes
-named_none : (words : List ℕ) (room : Found) (another : Bool) (m : LabelMessage) (p : Bool) → is_mapping m ≡ false → (k : ℕ) → code_at words (received_side m) k ≡ 0
+named_none : (words : List ℕ) (room : Option ℕ) (another : Bool) (m : LabelMessage) (p : Bool) → is_mapping m ≡ false → (k : ℕ) → code_at words (received_side m) k ≡ 0
     → (received_with words room another m p (Label k)).1 ≡ words
 unfolding received_with received_change placed_at change_at changed code_in
 named_none words room another m p other k absent =

@@ -1,4 +1,5 @@
 -- Every event keeps the list's length; those of one label keep all words but one, and the word of a Request that they end. Assumes nothing.
+use Rattle.std.specs.Prelude.{Option, Some, None}
 use Prim.Native.Nat.{ℕ}
 use mathlib.Core.Bool.{Bool, false, true≢false, not, true}
 use mathlib.Core.List.{List}
@@ -8,12 +9,8 @@ use lib.Dec.{eqb}
 use lib.ListN.{length, get_or, set, length-set, length-map}
 use lib.Seq.{get_or-set_other}
 use Rattle.octets.proofs.Choice.{by_test, pick_all, no}
-use Rattle.label_list.specs.declared.Found.{Found}
-use Rattle.label_list.specs.declared.Found.TheVariants.{At, Nowhere}
 use Rattle.label_list.specs.declared.LabelMessage.{LabelMessage}
 use Rattle.label_list.specs.declared.LabelMessage.TheVariants.{Mapping, Withdraw, Release}
-use Rattle.label_list.specs.declared.Next.{Next}
-use Rattle.label_list.specs.declared.Next.TheVariants.{Code, NotAllowed}
 use Rattle.label_list.specs.declared.SweepRule.TheVariants.{WithdrawAll, ReleaseAll, AfterBreak}
 use Rattle.label_list.specs.Find.{find_of}
 use Rattle.label_list.specs.Rules.{sent_side, code_accepted, received_side, code_received}
@@ -22,8 +19,6 @@ use Rattle.label_list.specs.Word.{is_request, stands_for, listable, is_free, req
 use Rattle.label_events.specs.declared.Change.{Change}
 use Rattle.label_events.specs.declared.Change.TheVariants.{Keep, Put, NoRoom, Move}
 use Rattle.label_events.specs.declared.Meets.{Meets}
-use Rattle.label_events.specs.declared.Plan.{Plan}
-use Rattle.label_events.specs.declared.Plan.TheVariants.{Allowed, Refused}
 use Rattle.label_events.specs.Accept.{plan_of, accepted_by, accepted_of, plan_by}
 use Rattle.label_events.specs.Ack.{acked_at}
 use Rattle.label_events.specs.Change.{changed, take_free, change_at, placed_at, code_at, change_of}
@@ -63,44 +58,44 @@ changed_word words (Move i j w) still = absurd still
 changed_word words NoRoom still = same_word words
 
 -- any change leaves all words but two
-changed_two : (words : List ℕ) (x : Change) → TwoWordsMore Nowhere words (changed words x)
+changed_two : (words : List ℕ) (x : Change) → TwoWordsMore None words (changed words x)
 unfolding changed
 changed_two words Keep = record { from = 0; at = 0; others = λ j a b c. refl }
 changed_two words (Put i w) = record { from = i; at = i; others = λ j a b c. get_or-set_other words i j w 0 a }
 changed_two words (Move i k w) = record { from = i; at = k; others = λ j a b c. get_or-set_other (set words i 0) k j w 0 b ∙ get_or-set_other words i j 0 0 a }
 changed_two words NoRoom = record { from = 0; at = 0; others = λ j a b c. refl }
 
-take-still : (g : Found) (w : ℕ) → Still (take_free g w)
-take-still (At i) w = tt
-take-still Nowhere w = tt
+take-still : (g : Option ℕ) (w : ℕ) → Still (take_free g w)
+take-still (Some i) w = tt
+take-still None w = tt
 
-change-still : (f g : Found) (l n : ℕ) → Still (change_at f g l n)
+change-still : (f g : Option ℕ) (l n : ℕ) → Still (change_at f g l n)
 unfolding change_at
-change-still (At i) g l n = tt
-change-still Nowhere g l n = pick_all Still (eqb n 0) tt (take-still g (word_of l n))
+change-still (Some i) g l n = tt
+change-still None g l n = pick_all Still (eqb n 0) tt (take-still g (word_of l n))
 
-accepted_length : (words : List ℕ) (p : Plan) → length (accepted_by words p).1 ≡ length words
-accepted_length words (Allowed x) = changed-length words x
-accepted_length words Refused = refl
+accepted_length : (words : List ℕ) (p : Option Change) → length (accepted_by words p).1 ≡ length words
+accepted_length words (Some x) = changed-length words x
+accepted_length words None = refl
 
-plan_still : (words : List ℕ) (m : LabelMessage) (l : ℕ) (n : Next) → OneWord words (accepted_by words (plan_by n words (sent_side m) l)).1
-plan_still words m l (Code c) = changed_word words (change_of words (sent_side m) l c) (change-still (find_of (stands_for (sent_side m) l) words) (find_of is_free words) l c)
-plan_still words m l NotAllowed = same_word words
+plan_still : (words : List ℕ) (m : LabelMessage) (l : ℕ) (n : Option ℕ) → OneWord words (accepted_by words (plan_by n words (sent_side m) l)).1
+plan_still words m l (Some c) = changed_word words (change_of words (sent_side m) l c) (change-still (find_of (stands_for (sent_side m) l) words) (find_of is_free words) l c)
+plan_still words m l None = same_word words
 
 accepted_word : (words : List ℕ) (m : LabelMessage) (l : ℕ) → OneWord words (accepted_by words (plan_of words m l)).1
 unfolding plan_of
 accepted_word words m l =
     by_test (listable l) (λ t. rw t (plan_still words m l (code_accepted m (code_at words (sent_side m) l)))) (λ f. rw f (same_word words))
 
-acked-length : (words : List ℕ) (f : Found) (m : LabelMessage) (l : ℕ) → length (acked_at f words m l) ≡ length words
+acked-length : (words : List ℕ) (f : Option ℕ) (m : LabelMessage) (l : ℕ) → length (acked_at f words m l) ≡ length words
 unfolding acked_at
-acked-length words (At i) m l = length-set words i _
-acked-length words Nowhere m l = refl
+acked-length words (Some i) m l = length-set words i _
+acked-length words None m l = refl
 
-acked_word : (words : List ℕ) (f : Found) (m : LabelMessage) (l : ℕ) → OneWord words (acked_at f words m l)
+acked_word : (words : List ℕ) (f : Option ℕ) (m : LabelMessage) (l : ℕ) → OneWord words (acked_at f words m l)
 unfolding acked_at
-acked_word words (At i) m l = set_word words i _
-acked_word words Nowhere m l = same_word words
+acked_word words (Some i) m l = set_word words i _
+acked_word words None m l = same_word words
 
 every_length : (words : List ℕ) (m : LabelMessage) (reached : ℕ → Bool) → length (every_received m reached words) ≡ length words
 unfolding every_received
@@ -116,21 +111,21 @@ received-length words r m p (Those reached) = every_length (ended_at r.request w
 received-length words r m p Nothing = ended-length r.request words
 
 -- Where a Request is ended, its word alone changes.
-ended_others : (words : List ℕ) (r : Found) (j : ℕ) → r ≢ At j → get_or (ended_at r words) j 0 ≡ get_or words j 0
+ended_others : (words : List ℕ) (r : Option ℕ) (j : ℕ) → r ≢ Some j → get_or (ended_at r words) j 0 ≡ get_or words j 0
 unfolding ended_at
-ended_others words (At i) j apart =
+ended_others words (Some i) j apart =
     by_test
     (is_request (get_or words i 0))
     (λ t. rw t (get_or-set_other words i j 0 0 (λ same. apart (rw same))))
     (λ f. rw f)
-ended_others words Nowhere j apart = refl
+ended_others words None j apart = refl
 
-ended_word : (words : List ℕ) (r : Found) → OneWord words (ended_at r words)
+ended_word : (words : List ℕ) (r : Option ℕ) → OneWord words (ended_at r words)
 unfolding ended_at
-ended_word words (At i) = by_test (is_request (get_or words i 0)) (λ t. rw t (set_word words i 0)) (λ f. rw f (same_word words))
-ended_word words Nowhere = same_word words
+ended_word words (Some i) = by_test (is_request (get_or words i 0)) (λ t. rw t (set_word words i 0)) (λ f. rw f (same_word words))
+ended_word words None = same_word words
 
-placed_still : (b : Bool) (f g : Found) (l n : ℕ) → b ≡ false → Still (placed_at b f g l n)
+placed_still : (b : Bool) (f g : Option ℕ) (l n : ℕ) → b ≡ false → Still (placed_at b f g l n)
 unfolding placed_at
 placed_still true f g l n e = absurd (true≢false e)
 placed_still false f g l n e = change-still f g l n
@@ -140,7 +135,7 @@ moves_not Mapping b e = e
 moves_not Withdraw b e = refl
 moves_not Release b e = refl
 
-with_word : (words : List ℕ) (room : Found) (b : Bool) (m : LabelMessage) (p : Bool) (t : Reach) → b ≡ false → OneLabelTouched t → OneWord words (received_with words room b m p t).1
+with_word : (words : List ℕ) (room : Option ℕ) (b : Bool) (m : LabelMessage) (p : Bool) (t : Reach) → b ≡ false → OneLabelTouched t → OneWord words (received_with words room b m p t).1
 unfolding received_with received_change
 with_word words room b m p (Label l) e one =
     changed_word words (received_change words room b m p l)
@@ -150,7 +145,7 @@ with_word words room b m p (Those reached) e one = absurd one
 with_word words room b m p Nothing e one = same_word words
 
 -- whatever it meets, the words of its label alone, and that of the Request that it ends
-with_two : (words : List ℕ) (room : Found) (b : Bool) (m : LabelMessage) (p : Bool) (t : Reach) → OneLabelTouched t → TwoWordsMore Nowhere words (received_with words room b m p t).1
+with_two : (words : List ℕ) (room : Option ℕ) (b : Bool) (m : LabelMessage) (p : Bool) (t : Reach) → OneLabelTouched t → TwoWordsMore None words (received_with words room b m p t).1
 unfolding received_with
 with_two words room b m p (Label l) one = changed_two words (received_change words room b m p l)
 with_two words room b m p (Those reached) one = absurd one
@@ -166,12 +161,12 @@ step-length words Asked = changed-length words (asked_change words)
 step-length words (Ended r) = ended-length r words
 step-length words Broken = length-map words (word_swept AfterBreak)
 
-received_one : (words : List ℕ) (x : Meets) (m : LabelMessage) (p : Bool) (t : Reach) (r : Found) (b : Bool) → x.request ≡ r → x.another ≡ b → OneLabelMet r b t
+received_one : (words : List ℕ) (x : Meets) (m : LabelMessage) (p : Bool) (t : Reach) (r : Option ℕ) (b : Bool) → x.request ≡ r → x.another ≡ b → OneLabelMet r b t
     → OneWord words (received_of words x m p t).1
 unfolding ended_at
-received_one words x m p t (At i) b e f one = absurd one
-received_one words x m p t Nowhere true e f one = absurd one
-received_one words x m p t Nowhere false e f one = rw e (with_word words (room_at Nowhere x.spare words) x.another m p t f one)
+received_one words x m p t (Some i) b e f one = absurd one
+received_one words x m p t None true e f one = absurd one
+received_one words x m p t None false e f one = rw e (with_word words (room_at None x.spare words) x.another m p t f one)
 
 -- Except under the wildcard FEC, where a Request is ended by a message with a label, and at the end of a connection, one word changes at most.
 pub step_one : (words : List ℕ) (e : LabelEvent) → OneLabel e → OneWord words (after_event words e)
@@ -187,6 +182,6 @@ step_one words Broken one = absurd one
 pub received_two_more : (words : List ℕ) (x : Meets) (m : LabelMessage) (p : Bool) (t : Reach) → OneLabelTouched t → TwoWordsMore x.request words (after_event words (Received x m p t))
 unfolding after_event
 received_two_more words x m p t one =
-    let word : TwoWordsMore Nowhere (ended_at x.request words) (received_of words x m p t).1 =
+    let word : TwoWordsMore None (ended_at x.request words) (received_of words x m p t).1 =
     with_two (ended_at x.request words) (room_at x.request x.spare words) x.another m p t one in
     record { from = word.from; at = word.at; others = λ j a b other. word.others j a b (λ z. no cc) ∙ ended_others words x.request j other }

@@ -1,4 +1,5 @@
 -- The life of a label in a valid list. Assumes nothing.
+use Rattle.std.specs.Prelude.{Some}
 use Prim.Native.Nat.{ℕ}
 use mathlib.Core.Bool.{Bool, true, false}
 use mathlib.Core.List.{List}
@@ -7,7 +8,6 @@ use mathlib.Core.Path.{◌≡◌, refl, sym, ◌∙◌}
 use native.Mathlib.Omega.{arith}
 use Rattle.label_list.specs.declared.LabelMessage.{LabelMessage}
 use Rattle.label_list.specs.declared.LabelMessage.TheVariants.{Mapping, Withdraw, Release}
-use Rattle.label_list.specs.declared.Next.TheVariants.{Code}
 use Rattle.label_list.specs.declared.Side.{Side}
 use Rattle.label_list.specs.declared.Side.TheVariants.{Given, Used}
 use Rattle.label_list.specs.declared.SweepRule.{SweepRule}
@@ -88,7 +88,7 @@ module _ (words : List ℕ) (v : IsValid words) where
   effect_code : {after : List ℕ} {s : Side} {k : ℕ} (n d : ℕ) → Effect words after s k n → n ≡ d → code_at after s k ≡ d
   effect_code {after} {s} {k} n d x e = is_code after s k x.valid x.there ∙ e
 
-  accept_happens : (m : LabelMessage) (k c d : ℕ) → code_at words (sent_side m) k ≡ c → c ≢ 0 → code_accepted m c ≡ Code d → code_at (after_event words (Accepted m k)) (sent_side m) k ≡ d
+  accept_happens : (m : LabelMessage) (k c d : ℕ) → code_at words (sent_side m) k ≡ c → c ≢ 0 → code_accepted m c ≡ Some d → code_at (after_event words (Accepted m k)) (sent_side m) k ≡ d
   unfolding after_event
   accept_happens m k c d e h f = effect_code d d (accepted_listed words v m k d (rw e h) (rw e f)) refl
 

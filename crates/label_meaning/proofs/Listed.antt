@@ -1,4 +1,5 @@
 -- Where labels stand: no event lists a label at a place where it did not stand, but a Mapping that takes a word there. Assumes nothing.
+use Rattle.std.specs.Prelude.{Option, Some, None}
 use Prim.Native.Nat.{ℕ, ◌+◌, ◌*◌, ◌<◌}
 use mathlib.Core.Bool.{Bool, true, false, true≢false}
 use mathlib.Core.List.{List}
@@ -10,12 +11,8 @@ use lib.ListN.{length, get_or, set, length-set}
 use borrow.Author.Tests.{eqb-true, eq-eqb, ne_eqb}
 use Rattle.octets.specs.Pick.{pick}
 use Rattle.octets.proofs.Choice.{by_test, no, pick_all}
-use Rattle.label_list.specs.declared.Found.{Found}
-use Rattle.label_list.specs.declared.Found.TheVariants.{At, Nowhere}
 use Rattle.label_list.specs.declared.LabelMessage.{LabelMessage}
 use Rattle.label_list.specs.declared.LabelMessage.TheVariants.{Mapping, Withdraw, Release}
-use Rattle.label_list.specs.declared.Next.{Next}
-use Rattle.label_list.specs.declared.Next.TheVariants.{Code, NotAllowed}
 use Rattle.label_list.specs.declared.Side.{Side}
 use Rattle.label_list.specs.declared.Side.TheVariants.{Given, Used}
 use Rattle.label_list.specs.declared.SweepRule.{SweepRule}
@@ -44,63 +41,63 @@ use Rattle.label_meaning.proofs.Step.{code_proper, room_is_free}
 use Rattle.label_meaning.proofs.Swept.{swept_at, all_reached}
 
 -- ---- a test of words that a free word does not pass: what passes it passed it at that place, but at the place that is taken
-abbrev PassesOld : (ℕ → Bool) → List ℕ → List ℕ → Found → Type 0
-PassesOld test words after place = (i : ℕ) → place ≢ At i → test (get_or after i 0) ≡ true → test (get_or words i 0) ≡ true
+abbrev PassesOld : (ℕ → Bool) → List ℕ → List ℕ → Option ℕ → Type 0
+PassesOld test words after place = (i : ℕ) → place ≢ Some i → test (get_or after i 0) ≡ true → test (get_or words i 0) ≡ true
 
 module _ (test : ℕ → Bool) (free : test 0 ≡ false) where
-  same_passes : (words : List ℕ) (place : Found) → PassesOld test words words place
+  same_passes : (words : List ℕ) (place : Option ℕ) → PassesOld test words words place
   same_passes words place i apart t = t
 
-  then_passes : (words mid after : List ℕ) (place : Found) → PassesOld test words mid Nowhere → PassesOld test mid after place → PassesOld test words after place
+  then_passes : (words mid after : List ℕ) (place : Option ℕ) → PassesOld test words mid None → PassesOld test mid after place → PassesOld test words after place
   then_passes words mid after place x y i apart t = x i (λ z. no cc) (y i apart t)
 
   module _ (words : List ℕ) (i w : ℕ) (inside : i < length words) where
     abbrev Here : ℕ → ℕ → Type 0
     Here j x = test x ≡ true → test (get_or words j 0) ≡ true
 
-    taken-passes : PassesOld test words (set words i w) (At i)
+    taken-passes : PassesOld test words (set words i w) (Some i)
     taken-passes j apart = at-index words i w inside (Here j) j (λ e t. absurd (apart (rw e))) (λ e t. t)
 
-    own_passes : (test w ≡ true → test (get_or words i 0) ≡ true) → PassesOld test words (set words i w) Nowhere
+    own_passes : (test w ≡ true → test (get_or words i 0) ≡ true) → PassesOld test words (set words i w) None
     own_passes own j apart = at-index words i w inside (Here j) j (λ e t. rw e (own t)) (λ e t. t)
 
-    none_passes : test w ≡ false → PassesOld test words (set words i w) Nowhere
+    none_passes : test w ≡ false → PassesOld test words (set words i w) None
     none_passes none = own_passes (λ t. absurd (true≢false (sym t ∙ none)))
 
-  ended-passes : (words : List ℕ) (request : Found) → PassesOld test words (ended_at request words) Nowhere
+  ended-passes : (words : List ℕ) (request : Option ℕ) → PassesOld test words (ended_at request words) None
   unfolding ended_at
-  ended-passes words (At i) =
-      by_test (is_request (get_or words i 0)) (λ t. rw t (none_passes words i 0 (request_inside words i t) free)) (λ f. rw f (same_passes words Nowhere))
-  ended-passes words Nowhere = same_passes words Nowhere
+  ended-passes words (Some i) =
+      by_test (is_request (get_or words i 0)) (λ t. rw t (none_passes words i 0 (request_inside words i t) free)) (λ f. rw f (same_passes words None))
+  ended-passes words None = same_passes words None
 
   -- a label is written at its own place, or takes the room
   module _ (words : List ℕ) (s : Side) (k c : ℕ)
       (own : (i : ℕ) → stands_for s k (get_or words i 0) ≡ true → test (word_of k c) ≡ true → test (get_or words i 0) ≡ true) where
-    take-passes : (g : Found) (w : ℕ) → FreeAt words g → PassesOld test words (changed words (take_free g w)) (taken_at Nowhere (take_free g w))
+    take-passes : (g : Option ℕ) (w : ℕ) → FreeAt words g → PassesOld test words (changed words (take_free g w)) (taken_at None (take_free g w))
     unfolding changed
-    take-passes (At j) w room = taken-passes words j w room.0
-    take-passes Nowhere w room = same_passes words Nowhere
+    take-passes (Some j) w room = taken-passes words j w room.0
+    take-passes None w room = same_passes words None
 
-    absent-passes : (g : Found) → FreeAt words g → PassesOld test words (changed words (change_at Nowhere g k c)) (taken_at Nowhere (change_at Nowhere g k c))
+    absent-passes : (g : Option ℕ) → FreeAt words g → PassesOld test words (changed words (change_at None g k c)) (taken_at None (change_at None g k c))
     unfolding change_at changed
-    absent-passes g room = by_test (eqb c 0) (λ t. rw t (same_passes words Nowhere)) (λ f. rw f (take-passes g (word_of k c) room))
+    absent-passes g room = by_test (eqb c 0) (λ t. rw t (same_passes words None)) (λ f. rw f (take-passes g (word_of k c) room))
 
-    place_of_lem : (i : ℕ) → At i ≡ find_of (stands_for s k) words → i < length words
-    place_of_lem i e = found_place words (At i) i (found_in_lem (stands_for s k) words e) refl
+    place_of_lem : (i : ℕ) → Some i ≡ find_of (stands_for s k) words → i < length words
+    place_of_lem i e = found_place words (Some i) i (found_in_lem (stands_for s k) words e) refl
 
-    placed_passes : (b : Bool) (f g : Found) → f ≡ find_of (stands_for s k) words → FreeAt words g
+    placed_passes : (b : Bool) (f g : Option ℕ) → f ≡ find_of (stands_for s k) words → FreeAt words g
         → PassesOld test words (changed words (placed_at b f g k c)) (taken_at f (placed_at b f g k c))
     unfolding placed_at change_at changed
-    placed_passes true (At i) (At j) e room =
-        then_passes words (set words i 0) (set (set words i 0) j (word_of k c)) (At j) (none_passes words i 0 (place_of_lem i e) free)
+    placed_passes true (Some i) (Some j) e room =
+        then_passes words (set words i 0) (set (set words i 0) j (word_of k c)) (Some j) (none_passes words i 0 (place_of_lem i e) free)
         (taken-passes (set words i 0) j (word_of k c) (rw (length-set words i 0) room.0))
-    placed_passes true (At i) Nowhere e room = same_passes words Nowhere
-    placed_passes true Nowhere g e room = absent-passes g room
-    placed_passes false (At i) g e room = own_passes words i (word_of k c) (place_of_lem i e) (own i (found_passes (stands_for s k) words i e refl))
-    placed_passes false Nowhere g e room = absent-passes g room
+    placed_passes true (Some i) None e room = same_passes words None
+    placed_passes true None g e room = absent-passes g room
+    placed_passes false (Some i) g e room = own_passes words i (word_of k c) (place_of_lem i e) (own i (found_passes (stands_for s k) words i e refl))
+    placed_passes false None g e room = absent-passes g room
 
 -- ---- words that list a label
-abbrev pub ListedOld : List ℕ → List ℕ → Found → Type 0
+abbrev pub ListedOld : List ℕ → List ℕ → Option ℕ → Type 0
 ListedOld words after place = PassesOld lists_label words after place
 
 free_lists : lists_label 0 ≡ false
@@ -114,23 +111,23 @@ stands_lists Used l w e =
     let on : on_side Used (code_of w) ≡ true = (stands_parts Used l w e).0 in
     pick_all (λ (b : Bool). b ≡ true) (on_side Given (code_of w)) refl on
 
-pub same_listed : (words : List ℕ) (place : Found) → ListedOld words words place
+pub same_listed : (words : List ℕ) (place : Option ℕ) → ListedOld words words place
 same_listed = same_passes lists_label free_lists
 
-pub then_listed : (words mid after : List ℕ) (p : Found) → ListedOld words mid Nowhere → ListedOld mid after p → ListedOld words after p
+pub then_listed : (words mid after : List ℕ) (p : Option ℕ) → ListedOld words mid None → ListedOld mid after p → ListedOld words after p
 then_listed = then_passes lists_label free_lists
 
-pub ended-listed : (words : List ℕ) (r : Found) → ListedOld words (ended_at r words) Nowhere
+pub ended-listed : (words : List ℕ) (r : Option ℕ) → ListedOld words (ended_at r words) None
 ended-listed = ended-passes lists_label free_lists
 
-pub acked-listed : (words : List ℕ) (m : LabelMessage) (l : ℕ) (f : Found) → f ≡ find_of (stands_for (sent_side m) l) words → ListedOld words (acked_at f words m l) Nowhere
+pub acked-listed : (words : List ℕ) (m : LabelMessage) (l : ℕ) (f : Option ℕ) → f ≡ find_of (stands_for (sent_side m) l) words → ListedOld words (acked_at f words m l) None
 unfolding acked_at
-acked-listed words m l (At i) e =
-    own_passes lists_label free_lists words i _ (found_place words (At i) i (found_in_lem (stands_for (sent_side m) l) words e) refl)
+acked-listed words m l (Some i) e =
+    own_passes lists_label free_lists words i _ (found_place words (Some i) i (found_in_lem (stands_for (sent_side m) l) words e) refl)
     (λ t. stands_lists (sent_side m) l (get_or words i 0) (found_passes (stands_for (sent_side m) l) words i e refl))
-acked-listed words m l Nowhere e = same_listed words Nowhere
+acked-listed words m l None e = same_listed words None
 
-pub placed_listed : (words : List ℕ) (s : Side) (k c : ℕ) (b : Bool) (f g : Found) → f ≡ find_of (stands_for s k) words → FreeAt words g
+pub placed_listed : (words : List ℕ) (s : Side) (k c : ℕ) (b : Bool) (f g : Option ℕ) → f ≡ find_of (stands_for s k) words → FreeAt words g
     → ListedOld words (changed words (placed_at b f g k c)) (taken_at f (placed_at b f g k c))
 placed_listed words s k c = placed_passes lists_label free_lists words s k c (λ i own t. stands_lists s k (get_or words i 0) own)
 
@@ -159,10 +156,10 @@ kept_side ReleaseAll s c t =
 kept_side AfterBreak s c t = by_test (eqb c 6) (λ e. absurd (no_side s (rw e at t))) (λ e. rw e at t)
 
 -- ---- labels by their side
-pub same_old : (words : List ℕ) (place : Found) → StandsOld words words place
+pub same_old : (words : List ℕ) (place : Option ℕ) → StandsOld words words place
 same_old words place s l i apart t = t
 
-pub then_old : (words mid after : List ℕ) (place : Found) → StandsOld words mid Nowhere → StandsOld mid after place → StandsOld words after place
+pub then_old : (words mid after : List ℕ) (place : Option ℕ) → StandsOld words mid None → StandsOld mid after place → StandsOld words after place
 then_old words mid after place x y s l = then_passes (stands_for s l) (free_stands s l) words mid after place (x s l) (y s l)
 
 -- the word of a label stands for nothing else
@@ -184,21 +181,21 @@ own_stood words s k c proper t l i own stands =
     let is = word_only s k c high proper t l stands in
     rw (is.0, is.1) own
 
-placed_old : (words : List ℕ) (s : Side) (k c : ℕ) → Proper s c → (b : Bool) (f g : Found) → f ≡ find_of (stands_for s k) words → FreeAt words g
+placed_old : (words : List ℕ) (s : Side) (k c : ℕ) → Proper s c → (b : Bool) (f g : Option ℕ) → f ≡ find_of (stands_for s k) words → FreeAt words g
     → StandsOld words (changed words (placed_at b f g k c)) (taken_at f (placed_at b f g k c))
 placed_old words s k c proper b f g e room t l =
     placed_passes (stands_for t l) (free_stands t l) words s k c (own_stood words s k c proper t l) b f g e room
 
-acked-old : (words : List ℕ) (m : LabelMessage) (l : ℕ) (f : Found) → f ≡ find_of (stands_for (sent_side m) l) words → StandsOld words (acked_at f words m l) Nowhere
+acked-old : (words : List ℕ) (m : LabelMessage) (l : ℕ) (f : Option ℕ) → f ≡ find_of (stands_for (sent_side m) l) words → StandsOld words (acked_at f words m l) None
 unfolding acked_at
-acked-old words m l (At i) e s k =
+acked-old words m l (Some i) e s k =
     let own : stands_for (sent_side m) l (get_or words i 0) ≡ true = found_passes (stands_for (sent_side m) l) words i e refl in
     let code : ℕ = code_of (get_or words i 0) in
-    own_passes (stands_for s k) (free_stands s k) words i (word_of l (code_acked m code)) (found_place words (At i) i (found_in_lem (stands_for (sent_side m) l) words e) refl)
+    own_passes (stands_for s k) (free_stands s k) words i (word_of l (code_acked m code)) (found_place words (Some i) i (found_in_lem (stands_for (sent_side m) l) words e) refl)
     (own_stood words (sent_side m) l (code_acked m code) (acked_proper m code (inr (stands_parts (sent_side m) l (get_or words i 0) own).0)) s k i own)
-acked-old words m l Nowhere e s k = same_passes (stands_for s k) (free_stands s k) words Nowhere
+acked-old words m l None e s k = same_passes (stands_for s k) (free_stands s k) words None
 
-ended-old : (words : List ℕ) (request : Found) → StandsOld words (ended_at request words) Nowhere
+ended-old : (words : List ℕ) (request : Option ℕ) → StandsOld words (ended_at request words) None
 ended-old words request s l = ended-passes (stands_for s l) (free_stands s l) words request
 
 -- a word that a rule rewrites stood for what it stands for
@@ -213,7 +210,7 @@ swept_stood r s l w stands =
     let code : code_of (label_of w + label_count * c) ≡ c = omega arith in
     parts_stands s l w (kept_side r s (code_of w) (rw code at parts.0)) (omega (arith, parts.1)))
 
-reach_old : (words : List ℕ) (reached : ℕ → Bool) (r : SweepRule) → StandsOld words (reached_of words reached r) Nowhere
+reach_old : (words : List ℕ) (reached : ℕ → Bool) (r : SweepRule) → StandsOld words (reached_of words reached r) None
 unfolding word_reached
 reach_old words reached r s l i apart t =
     let w : ℕ = get_or words i 0 in
@@ -222,43 +219,43 @@ reach_old words reached r s l i apart t =
 
 module _ (words : List ℕ) where
   -- ---- a message of ours: a Mapping, or one whose label is listed
-  next-old : (n : Next) (l : ℕ) → code_accepted Mapping (code_at words Given l) ≡ n
+  next-old : (n : Option ℕ) (l : ℕ) → code_accepted Mapping (code_at words Given l) ≡ n
       → StandsOld words (accepted_by words (plan_by n words Given l)).1 (taken_at (find_of (stands_for Given l) words) (plan_change (plan_by n words Given l)))
   unfolding placed_at sent_side
-  next-old (Code c) l e =
+  next-old (Some c) l e =
       placed_old words Given l c (accepted_proper Mapping (code_at words Given l) c e) false (find_of (stands_for Given l) words) (find_of is_free words) refl
       (free_first words (find_of is_free words) refl)
-  next-old NotAllowed l e = same_old words Nowhere
+  next-old None l e = same_old words None
 
-  listed_next : (m : LabelMessage) → code_accepted m 0 ≡ NotAllowed → (l : ℕ) (n : Next) → code_accepted m (code_at words (sent_side m) l) ≡ n
-      → StandsOld words (accepted_by words (plan_by n words (sent_side m) l)).1 Nowhere
+  listed_next : (m : LabelMessage) → code_accepted m 0 ≡ None → (l : ℕ) (n : Option ℕ) → code_accepted m (code_at words (sent_side m) l) ≡ n
+      → StandsOld words (accepted_by words (plan_by n words (sent_side m) l)).1 None
   unfolding code_in change_at changed
-  listed_next m none l NotAllowed e = same_old words Nowhere
-  listed_next m none l (Code c) e = by (find_of (stands_for (sent_side m) l) words) refl
+  listed_next m none l None e = same_old words None
+  listed_next m none l (Some c) e = by (find_of (stands_for (sent_side m) l) words) refl
     where
-      by : (f : Found) → f ≡ find_of (stands_for (sent_side m) l) words → StandsOld words (changed words (change_of words (sent_side m) l c)) Nowhere
-      by (At i) q =
+      by : (f : Option ℕ) → f ≡ find_of (stands_for (sent_side m) l) words → StandsOld words (changed words (change_of words (sent_side m) l c)) None
+      by (Some i) q =
           let proper : Proper (sent_side m) c = accepted_proper m (code_at words (sent_side m) l) c e in
           rw (← q) (λ s k.
-          own_passes (stands_for s k) (free_stands s k) words i (word_of l c) (found_place words (At i) i (found_in_lem (stands_for (sent_side m) l) words q) refl)
+          own_passes (stands_for s k) (free_stands s k) words i (word_of l c) (found_place words (Some i) i (found_in_lem (stands_for (sent_side m) l) words q) refl)
           (own_stood words (sent_side m) l c proper s k i (found_passes (stands_for (sent_side m) l) words i q refl)))
-      by Nowhere q = let z : NotAllowed ≡ Code c = sym none ∙ rw (← q) at e in no cc
+      by None q = let z : None ≡ Some c = sym none ∙ rw (← q) at e in no cc
 
   accepted_old : (m : LabelMessage) (l : ℕ) → StandsOld words (accepted_of words m l).1 (accepted_takes words m l)
   unfolding accepted_of plan_of sent_side code_accepted
   accepted_old Mapping l =
-      by_test (listable l) (λ may. rw may (next-old (code_accepted Mapping (code_at words Given l)) l refl)) (λ may. rw may (same_old words Nowhere))
+      by_test (listable l) (λ may. rw may (next-old (code_accepted Mapping (code_at words Given l)) l refl)) (λ may. rw may (same_old words None))
   accepted_old Withdraw l =
-      by_test (listable l) (λ may. rw may (listed_next Withdraw refl l (code_accepted Withdraw (code_at words Given l)) refl)) (λ may. rw may (same_old words Nowhere))
+      by_test (listable l) (λ may. rw may (listed_next Withdraw refl l (code_accepted Withdraw (code_at words Given l)) refl)) (λ may. rw may (same_old words None))
   accepted_old Release l =
-      by_test (listable l) (λ may. rw may (listed_next Release refl l (code_accepted Release (code_at words Used l)) refl)) (λ may. rw may (same_old words Nowhere))
+      by_test (listable l) (λ may. rw may (listed_next Release refl l (code_accepted Release (code_at words Used l)) refl)) (λ may. rw may (same_old words None))
 
   -- ---- one of the peer's, in whose list the Request has ended
   module _ (x : Meets) (m : LabelMessage) (p : Bool) where
     abbrev mid : List ℕ
     mid = ended_at x.request words
 
-    abbrev room : Found
+    abbrev room : Option ℕ
     room = room_at x.request x.spare words
 
     named_old : (l : ℕ) → StandsOld mid (changed mid (received_change mid room x.another m p l)) (taken_at (find_of (stands_for (received_side m) l) mid) (received_change mid room x.another m p l))
@@ -269,14 +266,14 @@ module _ (words : List ℕ) where
         (placed_old mid (received_side m) l (code_received m p (code_at mid (received_side m) l))
         (received_proper m p (code_at mid (received_side m) l) (code_proper mid (received_side m) l)) (moves_by m x.another) (find_of (stands_for (received_side m) l) mid) room refl
         (room_is_free x.request x.spare words)))
-        (λ may. rw may (same_old mid Nowhere))
+        (λ may. rw may (same_old mid None))
 
-    every_old : (reached : ℕ → Bool) → StandsOld mid (every_received m reached mid) Nowhere
+    every_old : (reached : ℕ → Bool) → StandsOld mid (every_received m reached mid) None
     unfolding every_received
     every_old reached = by m
       where
-        by : (n : LabelMessage) → StandsOld mid (every_received n reached mid) Nowhere
-        by Mapping = same_old mid Nowhere
+        by : (n : LabelMessage) → StandsOld mid (every_received n reached mid) None
+        by Mapping = same_old mid None
         by Withdraw = reach_old mid reached WithdrawAll
         by Release = reach_old mid reached ReleaseAll
 
@@ -285,13 +282,13 @@ module _ (words : List ℕ) where
     received-old (Label l) =
         then_old words mid (changed mid (received_change mid room x.another m p l)) (taken_by words (Received x m p (Label l))) (ended-old words x.request)
         (rw (← received_same words x m p room l, ← ended_find words (received_side m) l x.request) (named_old l))
-    received-old (Those reached) = then_old words mid (every_received m reached mid) Nowhere (ended-old words x.request) (every_old reached)
+    received-old (Those reached) = then_old words mid (every_received m reached mid) None (ended-old words x.request) (every_old reached)
     received-old Nothing = ended-old words x.request
 
-  asked-old : (g : Found) → FreeAt words g → StandsOld words (changed words (take_free g request_word)) Nowhere
+  asked-old : (g : Option ℕ) → FreeAt words g → StandsOld words (changed words (take_free g request_word)) None
   unfolding changed
-  asked-old (At j) free s l = none_passes (stands_for s l) (free_stands s l) words j request_word free.0 (request_stands s l request_word refl)
-  asked-old Nowhere free s l = same_passes (stands_for s l) (free_stands s l) words Nowhere
+  asked-old (Some j) free s l = none_passes (stands_for s l) (free_stands s l) words j request_word free.0 (request_stands s l request_word refl)
+  asked-old None free s l = same_passes (stands_for s l) (free_stands s l) words None
 
   -- Of every event: a label that stands at a place stood there, unless a word is taken there.
   pub event-old : (e : LabelEvent) → StandsOld words (after_event words e) (taken_by words e)

@@ -1,4 +1,5 @@
 -- A label's code changes by the moves that 01 names, and by nothing else. Assumes nothing.
+use Rattle.std.specs.Prelude.{Some}
 use Prim.Native.Nat.{ℕ, ◌≤◌}
 use mathlib.Core.Bool.{Bool, true, false}
 use mathlib.Core.List.{List}
@@ -10,7 +11,6 @@ use borrow.Author.Tests.{eqb-true, eqb-false, leb-true}
 use Rattle.octets.proofs.Choice.{by_test}
 use Rattle.label_list.specs.declared.LabelMessage.{LabelMessage}
 use Rattle.label_list.specs.declared.LabelMessage.TheVariants.{Mapping, Withdraw, Release}
-use Rattle.label_list.specs.declared.Next.TheVariants.{Code}
 use Rattle.label_list.specs.declared.Side.{Side}
 use Rattle.label_list.specs.declared.Side.TheVariants.{Given, Used}
 use Rattle.label_list.specs.declared.SweepRule.{SweepRule}
@@ -39,7 +39,7 @@ use Rattle.label_meaning.proofs.View.{code_is, is_code}
 abbrev Move : LabelEvent → Side → ℕ → ℕ → ℕ → Type 0
 Move e s k c d = (d ≡ c) ⊎ Moves e s k c d
 
-accepted_move : (m : LabelMessage) (k c n : ℕ) → code_accepted m c ≡ Code n → Move (Accepted m k) (sent_side m) k c n
+accepted_move : (m : LabelMessage) (k c n : ℕ) → code_accepted m c ≡ Some n → Move (Accepted m k) (sent_side m) k c n
 unfolding code_accepted sent_side
 accepted_move Mapping k c n e =
     by_test

@@ -1,4 +1,5 @@
 -- Each rule leaves a label on its side: the code becomes 0 or one of the same side. Assumes nothing.
+use Rattle.std.specs.Prelude.{Option, Some, None}
 use Prim.Native.Nat.{ℕ}
 use mathlib.Core.Bool.{Bool, true, false}
 use mathlib.Core.Logic.{◌⊎◌, inl, inr, ⊎_elim}
@@ -8,8 +9,6 @@ use borrow.Author.Tests.{eqb-true}
 use Rattle.octets.proofs.Choice.{by_test, pick_all}
 use Rattle.label_list.specs.declared.LabelMessage.{LabelMessage}
 use Rattle.label_list.specs.declared.LabelMessage.TheVariants.{Mapping, Withdraw, Release}
-use Rattle.label_list.specs.declared.Next.{Next}
-use Rattle.label_list.specs.declared.Next.TheVariants.{Code, NotAllowed}
 use Rattle.label_list.specs.declared.Side.{Side}
 use Rattle.label_list.specs.declared.Side.TheVariants.{Given, Used}
 use Rattle.label_list.specs.declared.SweepRule.{SweepRule}
@@ -26,9 +25,9 @@ Proper s c = (c ≡ 0) ⊎ (on_side s c ≡ true)
 pub proper_side : (s t : Side) (c : ℕ) → Proper s c → on_side t c ≡ true → s ≡ t
 proper_side s t c h on = ⊎_elim (λ (z : c ≡ 0). absurd (side-listed t c on z)) (λ (e : on_side s c ≡ true). one_side s t c e on) h
 
-abbrev ProperNext : Side → Next → Type 0
-ProperNext s (Code c) = Proper s c
-ProperNext s NotAllowed = Unit {0}
+abbrev ProperNext : Side → Option ℕ → Type 0
+ProperNext s (Some c) = Proper s c
+ProperNext s None = Unit {0}
 
 next_proper : (m : LabelMessage) (c : ℕ) → ProperNext (sent_side m) (code_accepted m c)
 unfolding code_accepted sent_side on_side
@@ -36,7 +35,7 @@ next_proper Mapping c = pick_all (ProperNext Given) (leb c 1) (inr refl) tt
 next_proper Withdraw c = pick_all (ProperNext Given) (eqb c 1) (inr refl) tt
 next_proper Release c = pick_all (ProperNext Used) (eqb c 3) (inr refl) (pick_all (ProperNext Used) (eqb c 4) (inl refl) tt)
 
-pub accepted_proper : (m : LabelMessage) (c n : ℕ) → code_accepted m c ≡ Code n → Proper (sent_side m) n
+pub accepted_proper : (m : LabelMessage) (c n : ℕ) → code_accepted m c ≡ Some n → Proper (sent_side m) n
 accepted_proper m c n e = rw e at (next_proper m c)
 
 pub acked_proper : (m : LabelMessage) (c : ℕ) → Proper (sent_side m) c → Proper (sent_side m) (code_acked m c)

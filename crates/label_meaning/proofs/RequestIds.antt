@@ -1,4 +1,5 @@
 -- The IDs of the open Requests over each event: they stand once, and only those that count matter. Assumes nothing.
+use Rattle.std.specs.Prelude.{Option, Some, None}
 use Prim.Native.Nat.{ℕ, ◌≤◌, ◌<◌}
 use mathlib.Core.Bool.{true}
 use mathlib.Core.List.{List}
@@ -7,8 +8,6 @@ use mathlib.Core.Path.{◌≡◌, refl}
 use native.Mathlib.Omega.{arith}
 use lib.ListN.{length, get_or}
 use Rattle.ft_number.specs.declared.MessageId.{MessageId}
-use Rattle.label_list.specs.declared.Found.{Found}
-use Rattle.label_list.specs.declared.Found.TheVariants.{At, Nowhere}
 use Rattle.label_list.specs.Find.{find_of}
 use Rattle.label_list.specs.Requests.{open_ids, open_at, RequestAt, once_of}
 use Rattle.label_list.specs.Word.{is_free, request_word, is_request}
@@ -26,7 +25,7 @@ use Rattle.label_meaning.proofs.Requests.{free-plain, request_itself, request-ol
 -- ---- an event that asks no Request, beside IDs that stay
 module _ (words ids : List ℕ) (e : LabelEvent) where
   -- the Request of an ID is open until an event ends it at its place
-  pub open_still : (id i : ℕ) → ends_at e ≢ At i → RequestAt words ids id i → RequestAt (after_event words e) ids id i
+  pub open_still : (id i : ℕ) → ends_at e ≢ Some i → RequestAt words ids id i → RequestAt (after_event words e) ids id i
   open_still id i apart r = record { request = request-still words e i apart r.request; inside = r.inside; same = r.same }
 
   module _ (other : e ≢ Asked) where
@@ -42,39 +41,39 @@ module _ (words ids : List ℕ) (e : LabelEvent) where
 
 -- ---- a Request is asked
 module _ (words ids : List ℕ) (id : MessageId) where
-  once_at : (g : Found) → once_of words ids ≡ true → open_at id words ids ≡ Nowhere → once_of (changed words (take_free g request_word)) (ids_put ids (take_free g request_word) id) ≡ true
+  once_at : (g : Option ℕ) → once_of words ids ≡ true → open_at id words ids ≡ None → once_of (changed words (take_free g request_word)) (ids_put ids (take_free g request_word) id) ≡ true
   unfolding changed
-  once_at (At i) once none = once_taken words ids i id once none
-  once_at Nowhere once none = once
+  once_at (Some i) once none = once_taken words ids i id once none
+  once_at None once none = once
 
   -- under an ID that is not open
-  pub asked_once : once_of words ids ≡ true → open_at id words ids ≡ Nowhere → once_of (after_event words Asked) (ids_put ids (asked_change words) id) ≡ true
+  pub asked_once : once_of words ids ≡ true → open_at id words ids ≡ None → once_of (after_event words Asked) (ids_put ids (asked_change words) id) ≡ true
   unfolding after_event
   asked_once = once_at (find_of is_free words)
 
   -- its ID stands at the place of its word
-  open_at_lem : (g : Found) (i : ℕ) → g ≡ At i → FreeAt words g → i < length ids → RequestAt (changed words (take_free g request_word)) (ids_put ids (take_free g request_word) id) id.0 i
+  open_at_lem : (g : Option ℕ) (i : ℕ) → g ≡ Some i → FreeAt words g → i < length ids → RequestAt (changed words (take_free g request_word)) (ids_put ids (take_free g request_word) id) id.0 i
   unfolding changed
   open_at_lem g i e free h = rw e (taken-request words ids i id (rw e at free).0 h)
 
-  pub asked_open : (i : ℕ) → find_of is_free words ≡ At i → i < length ids → RequestAt (after_event words Asked) (ids_put ids (asked_change words) id) id.0 i
+  pub asked_open : (i : ℕ) → find_of is_free words ≡ Some i → i < length ids → RequestAt (after_event words Asked) (ids_put ids (asked_change words) id) id.0 i
   unfolding after_event
   asked_open i e h = open_at_lem (find_of is_free words) i e (free_first words (find_of is_free words) refl) h
 
   -- an ID that is written before its word does not count yet
-  dead_at : (g : Found) → FreeAt words g → open_ids words (ids_put ids (take_free g request_word) id) ≡ open_ids words ids
-  dead_at (At i) free = counting_dead 0 is_request words ids i id.0 (free-plain (get_or words i 0) free.1)
-  dead_at Nowhere free = refl
+  dead_at : (g : Option ℕ) → FreeAt words g → open_ids words (ids_put ids (take_free g request_word) id) ≡ open_ids words ids
+  dead_at (Some i) free = counting_dead 0 is_request words ids i id.0 (free-plain (get_or words i 0) free.1)
+  dead_at None free = refl
 
   pub asked_dead : open_ids words (ids_put ids (asked_change words) id) ≡ open_ids words ids
   asked_dead = dead_at (find_of is_free words) (free_first words (find_of is_free words) refl)
 
   -- then it counts, beside those that did
-  ids_at : (g : Found) → FreeAt words g → length words ≤ length ids
+  ids_at : (g : Option ℕ) → FreeAt words g → length words ≤ length ids
       → open_ids (changed words (take_free g request_word)) (ids_put ids (take_free g request_word) id) ≡ ids_put (open_ids words ids) (take_free g request_word) id
   unfolding changed
-  ids_at (At i) free h = counting-taken 0 is_request words ids i request_word id.0 request_itself free.0 (omega (arith, free.0))
-  ids_at Nowhere free h = refl
+  ids_at (Some i) free h = counting-taken 0 is_request words ids i request_word id.0 request_itself free.0 (omega (arith, free.0))
+  ids_at None free h = refl
 
   pub asked-ids : length words ≤ length ids → open_ids (after_event words Asked) (ids_put ids (asked_change words) id) ≡ ids_put (open_ids words ids) (asked_change words) id
   unfolding after_event
@@ -82,14 +81,14 @@ module _ (words ids : List ℕ) (id : MessageId) where
 
 -- ---- a Request or an Abort that is accepted is one of these events
 module _ (words ids : List ℕ) (id : MessageId) where
-  pub asked-event : open_at id words ids ≡ Nowhere → ((accepted_by words (asked_plan words ids id)).1 ≡ after_event words Asked) × (plan_change (asked_plan words ids id) ≡ asked_change words)
+  pub asked-event : open_at id words ids ≡ None → ((accepted_by words (asked_plan words ids id)).1 ≡ after_event words Asked) × (plan_change (asked_plan words ids id) ≡ asked_change words)
   unfolding after_event asked_plan
   asked-event none = rw none (refl, refl)
 
-  aborted_at_lem : (f : Found) → open_at id words ids ≡ f → (accepted_by words (aborted_at f)).1 ≡ ended_at f words
+  aborted_at_lem : (f : Option ℕ) → open_at id words ids ≡ f → (accepted_by words (aborted_at f)).1 ≡ ended_at f words
   unfolding ended_at changed
-  aborted_at_lem (At i) e = rw (found_request id words ids i e).request
-  aborted_at_lem Nowhere e = refl
+  aborted_at_lem (Some i) e = rw (found_request id words ids i e).request
+  aborted_at_lem None e = refl
 
   pub aborted_event : (accepted_by words (aborted_plan words ids id)).1 ≡ after_event words (Ended (open_at id words ids))
   unfolding after_event aborted_plan

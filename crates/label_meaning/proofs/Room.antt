@@ -1,5 +1,6 @@
 -- 13 and 21 come exactly for a Mapping or a Request that needs a word where none is free; every other absent label takes the first free word, or that of the
 -- Request which its Mapping ends. Assumes nothing.
+use Rattle.std.specs.Prelude.{Option, Some, None}
 use Prim.Native.Nat.{ℕ, ◌+◌, ◌*◌, ◌<◌}
 use mathlib.Core.Bool.{Bool, true, false, true≢false}
 use mathlib.Core.List.{List}
@@ -12,12 +13,8 @@ use lib.Seq.{set-set}
 use borrow.Author.Tests.{eqb-false, ne_eqb, ltb-true, eqb-true}
 use Rattle.octets.specs.Pick.{both}
 use Rattle.octets.proofs.Choice.{by_test, no, both_true}
-use Rattle.label_list.specs.declared.Found.{Found}
-use Rattle.label_list.specs.declared.Found.TheVariants.{At, Nowhere}
 use Rattle.label_list.specs.declared.LabelMessage.{LabelMessage}
 use Rattle.label_list.specs.declared.LabelMessage.TheVariants.{Mapping, Withdraw, Release}
-use Rattle.label_list.specs.declared.Next.{Next}
-use Rattle.label_list.specs.declared.Next.TheVariants.{Code, NotAllowed}
 use Rattle.label_list.specs.declared.Side.{Side}
 use Rattle.label_list.specs.declared.Side.TheVariants.{Given, Used}
 use Rattle.label_list.specs.Find.{find_of}
@@ -44,64 +41,64 @@ use Rattle.label_meaning.proofs.Effect.{free_word}
 use Rattle.label_meaning.proofs.Step.{listed_may}
 
 -- A change finds no room exactly if it lists an absent label where no word is free.
-take-full : (g : Found) (w : ℕ) → take_free g w ≡ NoRoom → g ≡ Nowhere
-take-full (At i) w e = no cc
-take-full Nowhere w e = refl
+take-full : (g : Option ℕ) (w : ℕ) → take_free g w ≡ NoRoom → g ≡ None
+take-full (Some i) w e = no cc
+take-full None w e = refl
 
-full_parts : (f g : Found) (l n : ℕ) → change_at f g l n ≡ NoRoom → (f ≡ Nowhere) × (n ≢ 0) × (g ≡ Nowhere)
+full_parts : (f g : Option ℕ) (l n : ℕ) → change_at f g l n ≡ NoRoom → (f ≡ None) × (n ≢ 0) × (g ≡ None)
 unfolding change_at
-full_parts (At i) g l n e = no cc
-full_parts Nowhere g l n e =
+full_parts (Some i) g l n e = no cc
+full_parts None g l n e =
     by_test
     (eqb n 0)
     (λ z. let keep : Keep ≡ NoRoom = rw z at e in no cc)
     (λ z. (refl, eqb-false n 0 z, take-full g (word_of l n) (rw z at e)))
 
 module _ (words : List ℕ) where
-  none_free : find_of is_free words ≡ Nowhere → NoneFree words
+  none_free : find_of is_free words ≡ None → NoneFree words
   unfolding is_free
   none_free e i h = eqb-false (get_or words i 0) 0 (passed_over_lem is_free words (sym e) i h)
 
-  free_nowhere : (g : Found) → g ≡ find_of is_free words → NoneFree words → g ≡ Nowhere
-  free_nowhere (At i) e none = absurd (none i (found_place words (At i) i (found_in_lem is_free words e) refl) (free_word words i e refl))
-  free_nowhere Nowhere e none = refl
+  free_nowhere : (g : Option ℕ) → g ≡ find_of is_free words → NoneFree words → g ≡ None
+  free_nowhere (Some i) e none = absurd (none i (found_place words (Some i) i (found_in_lem is_free words e) refl) (free_word words i e refl))
+  free_nowhere None e none = refl
 
-  take_first : (g : Found) → g ≡ find_of is_free words → (l n : ℕ) → (take_free g (l + label_count * n) ≡ NoRoom) ⊎ FirstTaken words (changed words (take_free g (l + label_count * n))) l n
+  take_first : (g : Option ℕ) → g ≡ find_of is_free words → (l n : ℕ) → (take_free g (l + label_count * n) ≡ NoRoom) ⊎ FirstTaken words (changed words (take_free g (l + label_count * n))) l n
   unfolding changed is_free
-  take_first (At i) e l n =
+  take_first (Some i) e l n =
       inr (record {
         at = i;
-        inside = found_place words (At i) i (found_in_lem is_free words e) refl;
+        inside = found_place words (Some i) i (found_in_lem is_free words e) refl;
         free = free_word words i e refl;
         first = λ j h. eqb-false (get_or words j 0) 0 (passed_over_lem is_free words e j h);
         taken = refl;
       })
-  take_first Nowhere e l n = inl refl
+  take_first None e l n = inl refl
 
   -- the place for a label: none where no word is spare and no Request is ended, the Request's where one is
-  room_none : (r spare : Found) → room_at r spare words ≡ Nowhere → NoneOpen words r × (where_free spare words ≡ Nowhere)
+  room_none : (r spare : Option ℕ) → room_at r spare words ≡ None → NoneOpen words r × (where_free spare words ≡ None)
   unfolding room_at
-  room_none (At i) spare e =
+  room_none (Some i) spare e =
       by_test
       (is_request (get_or words i 0))
-      (λ t. let there : At i ≡ Nowhere = rw t at e in no cc)
+      (λ t. let there : Some i ≡ None = rw t at e in no cc)
       (λ f. (f, rw f at e))
-  room_none Nowhere spare e = (tt, e)
+  room_none None spare e = (tt, e)
 
-  none_first : (r spare : Found) → NoneOpen words r → room_at r spare words ≡ where_free spare words
+  none_first : (r spare : Option ℕ) → NoneOpen words r → room_at r spare words ≡ where_free spare words
   unfolding room_at
-  none_first (At i) spare closed = rw closed
-  none_first Nowhere spare closed = refl
+  none_first (Some i) spare closed = rw closed
+  none_first None spare closed = refl
 
-  none_ended : (r : Found) → NoneOpen words r → ended_at r words ≡ words
+  none_ended : (r : Option ℕ) → NoneOpen words r → ended_at r words ≡ words
   unfolding ended_at
-  none_ended (At i) closed = rw closed
-  none_ended Nowhere closed = refl
+  none_ended (Some i) closed = rw closed
+  none_ended None closed = refl
 
   -- a place that counts as spare
-  spare_at : (spare : Found) (i : ℕ) → where_free spare words ≡ At i → (spare ≡ At i) × (i < length words) × (get_or words i 0 ≡ 0)
+  spare_at : (spare : Option ℕ) (i : ℕ) → where_free spare words ≡ Some i → (spare ≡ Some i) × (i < length words) × (get_or words i 0 ≡ 0)
   unfolding is_free
-  spare_at (At k) i e =
+  spare_at (Some k) i e =
       by_test
       (both (ltb k (length words)) (eqb (get_or words k 0) 0))
       (λ t.
@@ -109,38 +106,38 @@ module _ (words : List ℕ) where
       let parts = both_true (ltb k (length words)) (eqb (get_or words k 0) 0) t in
       rw (← same) (refl, ltb-true k (length words) parts.0, eqb-true (get_or words k 0) 0 parts.1))
       (λ f. no (cc (rw f at e)))
-  spare_at Nowhere i e = no cc
+  spare_at None i e = no cc
 
-  take_spare : (x : Meets) (g : Found) → where_free x.spare words ≡ g → (l n : ℕ)
+  take_spare : (x : Meets) (g : Option ℕ) → where_free x.spare words ≡ g → (l n : ℕ)
       → (take_free g (l + label_count * n) ≡ NoRoom) ⊎ SpareTaken x words (changed words (take_free g (l + label_count * n))) l n
   unfolding changed
-  take_spare x (At i) e l n =
+  take_spare x (Some i) e l n =
       let s = spare_at x.spare i e in
       inr (record { at = i; spare = s.0; inside = s.1; free = s.2; taken = refl })
-  take_spare x Nowhere e l n = inl refl
+  take_spare x None e l n = inl refl
 
   module _ (s : Side) (l : ℕ) where
     -- the side lacks a label exactly if no word is found for it
-    found_absent : (f : Found) → f ≡ find_of (stands_for s l) words → code_in words f ≡ 0 → f ≡ Nowhere
+    found_absent : (f : Option ℕ) → f ≡ find_of (stands_for s l) words → code_in words f ≡ 0 → f ≡ None
     unfolding code_in
-    found_absent (At i) e z =
+    found_absent (Some i) e z =
         absurd (side-listed s (code_of (get_or words i 0)) (stands_parts s l (get_or words i 0) (found_passes (stands_for s l) words i e refl)).0 z)
-    found_absent Nowhere e z = refl
+    found_absent None e z = refl
 
-    pub nowhere : code_at words s l ≡ 0 → find_of (stands_for s l) words ≡ Nowhere
+    pub nowhere : code_at words s l ≡ 0 → find_of (stands_for s l) words ≡ None
     nowhere = found_absent (find_of (stands_for s l) words) refl
 
-    lacking_code : find_of (stands_for s l) words ≡ Nowhere → code_at words s l ≡ 0
+    lacking_code : find_of (stands_for s l) words ≡ None → code_at words s l ≡ 0
     unfolding code_in
     lacking_code e = rw e
 
     module _ (n : ℕ) where
-      full_lacks : (place : Found) → listable l ≡ true → change_with words place s l n ≡ NoRoom → NeedsWord words s l × (n ≢ 0) × (place ≡ Nowhere)
+      full_lacks : (place : Option ℕ) → listable l ≡ true → change_with words place s l n ≡ NoRoom → NeedsWord words s l × (n ≢ 0) × (place ≡ None)
       full_lacks place may e =
           let parts = full_parts (find_of (stands_for s l) words) place l n e in
           (record { may = may; lacking = lacking_code parts.0 }, parts.1, parts.2)
 
-      lacks_full : (place : Found) → NeedsWord words s l → n ≢ 0 → place ≡ Nowhere → change_with words place s l n ≡ NoRoom
+      lacks_full : (place : Option ℕ) → NeedsWord words s l → n ≢ 0 → place ≡ None → change_with words place s l n ≡ NoRoom
       lacks_full place needs new none = sym (change-full l n (find_of (stands_for s l) words) place (nowhere needs.lacking) new refl none)
 
       -- where there is room an absent label takes the first free word
@@ -149,17 +146,17 @@ module _ (words : List ℕ) where
       absent-change z new = rw (nowhere z, ne_eqb n 0 new) (take_first (find_of is_free words) refl l n)
 
 -- A label that is absent is placed as any absent one, whatever its entry.
-placed_absent : (b : Bool) (g : Found) (l n : ℕ) → placed_at b Nowhere g l n ≡ change_at Nowhere g l n
+placed_absent : (b : Bool) (g : Option ℕ) (l n : ℕ) → placed_at b None g l n ≡ change_at None g l n
 unfolding placed_at
 placed_absent true g l n = refl
 placed_absent false g l n = refl
 
 -- A change that places a label finds no room exactly if it needs a word, or leaves its own, and there is none.
-placed_parts : (b : Bool) (f g : Found) (l n : ℕ) → placed_at b f g l n ≡ NoRoom → (((f ≡ Nowhere) × (n ≢ 0)) ⊎ ((b ≡ true) × (f ≢ Nowhere))) × (g ≡ Nowhere)
+placed_parts : (b : Bool) (f g : Option ℕ) (l n : ℕ) → placed_at b f g l n ≡ NoRoom → (((f ≡ None) × (n ≢ 0)) ⊎ ((b ≡ true) × (f ≢ None))) × (g ≡ None)
 unfolding placed_at
-placed_parts true (At i) (At j) l n e = no cc
-placed_parts true (At i) Nowhere l n e = (inr (refl, λ z. no cc), refl)
-placed_parts true Nowhere g l n e = let p = full_parts Nowhere g l n e in (inl (p.0, p.1), p.2)
+placed_parts true (Some i) (Some j) l n e = no cc
+placed_parts true (Some i) None l n e = (inr (refl, λ z. no cc), refl)
+placed_parts true None g l n e = let p = full_parts None g l n e in (inl (p.0, p.1), p.2)
 placed_parts false f g l n e = let p = full_parts f g l n e in (inl (p.0, p.1), p.2)
 
 -- The answers, taken apart.
@@ -177,7 +174,7 @@ reception_full NoRoom e = refl
 
 module _ (words : List ℕ) where
   -- of an absent label only a Mapping is accepted, and only a Mapping that is received makes a code
-  accepted_lacks : (m : LabelMessage) (l n : ℕ) → code_accepted m 0 ≡ Code n → NeedsWord words (sent_side m) l → NoneFree words → LacksRoom words (Accepted m l)
+  accepted_lacks : (m : LabelMessage) (l n : ℕ) → code_accepted m 0 ≡ Some n → NeedsWord words (sent_side m) l → NoneFree words → LacksRoom words (Accepted m l)
   unfolding code_accepted sent_side
   accepted_lacks Mapping l n e needs none = sent needs none
   accepted_lacks Withdraw l n e needs none = no cc
@@ -194,15 +191,15 @@ module _ (words : List ℕ) where
   new_mapping Withdraw p h = absurd (h refl)
   new_mapping Release p h = absurd (h refl)
 
-  found_listed : (s : Side) (l : ℕ) → find_of (stands_for s l) words ≢ Nowhere → code_at words s l ≢ 0
+  found_listed : (s : Side) (l : ℕ) → find_of (stands_for s l) words ≢ None → code_at words s l ≢ 0
   found_listed s l h z = h (nowhere words s l z)
 
-  next_lacks : (m : LabelMessage) (l : ℕ) (next : Next) → listable l ≡ true → code_accepted m (code_at words (sent_side m) l) ≡ next
+  next_lacks : (m : LabelMessage) (l : ℕ) (next : Option ℕ) → listable l ≡ true → code_accepted m (code_at words (sent_side m) l) ≡ next
       → (accepted_by words (plan_by next words (sent_side m) l)).0 ≡ Acceptance.NoRoom → LacksRoom words (Accepted m l)
-  next_lacks m l (Code n) may rule e =
+  next_lacks m l (Some n) may rule e =
       let full = full_lacks words (sent_side m) l n (find_of is_free words) may (acceptance_full (change_of words (sent_side m) l n) e) in
       accepted_lacks m l n (rw full.0.lacking at rule) full.0 (none_free words full.2)
-  next_lacks m l NotAllowed may rule e = no cc
+  next_lacks m l None may rule e = no cc
 
   change_lacks : (x : Meets) (m : LabelMessage) (p : Bool) (l : ℕ) → listable l ≡ true
       → placed_at (moves_by m x.another) (find_of (stands_for (received_side m) l) words) (room_at x.request x.spare words) l (code_received m p (code_at words (received_side m) l)) ≡ NoRoom
@@ -212,11 +209,11 @@ module _ (words : List ℕ) where
       let full = placed_parts (moves_by m x.another) (find_of (stands_for (received_side m) l) words) (room_at x.request x.spare words) l (code_received m p (code_at words (received_side m) l)) e in
       let none = room_none words x.request x.spare full.1 in
       ⊎_elim
-      (λ (lack : (find_of (stands_for (received_side m) l) words ≡ Nowhere) × (code_received m p (code_at words (received_side m) l) ≢ 0)).
+      (λ (lack : (find_of (stands_for (received_side m) l) words ≡ None) × (code_received m p (code_at words (received_side m) l) ≢ 0)).
       let zero : code_at words (received_side m) l ≡ 0 = lacking_code words (received_side m) l lack.0 in
       let is : m ≡ Mapping = new_mapping m p (rw zero at lack.1) in
       rw is (received (lacks (record { may = may; lacking = rw is at zero })) none.1 none.0))
-      (λ (leave : (moves_by m x.another ≡ true) × (find_of (stands_for (received_side m) l) words ≢ Nowhere)).
+      (λ (leave : (moves_by m x.another ≡ true) × (find_of (stands_for (received_side m) l) words ≢ None)).
       let is = moves_mapping m x.another leave.0 in
       rw is.0 (received (leaves (rw is.0 at (found_listed (received_side m) l leave.1)) is.1) none.1 none.0))
       full.0
@@ -250,22 +247,22 @@ module _ (words : List ℕ) where
   mapping_new true z = omega arith
   mapping_new false z = omega arith
 
-  full_at : (b : Bool) (f : Found) (l n : ℕ) → f ≢ Nowhere → b ≡ true → placed_at b f Nowhere l n ≡ NoRoom
+  full_at : (b : Bool) (f : Option ℕ) (l n : ℕ) → f ≢ None → b ≡ true → placed_at b f None l n ≡ NoRoom
   unfolding placed_at
-  full_at true (At i) l n h e = refl
-  full_at true Nowhere l n h e = absurd (h refl)
+  full_at true (Some i) l n h e = refl
+  full_at true None l n h e = absurd (h refl)
   full_at false f l n h e = no cc
 
-  full_new : (b : Bool) (f : Found) (l n : ℕ) → f ≡ Nowhere → n ≢ 0 → placed_at b f Nowhere l n ≡ NoRoom
+  full_new : (b : Bool) (f : Option ℕ) (l n : ℕ) → f ≡ None → n ≢ 0 → placed_at b f None l n ≡ NoRoom
   unfolding placed_at
   full_new b f l n e h =
-      let plain : NoRoom ≡ change_at Nowhere Nowhere l n = change-full l n Nowhere Nowhere refl h refl refl in
+      let plain : NoRoom ≡ change_at None None l n = change-full l n None None refl h refl refl in
       rw e (by_test b (λ t. rw t (sym plain)) (λ f. rw f (sym plain)))
 
-  listed_found : (s : Side) (k : ℕ) → code_at words s k ≢ 0 → find_of (stands_for s k) words ≢ Nowhere
+  listed_found : (s : Side) (k : ℕ) → code_at words s k ≢ 0 → find_of (stands_for s k) words ≢ None
   listed_found s k h z = h (lacking_code words s k z)
 
-  received-full : (x : Meets) (p : Bool) (k : ℕ) → IsValid words → NeedsRoom words x k → room_at x.request x.spare words ≡ Nowhere
+  received-full : (x : Meets) (p : Bool) (k : ℕ) → IsValid words → NeedsRoom words x k → room_at x.request x.spare words ≡ None
       → received_change words (room_at x.request x.spare words) x.another Mapping p k ≡ NoRoom
   unfolding received_change received_side
   received-full x p k v (lacks needs) none =
@@ -301,7 +298,7 @@ module _ (words : List ℕ) where
   unfolding received_with received_change received_side change_at word_of
   received-takes x p k d e needs closed =
       let new : d ≢ 0 = rw e at (mapping_new p) in
-      let still : find_of (stands_for Used k) words ≡ Nowhere = nowhere words Used k needs.lacking in
+      let still : find_of (stands_for Used k) words ≡ None = nowhere words Used k needs.lacking in
       let plain = placed_absent x.another (where_free x.spare words) k d in
       rw (none_ended words x.request closed, none_first words x.request x.spare closed, needs.may, needs.lacking, e, still, plain, ne_eqb d 0 new)
       (⊎_elim
@@ -343,8 +340,8 @@ module _ (words : List ℕ) where
       (take_first words (find_of is_free words) refl 0 request_code)
 
   -- "the Mapping taking its word if the label has none": where a Request is ended, its word alone changes, and 21 never comes
-  module _ (x : Meets) (i : ℕ) (at : x.request ≡ At i) (there : is_request (get_or words i 0) ≡ true) where
-    request-room : room_at x.request x.spare words ≡ At i
+  module _ (x : Meets) (i : ℕ) (at : x.request ≡ Some i) (there : is_request (get_or words i 0) ≡ true) where
+    request-room : room_at x.request x.spare words ≡ Some i
     unfolding room_at
     request-room = rw (at, there)
 
@@ -357,8 +354,8 @@ module _ (words : List ℕ) where
     unfolding received_change received_side change_at word_of
     answer_change p k d e needs =
         let new : d ≢ 0 = rw e at (mapping_new p) in
-        let still : find_of (stands_for Used k) words ≡ Nowhere = nowhere words Used k needs.lacking in
-        rw (request-room, needs.may, needs.lacking, e, still, placed_absent x.another (At i) k d, ne_eqb d 0 new)
+        let still : find_of (stands_for Used k) words ≡ None = nowhere words Used k needs.lacking in
+        rw (request-room, needs.may, needs.lacking, e, still, placed_absent x.another (Some i) k d, ne_eqb d 0 new)
 
     pub answer_put : (p : Bool) (k d : ℕ) → code_received Mapping p 0 ≡ d → NeedsWord words Used k → (received_of words x Mapping p (Label k)).1 ≡ set words i (k + label_count * d)
     unfolding received_with changed
@@ -371,18 +368,18 @@ module _ (words : List ℕ) where
 
     pub answer_has_room : (m : LabelMessage) (p : Bool) (t : Reach) → NoRoomAnswered words (Received x m p t) → ⊥
     answer_has_room m p t a =
-        let closed : NoneOpen words (At i) = rw at at (lacking_closed (no_room_lacks (Received x m p t) a)) in
+        let closed : NoneOpen words (Some i) = rw at at (lacking_closed (no_room_lacks (Received x m p t) a)) in
         true≢false (sym there ∙ closed)
 
   -- 02: "A received Mapping that would change a listed label's entry moves it, with 01's code, to a new word": its old word is free then, and it stands in the
   -- room for it under the code of 01's table; or there is none (21)
   module _ (x : Meets) (another : x.another ≡ true) (k : ℕ) (v : IsValid words) (there : code_at words Used k ≢ 0) where
-    move_to_room : (f g : Found) (w : ℕ) → f ≢ Nowhere → (b : Bool) → b ≡ true → (l n : ℕ) → w ≡ word_of l n
-        → (placed_at b f g l n ≡ NoRoom) ⊎ ((i : ℕ) × (j : ℕ) × (f ≡ At i) × (g ≡ At j) × (placed_at b f g l n ≡ Move i j w))
+    move_to_room : (f g : Option ℕ) (w : ℕ) → f ≢ None → (b : Bool) → b ≡ true → (l n : ℕ) → w ≡ word_of l n
+        → (placed_at b f g l n ≡ NoRoom) ⊎ ((i : ℕ) × (j : ℕ) × (f ≡ Some i) × (g ≡ Some j) × (placed_at b f g l n ≡ Move i j w))
     unfolding placed_at
-    move_to_room (At i) (At j) w h true e l n z = inr (i, j, refl, refl, rw z)
-    move_to_room (At i) Nowhere w h true e l n z = inl refl
-    move_to_room Nowhere g w h true e l n z = absurd (h refl)
+    move_to_room (Some i) (Some j) w h true e l n z = inr (i, j, refl, refl, rw z)
+    move_to_room (Some i) None w h true e l n z = inl refl
+    move_to_room None g w h true e l n z = absurd (h refl)
     move_to_room f g w h false e l n z = no cc
 
     pub moved_takes : (p : Bool) → NoRoomAnswered words (Received x Mapping p (Label k))
@@ -394,7 +391,7 @@ module _ (words : List ℕ) where
         rw (received_same words x Mapping p (room_at x.request x.spare words) k, may)
         (⊎_elim
         (λ (full : placed_at x.another (find_of (stands_for Used k) words) (room_at x.request x.spare words) k code ≡ NoRoom). inl (rw full))
-        (λ (m : (i : ℕ) × (j : ℕ) × (find_of (stands_for Used k) words ≡ At i) × (room_at x.request x.spare words ≡ At j)
+        (λ (m : (i : ℕ) × (j : ℕ) × (find_of (stands_for Used k) words ≡ Some i) × (room_at x.request x.spare words ≡ Some j)
         × (placed_at x.another (find_of (stands_for Used k) words) (room_at x.request x.spare words) k code ≡ Move i j (word_of k code))).
         inr (rw m.4
         (record {

@@ -1,4 +1,5 @@
 -- A Mapping that is accepted or taken leaves its label with the entry of its FEC, whether it takes a word, moves or stays. Assumes nothing.
+use Rattle.std.specs.Prelude.{Option, Some, None}
 use Prim.Native.Nat.{ℕ, ◌≤◌, ◌<◌}
 use mathlib.Core.Bool.{Bool, true, false}
 use mathlib.Core.List.{List}
@@ -9,11 +10,7 @@ use lib.Dec.{eqb, leb}
 use lib.ListN.{length, get_or}
 use borrow.Author.Tests.{eqb-false, ne_eqb}
 use Rattle.octets.proofs.Choice.{by_test, no}
-use Rattle.label_list.specs.declared.Found.{Found}
-use Rattle.label_list.specs.declared.Found.TheVariants.{At, Nowhere}
 use Rattle.label_list.specs.declared.LabelMessage.TheVariants.{Mapping}
-use Rattle.label_list.specs.declared.Next.{Next}
-use Rattle.label_list.specs.declared.Next.TheVariants.{Code, NotAllowed}
 use Rattle.label_list.specs.declared.Side.{Side}
 use Rattle.label_list.specs.declared.Side.TheVariants.{Given, Used}
 use Rattle.label_list.specs.Beside.{entry_on}
@@ -25,7 +22,6 @@ use Rattle.label_events.specs.declared.Acceptance.{Acceptance}
 use Rattle.label_events.specs.declared.Change.{Change}
 use Rattle.label_events.specs.declared.Change.TheVariants.{NoRoom}
 use Rattle.label_events.specs.declared.Meets.{Meets}
-use Rattle.label_events.specs.declared.Plan.{Plan}
 use Rattle.label_events.specs.declared.Reception.{Reception}
 use Rattle.label_events.specs.Accept.{plan_of, acceptance_of, accepted_by, accepted_of}
 use Rattle.label_events.specs.Change.{code_at, changed, change_at, placed_at, taken_at, put_at}
@@ -47,22 +43,22 @@ use Rattle.label_meaning.proofs.Taken.{placed_word, stands_inside, event-entry}
 use Rattle.label_meaning.proofs.View.{is_code}
 
 -- a label that gets a code, where there is room: it takes a word, or stays in its own
-abbrev Placed : Bool → Found → Found → ℕ → ℕ → Type 0
+abbrev Placed : Bool → Option ℕ → Option ℕ → ℕ → ℕ → Type 0
 Placed b f g k c =
-    ((j : ℕ) × (taken_at f (placed_at b f g k c) ≡ At j)) ⊎ ((b ≡ false) × (is_found f ≡ true))
+    ((j : ℕ) × (taken_at f (placed_at b f g k c) ≡ Some j)) ⊎ ((b ≡ false) × (is_found f ≡ true))
 
-new_placed : (g : Found) (k c : ℕ) → c ≢ 0 → change_at Nowhere g k c ≢ NoRoom → (j : ℕ) × (taken_at Nowhere (change_at Nowhere g k c) ≡ At j)
+new_placed : (g : Option ℕ) (k c : ℕ) → c ≢ 0 → change_at None g k c ≢ NoRoom → (j : ℕ) × (taken_at None (change_at None g k c) ≡ Some j)
 unfolding change_at
-new_placed (At n) k c h room = (n, rw (ne_eqb c 0 h))
-new_placed Nowhere k c h room = absurd (room (rw (ne_eqb c 0 h)))
+new_placed (Some n) k c h room = (n, rw (ne_eqb c 0 h))
+new_placed None k c h room = absurd (room (rw (ne_eqb c 0 h)))
 
-placed_cases : (b : Bool) (f g : Found) (k c : ℕ) → c ≢ 0 → placed_at b f g k c ≢ NoRoom → Placed b f g k c
+placed_cases : (b : Bool) (f g : Option ℕ) (k c : ℕ) → c ≢ 0 → placed_at b f g k c ≢ NoRoom → Placed b f g k c
 unfolding placed_at change_at
-placed_cases true (At i) (At n) k c h room = inl (n, refl)
-placed_cases true (At i) Nowhere k c h room = absurd (room refl)
-placed_cases true Nowhere g k c h room = inl (new_placed g k c h room)
-placed_cases false (At i) g k c h room = inr (refl, refl)
-placed_cases false Nowhere g k c h room = inl (new_placed g k c h room)
+placed_cases true (Some i) (Some n) k c h room = inl (n, refl)
+placed_cases true (Some i) None k c h room = absurd (room refl)
+placed_cases true None g k c h room = inl (new_placed g k c h room)
+placed_cases false (Some i) g k c h room = inr (refl, refl)
+placed_cases false None g k c h room = inl (new_placed g k c h room)
 
 -- the word of a label under a code stands for it
 word_stands : (s : Side) (l c : ℕ) → listable l ≡ true → Proper s c → c ≢ 0 → stands_for s l (word_of l c) ≡ true
@@ -81,7 +77,7 @@ mapping-listed false c = by_test (eqb c 0) (λ t. rw t (λ z. omega arith)) (λ 
 
 module _ (words index : List ℕ) (v : IsValid words) (long : length words ≤ length index) (entry : ℕ) where
   -- the entry after an event whose label stands where a word is taken
-  at-taken : (e : LabelEvent) (s : Side) (l j : ℕ) → taken_by words e ≡ At j → stands_for s l (get_or (after_event words e) j 0) ≡ true
+  at-taken : (e : LabelEvent) (s : Side) (l j : ℕ) → taken_by words e ≡ Some j → stands_for s l (get_or (after_event words e) j 0) ≡ true
       → entry_on (after_event words e) (put_at (taken_by words e) entry index) s l ≡ entry
   at-taken e s l j at stands =
       let inside : j < length (after_event words e) = stands_inside (after_event words e) s l j stands in
@@ -101,10 +97,10 @@ module _ (words index : List ℕ) (v : IsValid words) (long : length words ≤ l
     abbrev event : LabelEvent
     event = Received x Mapping p (Label l)
 
-    abbrev there : Found
+    abbrev there : Option ℕ
     there = find_of (stands_for Used l) words
 
-    abbrev room : Found
+    abbrev room : Option ℕ
     room = room_at x.request x.spare words
 
     abbrev becomes : ℕ
@@ -131,7 +127,7 @@ module _ (words index : List ℕ) (v : IsValid words) (long : length words ≤ l
     received_sets done =
         let effect : Effect words (received_of words x Mapping p (Label l)).1 Used l becomes = received-taken words v x Mapping p l may done in
         ⊎_elim
-        (λ (t : (j : ℕ) × (taken_at there change ≡ At j)).
+        (λ (t : (j : ℕ) × (taken_at there change ≡ Some j)).
         at-taken event Used l t.0 (takes_is ∙ t.1)
         (rw (after_is, placed_word (ended_at x.request words) l becomes t.0 x.another there room (room_is_free x.request x.spare words) t.1)
         (word_stands Used l becomes may (received_proper Mapping p (code_at words Used l) (code_proper words Used l)) (mapping-listed p (code_at words Used l)))))
@@ -150,21 +146,21 @@ module _ (words index : List ℕ) (v : IsValid words) (long : length words ≤ l
     abbrev ours : LabelEvent
     ours = Accepted Mapping l
 
-    abbrev here : Found
+    abbrev here : Option ℕ
     here = find_of (stands_for Given l) words
 
-    abbrev free : Found
+    abbrev free : Option ℕ
     free = find_of is_free words
 
-    accepted_one : (n c : ℕ) → code_accepted Mapping n ≡ Code c → c ≢ 0
+    accepted_one : (n c : ℕ) → code_accepted Mapping n ≡ Some c → c ≢ 0
     unfolding code_accepted
     accepted_one n c e =
         by_test (leb n 1)
-        (λ t. let one : Code 1 ≡ Code c = rw t at e in let is : 1 ≡ c = cc in λ z. omega arith)
-        (λ f. let z : NotAllowed ≡ Code c = rw f at e in no cc)
+        (λ t. let one : Some 1 ≡ Some c = rw t at e in let is : 1 ≡ c = cc in λ z. omega arith)
+        (λ f. let z : None ≡ Some c = rw f at e in no cc)
 
-    module _ (may : listable l ≡ true) (c : ℕ) (code : code_accepted Mapping (code_at words Given l) ≡ Code c) where
-      plan_is : plan_of words Mapping l ≡ Plan.Allowed (change_at here free l c)
+    module _ (may : listable l ≡ true) (c : ℕ) (code : code_accepted Mapping (code_at words Given l) ≡ Some c) where
+      plan_is : plan_of words Mapping l ≡ Some (change_at here free l c)
       unfolding plan_of sent_side
       plan_is = rw (may, code)
 
@@ -173,7 +169,7 @@ module _ (words index : List ℕ) (v : IsValid words) (long : length words ≤ l
 
       our_words : after_event words ours ≡ changed words (change_at here free l c)
       unfolding after_event accepted_of
-      our_words = ap (λ (plan : Plan). (accepted_by words plan).1) plan_is
+      our_words = ap (λ (plan : Option Change). (accepted_by words plan).1) plan_is
 
       code_sets : (accepted_of words Mapping l).0 ≡ Acceptance.Taken → entry_on (after_event words ours) (put_at (taken_by words ours) entry index) Given l ≡ entry
       unfolding placed_at accepted_of after_event sent_side
@@ -182,7 +178,7 @@ module _ (words index : List ℕ) (v : IsValid words) (long : length words ≤ l
           let told : acceptance_of (change_at here free l c) ≡ Acceptance.Taken = rw plan_is at done in
           let proper : Proper Given c = accepted_proper Mapping (code_at words Given l) c code in
           ⊎_elim
-          (λ (t : (j : ℕ) × (taken_at here (change_at here free l c) ≡ At j)).
+          (λ (t : (j : ℕ) × (taken_at here (change_at here free l c) ≡ Some j)).
           at-taken ours Given l t.0 (our_place ∙ t.1)
           (rw (our_words, placed_word words l c t.0 false here free (free_first words free refl) t.1) (word_stands Given l c may proper new)))
           (λ (o : (false ≡ false) × (is_found here ≡ true)).
@@ -198,7 +194,7 @@ module _ (words index : List ℕ) (v : IsValid words) (long : length words ≤ l
         (λ may. by may (code_accepted Mapping (code_at words Given l)) refl)
         (λ may. let z : Acceptance.NotAllowed ≡ Acceptance.Taken = rw may at done in no cc)
       where
-        by : listable l ≡ true → (n : Next) → code_accepted Mapping (code_at words Given l) ≡ n
+        by : listable l ≡ true → (n : Option ℕ) → code_accepted Mapping (code_at words Given l) ≡ n
             → entry_on (after_event words ours) (put_at (taken_by words ours) entry index) Given l ≡ entry
-        by may (Code c) e = code_sets may c e done
-        by may NotAllowed e = let z : Acceptance.NotAllowed ≡ Acceptance.Taken = rw (may, e) at done in no cc
+        by may (Some c) e = code_sets may c e done
+        by may None e = let z : Acceptance.NotAllowed ≡ Acceptance.Taken = rw (may, e) at done in no cc

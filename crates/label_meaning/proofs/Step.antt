@@ -1,4 +1,5 @@
 -- Each event changes one label's code by its rule, or takes every label through a rule; a valid list stays valid. Assumes nothing.
+use Rattle.std.specs.Prelude.{Option, Some, None}
 use Prim.Native.Nat.{ℕ, ◌≤◌, ◌<◌}
 use mathlib.Core.Bool.{Bool, true, false}
 use mathlib.Core.List.{List}
@@ -11,12 +12,8 @@ use lib.Seq.{get_or-set_same}
 use borrow.Author.Tests.{ltb-true, eqb-true}
 use Rattle.octets.specs.Pick.{both}
 use Rattle.octets.proofs.Choice.{by_test, no, both_true}
-use Rattle.label_list.specs.declared.Found.{Found}
-use Rattle.label_list.specs.declared.Found.TheVariants.{At, Nowhere}
 use Rattle.label_list.specs.declared.LabelMessage.{LabelMessage}
 use Rattle.label_list.specs.declared.LabelMessage.TheVariants.{Mapping, Withdraw, Release}
-use Rattle.label_list.specs.declared.Next.{Next}
-use Rattle.label_list.specs.declared.Next.TheVariants.{Code, NotAllowed}
 use Rattle.label_list.specs.declared.Side.{Side}
 use Rattle.label_list.specs.declared.SweepRule.TheVariants.{WithdrawAll, ReleaseAll, AfterBreak}
 use Rattle.label_list.specs.Find.{find_of}
@@ -70,12 +67,12 @@ has_room NoRoom e z = no cc
 -- A message of ours that is allowed, with room for it.
 pub record Accepts (words : List ℕ) (m : LabelMessage) (l : ℕ) (after : List ℕ) : Type 0 where
   pub code : ℕ
-  pub rule : code_accepted m (code_at words (sent_side m) l) ≡ Code code
+  pub rule : code_accepted m (code_at words (sent_side m) l) ≡ Some code
   pub effect : Effect words after (sent_side m) l code
 
 module _ (words : List ℕ) (v : IsValid words) where
   -- a change to a proper code, where the label may be listed
-  change_outcome : (place : Found) → FreeAt words place → (s : Side) (l c : ℕ) → listable l ≡ true → Proper s c
+  change_outcome : (place : Option ℕ) → FreeAt words place → (s : Side) (l c : ℕ) → listable l ≡ true → Proper s c
       → (changed words (change_with words place s l c) ≡ words) ⊎ Effect words (changed words (change_with words place s l c)) s l c
   unfolding changed
   change_outcome place free s l c may proper =
@@ -87,14 +84,14 @@ module _ (words : List ℕ) (v : IsValid words) where
 
   -- a message of ours: refused, or its label's code becomes what the rule says
   module _ (m : LabelMessage) (l : ℕ) where
-    next_outcome : listable l ≡ true → (n : Next) → code_accepted m (code_at words (sent_side m) l) ≡ n
+    next_outcome : listable l ≡ true → (n : Option ℕ) → code_accepted m (code_at words (sent_side m) l) ≡ n
         → ((accepted_by words (plan_by n words (sent_side m) l)).1 ≡ words) ⊎ Accepts words m l (accepted_by words (plan_by n words (sent_side m) l)).1
-    next_outcome may (Code c) e =
+    next_outcome may (Some c) e =
         ⊎_elim
         inl
         (λ (x : Effect words (changed words (change_of words (sent_side m) l c)) (sent_side m) l c). inr (record { code = c; rule = e; effect = x }))
         (change_outcome (find_of is_free words) (free_first words (find_of is_free words) refl) (sent_side m) l c may (accepted_proper m (code_at words (sent_side m) l) c e))
-    next_outcome may NotAllowed e = inl refl
+    next_outcome may None e = inl refl
 
     pub accepted_outcome : ((accepted_of words m l).1 ≡ words) ⊎ Accepts words m l (accepted_of words m l).1
     unfolding accepted_of plan_of
@@ -105,17 +102,17 @@ module _ (words : List ℕ) (v : IsValid words) where
         (λ may. inl (rw may))
 
     -- where it is taken its code is what the rule says
-    next-taken : listable l ≡ true → (n : Next) → code_accepted m (code_at words (sent_side m) l) ≡ n → (accepted_by words (plan_by n words (sent_side m) l)).0 ≡ Acceptance.Taken
+    next-taken : listable l ≡ true → (n : Option ℕ) → code_accepted m (code_at words (sent_side m) l) ≡ n → (accepted_by words (plan_by n words (sent_side m) l)).0 ≡ Acceptance.Taken
         → Accepts words m l (accepted_by words (plan_by n words (sent_side m) l)).1
-    next-taken may (Code c) e taken =
+    next-taken may (Some c) e taken =
         let range : (16 ≤ l) × (l ≤ 1048575) = within_range 16 1048575 l may in
-        let first : Found = find_of is_free words in
+        let first : (Option ℕ) = find_of is_free words in
         record {
           code = c;
           rule = e;
           effect = change_effect words v (sent_side m) l c range.0 (omega arith) (accepted_proper m (code_at words (sent_side m) l) c e) first (free_first words first refl) (has_room (change_of words (sent_side m) l c) taken);
         }
-    next-taken may NotAllowed e taken = no cc
+    next-taken may None e taken = no cc
 
     pub accepted_taken : (accepted_of words m l).0 ≡ Acceptance.Taken → Accepts words m l (accepted_of words m l).1
     unfolding accepted_of plan_of
@@ -133,26 +130,26 @@ module _ (words : List ℕ) (v : IsValid words) where
       (omega (arith, range.label), omega arith)
 
   module _ (s : Side) (l n : ℕ) (proper : Proper s n) where
-    found_effect : (i : ℕ) → At i ≡ find_of (stands_for s l) words → Effect words (set words i (word_of l n)) s l n
+    found_effect : (i : ℕ) → Some i ≡ find_of (stands_for s l) words → Effect words (set words i (word_of l n)) s l n
     unfolding change_at changed
     found_effect i e =
         let range : (16 ≤ l) × (l < label_count) = listed_label s l i (found_passes (stands_for s l) words i e refl) in
-        effect_found words v s l n range.0 range.1 proper (At i) Nowhere e tt (λ z. let z : ◌≡◌ {A = ℕ} 0 1 = cc in omega arith)
+        effect_found words v s l n range.0 range.1 proper (Some i) None e tt (λ z. let z : ◌≡◌ {A = ℕ} 0 1 = cc in omega arith)
 
-    listed_found : (f place : Found) → f ≡ find_of (stands_for s l) words → code_in words f ≢ 0 → (listable l ≡ true) × Effect words (changed words (change_at f place l n)) s l n
+    listed_found : (f place : Option ℕ) → f ≡ find_of (stands_for s l) words → code_in words f ≢ 0 → (listable l ≡ true) × Effect words (changed words (change_at f place l n)) s l n
     unfolding code_in change_at changed
-    listed_found (At i) place e h =
+    listed_found (Some i) place e h =
         let range : (16 ≤ l) × (l < label_count) = listed_label s l i (found_passes (stands_for s l) words i e refl) in
         (sym (within_in 16 1048575 l range.0 (omega arith)), found_effect i e)
-    listed_found Nowhere place e h = absurd (h refl)
+    listed_found None place e h = absurd (h refl)
 
-    listed_effect : (place : Found) → code_at words s l ≢ 0 → (listable l ≡ true) × Effect words (changed words (change_with words place s l n)) s l n
+    listed_effect : (place : Option ℕ) → code_at words s l ≢ 0 → (listable l ≡ true) × Effect words (changed words (change_with words place s l n)) s l n
     listed_effect place = listed_found (find_of (stands_for s l) words) place refl
 
   pub listed_may : (s : Side) (l : ℕ) → code_at words s l ≢ 0 → listable l ≡ true
-  listed_may s l h = (listed_effect s l 0 (inl refl) Nowhere h).0
+  listed_may s l h = (listed_effect s l 0 (inl refl) None h).0
 
-  pub accepted_listed : (m : LabelMessage) (l n : ℕ) → code_at words (sent_side m) l ≢ 0 → code_accepted m (code_at words (sent_side m) l) ≡ Code n → Effect words (accepted_of words m l).1 (sent_side m) l n
+  pub accepted_listed : (m : LabelMessage) (l n : ℕ) → code_at words (sent_side m) l ≢ 0 → code_accepted m (code_at words (sent_side m) l) ≡ Some n → Effect words (accepted_of words m l).1 (sent_side m) l n
   unfolding accepted_of plan_of
   accepted_listed m l n h e =
       let listed-l = listed_effect (sent_side m) l n (accepted_proper m (code_at words (sent_side m) l) n e) (find_of is_free words) h in
@@ -165,18 +162,18 @@ module _ (words : List ℕ) (v : IsValid words) where
   acked_none Withdraw = refl
   acked_none Release = refl
 
-  acked-at : (m : LabelMessage) (l : ℕ) (f : Found) → f ≡ find_of (stands_for (sent_side m) l) words → Effect words (acked_at f words m l) (sent_side m) l (code_acked m (code_in words f))
+  acked-at : (m : LabelMessage) (l : ℕ) (f : Option ℕ) → f ≡ find_of (stands_for (sent_side m) l) words → Effect words (acked_at f words m l) (sent_side m) l (code_acked m (code_in words f))
   unfolding acked_at code_in
-  acked-at m l (At i) e =
+  acked-at m l (Some i) e =
       let on : on_side (sent_side m) (code_of (get_or words i 0)) ≡ true = (stands_parts (sent_side m) l (get_or words i 0) (found_passes (stands_for (sent_side m) l) words i e refl)).0 in
       found_effect (sent_side m) l (code_acked m (code_of (get_or words i 0))) (acked_proper m (code_of (get_or words i 0)) (inr on)) i e
-  acked-at m l Nowhere e = keep_effect words v (sent_side m) l (code_acked m 0) (found_none words (sent_side m) l (sym e)) (acked_none m)
+  acked-at m l None e = keep_effect words v (sent_side m) l (code_acked m 0) (found_none words (sent_side m) l (sym e)) (acked_none m)
 
   pub acked_effect : (m : LabelMessage) (l : ℕ) → Effect words (acked_of words m l) (sent_side m) l (code_acked m (code_at words (sent_side m) l))
   acked_effect m l = acked-at m l (find_of (stands_for (sent_side m) l) words) refl
 
   -- a message of the peer's that names its label, where `place` is that of a free word
-  module _ (place : Found) (another : Bool) (m : LabelMessage) (p : Bool) (l : ℕ) where
+  module _ (place : Option ℕ) (another : Bool) (m : LabelMessage) (p : Bool) (l : ℕ) where
     proper_received : Proper (received_side m) (code_received m p (code_at words (received_side m) l))
     proper_received = received_proper m p (code_at words (received_side m) l) (code_proper words (received_side m) l)
 
@@ -197,7 +194,7 @@ module _ (words : List ℕ) (v : IsValid words) where
         (λ may.
         let range : (16 ≤ l) × (l ≤ 1048575) = within_range 16 1048575 l may in
         let code : ℕ = code_received m p (code_at words (received_side m) l) in
-        let there : Found = find_of (stands_for (received_side m) l) words in
+        let there : (Option ℕ) = find_of (stands_for (received_side m) l) words in
         rw may
         (⊎_elim
         (λ (full : placed_at (moves_by m another) there place l code ≡ NoRoom). inl (rw full))
@@ -213,7 +210,7 @@ module _ (words : List ℕ) (v : IsValid words) where
     taken-with may free done =
         let range : (16 ≤ l) × (l ≤ 1048575) = within_range 16 1048575 l may in
         let code : ℕ = code_received m p (code_at words (received_side m) l) in
-        let there : Found = find_of (stands_for (received_side m) l) words in
+        let there : (Option ℕ) = find_of (stands_for (received_side m) l) words in
         let told : reception_of (placed_at (moves_by m another) there place l code) ≡ Reception.Taken = rw may at done in
         rw may
         (effect_placed words v (received_side m) l code range.0 (omega arith) proper_received (moves_by m another) there place refl free
@@ -226,28 +223,28 @@ module _ (words : List ℕ) (v : IsValid words) where
   every_valid Release reached = reach_valid words v reached ReleaseAll
 
 -- A spare place that counts is one of a free word.
-spare_is_free : (spare : Found) (words : List ℕ) → FreeAt words (where_free spare words)
+spare_is_free : (spare : Option ℕ) (words : List ℕ) → FreeAt words (where_free spare words)
 unfolding is_free
-spare_is_free (At i) words =
+spare_is_free (Some i) words =
     by_test
     (both (ltb i (length words)) (eqb (get_or words i 0) 0))
     (λ t.
     let parts = both_true (ltb i (length words)) (eqb (get_or words i 0) 0) t in
     rw t (ltb-true i (length words) parts.0, eqb-true (get_or words i 0) 0 parts.1))
     (λ f. rw f tt)
-spare_is_free Nowhere words = tt
+spare_is_free None words = tt
 
 -- The place that a message of the peer's is given for a new label is one of a free word.
-pub room_is_free : (request spare : Found) (words : List ℕ) → FreeAt (ended_at request words) (room_at request spare words)
+pub room_is_free : (request spare : Option ℕ) (words : List ℕ) → FreeAt (ended_at request words) (room_at request spare words)
 unfolding ended_at room_at
-room_is_free (At i) spare words =
+room_is_free (Some i) spare words =
     by_test
     (is_request (get_or words i 0))
     (λ t.
     let inside : i < length words = request_inside words i t in
     rw t (rw (length-set words i 0) inside, get_or-set_same words i 0 0 inside))
     (λ f. rw f (spare_is_free spare words))
-room_is_free Nowhere spare words = spare_is_free spare words
+room_is_free None spare words = spare_is_free spare words
 
 -- A message of the peer's, with what it meets.
 module _ (words : List ℕ) (v : IsValid words) (x : Meets) where

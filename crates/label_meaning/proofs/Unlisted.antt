@@ -1,4 +1,5 @@
 -- A word that lists no label becomes another that lists none: a Request is asked, or ended. The list stays valid and no label's code changes. Assumes nothing.
+use Rattle.std.specs.Prelude.{Option, Some, None}
 use Prim.Native.Nat.{ℕ, ◌<◌}
 use mathlib.Core.Bool.{false, true, true≢false}
 use mathlib.Core.List.{List}
@@ -7,8 +8,6 @@ use mathlib.Core.Path.{◌≡◌, refl, sym, ◌∙◌}
 use lib.ListN.{length, get_or, set}
 use lib.Seq.{get_or-set_other}
 use Rattle.octets.proofs.Choice.{by_test}
-use Rattle.label_list.specs.declared.Found.{Found}
-use Rattle.label_list.specs.declared.Found.TheVariants.{At, Nowhere}
 use Rattle.label_list.specs.declared.Side.{Side}
 use Rattle.label_list.specs.Find.{find_of}
 use Rattle.label_list.specs.Word.{is_free, request_word, is_request, stands_for}
@@ -81,20 +80,20 @@ module _ (words : List ℕ) (v : IsValid words) (i w : ℕ) (inside : i < length
 
 module _ (words : List ℕ) (v : IsValid words) where
   -- a Request has ended, or none was open there
-  pub ended_stays : (request : Found) → LabelsStay words (ended_at request words)
+  pub ended_stays : (request : Option ℕ) → LabelsStay words (ended_at request words)
   unfolding ended_at
-  ended_stays (At i) =
+  ended_stays (Some i) =
       by_test
       (is_request (get_or words i 0))
       (λ t. rw t (unlisted_stays words v i 0 (request_inside words i t) (inr (request_word_lem (get_or words i 0) t)) (inl refl)))
       (λ f. rw f (stay_same v))
-  ended_stays Nowhere = stay_same v
+  ended_stays None = stay_same v
 
   -- a Request is asked, or no word is free
-  asked-at : (g : Found) → FreeAt words g → LabelsStay words (changed words (take_free g request_word))
+  asked-at : (g : Option ℕ) → FreeAt words g → LabelsStay words (changed words (take_free g request_word))
   unfolding changed
-  asked-at (At i) free = unlisted_stays words v i request_word free.0 (inl free.1) (inr refl)
-  asked-at Nowhere free = stay_same v
+  asked-at (Some i) free = unlisted_stays words v i request_word free.0 (inl free.1) (inr refl)
+  asked-at None free = stay_same v
 
   pub asked_stays : LabelsStay words (changed words (asked_change words))
   asked_stays = asked-at (find_of is_free words) (free_first words (find_of is_free words) refl)

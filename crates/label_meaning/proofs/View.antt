@@ -1,11 +1,10 @@
 -- In a valid list a label has one code on one side, that of `code_at`. Assumes nothing.
+use Rattle.std.specs.Prelude.{Option, Some, None}
 use Prim.Native.Nat.{ℕ}
 use mathlib.Core.Bool.{false, true≢false}
 use mathlib.Core.List.{List}
 use mathlib.Core.Path.{◌≡◌, refl, sym, ap, ◌∙◌}
 use lib.ListN.{get_or}
-use Rattle.label_list.specs.declared.Found.{Found}
-use Rattle.label_list.specs.declared.Found.TheVariants.{At, Nowhere}
 use Rattle.label_list.specs.declared.Side.{Side}
 use Rattle.label_list.specs.Find.{find_of}
 use Rattle.label_list.specs.Word.{code_of, stands_for}
@@ -19,13 +18,13 @@ use Rattle.label_meaning.proofs.Meaning.{any_none}
 
 module _ (words : List ℕ) (s : Side) (l : ℕ) where
   -- a search that finds nothing: no word stands for the label
-  pub found_none : find_of (stands_for s l) words ≡ Nowhere → (i : ℕ) → stands_for s l (get_or words i 0) ≡ false
+  pub found_none : find_of (stands_for s l) words ≡ None → (i : ℕ) → stands_for s l (get_or words i 0) ≡ false
   found_none e = any_none (stands_for s l) words (sym (found_any (stands_for s l) words (sym e))) (free_stands s l)
 
-  code_found : (f : Found) → f ≡ find_of (stands_for s l) words → CodeIs words s l (code_in words f)
+  code_found : (f : Option ℕ) → f ≡ find_of (stands_for s l) words → CodeIs words s l (code_in words f)
   unfolding code_in
-  code_found (At i) e = listed i (found_passes (stands_for s l) words i e refl)
-  code_found Nowhere e = absent (found_none (sym e))
+  code_found (Some i) e = listed i (found_passes (stands_for s l) words i e refl)
+  code_found None e = absent (found_none (sym e))
 
   -- In any list this is a code of the label on the side,
   pub code_is : CodeIs words s l (code_at words s l)

@@ -1,4 +1,5 @@
 -- The life of a label that we gave, over a run of events, in a valid list. Assumes nothing.
+use Rattle.std.specs.Prelude.{None}
 use Prim.Native.Nat.{ℕ}
 use mathlib.Core.Bool.{Bool, true, false, true≢false, false≢true}
 use mathlib.Core.List.{List, [], ◌∷◌}
@@ -11,7 +12,6 @@ use Rattle.octets.specs.Pick.{pick, both}
 use Rattle.octets.proofs.Choice.{by_test, both_true, no}
 use Rattle.label_list.specs.declared.LabelMessage.{LabelMessage}
 use Rattle.label_list.specs.declared.LabelMessage.TheVariants.{Mapping, Withdraw, Release}
-use Rattle.label_list.specs.declared.Next.TheVariants.{NotAllowed}
 use Rattle.label_list.specs.declared.Side.TheVariants.{Given}
 use Rattle.label_list.specs.Rules.{sent_side, code_accepted}
 use Rattle.label_list.specs.Word.{listable}
@@ -128,7 +128,7 @@ events_valid [] words v = v
 events_valid (e ∷ es) words v = events_valid es (after_event words e) (step_is_valid words v e)
 
 -- a code of a withdrawn label allows no message of the giver's
-not_allowed : (a r : Bool) → both a r ≡ false → (m : LabelMessage) → sent_side m ≡ Given → code_accepted m (withdrawn_code a r) ≡ NotAllowed
+not_allowed : (a r : Bool) → both a r ≡ false → (m : LabelMessage) → sent_side m ≡ Given → code_accepted m (withdrawn_code a r) ≡ None
 unfolding code_accepted sent_side
 not_allowed false false n Mapping s = refl
 not_allowed false false n Withdraw s = refl

@@ -1,6 +1,5 @@
 -- The events of the label list, the list after each, and the moves of a label's code that 01 and 02 name.
-use Rattle.std.specs.Prelude.{ℕ, Bool, true, false, List, ◌≡◌}
-use Rattle.label_list.specs.declared.Found.{Found}
+use Rattle.std.specs.Prelude.{Option, ℕ, Bool, true, false, List, ◌≡◌}
 use Rattle.label_list.specs.declared.LabelMessage.{LabelMessage}
 use Rattle.label_list.specs.declared.LabelMessage.TheVariants.{Mapping, Withdraw, Release}
 use Rattle.label_list.specs.declared.Side.{Side}
@@ -24,7 +23,7 @@ pub data LabelEvent : Type 0 where
   Acked : LabelMessage → ℕ → LabelEvent
   Received : Meets → LabelMessage → Bool → Reach → LabelEvent
   Asked : LabelEvent
-  Ended : Found → LabelEvent
+  Ended : Option ℕ → LabelEvent
   Broken : LabelEvent
 
 unfoldable pub after_event : List ℕ → LabelEvent → List ℕ

@@ -1,7 +1,5 @@
 -- Room for a label and for a Request: which Mapping or Request finds no free word, and where every other Mapping writes its label.
-use Rattle.std.specs.Prelude.{ℕ, ◌+◌, ◌*◌, ◌<◌, Bool, true, false, List, ◌≢◌, ◌≡◌, length, get_or, set}
-use Rattle.label_list.specs.declared.Found.{Found}
-use Rattle.label_list.specs.declared.Found.TheVariants.{At, Nowhere}
+use Rattle.std.specs.Prelude.{Option, Some, None, ℕ, ◌+◌, ◌*◌, ◌<◌, Bool, true, false, List, ◌≢◌, ◌≡◌, length, get_or, set}
 use Rattle.label_list.specs.declared.LabelMessage.TheVariants.{Mapping}
 use Rattle.label_list.specs.declared.Side.{Side}
 use Rattle.label_list.specs.declared.Side.TheVariants.{Given, Used}
@@ -26,9 +24,9 @@ abbrev pub NoneFree : List ℕ → Type 0
 NoneFree words = (i : ℕ) → i < length words → get_or words i 0 ≢ 0
 
 -- no Request is open at that place
-abbrev pub NoneOpen : List ℕ → Found → Type 0
-NoneOpen words (At i) = is_request (get_or words i 0) ≡ false
-NoneOpen words Nowhere = Unit {0}
+abbrev pub NoneOpen : List ℕ → Option ℕ → Type 0
+NoneOpen words (Some i) = is_request (get_or words i 0) ≡ false
+NoneOpen words None = Unit {0}
 
 -- a received Mapping of a label that may be listed and that we lack, or 02: "that would change a listed label's entry"
 pub data NeedsRoom (words : List ℕ) (x : Meets) (k : ℕ) : Type 0 where
@@ -37,7 +35,7 @@ pub data NeedsRoom (words : List ℕ) (x : Meets) (k : ℕ) : Type 0 where
 
 -- the spare place is not one of a free word
 abbrev pub NoneSpare : List ℕ → Meets → Type 0
-NoneSpare words x = where_free x.spare words ≡ Nowhere
+NoneSpare words x = where_free x.spare words ≡ None
 
 -- 01's 13, "Mapping that needs a word, none free", 02's "13 also for a Request", and 21, "Mapping received that needs a word, none free":
 -- one that ends no Request
@@ -67,7 +65,7 @@ pub record FirstTaken (before after : List ℕ) (label code : ℕ) : Type 0 wher
 -- the spare word is taken
 pub record SpareTaken (x : Meets) (before after : List ℕ) (label code : ℕ) : Type 0 where
   pub at : ℕ
-  pub spare : x.spare ≡ At at
+  pub spare : x.spare ≡ Some at
   pub inside : at < length before
   pub free : get_or before at 0 ≡ 0
   pub taken : after ≡ set before at (label + label_count * code)
@@ -77,7 +75,7 @@ pub record MovedWord (before : List ℕ) (x : Meets) (after : List ℕ) (label c
   pub from : ℕ
   pub at : ℕ
   pub was : stands_for Used label (get_or before from 0) ≡ true
-  pub room : room_at x.request x.spare before ≡ At at
+  pub room : room_at x.request x.spare before ≡ Some at
   pub moved : after ≡ set (set (ended_at x.request before) from 0) at (word_of label code)
 
 -- where an event writes a label that was absent: a message of ours in the first free word, one of the peer's in the spare one

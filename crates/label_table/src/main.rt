@@ -11,7 +11,7 @@ ghost use Rattle.label_events.specs.Receive.{reception_number};
 use ft_number::MessageId;
 use label_events::{Acceptance, Meets, Reception, Touched};
 use label_list::{
-    Found, LABEL_COUNT, LabelMessage, Protection, REQUEST_WORD, SweepRule, WORD_COUNT, Wanted,
+    LABEL_COUNT, LabelMessage, Protection, REQUEST_WORD, SweepRule, WORD_COUNT, Wanted,
 };
 use std::io;
 use std::io::Write;
@@ -69,7 +69,7 @@ fn protection_number(verdict: Protection) -> u32
 // its FEC has the entry of its label: every FEC here is another than a prefix.
 fn receive(
     words: &mut [u32],
-    request: Found,
+    request: Option<usize>,
     message: LabelMessage,
     protected: bool,
     touched: Touched,
@@ -118,11 +118,7 @@ fn happen(words: &mut [u32], ids: &mut [u32], event: Event) -> u32
             0
         }
         Event::Received(message, protected, touched) => receive(
-            words,
-            Found::Nowhere,
-            message,
-            protected,
-            touched,
+            words, None, message, protected, touched,
         ),
         Event::Answered(id, protected, touched) => {
             let request = label_list::find_request(words, ids, id);

@@ -1,4 +1,5 @@
 -- What a whole reading and an accepted submission tell their callers. Assumes nothing.
+use Rattle.std.specs.Prelude.{Result, Ok, Err, Option, Some, None}
 use Prim.Native.Nat.{ℕ, ◌+◌, ◌≤◌, ◌<◌}
 use mathlib.Core.Bool.{Bool, true, false, not}
 use mathlib.Core.List.{List}
@@ -9,11 +10,9 @@ use lib.ListN.{length}
 use borrow.Author.Tests.{eqb-true, not-false}
 use Rattle.octets.specs.Be.{be_at}
 use Rattle.octets.specs.Pick.{pick, both}
+use Rattle.octets.proofs.Pairs.{ok_pair}
 use Rattle.ft_number.specs.declared.MessageId.{MessageId}
-use Rattle.tlv.specs.declared.Field.{Field}
 use Rattle.tlv.specs.declared.Found.{Found}
-use Rattle.tlv.specs.declared.IdField.{IdField}
-use Rattle.tlv.specs.declared.walk.Walk.{Walk}
 use Rattle.tlv.specs.Tlv.{largest_label}
 use Rattle.tlv.specs.Value.{Places}
 use Rattle.tlv.specs.Walk.{head_size, tlvs_of}
@@ -22,8 +21,7 @@ use Rattle.tlv.proofs.Values.{InMessage, part_in, field_low}
 use Rattle.message.specs.declared.Kind.{Kind}
 use Rattle.message.specs.declared.Message.{Message}
 use Rattle.message.specs.declared.MessageType.{MessageType}
-use Rattle.message.specs.declared.Reading.{Reading}
-use Rattle.message.specs.declared.Submission.{Submission}
+use Rattle.message.specs.declared.SubmissionError.{SubmissionError}
 use Rattle.message.specs.Kinds.{kind_number, last_kind, fatal_of, status_code, resources_available, no_resources, notification_kind, abort_kind, kind_for, kind_of}
 use Rattle.message.specs.Reading.{type_of, number_in, id_in, bears_of, places_by, places_of, message_of, reading_by, reading_of}
 use Rattle.message.specs.Submission.{bears_ft, no_label, labelled_as, submission_by_kind, submission_by_reading, submission_of}
@@ -31,26 +29,26 @@ use Rattle.message.specs.Submission.{bears_ft, no_label, labelled_as, submission
 -- a message that is read whole
 pub record Whole (m : List ℕ) (g : Message) : Type 0 where
   pub is : g ≡ message_of m g.found
-  pub tlvs : tlvs_of m ≡ Walk.Whole g.found
+  pub tlvs : tlvs_of m ≡ Some g.found
   pub bears : bears_of (type_of (number_in m)) g.found ≡ true
 
-pub whole : (m : List ℕ) (g : Message) → reading_of m ≡ Reading.Whole g → Whole m g
+pub whole : (m : List ℕ) (g : Message) → reading_of m ≡ Some g → Whole m g
 unfolding reading_of places_of message_of
 whole m g e = by_walk (tlvs_of m) refl e
   where
-    by_bears : (f : Found) (b : Bool) → tlvs_of m ≡ Walk.Whole f → bears_of (type_of (number_in m)) f ≡ b
-        → reading_by m (pick (not b) Walk.Malformed (Walk.Whole f)) ≡ Reading.Whole g → Whole m g
+    by_bears : (f : Found) (b : Bool) → tlvs_of m ≡ Some f → bears_of (type_of (number_in m)) f ≡ b
+        → reading_by m (pick (not b) None (Some f)) ≡ Some g → Whole m g
     by_bears f false q p h = let z : ◌≡◌ {A = ℕ} 0 1 = cc in absurd (omega arith)
     by_bears f true q p h =
         let is : message_of m f ≡ g = cc in
         let found : f ≡ g.found = ap (λ (x : Message). x.found) is in
-        record { is = sym is ∙ ap (message_of m) found; tlvs = q ∙ ap Walk.Whole found; bears = rw found at p }
+        record { is = sym is ∙ ap (message_of m) found; tlvs = q ∙ ap Some found; bears = rw found at p }
 
-    by_walk : (w : Walk) → tlvs_of m ≡ w → reading_by m (places_by m w) ≡ Reading.Whole g → Whole m g
-    by_walk Walk.Malformed q h = let z : ◌≡◌ {A = ℕ} 0 1 = cc in absurd (omega arith)
-    by_walk (Walk.Whole f) q h = by_bears f (bears_of (type_of (number_in m)) f) q refl h
+    by_walk : (w : Option Found) → tlvs_of m ≡ w → reading_by m (places_by m w) ≡ Some g → Whole m g
+    by_walk None q h = let z : ◌≡◌ {A = ℕ} 0 1 = cc in absurd (omega arith)
+    by_walk (Some f) q h = by_bears f (bears_of (type_of (number_in m)) f) q refl h
 
-module _ (m : List ℕ) (g : Message) (e : reading_of m ≡ Reading.Whole g) where
+module _ (m : List ℕ) (g : Message) (e : reading_of m ≡ Some g) where
   -- the message's own length is that of the bytes after it, and it has a head
   pub whole_head : head_size ≤ length m
   whole_head = (whole_tlvs m g.found (whole m g e).tlvs).head
@@ -84,7 +82,7 @@ module _ (m : List ℕ) (g : Message) (e : reading_of m ≡ Reading.Whole g) whe
   whole-parameters = rw (ap (λ (x : Message). x.parametersvalue) (whole m g e).is) (part_in m g.found.parameters whole-places.parametersvalue)
 
   -- "a label above 1,048,575" is malformed
-  pub whole_label : (l : ℕ) → g.label ≡ Field.Value l → l ≤ largest_label
+  pub whole_label : (l : ℕ) → g.label ≡ Some l → l ≤ largest_label
   unfolding message_of
   whole_label l h =
       field_low m g.found.label l (found_lies m g.found (whole m g e).tlvs).label (sym (ap (λ (x : Message). x.label) (whole m g e).is) ∙ h)
@@ -110,28 +108,28 @@ no_ft f e = go (eqb f.session 0) (eqb f.protection 0) (eqb f.ack 0) refl refl re
 pub record Labelled (g : Message) (k : Kind) (l : ℕ) : Type 0 where
   pub some : 1 ≤ kind_number k
   pub kinds : kind_number k ≤ last_kind
-  pub label : kind_number k ≤ 3 → g.label ≡ Field.Value l
+  pub label : kind_number k ≤ 3 → g.label ≡ Some l
   pub none : 3 < kind_number k → l ≡ no_label
 
-labelled : (g : Message) (kind k : Kind) (l : ℕ) → submission_by_kind kind g.label ≡ Submission.Accepted k l → (kind ≡ k) × Labelled g k l
+labelled : (g : Message) (kind k : Kind) (l : ℕ) → submission_by_kind kind g.label ≡ Ok (k, l) → (kind ≡ k) × Labelled g k l
 labelled g kind k l e = by_kind kind g.label refl e
   where
-    named : (j : Kind) (field : Field) → 1 ≤ kind_number j → kind_number j ≤ 3 → g.label ≡ field → labelled_as j field ≡ Submission.Accepted k l → (j ≡ k) × Labelled g k l
-    named j Field.Absent a b q h = let z : ◌≡◌ {A = ℕ} 0 1 = cc in absurd (omega arith)
-    named j (Field.Value v) a b q h =
-        let same : j ≡ k = cc in
+    named : (j : Kind) (field : Option ℕ) → 1 ≤ kind_number j → kind_number j ≤ 3 → g.label ≡ field → labelled_as j field ≡ Ok (k, l) → (j ≡ k) × Labelled g k l
+    named j None a b q h = let z : ◌≡◌ {A = ℕ} 0 1 = cc in absurd (omega arith)
+    named j (Some v) a b q h =
+        let same : j ≡ k = (ok_pair h).0 in
         let number : kind_number j ≡ kind_number k = ap kind_number same in
-        let value : v ≡ l = cc in
-        (same, record { some = omega arith; kinds = omega arith; label = λ z. q ∙ ap Field.Value value; none = λ z. absurd (omega arith) })
+        let value : v ≡ l = (ok_pair h).1 in
+        (same, record { some = omega arith; kinds = omega arith; label = λ z. q ∙ ap Some value; none = λ z. absurd (omega arith) })
 
-    plain : (j : Kind) → 4 ≤ kind_number j → kind_number j ≤ last_kind → Submission.Accepted j no_label ≡ Submission.Accepted k l → (j ≡ k) × Labelled g k l
+    plain : (j : Kind) → 4 ≤ kind_number j → kind_number j ≤ last_kind → ◌≡◌ {A = Result (Kind × ℕ) SubmissionError} (Ok (j, no_label)) (Ok (k, l)) → (j ≡ k) × Labelled g k l
     plain j a b h =
-        let same : j ≡ k = cc in
+        let same : j ≡ k = (ok_pair h).0 in
         let number : kind_number j ≡ kind_number k = ap kind_number same in
-        let value : no_label ≡ l = cc in
+        let value : no_label ≡ l = (ok_pair h).1 in
         (same, record { some = omega arith; kinds = omega arith; label = λ z. absurd (omega arith); none = λ z. sym value })
 
-    by_kind : (j : Kind) (field : Field) → g.label ≡ field → submission_by_kind j field ≡ Submission.Accepted k l → (j ≡ k) × Labelled g k l
+    by_kind : (j : Kind) (field : Option ℕ) → g.label ≡ field → submission_by_kind j field ≡ Ok (k, l) → (j ≡ k) × Labelled g k l
     by_kind Kind.Mapping field q h = named Kind.Mapping field (omega arith) (omega arith) q h
     by_kind Kind.Withdraw field q h = named Kind.Withdraw field (omega arith) (omega arith) q h
     by_kind Kind.Release field q h = named Kind.Release field (omega arith) (omega arith) q h
@@ -152,14 +150,14 @@ Bears g Kind.Address = Unit {0}
 Bears g Kind.AddressWithdraw = Unit {0}
 Bears g Kind.ResourcesAvailable = Unit {0}
 Bears g (Kind.Request id) = g.id ≡ id
-Bears g (Kind.Abort id) = g.requestid ≡ IdField.Id id
+Bears g (Kind.Abort id) = g.requestid ≡ Some id
 Bears g Kind.NoResources = Unit {0}
 Bears g Kind.NoKind = Unit {0}
 
-notification_bears : (g : Message) (status : Field) → Bears g (notification_kind status)
+notification_bears : (g : Message) (status : Option ℕ) → Bears g (notification_kind status)
 unfolding notification_kind
-notification_bears g Field.Absent = tt
-notification_bears g (Field.Value v) = go (fatal_of v) (eqb (status_code v) resources_available) (eqb (status_code v) no_resources)
+notification_bears g None = tt
+notification_bears g (Some v) = go (fatal_of v) (eqb (status_code v) resources_available) (eqb (status_code v) no_resources)
   where
     go : (fatal available none : Bool) → Bears g (pick fatal Kind.NoKind (pick available Kind.ResourcesAvailable (pick none Kind.NoResources Kind.NoKind)))
     go true available none = tt
@@ -167,9 +165,9 @@ notification_bears g (Field.Value v) = go (fatal_of v) (eqb (status_code v) reso
     go false false true = tt
     go false false false = tt
 
-abort-bears : (g : Message) (requestid : IdField) → g.requestid ≡ requestid → Bears g (abort_kind requestid)
-abort-bears g IdField.Absent e = tt
-abort-bears g (IdField.Id id) e = e
+abort-bears : (g : Message) (requestid : Option MessageId) → g.requestid ≡ requestid → Bears g (abort_kind requestid)
+abort-bears g None e = tt
+abort-bears g (Some id) e = e
 
 kind_bears : (g : Message) → Bears g (kind_of g)
 unfolding kind_of
@@ -191,29 +189,29 @@ kind_bears g = by g.typename
 pub request-id : (g : Message) (id : MessageId) → kind_of g ≡ Kind.Request id → g.id ≡ id
 request-id g id e = rw e at (kind_bears g)
 
-pub abort-id : (g : Message) (id : MessageId) → kind_of g ≡ Kind.Abort id → g.requestid ≡ IdField.Id id
+pub abort-id : (g : Message) (id : MessageId) → kind_of g ≡ Kind.Abort id → g.requestid ≡ Some id
 abort-id g id e = rw e at (kind_bears g)
 
 -- a submission that is accepted
 pub record Accepted (m : List ℕ) (k : Kind) (l : ℕ) : Type 0 where
   pub message : Message
-  pub reading : reading_of m ≡ Reading.Whole message
+  pub reading : reading_of m ≡ Some message
   pub has_no_ft : NoFt message.found
   pub kind : kind_of message ≡ k
   pub labelled : Labelled message k l
 
 -- a submission that is accepted: the message was read, bears no FT TLV, has that kind, and the label by the kind's number
-pub accepted : (m : List ℕ) (k : Kind) (l : ℕ) → submission_of m ≡ Submission.Accepted k l → Accepted m k l
+pub accepted : (m : List ℕ) (k : Kind) (l : ℕ) → submission_of m ≡ Ok (k, l) → Accepted m k l
 unfolding submission_of
 accepted m k l e = by_reading (reading_of m) refl e
   where
-    by_ft : (g : Message) (b : Bool) → reading_of m ≡ Reading.Whole g → bears_ft g.found ≡ b
-        → pick b Submission.Refused (submission_by_kind (kind_of g) g.label) ≡ Submission.Accepted k l → Accepted m k l
+    by_ft : (g : Message) (b : Bool) → reading_of m ≡ Some g → bears_ft g.found ≡ b
+        → pick b (Err SubmissionError.Refused) (submission_by_kind (kind_of g) g.label) ≡ Ok (k, l) → Accepted m k l
     by_ft g true q p h = let z : ◌≡◌ {A = ℕ} 0 1 = cc in absurd (omega arith)
     by_ft g false q p h =
         let by = labelled g (kind_of g) k l h in
         record { message = g; reading = q; has_no_ft = no_ft g.found p; kind = by.0; labelled = by.1 }
 
-    by_reading : (r : Reading) → reading_of m ≡ r → submission_by_reading r ≡ Submission.Accepted k l → Accepted m k l
-    by_reading Reading.Malformed q h = let z : ◌≡◌ {A = ℕ} 0 1 = cc in absurd (omega arith)
-    by_reading (Reading.Whole g) q h = by_ft g (bears_ft g.found) q refl h
+    by_reading : (r : Option Message) → reading_of m ≡ r → submission_by_reading r ≡ Ok (k, l) → Accepted m k l
+    by_reading None q h = let z : ◌≡◌ {A = ℕ} 0 1 = cc in absurd (omega arith)
+    by_reading (Some g) q h = by_ft g (bears_ft g.found) q refl h

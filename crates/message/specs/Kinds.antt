@@ -1,11 +1,9 @@
 -- The kinds of message that are stored and protected, with the paper's numbers.
 -- 01: "Kinds: Mapping, Withdraw, Release, Address, Address Withdraw, Resources Available (a Notification whose Status has that code in its
 -- low 30 bits and E clear)." 02: "kinds 7 Request, 8 Abort and 9 'No label resources' (known as 6 is)".
-use Rattle.std.specs.Prelude.{ℕ, ◌%◌, Bool, List, [], ◌∷◌}
+use Rattle.std.specs.Prelude.{Option, Some, None, ℕ, ◌%◌, Bool, List, [], ◌∷◌}
 use Rattle.octets.specs.Pick.{pick}
 use Rattle.ft_number.specs.declared.MessageId.{MessageId}
-use Rattle.tlv.specs.declared.Field.{Field}
-use Rattle.tlv.specs.declared.IdField.{IdField}
 use Rattle.tlv.specs.Table.{lookup}
 use Rattle.tlv.specs.Value.{top_bit}
 use Rattle.message.specs.declared.Kind.{Kind}
@@ -51,17 +49,17 @@ no_resources = 0x0000000E
 abbrev pub status_kinds : List (ℕ × Kind)
 status_kinds = (resources_available, Kind.ResourcesAvailable) ∷ (no_resources, Kind.NoResources) ∷ []
 
-unfoldable pub notification_kind : Field → Kind
-notification_kind Field.Absent = Kind.NoKind
-notification_kind (Field.Value v) = pick (fatal_of v) Kind.NoKind (lookup Kind.NoKind status_kinds (status_code v))
+unfoldable pub notification_kind : Option ℕ → Kind
+notification_kind None = Kind.NoKind
+notification_kind (Some v) = pick (fatal_of v) Kind.NoKind (lookup Kind.NoKind status_kinds (status_code v))
 
 -- an Abort names the Request that it takes back; without that ID it is malformed and has no kind
-abbrev pub abort_kind : IdField → Kind
-abort_kind IdField.Absent = Kind.NoKind
-abort_kind (IdField.Id id) = Kind.Abort id
+abbrev pub abort_kind : Option MessageId → Kind
+abort_kind None = Kind.NoKind
+abort_kind (Some id) = Kind.Abort id
 
 -- by the type, the Status, the message's own ID and the one that it names
-abbrev pub kind_for : MessageType → Field → MessageId → IdField → Kind
+abbrev pub kind_for : MessageType → Option ℕ → MessageId → Option MessageId → Kind
 kind_for MessageType.Notification status id requestid = notification_kind status
 kind_for MessageType.Initialization status id requestid = Kind.NoKind
 kind_for MessageType.KeepAlive status id requestid = Kind.NoKind

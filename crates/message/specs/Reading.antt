@@ -1,17 +1,15 @@
 -- What a message is: malformed, or its type, its message ID and what its TLVs say.
 -- 01: "Message: U bit and type (2), length (2, bytes after it), message ID (4), TLVs."
-use Rattle.std.specs.Prelude.{ℕ, ◌%◌, Bool, true, not, List, [], ◌∷◌, eqb}
+use Rattle.std.specs.Prelude.{Option, Some, None, ℕ, ◌%◌, Bool, true, not, List, [], ◌∷◌, eqb}
 use Rattle.octets.specs.Be.{be_at}
 use Rattle.octets.specs.Pick.{pick, both}
 use Rattle.ft_number.specs.declared.MessageId.{MessageId}
 use Rattle.tlv.specs.declared.Found.{Found}
-use Rattle.tlv.specs.declared.walk.Walk.{Walk}
 use Rattle.tlv.specs.Table.{lookup}
 use Rattle.tlv.specs.Value.{part_at, fec_at, field_at, number_at, id_at, parameters_at, session_at}
 use Rattle.tlv.specs.Walk.{tlvs_of}
 use Rattle.message.specs.declared.Message.{Message}
 use Rattle.message.specs.declared.MessageType.{MessageType}
-use Rattle.message.specs.declared.Reading.{Reading}
 
 -- 01: "Types: Notification 0x0001, Initialization 0x0200, KeepAlive 0x0201, Address 0x0300, Address Withdraw 0x0301, Mapping 0x0400,
 -- Request 0x0401, Withdraw 0x0402, Release 0x0403, Abort 0x0404."
@@ -92,11 +90,11 @@ abbrev pub bears_of : MessageType → Found → Bool
 bears_of t f = bears_by t (not (eqb f.fec 0)) (not (eqb f.label 0)) (not (eqb f.requestid 0))
 
 -- where the TLVs of a well-formed message stand
-abbrev pub places_by : List ℕ → Walk → Walk
-places_by m Walk.Malformed = Walk.Malformed
-places_by m (Walk.Whole f) = pick (not (bears_of (type_of (number_in m)) f)) Walk.Malformed (Walk.Whole f)
+abbrev pub places_by : List ℕ → Option Found → Option Found
+places_by m None = None
+places_by m (Some f) = pick (not (bears_of (type_of (number_in m)) f)) None (Some f)
 
-unfoldable pub places_of : List ℕ → Walk
+unfoldable pub places_of : List ℕ → Option Found
 places_of m = places_by m (tlvs_of m)
 
 -- the message m, whose TLVs were found at the places f
@@ -120,9 +118,9 @@ message_of m f = record {
 }
 
 -- the message read at the places of its TLVs
-abbrev pub reading_by : List ℕ → Walk → Reading
-reading_by m Walk.Malformed = Reading.Malformed
-reading_by m (Walk.Whole f) = Reading.Whole (message_of m f)
+abbrev pub reading_by : List ℕ → Option Found → Option Message
+reading_by m None = None
+reading_by m (Some f) = Some (message_of m f)
 
-unfoldable pub reading_of : List ℕ → Reading
+unfoldable pub reading_of : List ℕ → Option Message
 reading_of m = reading_by m (places_of m)

@@ -1,9 +1,8 @@
 -- A message that may be held: its length, and the kind and label as which it was accepted.
-use Rattle.std.specs.Prelude.{ℕ, ◌≤◌, Bool, false, List, ◌≡◌, eqb, length}
+use Rattle.std.specs.Prelude.{Result, Ok, Err, ℕ, ◌≤◌, Bool, false, List, ◌≡◌, eqb, length}
 use Rattle.octets.specs.Pick.{both}
 use Rattle.message.specs.declared.Kind.{Kind}
-use Rattle.message.specs.declared.Submission.{Submission}
-use Rattle.message.specs.declared.Submission.TheVariants.{Malformed, Refused, Accepted}
+use Rattle.message.specs.declared.SubmissionError.{SubmissionError}
 use Rattle.message.specs.Kinds.{kind_number}
 use Rattle.message.specs.Submission.{no_label, submission_of}
 
@@ -20,21 +19,21 @@ pub record Storable (m : List ℕ) : Type 0 where
   pub short : length m ≤ longest
   pub kind : Kind
   pub label : ℕ
-  pub accepted : submission_of m ≡ Accepted kind label
+  pub accepted : submission_of m ≡ Ok (kind, label)
 
 -- the kind's number and the label of a judged message; 0 and 0xFFFFFFFF where it is not accepted
-abbrev pub kind_in : Submission → ℕ
-kind_in Malformed = 0
-kind_in Refused = 0
-kind_in (Accepted kind label) = kind_number kind
+abbrev pub kind_in : Result (Kind × ℕ) SubmissionError → ℕ
+kind_in (Err SubmissionError.Malformed) = 0
+kind_in (Err SubmissionError.Refused) = 0
+kind_in (Ok (kind, label)) = kind_number kind
 
-abbrev pub label_in : Submission → ℕ
-label_in Malformed = no_label
-label_in Refused = no_label
-label_in (Accepted kind label) = label
+abbrev pub label_in : Result (Kind × ℕ) SubmissionError → ℕ
+label_in (Err SubmissionError.Malformed) = no_label
+label_in (Err SubmissionError.Refused) = no_label
+label_in (Ok (kind, label)) = label
 
 -- the message was accepted, with that kind and that label
-abbrev pub bears : Submission → ℕ → ℕ → Bool
-bears Malformed kind label = false
-bears Refused kind label = false
-bears (Accepted k l) kind label = both (eqb (kind_number k) kind) (eqb l label)
+abbrev pub bears : Result (Kind × ℕ) SubmissionError → ℕ → ℕ → Bool
+bears (Err SubmissionError.Malformed) kind label = false
+bears (Err SubmissionError.Refused) kind label = false
+bears (Ok (k, l)) kind label = both (eqb (kind_number k) kind) (eqb l label)

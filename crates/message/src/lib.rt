@@ -8,8 +8,8 @@ ghost use Rattle.message.specs.Kinds.{fatal_of, status_code, notification_kind, 
 ghost use Rattle.message.specs.Reading.{type_of, number_in, id_in, bears_of, places_of, message_of, reading_of};
 ghost use Rattle.message.specs.Submission.{bears_ft, submission_of, entry_in};
 
-use ft_number::MessageId;
-pub use tlv::{Fec, Field, Found, FtField, IdField, Parameters, Part, Session};
+use ft_number::{FtNumber, MessageId};
+pub use tlv::{Fec, Found, Parameters, Part, Session};
 use tlv::{element, value, walk};
 
 // The message types; Other is every number that has no name here.
@@ -35,23 +35,17 @@ pub struct Message {
     pub typenumber: u16,
     pub id: MessageId,
     pub found: Found,
-    pub fec: Fec,
+    pub fec: Option<Fec>,
     pub fecvalue: Part,
-    pub label: Field,
-    pub status: Field,
-    pub parameters: Parameters,
+    pub label: Option<u32>,
+    pub status: Option<u32>,
+    pub parameters: Option<Parameters>,
     pub parametersvalue: Part,
-    pub session: Session,
-    pub protection: FtField,
-    pub ack: FtField,
-    pub requestid: IdField,
-    pub statusid: IdField,
-}
-
-#[derive(Clone, Copy)]
-pub enum Reading {
-    Malformed,
-    Whole(Message),
+    pub session: Option<Session>,
+    pub protection: Option<FtNumber>,
+    pub ack: Option<FtNumber>,
+    pub requestid: Option<MessageId>,
+    pub statusid: Option<MessageId>,
 }
 
 // The kinds of message that are stored and protected; NoKind is every other message. A Request bears its own message ID, an Abort the one that it names.
@@ -69,12 +63,11 @@ pub enum Kind {
     NoKind,
 }
 
-// A submitted message: malformed (4), refused (5), or its kind and its label, 0xFFFFFFFF for the kinds without one.
+// Why a message may not be submitted: it is malformed (4), or refused (5).
 #[derive(Clone, Copy)]
-pub enum Submission {
+pub enum SubmissionError {
     Malformed,
     Refused,
-    Accepted(Kind, u32),
 }
 
 // The message type of a number, U masked off.
@@ -156,28 +149,28 @@ fn message_at(m: &[u8], found: Found) -> Message
 }
 
 // Where the TLVs of a message stand, or that it is malformed: what `read_message` says, without the values.
-pub fn places_in(m: &[u8]) -> walk::Walk
+pub fn places_in(m: &[u8]) -> Option<Found>
     ensures { result ≡ places_of m.now }
 {
     match walk::walk_message(m) {
-        walk::Walk::Malformed => walk::Walk::Malformed,
-        walk::Walk::Whole(found) => {
+        None => None,
+        Some(found) => {
             if !bears(type_of(number_in(m)), found) {
-                return walk::Walk::Malformed;
+                return None;
             }
-            walk::Walk::Whole(found)
+            Some(found)
         }
     }
 }
 
 // Reads one message: type, type number without U, message ID, and what each listed TLV says. Malformed is what the walk refuses, a
 // Mapping without FEC or label, a Withdraw, a Release or a Request without FEC, and an Abort without FEC or the ID of its Request.
-pub fn read_message(m: &[u8]) -> Reading
+pub fn read_message(m: &[u8]) -> Option<Message>
     ensures { result ≡ reading_of m.now }
 {
     match places_in(m) {
-        walk::Walk::Malformed => Reading::Malformed,
-        walk::Walk::Whole(found) => Reading::Whole(message_at(m, found)),
+        None => None,
+        Some(found) => Some(message_at(m, found)),
     }
 }
 
@@ -195,12 +188,12 @@ pub fn status_code(status: u32) -> u32
     status % 1073741824
 }
 
-fn notification_kind(status: Field) -> Kind
+fn notification_kind(status: Option<u32>) -> Kind
     ensures { result ≡ notification_kind status }
 {
     match status {
-        Field::Absent => Kind::NoKind,
-        Field::Value(v) => {
+        None => Kind::NoKind,
+        Some(v) => {
             if is_fatal(v) {
                 return Kind::NoKind;
             }
@@ -213,17 +206,22 @@ fn notification_kind(status: Field) -> Kind
     }
 }
 
-fn abort_kind(requestid: IdField) -> Kind
+fn abort_kind(requestid: Option<MessageId>) -> Kind
     ensures { result ≡ abort_kind requestid }
 {
     match requestid {
-        IdField::Absent => Kind::NoKind,
-        IdField::Id(id) => Kind::Abort(id),
+        None => Kind::NoKind,
+        Some(id) => Kind::Abort(id),
     }
 }
 
 // The kind of a message of that type, status and message ID, which names that Request.
-pub fn kind_for(t: MessageType, status: Field, id: MessageId, requestid: IdField) -> Kind
+pub fn kind_for(
+    t: MessageType,
+    status: Option<u32>,
+    id: MessageId,
+    requestid: Option<MessageId>,
+) -> Kind
     ensures { result ≡ kind_for t status id requestid }
 {
     match t {
@@ -285,34 +283,34 @@ pub fn bears_ft(found: Found) -> bool
 
 // Submit's answers 4 (malformed) and 5 (no kind 1 to 9, an FT TLV, or kinds 1 to 3 without a label), else its kind and label, 0xFFFFFFFF for
 // kinds 4 to 9. Of what the message says only its type, its status, its label and the IDs are read. Its length is Submit's own test (3).
-pub fn judge_submission(m: &[u8]) -> Submission
+pub fn judge_submission(m: &[u8]) -> Result<(Kind, u32), SubmissionError>
     ensures { result ≡ submission_of m.now }
 {
     match walk::walk_message(m) {
-        walk::Walk::Malformed => Submission::Malformed,
-        walk::Walk::Whole(found) => {
+        None => Err(SubmissionError::Malformed),
+        Some(found) => {
             let status = value::field_at(m, found.status);
             let t = type_of(number_in(m));
             if !bears(t, found) {
-                return Submission::Malformed;
+                return Err(SubmissionError::Malformed);
             }
             let requestid = value::id_at(m, found.requestid, 0);
             let kind = kind_for(t, status, id_in(m), requestid);
             if bears_ft(found) {
-                return Submission::Refused;
+                return Err(SubmissionError::Refused);
             }
             let number = kind_number(kind);
             if number == 0 {
-                return Submission::Refused;
+                return Err(SubmissionError::Refused);
             }
             if 3 < number {
-                return Submission::Accepted(kind, 0xFFFFFFFF);
+                return Ok((kind, 0xFFFFFFFF));
             }
             let label = found.label;
             if label == 0 {
-                return Submission::Refused;
+                return Err(SubmissionError::Refused);
             }
-            Submission::Accepted(kind, octets::get_u32(m, label + 4))
+            Ok((kind, octets::get_u32(m, label + 4)))
         }
     }
 }
@@ -322,7 +320,7 @@ pub fn entry_in(m: &[u8]) -> u64
     ensures { result ≡ entry_in m.now }
 {
     match places_in(m) {
-        walk::Walk::Malformed => 0,
-        walk::Walk::Whole(found) => element::entry_by(value::fec_at(m, found.fec)),
+        None => 0,
+        Some(found) => element::entry_by(value::fec_at(m, found.fec)),
     }
 }

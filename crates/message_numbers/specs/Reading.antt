@@ -1,18 +1,15 @@
 -- A PDU and a message as numbers.
-use Rattle.std.specs.Prelude.{ℕ, ◌+◌, ◌≤◌, true, false, eqb, ltb}
+use Rattle.std.specs.Prelude.{Option, Some, None, ℕ, ◌+◌, ◌≤◌, eqb, ltb}
 use Rattle.octets.specs.Pick.{pick}
+use Rattle.ft_number.specs.declared.FtNumber.{FtNumber}
+use Rattle.ft_number.specs.declared.MessageId.{MessageId}
 use Rattle.ft_number.specs.declared.Timeout.{Timeout}
-use Rattle.pdu.specs.declared.Opened.{Opened}
 use Rattle.pdu.specs.declared.Place.{Place}
 use Rattle.pdu.specs.Pdu.{opened_number, place_number}
-use Rattle.tlv.specs.declared.Field.{Field}
 use Rattle.tlv.specs.declared.Found.{Found}
-use Rattle.tlv.specs.declared.FtField.{FtField}
-use Rattle.tlv.specs.declared.IdField.{IdField}
 use Rattle.tlv.specs.declared.Parameters.{Parameters}
 use Rattle.tlv.specs.declared.Session.{Session}
 use Rattle.message.specs.declared.Message.{Message}
-use Rattle.message.specs.declared.Reading.{Reading}
 use Rattle.message.specs.Kinds.{kind_of, kind_number}
 use Rattle.protocol.specs.declared.Answer.{Answer}
 use Rattle.protocol.specs.Answers.{answer_number}
@@ -21,9 +18,9 @@ use Rattle.message_numbers.specs.declared.PartNumbers.{PartNumbers}
 use Rattle.message_numbers.specs.declared.PduNumbers.{PduNumbers}
 
 -- "0 or 4; number of messages"
-abbrev pub pdu_numbers : Opened → PduNumbers
-pdu_numbers (Opened.Whole count) = record { answer = opened_number (Opened.Whole count); count = count }
-pdu_numbers Opened.Malformed = record { answer = opened_number Opened.Malformed; count = 0 }
+abbrev pub pdu_numbers : Option ℕ → PduNumbers
+pdu_numbers (Some count) = record { answer = opened_number (Some count); count = count }
+pdu_numbers None = record { answer = opened_number None; count = 0 }
 
 -- no part: why, and "start and end 0 then"
 abbrev pub no_part_for : ℕ → PartNumbers
@@ -31,14 +28,14 @@ no_part_for answer = record { answer = answer; start = 0; end = 0 }
 
 -- "4, 0, 0 where none does"; so too where 32 bits do not name the place, which no PDU reaches: it has 65,539 bytes at most
 abbrev pub no_part : PartNumbers
-no_part = no_part_for (place_number Place.None)
+no_part = no_part_for (place_number None)
 
 abbrev pub part_of : ℕ → ℕ → PartNumbers
-part_of start end = pick (ltb 4294967295 end) no_part (record { answer = place_number (Place.Message start end); start = start; end = end })
+part_of start end = pick (ltb 4294967295 end) no_part (record { answer = place_number (Some (record { start = start; end = end })); start = start; end = end })
 
-abbrev pub part_numbers : Place → PartNumbers
-part_numbers (Place.Message start end) = part_of start end
-part_numbers Place.None = no_part
+abbrev pub part_numbers : Option Place → PartNumbers
+part_numbers (Some place) = part_of place.start place.end
+part_numbers None = no_part
 
 -- "1 FEC, 2 label, 4 status, 8 parameters, 16 FT Session, 32 FT Protection, 64 FT ACK", and 128 Label Request Message ID; a TLV that does not stand has place 0
 abbrev pub borne : ℕ → ℕ → ℕ
@@ -50,42 +47,47 @@ has_of f =
     + borne f.requestid 128
 
 -- "0 where not borne"
-abbrev pub field_number : Field → ℕ
-field_number Field.Absent = 0
-field_number (Field.Value v) = v
+abbrev pub field_number : Option ℕ → ℕ
+field_number None = 0
+field_number (Some v) = v
 
-abbrev pub ft_number : FtField → ℕ
-ft_number FtField.Absent = 0
-ft_number (FtField.Number n) = n.0
+abbrev pub ft_number : Option FtNumber → ℕ
+ft_number None = 0
+ft_number (Some n) = n.0
 
-abbrev pub id_number : IdField → ℕ
-id_number IdField.Absent = 0
-id_number (IdField.Id id) = id.0
+abbrev pub id_number : Option MessageId → ℕ
+id_number None = 0
+id_number (Some id) = id.0
 
 -- "FT Session: R", and its timeout in the unit of its form
-abbrev pub reconnect_of : Session → ℕ
-reconnect_of Session.Absent = 0
-reconnect_of (Session.Given true timeout) = 1
-reconnect_of (Session.Given false timeout) = 0
+abbrev pub reconnect_of : Option Session → ℕ
+reconnect_of None = 0
+reconnect_of (Some session) = pick session.reconnect 1 0
 
-abbrev pub timeout_in : Session → ℕ
-timeout_in Session.Absent = 0
-timeout_in (Session.Given reconnect (Timeout.Seconds n)) = n
-timeout_in (Session.Given reconnect (Timeout.Milliseconds n)) = n
+abbrev pub timeout_count : Timeout → ℕ
+timeout_count (Timeout.Seconds n) = n
+timeout_count (Timeout.Milliseconds n) = n
+
+abbrev pub timeout_in : Option Session → ℕ
+timeout_in None = 0
+timeout_in (Some session) = timeout_count session.timeout
 
 -- "1: FT Session has 12 bytes and `timeout` is milliseconds; 0: it has 4 and `timeout` is seconds, or there is none"
-abbrev pub published_in : Session → ℕ
-published_in Session.Absent = 0
-published_in (Session.Given reconnect (Timeout.Seconds n)) = 0
-published_in (Session.Given reconnect (Timeout.Milliseconds n)) = 1
+abbrev pub published_by : Timeout → ℕ
+published_by (Timeout.Seconds n) = 0
+published_by (Timeout.Milliseconds n) = 1
 
-abbrev pub keepalive_in : Parameters → ℕ
-keepalive_in Parameters.Absent = 0
-keepalive_in (Parameters.Given ka mp) = ka
+abbrev pub published_in : Option Session → ℕ
+published_in None = 0
+published_in (Some session) = published_by session.timeout
 
-abbrev pub maxpdu_in : Parameters → ℕ
-maxpdu_in Parameters.Absent = 0
-maxpdu_in (Parameters.Given ka mp) = mp
+abbrev pub keepalive_in : Option Parameters → ℕ
+keepalive_in None = 0
+keepalive_in (Some parameters) = parameters.keepalive
+
+abbrev pub maxpdu_in : Option Parameters → ℕ
+maxpdu_in None = 0
+maxpdu_in (Some parameters) = parameters.pdulength
 
 -- a message whose parts have 32 bits: a message has 65,539 bytes at most
 pub record NarrowMessage (g : Message) : Type 0 where
@@ -137,6 +139,6 @@ whole_message g = record {
   published = published_in g.session;
 }
 
-abbrev pub message_numbers : Reading → MessageNumbers
-message_numbers Reading.Malformed = no_message
-message_numbers (Reading.Whole g) = whole_message g
+abbrev pub message_numbers : Option Message → MessageNumbers
+message_numbers None = no_message
+message_numbers (Some g) = whole_message g

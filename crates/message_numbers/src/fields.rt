@@ -5,8 +5,8 @@ ghost use Rattle.message.specs.Reading.{message_of};
 ghost use Rattle.message_numbers.specs.Reading.{borne, has_of, field_number, ft_number, id_number, reconnect_of, timeout_in, published_in, keepalive_in, maxpdu_in, NarrowMessage, no_message, whole_message};
 
 use crate::MessageNumbers;
-use ft_number::Timeout;
-use message::{Field, Found, FtField, IdField, Parameters, Session};
+use ft_number::{FtNumber, MessageId, Timeout};
+use message::{Found, Parameters, Session};
 use tlv::value;
 
 // The bit of a TLV that was found.
@@ -33,40 +33,40 @@ fn has_of(found: Found) -> u32
         + bit_where(found.requestid, 128)
 }
 
-fn field_number(field: Field) -> u32
+fn field_number(field: Option<u32>) -> u32
     ensures { result ≡ field_number field }
 {
     match field {
-        Field::Absent => 0,
-        Field::Value(v) => v,
+        None => 0,
+        Some(v) => v,
     }
 }
 
-fn ft_number(field: FtField) -> u32
+fn ft_number(field: Option<FtNumber>) -> u32
     ensures { result ≡ ft_number field }
 {
     match field {
-        FtField::Absent => 0,
-        FtField::Number(n) => n.0,
+        None => 0,
+        Some(n) => n.0,
     }
 }
 
-fn id_number(field: IdField) -> u32
+fn id_number(field: Option<MessageId>) -> u32
     ensures { result ≡ id_number field }
 {
     match field {
-        IdField::Absent => 0,
-        IdField::Id(id) => id.0,
+        None => 0,
+        Some(id) => id.0,
     }
 }
 
-fn reconnect_of(session: Session) -> u32
+fn reconnect_of(session: Option<Session>) -> u32
     ensures { result ≡ reconnect_of session }
 {
     match session {
-        Session::Absent => 0,
-        Session::Given { reconnect, timeout } => {
-            if reconnect {
+        None => 0,
+        Some(s) => {
+            if s.reconnect {
                 return 1;
             }
             0
@@ -75,12 +75,12 @@ fn reconnect_of(session: Session) -> u32
 }
 
 // The timeout of FT Session in the unit of its form.
-fn timeout_of(session: Session) -> u32
+fn timeout_of(session: Option<Session>) -> u32
     ensures { result ≡ timeout_in session }
 {
     match session {
-        Session::Absent => 0,
-        Session::Given { reconnect, timeout } => match timeout {
+        None => 0,
+        Some(s) => match s.timeout {
             Timeout::Seconds(n) => n as u32,
             Timeout::Milliseconds(n) => n,
         },
@@ -88,39 +88,33 @@ fn timeout_of(session: Session) -> u32
 }
 
 // 1 where FT Session has the published form.
-fn published_of(session: Session) -> u32
+fn published_of(session: Option<Session>) -> u32
     ensures { result ≡ published_in session }
 {
     match session {
-        Session::Absent => 0,
-        Session::Given { reconnect, timeout } => match timeout {
+        None => 0,
+        Some(s) => match s.timeout {
             Timeout::Seconds(n) => 0,
             Timeout::Milliseconds(n) => 1,
         },
     }
 }
 
-fn keepalive_of(parameters: Parameters) -> u32
+fn keepalive_of(parameters: Option<Parameters>) -> u32
     ensures { result ≡ keepalive_in parameters }
 {
     match parameters {
-        Parameters::Absent => 0,
-        Parameters::Given {
-            keepalive,
-            pdulength,
-        } => keepalive as u32,
+        None => 0,
+        Some(p) => p.keepalive as u32,
     }
 }
 
-fn maxpdu_of(parameters: Parameters) -> u32
+fn maxpdu_of(parameters: Option<Parameters>) -> u32
     ensures { result ≡ maxpdu_in parameters }
 {
     match parameters {
-        Parameters::Absent => 0,
-        Parameters::Given {
-            keepalive,
-            pdulength,
-        } => pdulength as u32,
+        None => 0,
+        Some(p) => p.pdulength as u32,
     }
 }
 

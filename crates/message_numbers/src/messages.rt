@@ -6,19 +6,17 @@ ghost use Rattle.message_numbers.specs.Reading.{pdu_numbers, part_of, part_numbe
 
 use crate::fields::{no_message, whole_message};
 use crate::{MessageNumbers, PartNumbers, PduNumbers};
-use pdu::{Opened, Place};
-use tlv::walk::Walk;
 
 // A whole PDU, judged: 0 and the count of its messages, or 4 and 0.
 pub fn pdu_open(pdu: &[u8]) -> PduNumbers
     ensures { result ≡ pdu_numbers (opened_of pdu.now) }
 {
     match pdu::open_pdu(pdu) {
-        Opened::Whole(count) => PduNumbers {
+        Some(count) => PduNumbers {
             answer: 0,
             count: count,
         },
-        Opened::Malformed => PduNumbers {
+        None => PduNumbers {
             answer: 4,
             count: 0,
         },
@@ -49,8 +47,8 @@ pub fn pdu_message(pdu: &[u8], at: usize) -> PartNumbers
     ensures { result ≡ part_numbers (message_place pdu.now at) }
 {
     match pdu::message_at(pdu, at) {
-        Place::Message(start, end) => part_numbers(start, end),
-        Place::None => PartNumbers {
+        Some(place) => part_numbers(place.start, place.end),
+        None => PartNumbers {
             answer: 4,
             start: 0,
             end: 0,
@@ -63,7 +61,7 @@ pub fn message_read(msg: &[u8]) -> MessageNumbers
     ensures { result ≡ message_numbers (reading_of msg.now) }
 {
     match message::places_in(msg) {
-        Walk::Malformed => no_message(),
-        Walk::Whole(found) => whole_message(msg, found),
+        None => no_message(),
+        Some(found) => whole_message(msg, found),
     }
 }

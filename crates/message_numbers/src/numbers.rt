@@ -7,18 +7,18 @@ ghost use Rattle.ft_number.specs.Turn.{number_turn};
 ghost use Rattle.message_numbers.specs.Numbers.{distance_numbers, next_numbers};
 
 use crate::{DistanceNumbers, NextNumbers};
-use ft_number::{Distance, FtNumber, Turn};
+use ft_number::{FtNumber, TurnError};
 
 // The shorter way from one number to another; 2 and 0 where one is zero.
 pub fn distance(from: u32, to: u32) -> DistanceNumbers
     ensures { result ≡ distance_numbers (distance_of from to) }
 {
     match ft_number::signed_distance(FtNumber(from), FtNumber(to)) {
-        Distance::Steps(n) => DistanceNumbers {
+        Some(n) => DistanceNumbers {
             answer: 0,
             steps: n,
         },
-        Distance::Refused => DistanceNumbers {
+        None => DistanceNumbers {
             answer: 2,
             steps: 0,
         },
@@ -38,15 +38,15 @@ pub fn next_number(secured: u32, number: u32, resumed: bool) -> NextNumbers
     ensures { result ≡ next_numbers (number_turn resumed secured number) }
 {
     match ft_number::judge_turn(FtNumber(secured), FtNumber(number), resumed) {
-        Turn::InTurn(k) => NextNumbers {
+        Ok(k) => NextNumbers {
             answer: 0,
             leftout: k,
         },
-        Turn::OutOfTurn => NextNumbers {
+        Err(TurnError::OutOfTurn) => NextNumbers {
             answer: 20,
             leftout: 0,
         },
-        Turn::ZeroNumber => NextNumbers {
+        Err(TurnError::ZeroNumber) => NextNumbers {
             answer: 30,
             leftout: 0,
         },

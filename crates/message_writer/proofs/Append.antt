@@ -1,4 +1,5 @@
 -- The walk over two runs of TLVs: the second starts where the first ends, with what the first found. Assumes nothing.
+use Rattle.std.specs.Prelude.{Some, None}
 use Prim.Native.Nat.{ℕ, ◌+◌, ◌-◌, ◌≤◌, ◌<◌}
 use mathlib.Core.Bool.{Bool, true, false}
 use mathlib.Core.List.{List, ◌++◌}
@@ -16,7 +17,6 @@ use Rattle.octets.proofs.Fix.{size_ind}
 use Rattle.tlv.specs.declared.Found.{Found}
 use Rattle.tlv.specs.declared.walk.Tlv.{Tlv}
 use Rattle.tlv.specs.declared.walk.Turn.{Turn}
-use Rattle.tlv.specs.declared.walk.Walk.{Walk}
 use Rattle.tlv.specs.Tlv.{length_fits, head_of, size_of, label_value, largest_label}
 use Rattle.tlv.specs.Walk.{place_of, placed_of, noted_of, turn_of, Rest, left_of, on_turn, walk_of}
 use Rattle.tlv.proofs.Turns.{Goes, goes, walk_rest, walk_step}
@@ -27,8 +27,8 @@ unfolding noted_of
 noted_append f tlv n at ts us h = go (length_fits tlv n) refl
   where
     go : (b : Bool) → length_fits tlv n ≡ b
-        → pick b (pick (eqb (place_of f tlv) 0) (pick (ltb largest_label (label_value tlv (ts ++ us))) Walk.Malformed (Walk.Whole (placed_of f tlv at))) Walk.Malformed) Walk.Malformed
-        ≡ pick b (pick (eqb (place_of f tlv) 0) (pick (ltb largest_label (label_value tlv ts)) Walk.Malformed (Walk.Whole (placed_of f tlv at))) Walk.Malformed) Walk.Malformed
+        → pick b (pick (eqb (place_of f tlv) 0) (pick (ltb largest_label (label_value tlv (ts ++ us))) None (Some (placed_of f tlv at))) None) None
+        ≡ pick b (pick (eqb (place_of f tlv) 0) (pick (ltb largest_label (label_value tlv ts)) None (Some (placed_of f tlv at))) None) None
     go true q = rw (label_append tlv n ts us q h)
     go false q = refl
 
@@ -55,7 +55,7 @@ turn-append f g at n ts us e =
     (ap (Turn.Next g) size)
 
 abbrev Appends : List ℕ → Rest → Type 0
-Appends us r = (g : Found) → walk_rest r ≡ Walk.Whole g → walk_of r.at (r.bytes ++ us) r.found ≡ walk_of (r.at + length r.bytes) us g
+Appends us r = (g : Found) → walk_rest r ≡ Some g → walk_of r.at (r.bytes ++ us) r.found ≡ walk_of (r.at + length r.bytes) us g
 
 walk_rest-append : (us : List ℕ) (r : Rest) → Appends us r
 walk_rest-append us = size_ind left_of (Appends us) step
@@ -63,7 +63,7 @@ walk_rest-append us = size_ind left_of (Appends us) step
     step : (r : Rest) → ((t : Rest) → left_of t < left_of r → Appends us t) → Appends us r
     step r ih g e = go (turn_of r.found r.at r.bytes) refl (sym (walk_step r.at r.bytes r.found) ∙ e)
       where
-        go : (t : Turn) → turn_of r.found r.at r.bytes ≡ t → on_turn walk_rest r t ≡ Walk.Whole g
+        go : (t : Turn) → turn_of r.found r.at r.bytes ≡ t → on_turn walk_rest r t ≡ Some g
             → walk_of r.at (r.bytes ++ us) r.found ≡ walk_of (r.at + length r.bytes) us g
         go Turn.End q h = let same : r.found ≡ g = cc in rw (end_empty r.found r.at r.bytes q, add-zero, same)
         go Turn.Malformed q h = let z : ◌≡◌ {A = ℕ} 0 1 = cc in absurd (omega arith)
@@ -79,5 +79,5 @@ walk_rest-append us = size_ind left_of (Appends us) step
             ∙ ap (λ (x : ℕ). walk_of x us g) a
 
 -- the walk over two runs of TLVs is that over the first, then over the second with what the first found
-pub walk_append : (at : ℕ) (ts us : List ℕ) (f g : Found) → walk_of at ts f ≡ Walk.Whole g → walk_of at (ts ++ us) f ≡ walk_of (at + length ts) us g
+pub walk_append : (at : ℕ) (ts us : List ℕ) (f g : Found) → walk_of at ts f ≡ Some g → walk_of at (ts ++ us) f ≡ walk_of (at + length ts) us g
 walk_append at ts us f g e = walk_rest-append us (record { at = at; bytes = ts; found = f }) g e

@@ -1,4 +1,5 @@
 -- A message less its FT TLVs: of a message that had none, sent with them, it is the message. Assumes nothing.
+use Rattle.std.specs.Prelude.{Option, Some, None}
 use Prim.Native.Nat.{ℕ, ◌+◌, ◌-◌, ◌/◌, ◌%◌, ◌^◌, ◌≤◌, ◌<◌}
 use mathlib.Core.Bool.{Bool, true, false}
 use mathlib.Core.List.{List, [], ◌∷◌, ◌++◌, append_assoc, append-nil}
@@ -14,17 +15,14 @@ use Rattle.octets.specs.Pick.{pick}
 use Rattle.octets.proofs.Fix.{fix-step, size_ind, Shrinks}
 use Rattle.ft_number.specs.declared.FtNumber.{FtNumber}
 use Rattle.tlv.specs.declared.Found.{Found}
-use Rattle.tlv.specs.declared.FtField.{FtField}
 use Rattle.tlv.specs.declared.walk.Tlv.{Tlv}
 use Rattle.tlv.specs.declared.walk.Turn.{Turn}
-use Rattle.tlv.specs.declared.walk.Walk.{Walk}
 use Rattle.tlv.specs.Tlv.{tlv_of, head_of, size_of}
 use Rattle.tlv.specs.Walk.{none_found, place_of, placed_of, turn_of, Rest, left_of, on_turn, walk_of}
 use Rattle.tlv.proofs.Places.{noted, Each, each_placed, walk_keeps, WholeTlvs, whole_tlvs}
 use Rattle.tlv.proofs.Turns.{Goes, goes, walk_rest, walk_step}
 use Rattle.tlv.proofs.Whole.{end_empty, head_append}
 use Rattle.message.specs.declared.Message.{Message}
-use Rattle.message.specs.declared.Reading.{Reading}
 use Rattle.message.specs.Reading.{reading_of}
 use Rattle.message.proofs.Laws.{NoFt, whole}
 use Rattle.message_writer.specs.Forms.{raised, ft_tlvs, protected_bytes}
@@ -62,7 +60,7 @@ Grown f g = Each (λ tlv p. (place_of f tlv ≡ 0 → ⊥) → p ≡ 0 → ⊥) 
 grown_same : (f : Found) → Grown f f
 grown_same f = record { fec = λ z. z; label = λ z. z; status = λ z. z; parameters = λ z. z; session = λ z. z; protection = λ z. z; ack = λ z. z; requestid = λ z. z }
 
-walk_grows : (s : List ℕ) (at : ℕ) (f g : Found) → 0 < at → at ≤ length s → walk_of at (drop at s) f ≡ Walk.Whole g → Grown f g
+walk_grows : (s : List ℕ) (at : ℕ) (f g : Found) → 0 < at → at ≤ length s → walk_of at (drop at s) f ≡ Some g → Grown f g
 walk_grows s at f g h k e = walk_keeps s at (Grown f) keeps k f g e (grown_same f)
   where
     keeps : (x y : Found) (i n : ℕ) → at ≤ i → i ≤ length s → Goes x y i n (drop i s) → Grown f x → Grown f y
@@ -86,7 +84,7 @@ not_ft Tlv.Other f g at h grown none = refl
 -- TLVs of which none is an FT TLV are kept, whatever stands behind them
 module _ (s us : List ℕ) (g : Found) (none : NoFt g) where
   abbrev Keeps : Rest → Type 0
-  Keeps r = 0 < r.at → r.at ≤ length s → r.bytes ≡ drop r.at s → walk_rest r ≡ Walk.Whole g → kept_of (r.bytes ++ us) ≡ r.bytes ++ kept_of us
+  Keeps r = 0 < r.at → r.at ≤ length s → r.bytes ≡ drop r.at s → walk_rest r ≡ Some g → kept_of (r.bytes ++ us) ≡ r.bytes ++ kept_of us
 
   keeps-rest : (r : Rest) → Keeps r
   keeps-rest = size_ind left_of Keeps step
@@ -94,7 +92,7 @@ module _ (s us : List ℕ) (g : Found) (none : NoFt g) where
       step : (r : Rest) → ((t : Rest) → left_of t < left_of r → Keeps t) → Keeps r
       step r ih some inside b e = go (turn_of r.found r.at r.bytes) refl (sym (walk_step r.at r.bytes r.found) ∙ e)
         where
-          go : (t : Turn) → turn_of r.found r.at r.bytes ≡ t → on_turn walk_rest r t ≡ Walk.Whole g → kept_of (r.bytes ++ us) ≡ r.bytes ++ kept_of us
+          go : (t : Turn) → turn_of r.found r.at r.bytes ≡ t → on_turn walk_rest r t ≡ Some g → kept_of (r.bytes ++ us) ≡ r.bytes ++ kept_of us
           go Turn.End q k = rw (end_empty r.found r.at r.bytes q)
           go Turn.Malformed q k = let z : ◌≡◌ {A = ℕ} 0 1 = cc in absurd (omega arith)
           go (Turn.Next f n) q k =
@@ -113,10 +111,10 @@ module _ (s us : List ℕ) (g : Found) (none : NoFt g) where
               ∙ ap (λ (l : List ℕ). l ++ kept_of us) (take-append-drop n r.bytes)
 
 -- FT Protection and FT ACK are not
-kept_ft : (n : FtNumber) (ack : FtField) → kept_of (ft_tlvs n ack) ≡ []
+kept_ft : (n : FtNumber) (ack : Option FtNumber) → kept_of (ft_tlvs n ack) ≡ []
 unfolding kept_of fix steps tlv_of
-kept_ft n FtField.Absent = refl
-kept_ft n (FtField.Number a) = refl
+kept_ft n None = refl
+kept_ft n (Some a) = refl
 
 -- the bytes of a message: type, length, message ID, TLVs
 parts_whole : (m : List ℕ) → take 2 m ++ (take 2 (drop 2 m) ++ (take 4 (drop 4 m) ++ drop 8 m)) ≡ m
@@ -137,7 +135,7 @@ length-spelled m n head e small low =
     rw (two, three, high, last)
 
 -- a whole message without FT TLVs, sent with them, is itself again without them
-pub protected_payload : (m : List ℕ) (g : Message) (n : FtNumber) (ack : FtField) → reading_of m ≡ Reading.Whole g → NoFt g.found
+pub protected_payload : (m : List ℕ) (g : Message) (n : FtNumber) (ack : Option FtNumber) → reading_of m ≡ Some g → NoFt g.found
     → length m + 12 < 256 ^ 2 → get_or m 3 0 < 256 → payload_of (protected_bytes m n ack) ≡ m
 unfolding payload_of
 protected_payload m g n ack e none short low =

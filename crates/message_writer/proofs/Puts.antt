@@ -1,4 +1,5 @@
 -- What the stores of a head, of TLVs and of whole messages leave: the premises are what the calls ensure. Assumes nothing.
+use Rattle.std.specs.Prelude.{Option, Some, None}
 use Prim.Native.Nat.{ℕ, ◌+◌, ◌-◌, ◌≤◌, ◌<◌}
 use mathlib.Core.List.{List, ◌++◌, append_assoc, append-nil}
 use mathlib.Core.Path.{◌≡◌, refl, sym, ap, ◌∙◌}
@@ -11,20 +12,18 @@ use Rattle.octets.proofs.Laid.{Laid, laid-start, then_part, length-laid, laid_fr
 use Rattle.ft_number.specs.declared.FtNumber.{FtNumber}
 use Rattle.ft_number.specs.declared.MessageId.{MessageId}
 use Rattle.ft_number.specs.declared.Timeout.{Timeout}
-use Rattle.tlv.specs.declared.FtField.{FtField}
 use Rattle.tlv.specs.Tlv.{session_type, protection_type}
 use Rattle.message.specs.Reading.{initialization_type}
 use Rattle.message_writer.specs.declared.OwnParameters.{OwnParameters}
-use Rattle.message_writer.specs.declared.Written.{Written}
 use Rattle.message_writer.specs.Forms.{tlv_bytes, head_bytes, mode_byte, parameters_tlv, reconnect_flag, draft_value, published_value, unknown_bit, session_tlv, session_end, init_head, init_bytes, ack_tlv, raised_to, raised, ft_tlvs, protected_bytes}
 use Rattle.message_writer.specs.Written.{written_of}
 use Rattle.message_writer.proofs.Room.{written-whole, written-short}
 
 -- with no ACK there is nothing behind the head
-no_ack : (ack : FtField) (h : List ℕ) → ack ≡ FtField.Absent → h ≡ h ++ ack_tlv ack
+no_ack : (ack : Option FtNumber) (h : List ℕ) → ack ≡ None → h ≡ h ++ ack_tlv ack
 no_ack ack h e = rw e (sym (append-nil h))
 
-pub no_ack_end : (ack : FtField) (end : ℕ) → ack ≡ FtField.Absent → end ≡ end + length (ack_tlv ack)
+pub no_ack_end : (ack : Option FtNumber) (end : ℕ) → ack ≡ None → end ≡ end + length (ack_tlv ack)
 no_ack_end ack end e = rw e (sym (add-zero end))
 
 module _ (m : List ℕ) (head : 8 ≤ length m) where
@@ -46,24 +45,24 @@ end_most (Timeout.Seconds n) = omega arith
 end_most (Timeout.Milliseconds n) = omega arith
 
 -- the flags leave room for S
-pub flag_small : (ack : FtField) → reconnect_flag ack ≤ 0x8000
-flag_small FtField.Absent = omega arith
-flag_small (FtField.Number a) = omega arith
+pub flag_small : (ack : Option FtNumber) → reconnect_flag ack ≤ 0x8000
+flag_small None = omega arith
+flag_small (Some a) = omega arith
 
 -- an Init's parts are the Init, in either form
-length_head : (size : ℕ) (id : MessageId) (p : OwnParameters) (t : Timeout) (ack : FtField) → length (init_head size id p ack t) ≡ session_end t
+length_head : (size : ℕ) (id : MessageId) (p : OwnParameters) (t : Timeout) (ack : Option FtNumber) → length (init_head size id p ack t) ≡ session_end t
 length_head size id p (Timeout.Seconds n) ack = refl
 length_head size id p (Timeout.Milliseconds n) ack = refl
 
-init_parts : (id : MessageId) (p : OwnParameters) (t : Timeout) (ack : FtField)
+init_parts : (id : MessageId) (p : OwnParameters) (t : Timeout) (ack : Option FtNumber)
     → init_head (session_end t + length (ack_tlv ack) - 4) id p ack t ++ ack_tlv ack ≡ init_bytes id p t ack
-init_parts id p (Timeout.Seconds n) FtField.Absent = refl
-init_parts id p (Timeout.Seconds n) (FtField.Number a) = refl
-init_parts id p (Timeout.Milliseconds n) FtField.Absent = refl
-init_parts id p (Timeout.Milliseconds n) (FtField.Number a) = refl
+init_parts id p (Timeout.Seconds n) None = refl
+init_parts id p (Timeout.Seconds n) (Some a) = refl
+init_parts id p (Timeout.Milliseconds n) None = refl
+init_parts id p (Timeout.Milliseconds n) (Some a) = refl
 
 -- it has 34 or 42 bytes in the draft's form, 42 or 50 in the published one
-pub length-init : (id : MessageId) (p : OwnParameters) (t : Timeout) (ack : FtField) → length (init_bytes id p t ack) ≡ session_end t + length (ack_tlv ack)
+pub length-init : (id : MessageId) (p : OwnParameters) (t : Timeout) (ack : Option FtNumber) → length (init_bytes id p t ack) ≡ session_end t + length (ack_tlv ack)
 length-init id p t ack =
     let size : ℕ = session_end t + length (ack_tlv ack) - 4 in
     ap length (sym (init_parts id p t ack)) ∙ length-append (init_head size id p ack t) (ack_tlv ack) ∙ ap (λ (n : ℕ). n + length (ack_tlv ack)) (length_head size id p t ack)
@@ -116,7 +115,7 @@ module _ (s : List ℕ) where
       let l₄ = then_part l₃ (bytes 4 milliseconds) 34 e₄ refl in
       (then_part l₄ (bytes 4 0) 38 e₅ refl).is
 
-  pub init-laid : (x₁ x₂ x₃ : List ℕ) (size : ℕ) (id : MessageId) (p : OwnParameters) (ack : FtField) (t : Timeout)
+  pub init-laid : (x₁ x₂ x₃ : List ℕ) (size : ℕ) (id : MessageId) (p : OwnParameters) (ack : Option FtNumber) (t : Timeout)
       → x₁ ≡ laid s 0 (head_bytes initialization_type size id.0) → x₂ ≡ laid x₁ 8 (parameters_tlv p) → x₃ ≡ laid x₂ 26 (session_tlv ack t)
       → x₃ ≡ laid s 0 (init_head size id p ack t)
   init-laid x₁ x₂ x₃ size id p ack t e₁ e₂ e₃ =
@@ -125,47 +124,47 @@ module _ (s : List ℕ) where
       (then_part l₂ (session_tlv ack t) 26 e₃ refl).is
 
   -- FT ACK behind a message that was laid
-  pub ack_laid : (p x y : List ℕ) (to : ℕ) (a : FtNumber) → x ≡ laid s 0 p → y ≡ laid x to (ack_tlv (FtField.Number a)) → to ≡ length p
-      → y ≡ laid s 0 (p ++ ack_tlv (FtField.Number a))
+  pub ack_laid : (p x y : List ℕ) (to : ℕ) (a : FtNumber) → x ≡ laid s 0 p → y ≡ laid x to (ack_tlv (Some a)) → to ≡ length p
+      → y ≡ laid s 0 (p ++ ack_tlv (Some a))
   ack_laid p x y to a e₁ e₂ toq =
       let l : Laid s 0 p x = record { is = e₁ } in
-      (then_part l (ack_tlv (FtField.Number a)) to e₂ (toq ∙ sym (zero-add (length p)))).is
+      (then_part l (ack_tlv (Some a)) to e₂ (toq ∙ sym (zero-add (length p)))).is
 
   -- our Init in either form, written
   module _ (id : MessageId) (p : OwnParameters) (t : Timeout) (end : ℕ) (endq : end ≡ session_end t) where
-    pub init-short : (ack : FtField) (n : ℕ) → n ≡ end + length (ack_tlv ack) → length s < n → (Written.TooShort, s) ≡ written_of s (init_bytes id p t ack)
+    pub init-short : (ack : Option FtNumber) (n : ℕ) → n ≡ end + length (ack_tlv ack) → length s < n → (None, s) ≡ written_of s (init_bytes id p t ack)
     init-short ack n nq h = written-short s (init_bytes id p t ack) n (nq ∙ rw endq (sym (length-init id p t ack))) h
 
-    init-whole : (ack : FtField) (n : ℕ) (x : List ℕ) → n ≡ end + length (ack_tlv ack) → n ≤ length s → x ≡ laid s 0 (init_head (n - 4) id p ack t ++ ack_tlv ack)
-        → (Written.Bytes n, x) ≡ written_of s (init_bytes id p t ack)
+    init-whole : (ack : Option FtNumber) (n : ℕ) (x : List ℕ) → n ≡ end + length (ack_tlv ack) → n ≤ length s → x ≡ laid s 0 (init_head (n - 4) id p ack t ++ ack_tlv ack)
+        → (Some n, x) ≡ written_of s (init_bytes id p t ack)
     init-whole ack n x nq h e =
         let long : n ≡ length (init_bytes id p t ack) = nq ∙ rw endq (sym (length-init id p t ack)) in
         written-whole s (init_bytes id p t ack) x
         (e ∙ ap (laid s 0) (ap (λ (k : ℕ). init_head (k - 4) id p ack t ++ ack_tlv ack) (long ∙ length-init id p t ack) ∙ init_parts id p t ack))
         (omega arith) n long
 
-    pub init-plain : (ack : FtField) (x : List ℕ) → ack ≡ FtField.Absent → end ≤ length s → x ≡ laid s 0 (init_head (end - 4) id p ack t)
-        → (Written.Bytes end, x) ≡ written_of s (init_bytes id p t ack)
+    pub init-plain : (ack : Option FtNumber) (x : List ℕ) → ack ≡ None → end ≤ length s → x ≡ laid s 0 (init_head (end - 4) id p ack t)
+        → (Some end, x) ≡ written_of s (init_bytes id p t ack)
     init-plain ack x none h e =
         let size : end ≡ end + length (ack_tlv ack) = no_ack_end ack end none in
         let nil : init_head (end - 4) id p ack t ≡ init_head (end - 4) id p ack t ++ ack_tlv ack = no_ack ack (init_head (end - 4) id p ack t) none in
         init-whole ack end x size h (e ∙ ap (laid s 0) nil)
 
-    pub init-acked : (a : FtNumber) (x y : List ℕ) → end + 8 ≤ length s → x ≡ laid s 0 (init_head (end + 4) id p (FtField.Number a) t)
-        → y ≡ laid x end (ack_tlv (FtField.Number a)) → (Written.Bytes (end + 8), y) ≡ written_of s (init_bytes id p t (FtField.Number a))
+    pub init-acked : (a : FtNumber) (x y : List ℕ) → end + 8 ≤ length s → x ≡ laid s 0 (init_head (end + 4) id p (Some a) t)
+        → y ≡ laid x end (ack_tlv (Some a)) → (Some (end + 8), y) ≡ written_of s (init_bytes id p t (Some a))
     init-acked a x y h e₁ e₂ =
-        let ack : FtField = FtField.Number a in
+        let ack : (Option FtNumber) = Some a in
         let raised : end + 4 ≡ end + 8 - 4 = omega arith in
         init-whole ack (end + 8) y refl h
         (ack_laid (init_head (end + 4) id p ack t) x y end a e₁ e₂ (endq ∙ sym (length_head (end + 4) id p t ack))
         ∙ ap (λ (n : ℕ). laid s 0 (init_head n id p ack t ++ ack_tlv ack)) raised)
 
-    pub init_numbered : (ack : FtField) (a : FtNumber) (x y : List ℕ) → ack ≡ FtField.Number a → end + 8 ≤ length s
-        → x ≡ laid s 0 (init_head (end + 4) id p (FtField.Number a) t) → y ≡ laid x end (ack_tlv (FtField.Number a))
-        → (Written.Bytes (end + 8), y) ≡ written_of s (init_bytes id p t ack)
+    pub init_numbered : (ack : Option FtNumber) (a : FtNumber) (x y : List ℕ) → ack ≡ Some a → end + 8 ≤ length s
+        → x ≡ laid s 0 (init_head (end + 4) id p (Some a) t) → y ≡ laid x end (ack_tlv (Some a))
+        → (Some (end + 8), y) ≡ written_of s (init_bytes id p t ack)
     init_numbered ack a x y e h e₁ e₂ =
         init-acked a x y h e₁ e₂
-        ∙ ap (λ (k : FtField). written_of s (init_bytes id p t k)) (sym e)
+        ∙ ap (λ (k : Option FtNumber). written_of s (init_bytes id p t k)) (sym e)
 
   module _ (m : List ℕ) (head : 8 ≤ length m) where
     raised-laid : (x y : List ℕ) (size : ℕ) → length m ≤ length s → x ≡ laid s 0 m → y ≡ laid x 2 (bytes 2 size) → y ≡ laid s 0 (raised_to m size)
@@ -187,27 +186,27 @@ module _ (s : List ℕ) where
         (then_part l (tlv_bytes protection_type (bytes 4 number)) (length m) e₃ (omega arith)).is
 
     -- the two forms of a protected message, written
-    pub protected_short : (n : FtNumber) (ack : FtField) (end : ℕ) → end ≡ length m + length (ft_tlvs n ack) → length s < end
-        → (Written.TooShort, s) ≡ written_of s (protected_bytes m n ack)
+    pub protected_short : (n : FtNumber) (ack : Option FtNumber) (end : ℕ) → end ≡ length m + length (ft_tlvs n ack) → length s < end
+        → (None, s) ≡ written_of s (protected_bytes m n ack)
     protected_short n ack end endq h = written-short s (protected_bytes m n ack) end (endq ∙ sym (length-raised m head (ft_tlvs n ack))) h
 
-    pub protected_whole : (n : FtNumber) (ack : FtField) (y : List ℕ) (end : ℕ) → end ≡ length m + length (ft_tlvs n ack) → end ≤ length s
-        → y ≡ laid s 0 (protected_bytes m n ack) → (Written.Bytes end, y) ≡ written_of s (protected_bytes m n ack)
+    pub protected_whole : (n : FtNumber) (ack : Option FtNumber) (y : List ℕ) (end : ℕ) → end ≡ length m + length (ft_tlvs n ack) → end ≤ length s
+        → y ≡ laid s 0 (protected_bytes m n ack) → (Some end, y) ≡ written_of s (protected_bytes m n ack)
     protected_whole n ack y end endq h e =
         let long : length (protected_bytes m n ack) ≡ length m + length (ft_tlvs n ack) = length-raised m head (ft_tlvs n ack) in
         written-whole s (protected_bytes m n ack) y e (omega arith) end (endq ∙ sym long)
 
     pub protected_plain : (n : FtNumber) (x : List ℕ) → x ≡ laid s 0 (raised_to m (length m + 8 - 4) ++ tlv_bytes protection_type (bytes 4 n.0))
-        → x ≡ laid s 0 (protected_bytes m n FtField.Absent)
+        → x ≡ laid s 0 (protected_bytes m n None)
     unfolding raised
     protected_plain n x e = e
 
     pub protected_acked : (n a : FtNumber) (x y : List ℕ)
         → x ≡ laid s 0 (raised_to m (length m + 16 - 4) ++ tlv_bytes protection_type (bytes 4 n.0))
-        → y ≡ laid x (length m + 8) (ack_tlv (FtField.Number a)) → y ≡ laid s 0 (protected_bytes m n (FtField.Number a))
+        → y ≡ laid x (length m + 8) (ack_tlv (Some a)) → y ≡ laid s 0 (protected_bytes m n (Some a))
     unfolding raised
     protected_acked n a x y e₁ e₂ =
         let t : List ℕ = tlv_bytes protection_type (bytes 4 n.0) in
         let body : List ℕ = raised_to m (length m + 16 - 4) in
         let long : length (body ++ t) ≡ length m + 8 = length-append body t ∙ ap (λ (k : ℕ). k + 8) (length-raised_to m head (length m + 16 - 4)) in
-        ack_laid (body ++ t) x y (length m + 8) a e₁ e₂ (sym long) ∙ ap (laid s 0) (append_assoc body t (ack_tlv (FtField.Number a)))
+        ack_laid (body ++ t) x y (length m + 8) a e₁ e₂ (sym long) ∙ ap (laid s 0) (append_assoc body t (ack_tlv (Some a)))

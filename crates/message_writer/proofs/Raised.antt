@@ -1,4 +1,5 @@
 -- A message with TLVs behind it and its length raised: its fields, and the walk over it. Assumes nothing.
+use Rattle.std.specs.Prelude.{Some}
 use Prim.Native.Nat.{ℕ, ◌+◌, ◌-◌, ◌^◌, ◌≤◌, ◌<◌}
 use mathlib.Core.List.{List, ◌++◌}
 use mathlib.Core.Path.{◌≡◌, refl, sym, ap, ◌∙◌}
@@ -14,7 +15,6 @@ use Rattle.octets.proofs.Bytes.{be_at-append, be_at_behind, be_at-bytes}
 use Rattle.octets.proofs.Laid.{laid-between}
 use Rattle.octets.proofs.Part.{part-after}
 use Rattle.tlv.specs.declared.Found.{Found}
-use Rattle.tlv.specs.declared.walk.Walk.{Walk}
 use Rattle.tlv.specs.Walk.{none_found, walk_of, head_size, tlvs_of}
 use Rattle.tlv.proofs.Places.{WholeTlvs, whole_tlvs}
 use Rattle.message_writer.specs.Forms.{raised_to, raised}
@@ -97,7 +97,7 @@ module _ (m t : List ℕ) (head : 8 ≤ length m) where
       ∙ take-append-le 4 (drop 4 m) t (omega (arith, length-drop 4 m))
 
 -- TLVs behind a message are read at the message's old end, after what it said
-pub raised_walk : (m t : List ℕ) (f : Found) → length m + length t - 4 < 256 ^ 2 → tlvs_of m ≡ Walk.Whole f → tlvs_of (raised m t) ≡ walk_of (length m) t f
+pub raised_walk : (m t : List ℕ) (f : Found) → length m + length t - 4 < 256 ^ 2 → tlvs_of m ≡ Some f → tlvs_of (raised m t) ≡ walk_of (length m) t f
 unfolding tlvs_of
 raised_walk m t f small e =
     let w : WholeTlvs m f = whole_tlvs m f e in

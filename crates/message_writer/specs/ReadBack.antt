@@ -1,14 +1,10 @@
 -- What the messages that we write are read back as.
-use Rattle.std.specs.Prelude.{ℕ, ◌+◌, ◌^◌, ◌<◌, Bool, true, false}
+use Rattle.std.specs.Prelude.{Option, Some, None, ℕ, ◌+◌, ◌^◌, ◌<◌, Bool, true, false}
 use Rattle.ft_number.specs.declared.FtNumber.{FtNumber}
 use Rattle.ft_number.specs.declared.MessageId.{MessageId}
 use Rattle.ft_number.specs.declared.Timeout.{Timeout}
 use Rattle.ft_number.specs.Timeout.{TimeoutFits}
-use Rattle.tlv.specs.declared.Fec.{Fec}
-use Rattle.tlv.specs.declared.Field.{Field}
 use Rattle.tlv.specs.declared.Found.{Found}
-use Rattle.tlv.specs.declared.FtField.{FtField}
-use Rattle.tlv.specs.declared.IdField.{IdField}
 use Rattle.tlv.specs.declared.Parameters.{Parameters}
 use Rattle.tlv.specs.declared.Part.{Part}
 use Rattle.tlv.specs.declared.Session.{Session}
@@ -21,12 +17,12 @@ use Rattle.message_writer.specs.declared.OwnParameters.{OwnParameters}
 use Rattle.message_writer.specs.Forms.{session_end}
 
 -- an ACK that is given has 32 bits
-abbrev pub AckFits : FtField → Type 0
-AckFits FtField.Absent = Unit {0}
-AckFits (FtField.Number a) = a.0 < 256 ^ 4
+abbrev pub AckFits : Option FtNumber → Type 0
+AckFits None = Unit {0}
+AckFits (Some a) = a.0 < 256 ^ 4
 
 -- each value of an Init has its width
-pub record InitFits (m : MessageId) (p : OwnParameters) (t : Timeout) (a : FtField) : Type 0 where
+pub record InitFits (m : MessageId) (p : OwnParameters) (t : Timeout) (a : Option FtNumber) : Type 0 where
   pub id : m.0 < 256 ^ 4
   pub keepalive : p.keepalive < 256 ^ 2
   pub pdulength : p.pdulength < 256 ^ 2
@@ -38,12 +34,12 @@ abbrev pub ft_places : Found → ℕ → ℕ → Found
 ft_places f protection ack = placed_of (placed_of f Tlv.Protection protection) Tlv.Ack ack
 
 -- a message of `size` bytes has FT Protection at its end; FT ACK, where one is given, behind that
-abbrev pub protected_places : Found → ℕ → FtField → Found
-protected_places f size FtField.Absent = ft_places f size 0
-protected_places f size (FtField.Number a) = ft_places f size (size + 8)
+abbrev pub protected_places : Found → ℕ → Option FtNumber → Found
+protected_places f size None = ft_places f size 0
+protected_places f size (Some a) = ft_places f size (size + 8)
 
 -- the message g with other places, FT Protection and FT ACK: all else is as it was
-abbrev pub with_ft : Message → Found → FtField → FtField → Message
+abbrev pub with_ft : Message → Found → Option FtNumber → Option FtNumber → Message
 with_ft g found protection ack = record {
   typename = g.typename;
   typenumber = g.typenumber;
@@ -63,45 +59,45 @@ with_ft g found protection ack = record {
 }
 
 -- the message g, of `size` bytes, with the number n and an ACK
-abbrev pub protected_message : Message → ℕ → FtNumber → FtField → Message
-protected_message g size n ack = with_ft g (protected_places g.found size ack) (FtField.Number n) ack
+abbrev pub protected_message : Message → ℕ → FtNumber → Option FtNumber → Message
+protected_message g size n ack = with_ft g (protected_places g.found size ack) (Some n) ack
 
 -- a message with none of the other TLVs
-abbrev pub own_message : MessageType → ℕ → MessageId → Found → Parameters → Part → Session → FtField → Message
+abbrev pub own_message : MessageType → ℕ → MessageId → Found → Option Parameters → Part → Option Session → Option FtNumber → Message
 own_message type number id found parameters value session ack = record {
   typename = type;
   typenumber = number;
   id = id;
   found = found;
-  fec = Fec.Absent;
+  fec = None;
   fecvalue = record { start = 0; end = 0 };
-  label = Field.Absent;
-  status = Field.Absent;
+  label = None;
+  status = None;
   parameters = parameters;
   parametersvalue = value;
   session = session;
-  protection = FtField.Absent;
+  protection = None;
   ack = ack;
-  requestid = IdField.Absent;
-  statusid = IdField.Absent;
+  requestid = None;
+  statusid = None;
 }
 
 -- the places with that of FT ACK, where one is given
-abbrev pub ack_places : Found → ℕ → FtField → Found
-ack_places f at FtField.Absent = f
-ack_places f at (FtField.Number a) = placed_of f Tlv.Ack at
+abbrev pub ack_places : Found → ℕ → Option FtNumber → Found
+ack_places f at None = f
+ack_places f at (Some a) = placed_of f Tlv.Ack at
 
 -- R is set where there is an ACK
-abbrev pub reconnects : FtField → Bool
-reconnects FtField.Absent = false
-reconnects (FtField.Number a) = true
+abbrev pub reconnects : Option FtNumber → Bool
+reconnects None = false
+reconnects (Some a) = true
 
-abbrev pub init_message : MessageId → OwnParameters → Timeout → FtField → Message
+abbrev pub init_message : MessageId → OwnParameters → Timeout → Option FtNumber → Message
 init_message id p t ack =
     own_message MessageType.Initialization initialization_type id
     (ack_places (placed_of (placed_of none_found Tlv.Parameters head_size) Tlv.Session 26) (session_end t) ack)
-    (Parameters.Given p.keepalive p.pdulength) (record { start = 12; end = 26 }) (Session.Given (reconnects ack) t) ack
+    (Some (record { keepalive = p.keepalive; pdulength = p.pdulength })) (record { start = 12; end = 26 }) (Some (record { reconnect = (reconnects ack); timeout = t })) ack
 
-abbrev pub keepalive_message : MessageId → FtField → Message
+abbrev pub keepalive_message : MessageId → Option FtNumber → Message
 keepalive_message id ack =
-    own_message MessageType.KeepAlive keepalive_type id (ack_places none_found head_size ack) Parameters.Absent (record { start = 0; end = 0 }) Session.Absent ack
+    own_message MessageType.KeepAlive keepalive_type id (ack_places none_found head_size ack) None (record { start = 0; end = 0 }) None ack

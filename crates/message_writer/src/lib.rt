@@ -9,7 +9,6 @@ ghost use Rattle.message_writer.specs.Forms.{tlv_bytes, head_bytes, mode_byte, p
 ghost use Rattle.message_writer.specs.Written.{written_of};
 
 use ft_number::{FtNumber, MessageId, Timeout};
-use tlv::FtField;
 
 // What our Init proposes: KeepAlive time, maximum PDU length, the receiver's LDP identifier (LSR ID and label space), and whether labels
 // are asked for before they are offered (downstream on demand, bit A).
@@ -20,13 +19,6 @@ pub struct OwnParameters {
     pub lsr: u32,
     pub space: u16,
     pub ondemand: bool,
-}
-
-// Nothing written, for want of room (9), or the number of bytes written.
-#[derive(Clone, Copy)]
-pub enum Written {
-    TooShort,
-    Bytes(usize),
 }
 
 // Writes a message's head.
@@ -75,12 +67,12 @@ fn put_parameters(out: &mut [u8], p: OwnParameters)
 }
 
 // The flags of FT Session: R, set where there is an ACK.
-fn reconnect_flag(ack: FtField) -> u16
+fn reconnect_flag(ack: Option<FtNumber>) -> u16
     ensures { result ≡ reconnect_flag ack }
 {
     match ack {
-        FtField::Absent => 0,
-        FtField::Number(_) => 0x8000,
+        None => 0,
+        Some(_) => 0x8000,
     }
 }
 
@@ -117,7 +109,7 @@ fn put_published(out: &mut [u8], flags: u16, milliseconds: u32)
 }
 
 // Writes FT Session in the form of its timeout; of the published form's new flags S alone is set.
-fn put_session(out: &mut [u8], ack: FtField, timeout: Timeout)
+fn put_session(out: &mut [u8], ack: Option<FtNumber>, timeout: Timeout)
     requires { session_end timeout ≤ length out.old }
     ensures { out.new ≡ laid out.old 26 (session_tlv ack timeout) }
 {
@@ -134,7 +126,7 @@ fn put_init(
     size: u16,
     id: MessageId,
     p: OwnParameters,
-    ack: FtField,
+    ack: Option<FtNumber>,
     timeout: Timeout,
 )
     requires { session_end timeout ≤ length out.old }
@@ -153,49 +145,49 @@ pub fn write_init(
     id: MessageId,
     p: OwnParameters,
     timeout: Timeout,
-    ack: FtField,
-) -> Written
+    ack: Option<FtNumber>,
+) -> Option<usize>
     ensures { (result, out.new) ≡ written_of out.old (init_bytes id p timeout ack) }
 {
     let end = session_end(timeout);
     match ack {
-        FtField::Absent => {
+        None => {
             if out.len() < end {
-                return Written::TooShort;
+                return None;
             }
             put_init(out, (end - 4) as u16, id, p, ack, timeout);
-            Written::Bytes(end)
+            Some(end)
         }
-        FtField::Number(a) => {
+        Some(a) => {
             if out.len() < end + 8 {
-                return Written::TooShort;
+                return None;
             }
             put_init(out, (end + 4) as u16, id, p, ack, timeout);
             put_tlv(out, end, 0x0504, a.0);
-            Written::Bytes(end + 8)
+            Some(end + 8)
         }
     }
 }
 
 // Writes a KeepAlive, with FT ACK where one is given: 8 or 16 bytes, by the same rule for the room.
-pub fn write_keepalive(out: &mut [u8], id: MessageId, ack: FtField) -> Written
+pub fn write_keepalive(out: &mut [u8], id: MessageId, ack: Option<FtNumber>) -> Option<usize>
     ensures { (result, out.new) ≡ written_of out.old (keepalive_bytes id ack) }
 {
     match ack {
-        FtField::Absent => {
+        None => {
             if out.len() < 8 {
-                return Written::TooShort;
+                return None;
             }
             put_head(out, 0x0201, 4, id.0);
-            Written::Bytes(8)
+            Some(8)
         }
-        FtField::Number(a) => {
+        Some(a) => {
             if out.len() < 16 {
-                return Written::TooShort;
+                return None;
             }
             put_head(out, 0x0201, 12, id.0);
             put_tlv(out, 8, 0x0504, a.0);
-            Written::Bytes(16)
+            Some(16)
         }
     }
 }
@@ -212,27 +204,32 @@ fn put_protected(out: &mut [u8], m: &[u8], added: usize, number: u32)
 
 // Writes a stored message with FT Protection behind it, then FT ACK where one is given, and its length raised, by the same rule for the
 // room. Only Send calls it, with a stored message.
-pub fn write_protected(out: &mut [u8], m: &[u8], number: FtNumber, ack: FtField) -> Written
+pub fn write_protected(
+    out: &mut [u8],
+    m: &[u8],
+    number: FtNumber,
+    ack: Option<FtNumber>,
+) -> Option<usize>
     requires { (8 ≤ length m.now) × (length m.now ≤ 480) }
     ensures { (result, out.new) ≡ written_of out.old (protected_bytes m.now number ack) }
 {
     match ack {
-        FtField::Absent => {
+        None => {
             let end = m.len() + 8;
             if out.len() < end {
-                return Written::TooShort;
+                return None;
             }
             put_protected(out, m, 8, number.0);
-            Written::Bytes(end)
+            Some(end)
         }
-        FtField::Number(a) => {
+        Some(a) => {
             let end = m.len() + 16;
             if out.len() < end {
-                return Written::TooShort;
+                return None;
             }
             put_protected(out, m, 16, number.0);
             put_tlv(out, m.len() + 8, 0x0504, a.0);
-            Written::Bytes(end)
+            Some(end)
         }
     }
 }

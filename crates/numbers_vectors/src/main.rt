@@ -2,7 +2,7 @@
 // The expected lines are made by tests/numbers/make.py.
 #![tactic(auto)]
 
-use ft_number::{Ack, Distance, Form, FtNumber, Proposal, Steps, Timeout, Turn};
+use ft_number::{Form, FtNumber, Proposal, Timeout, TurnError};
 use std::io;
 use std::io::Write;
 
@@ -27,20 +27,20 @@ fn number(out: &mut impl Write, n: u32) -> io::Result<()> {
     write!(out, " {n}")
 }
 
-fn count(out: &mut impl Write, n: Steps) -> io::Result<()> {
+fn count(out: &mut impl Write, n: Option<u32>) -> io::Result<()> {
     match n {
-        Steps::Count(k) => number(out, k),
-        Steps::Unreachable => text(out, b" unreachable"),
+        Some(k) => number(out, k),
+        None => text(out, b" unreachable"),
     }
 }
 
-fn decision(out: &mut impl Write, a: Ack) -> io::Result<()> {
+fn decision(out: &mut impl Write, a: Option<u32>) -> io::Result<()> {
     match a {
-        Ack::Releases(k) => {
+        Some(k) => {
             text(out, b" releases")?;
             number(out, k)
         }
-        Ack::SequenceError => text(out, b" sequence error"),
+        None => text(out, b" sequence error"),
     }
 }
 
@@ -49,21 +49,21 @@ fn signed(out: &mut impl Write, z: i32) -> io::Result<()> {
     write!(out, " {z}")
 }
 
-fn turn(out: &mut impl Write, t: Turn) -> io::Result<()> {
+fn turn(out: &mut impl Write, t: Result<u32, TurnError>) -> io::Result<()> {
     match t {
-        Turn::InTurn(k) => {
+        Ok(k) => {
             text(out, b" left out")?;
             number(out, k)
         }
-        Turn::OutOfTurn => text(out, b" out of turn"),
-        Turn::ZeroNumber => text(out, b" zero number"),
+        Err(TurnError::OutOfTurn) => text(out, b" out of turn"),
+        Err(TurnError::ZeroNumber) => text(out, b" zero number"),
     }
 }
 
-fn way(out: &mut impl Write, d: Distance) -> io::Result<()> {
+fn way(out: &mut impl Write, d: Option<i32>) -> io::Result<()> {
     match d {
-        Distance::Steps(z) => signed(out, z),
-        Distance::Refused => text(out, b" refused"),
+        Some(z) => signed(out, z),
+        None => text(out, b" refused"),
     }
 }
 

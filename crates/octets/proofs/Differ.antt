@@ -1,14 +1,15 @@
 -- Lists differ exactly if they are not equal; and the steps of a comparison from the start. Assumes nothing.
 use Prim.Native.Nat.{ℕ, suc, ◌+◌, ◌≤◌, ◌<◌}
-use mathlib.Core.Bool.{Bool, true, false}
+use mathlib.Core.Bool.{Bool, true, false, not, ◌&&◌}
 use mathlib.Core.List.{List, [], ◌∷◌}
-use mathlib.Core.Path.{◌≡◌, refl, sym, ap, ◌∙◌}
+use mathlib.Core.Path.{◌≡◌, refl, sym, ◌∙◌}
 use native.Mathlib.Numerals.{add-one}
 use native.Mathlib.Omega.{arith}
 use lib.Dec.{eqb}
 use lib.ListN.{length, get_or, drop}
+use lib.Pointwise.{pointwise}
 use lib.Seq.{drop-cons, drop-length}
-use borrow.Author.Tests.{eq-eqb, ne_eqb, eqb-true}
+use borrow.Author.Tests.{eq-eqb, eqb-true}
 use Rattle.octets.specs.Differ.{differ}
 use Rattle.octets.specs.Pick.{pick}
 
@@ -28,13 +29,18 @@ differ_false (x ∷ xs) (y ∷ ys) e = by (eqb x y) refl e (differ_false xs ys)
     by true t e rest = cc (eqb-true x y t, rest e)
     by false t e rest = let z : ◌≡◌ {A = ℕ} 0 1 = cc in absurd (omega arith)
 
--- lists of other lengths
-pub differ-length : (xs ys : List ℕ) → (length xs ≡ length ys → ⊥) → true ≡ differ xs ys
-differ-length xs ys apart = by (differ xs ys) refl
+-- what the language's `!=` answers
+pub differ_is : (xs ys : List ℕ) → differ xs ys ≡ not (pointwise eqb xs ys)
+unfolding differ
+differ_is [] [] = refl
+differ_is [] (y ∷ ys) = refl
+differ_is (x ∷ xs) [] = refl
+differ_is (x ∷ xs) (y ∷ ys) = by (eqb x y) (differ_is xs ys)
   where
-    by : (b : Bool) → differ xs ys ≡ b → true ≡ b
-    by true e = refl
-    by false e = absurd (apart (ap length (differ_false xs ys e)))
+    by : (b : Bool) → differ xs ys ≡ not (pointwise eqb xs ys)
+        → pick b (differ xs ys) true ≡ not (b && pointwise eqb xs ys)
+    by true rest = rest
+    by false rest = refl
 
 -- what was compared up to i is the same
 pub record Same (xs ys : List ℕ) (i : ℕ) : Type 0 where
@@ -52,9 +58,6 @@ module _ (xs ys : List ℕ) (i : ℕ) (s : Same xs ys i) where
 
   pub same_one : i < length xs → get_or xs i 0 ≡ get_or ys i 0 → Same xs ys (i + 1)
   same_one h e = record { inside = omega arith; long = s.long; rest = step h ∙ rw (eq-eqb (get_or xs i 0) (get_or ys i 0) e, add-one) }
-
-  pub same_not : i < length xs → (get_or xs i 0 ≡ get_or ys i 0 → ⊥) → true ≡ differ xs ys
-  same_not h e = sym (step h ∙ rw (ne_eqb (get_or xs i 0) (get_or ys i 0) e))
 
   pub same_all : length xs ≤ i → false ≡ differ xs ys
   unfolding differ

@@ -8,6 +8,7 @@ use native.Mathlib.Numerals.{add-one}
 use native.Mathlib.Omega.{arith}
 use lib.ListN.{length, get_or, set, take, drop, length-set}
 use lib.Seq.{get_or-set_same, get_or-set_other, sets, sets-eq, set-append_left, drop-drop, drop-length, length-take-le, take-append_seam, take-suc}
+use borrow.Rule.Slice.PartMut.{put_mid}
 use Rattle.octets.specs.Laid.{laid}
 
 pub laid_none : (s : List ℕ) (at : ℕ) → laid s at [] ≡ s
@@ -52,33 +53,19 @@ laid_inside s at (x ∷ p) (suc i) room l =
     rw there (laid_inside (set s at x) (suc at) p i (rw length-set (omega arith)) (omega arith))
 
 -- ---- the language's stores
--- one element behind a part
-pub laid-set : (s : List ℕ) (at : ℕ) (p : List ℕ) (x : ℕ) → set (laid s at p) (at + length p) x ≡ laid s at (p ++ (x ∷ []))
-unfolding laid
-laid-set s at p x = laid-laid s at p (x ∷ [])
-
--- the next element of a part that is written one by one
+-- the next element of a part that is written one by one, where what it is is the part's
 pub laid_next : (s : List ℕ) (at : ℕ) (p : List ℕ) (i : ℕ) → i < length p → set (laid s at (take i p)) (at + i) (get_or p i 0) ≡ laid s at (take (i + 1) p)
+unfolding laid
 laid_next s at p i l =
     let n : length (take i p) ≡ i = length-take-le i p (omega arith) in
     ap (λ (k : ℕ). set (laid s at (take i p)) (at + k) (get_or p i 0)) (sym n)
-    ∙ laid-set s at (take i p) (get_or p i 0)
+    ∙ laid-laid s at (take i p) (get_or p i 0 ∷ [])
     ∙ ap (laid s at) (sym (take-suc p i 0 l))
     ∙ ap (λ (k : ℕ). laid s at (take k p)) (sym (add-one i))
-
-pub laid_one : (s : List ℕ) (at x : ℕ) → laid s at (x ∷ []) ≡ set s at x
-unfolding laid
-laid_one s at x = refl
 
 pub laid_two : (s : List ℕ) (at x y : ℕ) → laid s at (x ∷ y ∷ []) ≡ set (set s at x) (at + 1) y
 unfolding laid
 laid_two s at x y = ap (λ (i : ℕ). set (set s at x) i y) (omega arith)
-
-pub laid-four : (s : List ℕ) (at x y z w : ℕ) → laid s at (x ∷ y ∷ z ∷ w ∷ []) ≡ set (set (set (set s at x) (at + 1) y) (at + 2) z) (at + 3) w
-laid-four s at x y z w =
-    sym (laid-laid s at (x ∷ y ∷ []) (z ∷ w ∷ []))
-    ∙ laid_two (laid s at (x ∷ y ∷ [])) (at + 2) z w
-    ∙ rw (laid_two s at x y) (ap (λ (i : ℕ). set (set (set (set s at x) (at + 1) y) (at + 2) z) i w) (omega arith))
 
 -- ---- a part that lies within
 laid_sets : (s : List ℕ) (at : ℕ) (p : List ℕ) → laid s at p ≡ sets s at p
@@ -95,6 +82,12 @@ pub laid-between : (s : List ℕ) (a e : ℕ) (p : List ℕ) → a ≤ e → e �
 laid-between s a e p h g l =
     let end : a + (e - a) ≡ a + length p = omega arith in
     sym (laid_split s a p (omega arith) ∙ ap (λ (x : List ℕ). take a s ++ (p ++ x)) (ap (λ (k : ℕ). drop k s) (sym end) ∙ sym (drop-drop (e - a) a s)))
+
+-- the same, for a search
+pub laid_put : (s : List ℕ) (a k : ℕ) (p : List ℕ) → a + k ≤ length s → length p ≡ k → put_mid a k s p ≡ laid s a p
+laid_put s a k p h l =
+    let size : a + k - a ≡ k = omega arith in
+    rw size at (laid-between s a (a + k) p (omega arith) h (omega arith))
 
 -- written from the start, it is found there
 pub laid_front : (s p : List ℕ) → length p ≤ length s → laid s 0 p ≡ p ++ drop (length p) s

@@ -7,3 +7,4 @@ pub mod Fill
 pub mod Part
 pub mod Fix
 pub mod Differ
+pub mod Pairs

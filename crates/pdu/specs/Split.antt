@@ -1,5 +1,5 @@
 -- What a PDU splits into: its head and whole messages, and the messages as they are handed out one after the other.
-use Rattle.std.specs.Prelude.{ℕ, zero, suc, ◌+◌, ◌≤◌, ◌≡◌, length, take}
+use Rattle.std.specs.Prelude.{Option, Some, None, ℕ, zero, suc, ◌+◌, ◌≤◌, ◌≡◌, length, take}
 use mathlib.Core.List.{List, [], ◌∷◌, ◌++◌, flatten}
 use Rattle.octets.specs.Be.{be_at}
 use Rattle.octets.specs.Part.{part}
@@ -7,9 +7,9 @@ use Rattle.pdu.specs.declared.Place.{Place}
 use Rattle.pdu.specs.Pdu.{message_place}
 
 -- the message at a place, and then what `rest` says of where it ends; nothing where there is no message
-abbrev pub then_from : List ℕ → (ℕ → List (List ℕ)) → Place → List (List ℕ)
-then_from pdu rest (Place.Message start end) = part pdu start end ∷ rest end
-then_from pdu rest Place.None = []
+abbrev pub then_from : List ℕ → (ℕ → List (List ℕ)) → Option Place → List (List ℕ)
+then_from pdu rest (Some place) = part pdu place.start place.end ∷ rest place.end
+then_from pdu rest None = []
 
 -- k messages from `at` on, as they are handed out: the one that starts at `at`, then those from its end on
 abbrev pub handed_out : List ℕ → ℕ → ℕ → List (List ℕ)

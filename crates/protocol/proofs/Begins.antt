@@ -1,4 +1,5 @@
 -- What the peer's Init leaves, where it is not refused, and where its parameters are others. Assumes nothing.
+use Rattle.std.specs.Prelude.{Result, Err}
 use Prim.Native.Nat.{ℕ}
 use mathlib.Core.Bool.{Bool}
 use mathlib.Core.List.{[], List}
@@ -17,7 +18,7 @@ module _ (now : State) (t : ℕ) (m : List ℕ) where
   abbrev ph : Phase
   ph = waiting_for t
 
-  abbrev st : Start
+  abbrev st : Result Start Answer
   st = init_start now ph m
 
   abbrev x : Step
@@ -35,5 +36,5 @@ module _ (now : State) (t : ℕ) (m : List ℕ) where
   begins s d e resumed f = is ∙ ap (λ (a : Answer). settle a now ph does) d ∙ settle-does Answer.Done now ph does refl ∙ rw (e, f)
 
   -- one that is refused with 35 releases
-  pub changed : st ≡ Start.Refused Answer.ParametersChanged → x ≡ released_with Answer.ParametersChanged
+  pub changed : st ≡ Err Answer.ParametersChanged → x ≡ released_with Answer.ParametersChanged
   changed e = is ∙ ap (λ (a : Answer). settle a now ph does) (ap start_answer e) ∙ answered-released Answer.ParametersChanged now ph does (omega arith)

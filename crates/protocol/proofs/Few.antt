@@ -1,4 +1,5 @@
 -- Whatever the call, no more than 64 messages are held after it. Assumes nothing.
+use Rattle.std.specs.Prelude.{Result, Ok, Err, Option, Some, None}
 use Prim.Native.Nat.{ℕ, ◌≤◌}
 use mathlib.Core.Bool.{true, Bool}
 use mathlib.Core.List.{List, [], ◌∷◌}
@@ -7,7 +8,7 @@ use native.Mathlib.Omega.{arith}
 use lib.Dec.{ltb}
 use lib.ListN.{length-append, length-drop}
 use Rattle.octets.proofs.Choice.{pick_all}
-use Rattle.message.specs.declared.Reading.{Reading}
+use Rattle.message.specs.declared.Message.{Message}
 use Rattle.message.specs.Reading.{reading_of}
 use Rattle.protocol.specs.declared.Answer.{Answer}
 use Rattle.protocol.specs.declared.Phase.{Phase}
@@ -45,19 +46,19 @@ module _ (s : State) (few : Few s) where
   unfolding acked
   acked_few k a = omega (arith, length-drop k s.queue)
 
-  begun_few : (st : Start) → Few (start_state s st)
+  begun_few : (st : Result Start Answer) → Few (start_state s st)
   unfolding fresh resumed acked
-  begun_few (Start.Refused a) = few
-  begun_few Start.Plain = omega arith
-  begun_few (Start.Fresh t) = omega arith
-  begun_few (Start.Resumed t k a) = acked_few k a.0
+  begun_few (Err a) = few
+  begun_few (Ok Start.Plain) = omega arith
+  begun_few (Ok (Start.Fresh t)) = omega arith
+  begun_few (Ok (Start.Resumed t k a)) = acked_few k a.0
 
-  taken_few : (ph : Phase) (r : Reading) → Few (taken_as s ph r).state
+  taken_few : (ph : Phase) (r : Option Message) → Few (taken_as s ph r).state
   unfolding received_state taken
   taken_few Phase.Idle r = few
   taken_few (Phase.InitWait v) r = few
-  taken_few (Phase.UpFT u) Reading.Malformed = few
-  taken_few (Phase.UpFT u) (Reading.Whole g) = acked_few (ack_count (ack_on s g)) (ack_borne s g.ack)
+  taken_few (Phase.UpFT u) None = few
+  taken_few (Phase.UpFT u) (Some g) = acked_few (ack_count (ack_on s g)) (ack_borne s g.ack)
   taken_few Phase.UpPlain r = few
   taken_few Phase.Failed r = few
 

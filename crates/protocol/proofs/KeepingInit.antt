@@ -1,4 +1,5 @@
 -- The peer's Init: the numbers of the start that it leads to have their widths, and the state that it leads to is lawful. Assumes nothing.
+use Rattle.std.specs.Prelude.{Option, Some, Result}
 use Prim.Native.Nat.{ℕ, ◌<◌}
 use mathlib.Core.Bool.{Bool, true, false}
 use mathlib.Core.List.{List}
@@ -8,11 +9,10 @@ use Rattle.octets.specs.Bytes.{Bytes}
 use Rattle.ft_number.specs.declared.Timeout.{Timeout}
 use Rattle.ft_number.specs.Timeout.{millis_of}
 use Rattle.ft_number.proofs.Timeouts.{lesser_below, millis_fits}
-use Rattle.tlv.specs.declared.Session.{Session}
 use Rattle.message.specs.declared.Message.{Message}
-use Rattle.message.specs.declared.Reading.{Reading}
 use Rattle.message.specs.Reading.{reading_of}
 use Rattle.message.proofs.Widths.{Widths, read_widths}
+use Rattle.protocol.specs.declared.Answer.{Answer}
 use Rattle.protocol.specs.declared.Phase.{Phase}
 use Rattle.protocol.specs.declared.Start.{Start}
 use Rattle.protocol.specs.declared.Terms.{Terms}
@@ -26,7 +26,7 @@ use Rattle.protocol.proofs.InitCases.{start-cases}
 use Rattle.protocol.proofs.KeepingPhases.{fits_up}
 use Rattle.protocol.proofs.KeepingStates.{lawful_released, lawful_fresh, lawful_resumed}
 
-terms_width : (p : ℕ) → p < 4294967296 → {g : Message} → Widths g → {r : Bool} {ka mp : ℕ} {n : Timeout} → InitWith g ka mp → g.session ≡ Session.Given r n → TermsFit (terms_of p n ka mp)
+terms_width : (p : ℕ) → p < 4294967296 → {g : Message} → Widths g → {r : Bool} {ka mp : ℕ} {n : Timeout} → InitWith g ka mp → g.session ≡ Some (record { reconnect = r; timeout = n }) → TermsFit (terms_of p n ka mp)
 terms_width p l {g} w {r} {ka} {mp} {n} i e = record {
   timeout = lesser_below p (millis_of n) 4294967296 l (millis_fits n (w.session r n e));
   keepalive = (w.parameters ka mp i.parameters).0;
@@ -38,7 +38,7 @@ unfolding fresh
 fresh_stands t f = (lawful_fresh t f, fits_up (fresh t) false 0 refl (omega arith))
 
 module _ (s : State) (ph : Phase) (law : Lawful s) (fits : phase_fits ph s ≡ true) {p : ℕ} (l : p < 4294967296) where
-  pub start_lawful : {rd : Reading} {st : Start} → ((g : Message) → rd ≡ Reading.Whole g → Widths g) → StartCase s p rd st
+  pub start_lawful : {rd : Option Message} {st : Result Start Answer} → ((g : Message) → rd ≡ Some g → Widths g) → StartCase s p rd st
       → Lawful (start_state s st) × (phase_fits (start_phase ph st) (start_state s st) ≡ true)
   unfolding phase_fits fresh resumed acked
   start_lawful w unread = (law, fits)

@@ -1,4 +1,5 @@
 -- The label words and the IDs after each of the session's events: as many as before, the words valid again, and no ID twice. Assumes nothing.
+use Rattle.std.specs.Prelude.{Result, Ok, Err, Option, Some, None}
 use Prim.Native.Nat.{ℕ, ◌<◌, ◌≤◌, suc, zero}
 use mathlib.Core.Bool.{Bool, true}
 use mathlib.Core.List.{List, [], ◌∷◌}
@@ -12,8 +13,6 @@ use borrow.Author.Tests.{eqb-true, eqb-false}
 use Rattle.octets.specs.Bytes.{Bytes}
 use Rattle.octets.proofs.Choice.{by_test, no, below_or_not, pick_all}
 use Rattle.ft_number.specs.declared.MessageId.{MessageId}
-use Rattle.label_list.specs.declared.Found.{Found}
-use Rattle.label_list.specs.declared.Found.TheVariants.{At, Nowhere}
 use Rattle.label_list.specs.declared.LabelMessage.{LabelMessage}
 use Rattle.label_list.specs.declared.Side.{Side}
 use Rattle.label_list.specs.declared.SweepRule.TheVariants.{AfterBreak}
@@ -28,12 +27,13 @@ use Rattle.label_list.proofs.OpenIds.{once_freed, once_counting, past_end}
 use Rattle.label_events.specs.declared.Change.{Change}
 use Rattle.label_events.specs.declared.Change.TheVariants.{Keep, Put, Move, NoRoom}
 use Rattle.label_events.specs.declared.Meets.{Meets}
+use Rattle.label_events.specs.declared.Touched.{Touched}
 use Rattle.label_events.specs.Accept.{accepted_by, plan_change, plan_of}
 use Rattle.label_events.specs.Change.{taken_at, put_at}
 use Rattle.label_events.specs.Receive.{takes_at}
 use Rattle.label_events.specs.Requests.{asked_plan, ids_put, asked_change}
 use Rattle.message.specs.declared.Kind.{Kind}
-use Rattle.message.specs.declared.Submission.{Submission}
+use Rattle.message.specs.declared.SubmissionError.{SubmissionError}
 use Rattle.message.specs.Submission.{submission_of}
 use Rattle.message.proofs.Laws.{accepted, request-id}
 use Rattle.message.proofs.Widths.{read_widths}
@@ -42,7 +42,6 @@ use Rattle.label_meaning.proofs.Kept.{step-length}
 use Rattle.label_meaning.proofs.RequestIds.{asked-event, asked_once, aborted_event}
 use Rattle.label_meaning.proofs.Requests.{request-old}
 use Rattle.label_meaning.proofs.Step.{step_valid}
-use Rattle.protocol.specs.declared.LabelEffect.{LabelEffect}
 use Rattle.protocol.specs.Accepting.{accepted_as, ids_accepted, index_accepted}
 use Rattle.protocol.specs.Acked.{released_labels}
 use Rattle.protocol.specs.Labels.{effect_labels, effect_takes, reached}
@@ -146,9 +145,9 @@ module _ (ids index : List ℕ) where
 
 -- an entry put at a place, or none
 module _ (words ids index : List ℕ) (entry : ℕ) (w : entry < 18446744073709551616) where
-  pub put_keeps : (f : Found) → Beside words ids index → Beside words ids (put_at f entry index)
-  put_keeps Nowhere b = b
-  put_keeps (At i) b = record {
+  pub put_keeps : (f : Option ℕ) → Beside words ids index → Beside words ids (put_at f entry index)
+  put_keeps None b = b
+  put_keeps (Some i) b = record {
     words = b.words;
     valid = b.valid;
     ids = b.ids;
@@ -159,18 +158,18 @@ module _ (words ids index : List ℕ) (entry : ℕ) (w : entry < 184467440737095
   }
 
 -- received: a message is one event, or ends a Request
-pub effect_keeps : (t : Table) (x : Meets) (p : Bool) (e : LabelEffect) (entry : ℕ) → entry < 18446744073709551616 → Beside t.words t.ids t.index
+pub effect_keeps : (t : Table) (x : Meets) (p : Bool) (e : Option (LabelMessage × Touched)) (entry : ℕ) → entry < 18446744073709551616 → Beside t.words t.ids t.index
     → Beside (effect_labels t x p e) t.ids (put_at (effect_takes t x p e) entry t.index)
 unfolding after_event
-effect_keeps t x p LabelEffect.Nothing entry w b = event-keeps t.ids t.index t.words b (Ended x.request) (λ z. no cc)
-effect_keeps t x p (LabelEffect.Change m touched) entry w b =
+effect_keeps t x p None entry w b = event-keeps t.ids t.index t.words b (Ended x.request) (λ z. no cc)
+effect_keeps t x p (Some (m, touched)) entry w b =
     put_keeps (after_event t.words (Received x m p (reached t m touched))) t.ids t.index entry w (takes_at t.words x m p touched)
     (event-keeps t.ids t.index t.words b (Received x m p (reached t m touched)) (λ z. no cc))
 
 -- ---- accepted for sending
 -- the ID of a Request has 32 bits
-abbrev IdFits : Submission → Type 0
-IdFits j = (id : MessageId) (label : ℕ) → j ≡ Submission.Accepted (Kind.Request id) label → id.0 < 4294967296
+abbrev IdFits : Result (Kind × ℕ) SubmissionError → Type 0
+IdFits j = (id : MessageId) (label : ℕ) → j ≡ Ok (Kind.Request id, label) → id.0 < 4294967296
 
 pub id_fits : (m : List ℕ) → Bytes m → IdFits (submission_of m)
 id_fits m byte id label e =
@@ -202,10 +201,10 @@ module _ (t : Table) (law : TableLaw t) (entry : ℕ) (fits : entry < 1844674407
   unfolding asked_plan
   asked_beside id w = by (open_at id t.words t.ids) refl
     where
-      by : (f : Found) → open_at id t.words t.ids ≡ f
+      by : (f : Option ℕ) → open_at id t.words t.ids ≡ f
           → Beside (accepted_by t.words (asked_plan t.words t.ids id)).1 (ids_put t.ids (plan_change (asked_plan t.words t.ids id)) id) t.index
-      by (At i) e = rw e b
-      by Nowhere e =
+      by (Some i) e = rw e b
+      by None e =
           let c : Change = asked_change t.words in
           let is = asked-event t.words t.ids id e in
           rw (is.0, is.1)
@@ -219,7 +218,7 @@ module _ (t : Table) (law : TableLaw t) (entry : ℕ) (fits : entry < 1844674407
             entries = b.entries;
           })
 
-  kind_beside : (kind : Kind) (label : ℕ) → IdFits (Submission.Accepted kind label) → Beside (accepted_as t kind label).1 (ids_accepted t kind) (index_accepted t kind label entry)
+  kind_beside : (kind : Kind) (label : ℕ) → IdFits (Ok (kind, label)) → Beside (accepted_as t kind label).1 (ids_accepted t kind) (index_accepted t kind label entry)
   unfolding accepted_as ids_accepted index_accepted after_event
   kind_beside Kind.Mapping label w =
       put_keeps (after_event t.words (Accepted LabelMessage.Mapping label)) t.ids t.index entry fits
@@ -235,7 +234,7 @@ module _ (t : Table) (law : TableLaw t) (entry : ℕ) (fits : entry < 1844674407
   kind_beside Kind.NoResources label w = b
   kind_beside Kind.NoKind label w = b
 
-  pub accepted_law : (j : Submission) → IdFits j → TableLaw (accepted_table t j entry)
-  accepted_law Submission.Malformed w = table_law t.words t.ids t.index b
-  accepted_law Submission.Refused w = table_law t.words t.ids t.index b
-  accepted_law (Submission.Accepted kind label) w = table_law (accepted_as t kind label).1 (ids_accepted t kind) (index_accepted t kind label entry) (kind_beside kind label w)
+  pub accepted_law : (j : Result (Kind × ℕ) SubmissionError) → IdFits j → TableLaw (accepted_table t j entry)
+  accepted_law (Err SubmissionError.Malformed) w = table_law t.words t.ids t.index b
+  accepted_law (Err SubmissionError.Refused) w = table_law t.words t.ids t.index b
+  accepted_law (Ok (kind, label)) w = table_law (accepted_as t kind label).1 (ids_accepted t kind) (index_accepted t kind label entry) (kind_beside kind label w)

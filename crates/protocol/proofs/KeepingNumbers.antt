@@ -1,4 +1,5 @@
 -- The numbers: how far they reach after an ACK and after a message was numbered, and that no message's number changes. Assumes nothing.
+use Rattle.std.specs.Prelude.{Some}
 use Prim.Native.Nat.{ℕ, ◌+◌, ◌-◌, ◌≤◌, ◌<◌}
 use mathlib.Core.Bool.{Bool, true, false}
 use mathlib.Core.Path.{◌≡◌, refl, sym, ap, ◌∙◌}
@@ -8,8 +9,6 @@ use lib.Dec.{ltb}
 use lib.ListN.{length-drop}
 use borrow.Author.Tests.{le-ltb}
 use Rattle.octets.specs.Pick.{pick}
-use Rattle.ft_number.specs.declared.Ack.{Ack}
-use Rattle.ft_number.specs.declared.Steps.TheVariants.{Count}
 use Rattle.ft_number.specs.Ack.{ack_of}
 use Rattle.ft_number.specs.Circle.{next, after, steps_of}
 use Rattle.ft_number.proofs.Circle.{after_none, after-suc, after-add, after_small, steps-after, steps_reach, steps-rest, Acknowledged, ack_releases}
@@ -30,19 +29,19 @@ module _ (s : State) (w : Window s) where
   issued_held = omega (arith, window_count, w.within)
 
 -- ---- an ACK that releases
-module _ (s : State) (w : Window s) (a k : ℕ) (e : ack_of s.released.0 s.issued.0 a ≡ Ack.Releases k) where
+module _ (s : State) (w : Window s) (a k : ℕ) (e : ack_of s.released.0 s.issued.0 a ≡ Some k) where
   acks : Acknowledged s.released.0 s.issued.0 a k
   acks = ack_releases s.released.0 s.issued.0 a k e
 
   same : acks.issued ≡ w.steps
-  same = let p : Count acks.issued ≡ Count w.steps = sym acks.window ∙ w.reaches in cc
+  same = let p : Some acks.issued ≡ Some w.steps = sym acks.window ∙ w.reaches in cc
 
   -- it names no more than are held
   pub ack_held : k ≤ held s
   ack_held = omega (arith, acks.few, same, w.within)
 
   module _ (lr : s.released.0 < 4294967296) (li : s.issued.0 < 4294967296) (la : a < 4294967296) (few : held s ≤ capacity) where
-    rest : steps_of a s.issued.0 ≡ Count (w.steps - k)
+    rest : steps_of a s.issued.0 ≡ Some (w.steps - k)
     rest =
         steps-rest s.released.0 s.issued.0 a k w.steps (omega arith) (omega arith) (omega arith) (omega (arith, w.within)) acks.names w.reaches
         (omega (arith, acks.few, same))
@@ -58,10 +57,10 @@ module _ (s : State) (w : Window s) (a k : ℕ) (e : ack_of s.released.0 s.issue
     ack_issued = rw (rest, w.reaches)
 
 -- to acknowledge R again releases nothing
-pub ack_again : (s : State) → s.released.0 < 4294967296 → Window s → ack_of s.released.0 s.issued.0 s.released.0 ≡ Ack.Releases 0
+pub ack_again : (s : State) → s.released.0 < 4294967296 → Window s → ack_of s.released.0 s.issued.0 s.released.0 ≡ Some 0
 unfolding ack_of
 ack_again s lr w =
-    let none : steps_of s.released.0 s.released.0 ≡ Count 0 = rw (after_none s.released.0) at (steps-after s.released.0 0 (omega arith) (omega arith)) in
+    let none : steps_of s.released.0 s.released.0 ≡ Some 0 = rw (after_none s.released.0) at (steps-after s.released.0 0 (omega arith) (omega arith)) in
     rw (none, w.reaches, le-ltb w.steps 0 (omega arith))
 
 -- ---- a message that is numbered
@@ -80,7 +79,7 @@ number-next s law sent e =
 
 -- then it is the last that has one
 module _ (s : State) (lr : s.released.0 < 4294967296) (sent : ℕ) (few : sent < capacity) where
-  steps-numbered : steps_of s.released.0 (queue_number s sent).0 ≡ Count (sent + 1)
+  steps-numbered : steps_of s.released.0 (queue_number s sent).0 ≡ Some (sent + 1)
   unfolding queue_number
   steps-numbered = steps-after s.released.0 (sent + 1) (omega arith) (omega arith)
 

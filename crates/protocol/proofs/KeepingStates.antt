@@ -1,4 +1,5 @@
 -- Each state that a rule makes of a lawful one is lawful. Assumes nothing.
+use Rattle.std.specs.Prelude.{Some}
 use Prim.Native.Nat.{ℕ, ◌+◌, ◌<◌}
 use mathlib.Core.Bool.{true, false, true≢false}
 use mathlib.Core.List.{List, [], ◌∷◌}
@@ -6,7 +7,6 @@ use mathlib.Core.Path.{◌≡◌, refl, sym, ap, ◌∙◌}
 use native.Mathlib.Omega.{arith}
 use lib.ListN.{take, length-append, length-drop}
 use Rattle.octets.specs.Bytes.{Bytes}
-use Rattle.ft_number.specs.declared.Ack.{Ack}
 use Rattle.ft_number.specs.Ack.{ack_of}
 use Rattle.ft_number.specs.Circle.{steps_of}
 use Rattle.ft_number.proofs.Circle.{counted, Acknowledged, ack_releases}
@@ -168,7 +168,7 @@ module _ (s : State) (law : Lawful s) where
   }
 
   -- ---- an ACK releases the oldest
-  module _ (a k : ℕ) (la : a < 4294967296) (e : ack_of s.released.0 s.issued.0 a ≡ Ack.Releases k) where
+  module _ (a k : ℕ) (la : a < 4294967296) (e : ack_of s.released.0 s.issued.0 a ≡ Some k) where
     -- of a released state nothing but itself
     acked-idle : s.kept ≡ false → acked s k a ≡ released_state
     unfolding acked released_labels counting is_request lists_label on_side
@@ -236,7 +236,7 @@ module _ (s : State) (law : Lawful s) (kept : s.kept ≡ true) where
       }
 
   -- a session is resumed
-  pub lawful_resumed : (t : Terms) (k a : ℕ) → t.timeout < 4294967296 → a < 4294967296 → ack_of s.released.0 s.issued.0 a ≡ Ack.Releases k → Lawful (resumed s t k a)
+  pub lawful_resumed : (t : Terms) (k a : ℕ) → t.timeout < 4294967296 → a < 4294967296 → ack_of s.released.0 s.issued.0 a ≡ Some k → Lawful (resumed s t k a)
   unfolding resumed acked
   lawful_resumed t k a lt la e =
       let n = lawful_acked s law a k la e in

@@ -1,4 +1,5 @@
 -- The index of prefixes over all calls: a listed label has the entry that it had, or that of the Mapping which took its word. Assumes nothing.
+use Rattle.std.specs.Prelude.{Result, Ok, Err, Option, Some, None}
 use Prim.Native.Nat.{ℕ, ◌≤◌}
 use mathlib.Core.Bool.{Bool, true, false}
 use mathlib.Core.List.{List, [], ◌∷◌}
@@ -9,8 +10,7 @@ use lib.Dec.{eqb, ltb}
 use lib.ListN.{length, get_or, take}
 use borrow.Author.Tests.{eqb-true, not-false}
 use Rattle.octets.proofs.Choice.{by_test, no, pick_all}
-use Rattle.label_list.specs.declared.Found.{Found}
-use Rattle.label_list.specs.declared.Found.TheVariants.{At, Nowhere}
+use Rattle.octets.proofs.Pairs.{ok_pair}
 use Rattle.label_list.specs.declared.LabelMessage.{LabelMessage}
 use Rattle.label_list.specs.declared.Side.{Side}
 use Rattle.label_list.specs.Beside.{entry_at, entry_on}
@@ -21,7 +21,6 @@ use Rattle.label_list.specs.Rules.{received_side}
 use Rattle.label_list.specs.Word.{listable, is_request, lists_label, on_side, stands_for}
 use Rattle.label_list.proofs.Counting.{counting-length}
 use Rattle.label_list.proofs.Spare.{spare_free}
-use Rattle.tlv.specs.declared.Field.{Field}
 use Rattle.tlv.specs.Element.{entry_by}
 use Rattle.label_events.specs.declared.Acceptance.{Acceptance}
 use Rattle.label_events.specs.declared.Meets.{Meets}
@@ -35,8 +34,7 @@ use Rattle.label_events.specs.Requests.{asked_plan}
 use Rattle.message.specs.declared.Kind.{Kind}
 use Rattle.message.specs.declared.Message.{Message}
 use Rattle.message.specs.declared.MessageType.{MessageType}
-use Rattle.message.specs.declared.Reading.{Reading}
-use Rattle.message.specs.declared.Submission.{Submission}
+use Rattle.message.specs.declared.SubmissionError.{SubmissionError}
 use Rattle.message.specs.Reading.{reading_of}
 use Rattle.message.specs.Storable.{kind_in, label_in}
 use Rattle.message.specs.Submission.{submission_of, entry_in}
@@ -54,7 +52,6 @@ use Rattle.label_meaning.proofs.Sets.{received_sets, accepted_sets}
 use Rattle.label_meaning.proofs.Step.{step_is_valid}
 use Rattle.label_meaning.proofs.Taken.{event-entry, quiet_entry}
 use Rattle.protocol.specs.declared.Answer.{Answer}
-use Rattle.protocol.specs.declared.LabelEffect.{LabelEffect}
 use Rattle.protocol.specs.declared.Phase.{Phase}
 use Rattle.protocol.specs.declared.Start.{Start}
 use Rattle.protocol.specs.Accepting.{changes_entry, accepted_as, ids_accepted, index_accepted}
@@ -82,15 +79,15 @@ use Rattle.protocol.proofs.Settles.{ends}
 use Rattle.protocol.proofs.SubmitCases.{done_last}
 
 -- ---- an ACK moves no label, and leaves the Requests
-acked_then : (ls : List ℕ) → IsValid ls → (e : LabelEvent) → taken_by ls e ≡ Nowhere → (last : List ℕ)
-    → (IsValid (after_event ls e) → IsValid last × StandsOld (after_event ls e) last Nowhere) → IsValid last × StandsOld ls last Nowhere
+acked_then : (ls : List ℕ) → IsValid ls → (e : LabelEvent) → taken_by ls e ≡ None → (last : List ℕ)
+    → (IsValid (after_event ls e) → IsValid last × StandsOld (after_event ls e) last None) → IsValid last × StandsOld ls last None
 acked_then ls v e none last rest =
     let r = rest (step_is_valid ls v e) in
-    (r.0, then_old ls (after_event ls e) last Nowhere (rw none at (event-old ls e)) r.1)
+    (r.0, then_old ls (after_event ls e) last None (rw none at (event-old ls e)) r.1)
 
-released-old : (ms : List (List ℕ)) (ls : List ℕ) → IsValid ls → IsValid (released_labels ms ls) × StandsOld ls (released_labels ms ls) Nowhere
+released-old : (ms : List (List ℕ)) (ls : List ℕ) → IsValid ls → IsValid (released_labels ms ls) × StandsOld ls (released_labels ms ls) None
 unfolding released_labels released_kind after_event
-released-old [] ls v = (v, same_old ls Nowhere)
+released-old [] ls v = (v, same_old ls None)
 released-old (m ∷ ms) ls v =
     let kind = kind_in (submission_of m) in
     let label = label_in (submission_of m) in
@@ -126,14 +123,14 @@ pub record PeersWord (words : List ℕ) (j : ℕ) (x : Meets) (m : LabelMessage)
   pub mapping : m ≡ LabelMessage.Mapping
   pub names : r ≡ Label l
   pub used : side ≡ Side.Used
-  pub word : ((x.request ≡ At j) × (is_request (get_or words j 0) ≡ true)) ⊎ ((x.spare ≡ At j) × (get_or words j 0 ≡ 0))
+  pub word : ((x.request ≡ Some j) × (is_request (get_or words j 0) ≡ true)) ⊎ ((x.spare ≡ Some j) × (get_or words j 0 ≡ 0))
 
 peers_word : {words : List ℕ} {j : ℕ} {x : Meets} {m : LabelMessage} {p : Bool} {r : Reach} {side : Side} {l : ℕ} → TakesWord words j (Received x m p r) side l
     → PeersWord words j x m r side l
 peers_word (its_request at request) = record { mapping = refl; names = refl; used = refl; word = inl (at, request) }
 peers_word (spare_word at free) = record { mapping = refl; names = refl; used = refl; word = inr (at, free) }
 
-not-ended : {words : List ℕ} {j : ℕ} {e : LabelEvent} {side : Side} {l : ℕ} (r : Found) → TakesWord words j e side l → e ≡ Ended r → ⊥
+not-ended : {words : List ℕ} {j : ℕ} {e : LabelEvent} {side : Side} {l : ℕ} (r : Option ℕ) → TakesWord words j e side l → e ≡ Ended r → ⊥
 not-ended r (ours free) z = no cc
 not-ended r (its_request at request) z = no cc
 not-ended r (spare_word at free) z = no cc
@@ -187,13 +184,13 @@ module _ (s : State) (ph : Phase) (law : Lawful s) where
 
   -- labels leave, and none takes a word
   leaving : (c : Call) (x : Step) (left : List ℕ) → x.state.table.words ≡ left → x.state.table.index ≡ counting 0 lists_label left index
-      → IsValid left → StandsOld words left Nowhere → From c x
+      → IsValid left → StandsOld words left None → From c x
   leaving c x left e f va old side l listed =
       let kept = quiet_entry words left index v va old side l (rw e at listed) in
       stays {x = x} kept.0 (rw (e, f) kept.1)
 
   -- one event that takes no word
-  by_event : (c : Call) (x : Step) (e : LabelEvent) → taken_by words e ≡ Nowhere → x.state.table.words ≡ after_event words e
+  by_event : (c : Call) (x : Step) (e : LabelEvent) → taken_by words e ≡ None → x.state.table.words ≡ after_event words e
       → x.state.table.index ≡ counting 0 lists_label (after_event words e) index → From c x
   by_event c x e none same listed = leaving c x (after_event words e) same listed (step_is_valid words v e) (rw none at (event-old words e))
 
@@ -202,7 +199,7 @@ module _ (s : State) (ph : Phase) (law : Lawful s) where
 
   -- ---- Submit
   module _ (m : List ℕ) (label : ℕ) where
-    mapping_from : submission_of m ≡ Submission.Accepted Kind.Mapping label → From (submits m) (submit_deed s ph m)
+    mapping_from : submission_of m ≡ Ok (Kind.Mapping, label) → From (submits m) (submit_deed s ph m)
     unfolding submitted accepted_as ids_accepted index_accepted after_event
     mapping_from e side l listed =
         let event : LabelEvent = Accepted LabelMessage.Mapping label in
@@ -216,17 +213,17 @@ module _ (s : State) (ph : Phase) (law : Lawful s) where
         by (after.stays was kept) is = stays {x = submit_deed s ph m} was (is ∙ kept)
         by (set_by j word set) is =
             let w = ours_word word in
-            by_ours {m = m} {x = submit_deed s ph m} j w.0 (e ∙ ap (Submission.Accepted Kind.Mapping) (sym w.1)) w.2 (is ∙ set)
+            by_ours {m = m} {x = submit_deed s ph m} j w.0 (e ∙ ap (λ (k : ℕ). Ok (Kind.Mapping, k)) (sym w.1)) w.2 (is ∙ set)
 
     -- A Mapping that is accepted leaves its label with the entry of its FEC: it takes a word, or has that entry already.
-    pub accepted_sets_entry : submission_of m ≡ Submission.Accepted Kind.Mapping label → submit_rule s ph m ≡ Answer.Done
+    pub accepted_sets_entry : submission_of m ≡ Ok (Kind.Mapping, label) → submit_rule s ph m ≡ Answer.Done
         → label_entry (submitted s m) Side.Given label ≡ entry_in m
     unfolding submitted accepted_as ids_accepted index_accepted after_event
     accepted_sets_entry e done =
         let last = (done_last s ph m done).0 in
-        let accepted : Submission.Accepted last.kind last.label ≡ Submission.Accepted Kind.Mapping label = sym last.unbarred.accepted ∙ e in
-        let kind : last.kind ≡ Kind.Mapping = cc in
-        let named : last.label ≡ label = cc in
+        let accepted = ok_pair (sym last.unbarred.accepted ∙ e) in
+        let kind : last.kind ≡ Kind.Mapping = accepted.0 in
+        let named : last.label ≡ label = accepted.1 in
         let event : LabelEvent = Accepted LabelMessage.Mapping label in
         let taken : (accepted_as s.table Kind.Mapping label).0 ≡ Acceptance.Taken = rw (kind, named) at last.taken in
         let keeps : changes_entry s.table Kind.Mapping label (entry_in m) ≡ false = rw (kind, named) at last.unbarred.same in
@@ -237,50 +234,50 @@ module _ (s : State) (ph : Phase) (law : Lawful s) where
         taken)
 
     abbrev From-kind : Kind → Type 0
-    From-kind kind = submission_of m ≡ Submission.Accepted kind label → From (submits m) (submit_deed s ph m)
+    From-kind kind = submission_of m ≡ Ok (kind, label) → From (submits m) (submit_deed s ph m)
 
     kind_from : (kind : Kind) → From-kind kind
     unfolding submitted accepted_as ids_accepted index_accepted after_event asked_plan
     kind_from Kind.Mapping e = mapping_from e
     kind_from Kind.Withdraw e = by_event (submits m) (submit_deed s ph m) (Accepted LabelMessage.Withdraw label) refl (rw e) (rw e)
     kind_from Kind.Release e = by_event (submits m) (submit_deed s ph m) (Accepted LabelMessage.Release label) refl (rw e) (rw e)
-    kind_from Kind.Address e = leaving (submits m) (submit_deed s ph m) words (rw e) (rw e) v (same_old words Nowhere)
-    kind_from Kind.AddressWithdraw e = leaving (submits m) (submit_deed s ph m) words (rw e) (rw e) v (same_old words Nowhere)
-    kind_from Kind.ResourcesAvailable e = leaving (submits m) (submit_deed s ph m) words (rw e) (rw e) v (same_old words Nowhere)
+    kind_from Kind.Address e = leaving (submits m) (submit_deed s ph m) words (rw e) (rw e) v (same_old words None)
+    kind_from Kind.AddressWithdraw e = leaving (submits m) (submit_deed s ph m) words (rw e) (rw e) v (same_old words None)
+    kind_from Kind.ResourcesAvailable e = leaving (submits m) (submit_deed s ph m) words (rw e) (rw e) v (same_old words None)
     kind_from (Kind.Request id) e = by (open_at id words s.table.ids) refl
       where
-        by : (f : Found) → open_at id words s.table.ids ≡ f → From (submits m) (submit_deed s ph m)
-        by (At i) o =
+        by : (f : Option ℕ) → open_at id words s.table.ids ≡ f → From (submits m) (submit_deed s ph m)
+        by (Some i) o =
             let is = request_open s.table id label i o in
-            leaving (submits m) (submit_deed s ph m) words (rw e is) (rw e (ap (λ (ws : List ℕ). counting 0 lists_label ws index) is)) v (same_old words Nowhere)
-        by Nowhere o =
+            leaving (submits m) (submit_deed s ph m) words (rw e is) (rw e (ap (λ (ws : List ℕ). counting 0 lists_label ws index) is)) v (same_old words None)
+        by None o =
             let is = (asked-event words s.table.ids id o).0 in
             by_event (submits m) (submit_deed s ph m) Asked refl (rw e is) (rw e (ap (λ (ws : List ℕ). counting 0 lists_label ws index) is))
     kind_from (Kind.Abort id) e =
         let is = aborted_event words s.table.ids id in
         by_event (submits m) (submit_deed s ph m) (Ended (open_at id words s.table.ids)) refl (rw e is) (rw e (ap (λ (ws : List ℕ). counting 0 lists_label ws index) is))
-    kind_from Kind.NoResources e = leaving (submits m) (submit_deed s ph m) words (rw e) (rw e) v (same_old words Nowhere)
-    kind_from Kind.NoKind e = leaving (submits m) (submit_deed s ph m) words (rw e) (rw e) v (same_old words Nowhere)
+    kind_from Kind.NoResources e = leaving (submits m) (submit_deed s ph m) words (rw e) (rw e) v (same_old words None)
+    kind_from Kind.NoKind e = leaving (submits m) (submit_deed s ph m) words (rw e) (rw e) v (same_old words None)
 
   submit_from : (m : List ℕ) → From (submits m) (submit_deed s ph m)
   unfolding submitted
   submit_from m = by (submission_of m) refl
     where
-      by : (j : Submission) → submission_of m ≡ j → From (submits m) (submit_deed s ph m)
-      by Submission.Malformed e = leaving (submits m) (submit_deed s ph m) words (rw e) (rw e) v (same_old words Nowhere)
-      by Submission.Refused e = leaving (submits m) (submit_deed s ph m) words (rw e) (rw e) v (same_old words Nowhere)
-      by (Submission.Accepted kind label) e = kind_from m label kind e
+      by : (j : Result (Kind × ℕ) SubmissionError) → submission_of m ≡ j → From (submits m) (submit_deed s ph m)
+      by (Err SubmissionError.Malformed) e = leaving (submits m) (submit_deed s ph m) words (rw e) (rw e) v (same_old words None)
+      by (Err SubmissionError.Refused) e = leaving (submits m) (submit_deed s ph m) words (rw e) (rw e) v (same_old words None)
+      by (Ok (kind, label)) e = kind_from m label kind e
 
   -- ---- the peer's Init
   greet_from : (m : List ℕ) → From (greets m) (init_deed s ph m)
   unfolding fresh resumed acked
   greet_from m = by (init_start s ph m) refl
     where
-      by : (st : Start) → init_start s ph m ≡ st → From (greets m) (init_deed s ph m)
-      by (Start.Refused a) e = same (greets m) (init_deed s ph m) (rw e)
-      by Start.Plain e = forgotten (greets m) (init_deed s ph m) (rw e)
-      by (Start.Fresh t) e = forgotten (greets m) (init_deed s ph m) (rw e)
-      by (Start.Resumed t k a) e =
+      by : (st : Result Start Answer) → init_start s ph m ≡ st → From (greets m) (init_deed s ph m)
+      by (Err a) e = same (greets m) (init_deed s ph m) (rw e)
+      by (Ok Start.Plain) e = forgotten (greets m) (init_deed s ph m) (rw e)
+      by (Ok (Start.Fresh t)) e = forgotten (greets m) (init_deed s ph m) (rw e)
+      by (Ok (Start.Resumed t k a)) e =
           let acks = released-old (take k s.queue) words v in
           leaving (greets m) (init_deed s ph m) (released_labels (take k s.queue) words) (rw e) (rw e) acks.0 acks.1
 
@@ -301,28 +298,28 @@ module _ (s : State) (ph : Phase) (law : Lawful s) where
     abbrev entry : ℕ
     entry = entry_by g.fec
 
-    acks : IsValid t.words × StandsOld words t.words Nowhere
+    acks : IsValid t.words × StandsOld words t.words None
     acks = released-old gone words v
 
     enough : length t.words ≤ length t.index
     enough = omega (arith, counting-length 0 lists_label t.words index)
 
-    takes_is : (f : LabelEffect) → taken_by t.words (effect_event t x p f) ≡ effect_takes t x p f
-    takes_is LabelEffect.Nothing = refl
-    takes_is (LabelEffect.Change n touched) = reached-takes t x p n touched
+    takes_is : (f : Option (LabelMessage × Touched)) → taken_by t.words (effect_event t x p f) ≡ effect_takes t x p f
+    takes_is None = refl
+    takes_is (Some (n, touched)) = reached-takes t x p n touched
 
-    unlisted : (j : ℕ) → ((x.request ≡ At j) × (is_request (get_or t.words j 0) ≡ true)) ⊎ ((x.spare ≡ At j) × (get_or t.words j 0 ≡ 0)) → Unlisted s g j
+    unlisted : (j : ℕ) → ((x.request ≡ Some j) × (is_request (get_or t.words j 0) ≡ true)) ⊎ ((x.spare ≡ Some j) × (get_or t.words j 0 ≡ 0)) → Unlisted s g j
     unlisted j =
         ⊎_elim
-        (λ (r : (x.request ≡ At j) × (is_request (get_or t.words j 0) ≡ true)). was_request r.0 (released-request gone words j r.1))
-        (λ (r : (x.spare ≡ At j) × (get_or t.words j 0 ≡ 0)). was_free (spare_free words t.words j r.0).before)
+        (λ (r : (x.request ≡ Some j) × (is_request (get_or t.words j 0) ≡ true)). was_request r.0 (released-request gone words j r.1))
+        (λ (r : (x.spare ≡ Some j) × (get_or t.words j 0 ≡ 0)). was_free (spare_free words t.words j r.0).before)
 
     -- the label whose word is taken is that of a Mapping
-    whose : (f : LabelEffect) → label_effect g ≡ f → (j : ℕ) {side : Side} {l : ℕ} → TakesWord t.words j (effect_event t x p f) side l
-        → (side ≡ Side.Used) × (g.typename ≡ MessageType.Mapping) × (g.label ≡ Field.Value l) × Unlisted s g j
+    whose : (f : Option (LabelMessage × Touched)) → label_effect g ≡ f → (j : ℕ) {side : Side} {l : ℕ} → TakesWord t.words j (effect_event t x p f) side l
+        → (side ≡ Side.Used) × (g.typename ≡ MessageType.Mapping) × (g.label ≡ Some l) × Unlisted s g j
     unfolding label_effect
-    whose LabelEffect.Nothing q j word = absurd (not-ended x.request word refl)
-    whose (LabelEffect.Change n touched) q j {side} {l} word =
+    whose None q j word = absurd (not-ended x.request word refl)
+    whose (Some (n, touched)) q j {side} {l} word =
         let w = peers_word word in
         let k = type_of_lem g.typename (touched_by g.label g.fec) n touched q in (
           w.used,
@@ -343,11 +340,11 @@ module _ (s : State) (ph : Phase) (law : Lawful s) where
     entry_is side l =
         ap (λ (ws : List ℕ). entry_on ws (counting 0 lists_label ws (put_at (message_takes words t g) entry t.index)) side l) (effect_event_lem t x p (label_effect g))
         ∙ entry_counted left (put_at (message_takes words t g) entry t.index) side l
-        ∙ ap (λ (place : Found). entry_on left (put_at place entry t.index) side l) (sym (takes_is (label_effect g)))
+        ∙ ap (λ (place : Option ℕ). entry_on left (put_at place entry t.index) side l) (sym (takes_is (label_effect g)))
 
     -- A Mapping that is taken leaves its label with the entry of its FEC: it takes a word, moves, or has that entry already.
-    module _ (l : ℕ) (mapping : g.typename ≡ MessageType.Mapping) (names : g.label ≡ Field.Value l) (may : listable l ≡ true) where
-      effect : label_effect g ≡ LabelEffect.Change LabelMessage.Mapping (Touched.Label l)
+    module _ (l : ℕ) (mapping : g.typename ≡ MessageType.Mapping) (names : g.label ≡ Some l) (may : listable l ≡ true) where
+      effect : label_effect g ≡ Some (LabelMessage.Mapping, Touched.Label l)
       unfolding label_effect
       effect = rw (mapping, names)
 
@@ -357,14 +354,14 @@ module _ (s : State) (ph : Phase) (law : Lawful s) where
           ap (entry_at t.index) (sym (ap (effect_place t.words) effect))
           ∙ eqb-true (entry_at t.index (effect_place t.words (label_effect g))) entry (not-false _ e)
 
-      sets_by : (f : LabelEffect) → f ≡ LabelEffect.Change LabelMessage.Mapping (Touched.Label l) → effect_reception t x p f ≡ Reception.Taken
+      sets_by : (f : Option (LabelMessage × Touched)) → f ≡ Some (LabelMessage.Mapping, Touched.Label l) → effect_reception t x p f ≡ Reception.Taken
           → entry_on (after_event t.words (effect_event t x p f)) (put_at (taken_by t.words (effect_event t x p f)) entry t.index) Side.Used l ≡ entry
       sets_by f q room = rw q (received_sets t.words t.index acks.0 enough entry x p l may same_entry (rw q at room))
 
       pub taken_sets : (resumed : Bool) → Takes s resumed g (ack_count (ack_on s g)) → label_entry (received_state s g) Side.Used l ≡ entry
       taken_sets resumed takes = entry_is Side.Used l ∙ sets_by (label_effect g) effect takes.room
 
-    whole_from : (m : List ℕ) → reading_of m ≡ Reading.Whole g → is_up_ft ph ≡ true → (y : Step) → y.state ≡ received_state s g → y.answer ≡ Answer.Done → From (receives m) y
+    whole_from : (m : List ℕ) → reading_of m ≡ Some g → is_up_ft ph ≡ true → (y : Step) → y.state ≡ received_state s g → y.answer ≡ Answer.Done → From (receives m) y
     unfolding received_state taken acked
     whole_from m read up y same done side l listed =
         let words_are : y.state.table.words ≡ left = ap (λ (z : State). z.table.words) same ∙ effect_event_lem t x p (label_effect g) in
@@ -385,9 +382,9 @@ module _ (s : State) (ph : Phase) (law : Lawful s) where
       (λ up. rw up (by up (reading_of m) refl))
       (λ f. rw f (same (receives m) (unchanged Answer.Done s ph) refl))
     where
-      by : is_up_ft ph ≡ true → (r : Reading) → reading_of m ≡ r → From (receives m) (taken_in_ft s ph r)
-      by up Reading.Malformed q = same (receives m) (taken_in_ft s ph Reading.Malformed) refl
-      by up (Reading.Whole g) q = whole_from g m q up (taken_in_ft s ph (Reading.Whole g)) refl refl
+      by : is_up_ft ph ≡ true → (r : Option Message) → reading_of m ≡ r → From (receives m) (taken_in_ft s ph r)
+      by up None q = same (receives m) (taken_in_ft s ph None) refl
+      by up (Some g) q = whole_from g m q up (taken_in_ft s ph (Some g)) refl refl
 
   sent_table : (sent : ℕ) → (sent_state s sent).table ≡ s.table
   unfolding sent_state numbered

@@ -1,10 +1,11 @@
 -- A Withdraw or Release that is received acts on exactly the labels that it touches. Assumes nothing.
+use Rattle.std.specs.Prelude.{Option, Some, None}
 use Prim.Native.Nat.{ℕ}
 use mathlib.Core.Bool.{Bool, false, true≢false}
 use mathlib.Core.List.{List}
 use mathlib.Core.Path.{◌≡◌, refl, sym, ap, ◌∙◌}
 use lib.ListN.{take}
-use Rattle.label_list.specs.declared.Found.TheVariants.{Nowhere}
+use Rattle.octets.proofs.Pairs.{some_pair}
 use Rattle.label_list.specs.declared.LabelMessage.{LabelMessage}
 use Rattle.label_list.specs.declared.Side.{Side}
 use Rattle.label_list.specs.Rules.{received_side, code_received}
@@ -24,7 +25,6 @@ use Rattle.label_meaning.specs.Withdrawal.{is_mapping}
 use Rattle.label_meaning.proofs.Exact.{acts_exactly}
 use Rattle.label_meaning.proofs.Meaning.{valid_means}
 use Rattle.label_meaning.proofs.Taken.{only_mapping}
-use Rattle.protocol.specs.declared.LabelEffect.{LabelEffect}
 use Rattle.protocol.specs.Acked.{acked}
 use Rattle.protocol.specs.Cases.{table_after}
 use Rattle.protocol.specs.Labels.{effect_labels, effect_takes, touched_by, answers, answered_at, is_protected, label_effect, meets, reached}
@@ -38,7 +38,7 @@ use Rattle.protocol.proofs.KeepingStates.{table_lawful}
 use Rattle.protocol.proofs.MeaningLabels.{effect_of_lem, effect_touches, touching_effect}
 
 -- neither answers a Request
-no_answer : (g : Message) (m : LabelMessage) (x : MessageType) → g.typename ≡ x → LabelType x m → is_mapping m ≡ false → (t : Table) → answered_at t g ≡ Nowhere
+no_answer : (g : Message) (m : LabelMessage) (x : MessageType) → g.typename ≡ x → LabelType x m → is_mapping m ≡ false → (t : Table) → answered_at t g ≡ None
 unfolding answered_at answers
 no_answer g LabelMessage.Mapping MessageType.Mapping q of_mapping other t = absurd (true≢false other)
 no_answer g LabelMessage.Withdraw MessageType.Withdraw q of_withdraw other t = rw q
@@ -46,8 +46,8 @@ no_answer g LabelMessage.Release MessageType.Release q of_release other t = rw q
 no_answer g m x q none other t = elim none [ ]
 
 -- a message of that effect over the table t, which is one of a state
-module _ (t : Table) (v : IsValid t.words) (g : Message) (m : LabelMessage) (x : Meets) (request : x.request ≡ Nowhere) (other : is_mapping m ≡ false)
-    (touched : Touched) (effect : label_effect g ≡ LabelEffect.Change m touched) where
+module _ (t : Table) (v : IsValid t.words) (g : Message) (m : LabelMessage) (x : Meets) (request : x.request ≡ None) (other : is_mapping m ≡ false)
+    (touched : Touched) (effect : label_effect g ≡ Some (m, touched)) where
   abbrev p : Bool
   p = is_protected g.protection
 
@@ -60,7 +60,7 @@ module _ (t : Table) (v : IsValid t.words) (g : Message) (m : LabelMessage) (x :
   touches : (l : ℕ) → Touching t g m l → Touches (reached t m touched) l
   touches l y =
       let z = touching_effect t g m y in
-      let same : z.0 ≡ touched = cc (sym effect ∙ z.1) in
+      let same : z.0 ≡ touched = sym (some_pair (sym effect ∙ z.1)).1 in
       rw (← same) z.2
 
   each_touched : (l : ℕ) → Touching t g m l → code_at left (received_side m) l ≡ code_received m p (code_at t.words (received_side m) l)
@@ -74,7 +74,7 @@ module _ (t : Table) (v : IsValid t.words) (g : Message) (m : LabelMessage) (x :
   words_stay none = exactly.none (λ l y. none l (effect_touches t g m touched effect y)) ∙ rw request
 
   -- the table that it leaves: no word is taken
-  table_of_lem : (entry : ℕ) (f : LabelEffect) → f ≡ LabelEffect.Change m touched
+  table_of_lem : (entry : ℕ) (f : Option (LabelMessage × Touched)) → f ≡ Some (m, touched)
       → table_of (effect_labels t x p f) t.ids (put_at (effect_takes t x p f) entry t.index) ≡ table_of left t.ids t.index
   unfolding after_event
   table_of_lem entry f q = rw (q, only_mapping t.words x m p other touched)
@@ -93,11 +93,11 @@ module _ (s : State) (law : Lawful s) (g : Message) (m : LabelMessage) (type : L
   v : IsValid t.words
   v = valid_means t.words (acked-keeps s.table.ids s.table.index (take (ack_count (ack_on s g)) s.queue) s.table.words (table_lawful s law).beside).valid
 
-  effect : label_effect g ≡ LabelEffect.Change m touched
+  effect : label_effect g ≡ Some (m, touched)
   unfolding label_effect
   effect = effect_of_lem g.typename m type touched
 
-  request : x.request ≡ Nowhere
+  request : x.request ≡ None
   request = no_answer g m g.typename refl type other t
 
   table_is : (received_state s g).table

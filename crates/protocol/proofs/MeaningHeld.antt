@@ -1,4 +1,5 @@
 -- A message of some kind and label is held exactly where one stands in the queue. Assumes nothing.
+use Rattle.std.specs.Prelude.{Result, Ok, Err}
 use Prim.Native.Nat.{ℕ, zero, suc, ◌<◌}
 use mathlib.Core.Bool.{true, false≢true}
 use mathlib.Core.List.{List, [], ◌∷◌}
@@ -9,7 +10,7 @@ use lib.ListN.{length, get_or}
 use borrow.Author.Tests.{eq-eqb, eqb-true}
 use Rattle.octets.proofs.Choice.{by_test, both_true}
 use Rattle.message.specs.declared.Kind.{Kind}
-use Rattle.message.specs.declared.Submission.{Submission}
+use Rattle.message.specs.declared.SubmissionError.{SubmissionError}
 use Rattle.message.specs.Kinds.{kind_number}
 use Rattle.message.specs.Storable.{bears}
 use Rattle.message.specs.Submission.{submission_of}
@@ -19,10 +20,10 @@ use Rattle.protocol.specs.MeaningHeld.{HeldSomewhere, BarredBy, by_withdraw, by_
 
 module _ (kind label : ℕ) where
   -- ---- one message
-  first_held : (m : List ℕ) (ms : List (List ℕ)) (j : Submission) → submission_of m ≡ j → bears j kind label ≡ true → HeldSomewhere (m ∷ ms) kind label
-  first_held m ms Submission.Malformed e t = absurd (false≢true t)
-  first_held m ms Submission.Refused e t = absurd (false≢true t)
-  first_held m ms (Submission.Accepted k l) e t =
+  first_held : (m : List ℕ) (ms : List (List ℕ)) (j : Result (Kind × ℕ) SubmissionError) → submission_of m ≡ j → bears j kind label ≡ true → HeldSomewhere (m ∷ ms) kind label
+  first_held m ms (Err SubmissionError.Malformed) e t = absurd (false≢true t)
+  first_held m ms (Err SubmissionError.Refused) e t = absurd (false≢true t)
+  first_held m ms (Ok (k, l)) e t =
       let p = both_true (eqb (kind_number k) kind) (eqb l label) t in
       let same : l ≡ label = eqb-true l label p.1 in
       record { place = 0; inside = omega arith; type = k; accepted = rw same at e; same = eqb-true (kind_number k) kind p.0 }
@@ -38,7 +39,7 @@ module _ (kind label : ℕ) where
       let h : HeldSomewhere ms kind label = held_means ms (rw f at e) in
       record { place = suc h.place; inside = omega (arith, h.inside); type = h.type; accepted = h.accepted; same = h.same })
 
-  found_at : (q : List (List ℕ)) (place : ℕ) → place < length q → (k : Kind) → submission_of (get_or q place []) ≡ Submission.Accepted k label → kind_number k ≡ kind → is_held kind label q ≡ true
+  found_at : (q : List (List ℕ)) (place : ℕ) → place < length q → (k : Kind) → submission_of (get_or q place []) ≡ Ok (k, label) → kind_number k ≡ kind → is_held kind label q ≡ true
   unfolding is_held
   found_at [] place l k e s = absurd (omega arith)
   found_at (m ∷ ms) zero l k e s = rw (e, eq-eqb (kind_number k) kind s, eq-eqb label label refl)

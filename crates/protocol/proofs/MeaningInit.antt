@@ -1,4 +1,5 @@
 -- What the peer's Init leaves: the terms that were agreed, the state and the phase of the start, and which answers release. Assumes nothing.
+use Rattle.std.specs.Prelude.{Option, Some, Result}
 use Prim.Native.Nat.{ℕ, ◌≤◌}
 use mathlib.Core.Bool.{Bool, true, not}
 use mathlib.Core.List.{List, []}
@@ -9,9 +10,7 @@ use Rattle.ft_number.specs.declared.FtNumber.{FtNumber}
 use Rattle.ft_number.specs.declared.Timeout.{Timeout}
 use Rattle.ft_number.specs.Timeout.{millis_of}
 use Rattle.ft_number.proofs.Timeouts.{lesser_zero}
-use Rattle.tlv.specs.declared.Session.{Session}
 use Rattle.message.specs.declared.Message.{Message}
-use Rattle.message.specs.declared.Reading.{Reading}
 use Rattle.message.specs.Reading.{reading_of}
 use Rattle.protocol.specs.declared.Answer.{Answer}
 use Rattle.protocol.specs.declared.Phase.{Phase}
@@ -55,10 +54,10 @@ resumed-leaves s t k a = record {
 }
 
 -- ---- "35 and 34 arise only with both R set"
-both_of : {s : State} {g : Message} {ka mp : ℕ} {n : Timeout} {a : FtNumber} → Reconnects s g ka mp n a → BothR s (Reading.Whole g)
+both_of : {s : State} {g : Message} {ka mp : ℕ} {n : Timeout} {a : FtNumber} → Reconnects s g ka mp n a → BothR s (Some g)
 both_of {g = g} {n = n} b = record { message = g; timeout = n; read = refl; peers = b.session; ours = b.kept }
 
-releasing_case : {s : State} {p : ℕ} {rd : Reading} {st : Start} → StartCase s p rd st → 30 ≤ answer_number (start_answer st) → BothR s rd
+releasing_case : {s : State} {p : ℕ} {rd : Option Message} {st : Result Start Answer} → StartCase s p rd st → 30 ≤ answer_number (start_answer st) → BothR s rd
 releasing_case unread l = absurd (omega arith)
 releasing_case (another_type i) l = absurd (omega arith)
 releasing_case (without-parameters i q) l = absurd (omega arith)
@@ -71,11 +70,11 @@ releasing_case (sequence_error b q r) l = both_of b
 releasing_case (resumes b q r) l = both_of b
 
 -- the answers from 30 on release the state; of an Init these are 34 and 35
-pub both_needed : (s : State) (p : ℕ) (rd : Reading) → 30 ≤ answer_number (start_answer (start_of s p rd)) → BothR s rd
+pub both_needed : (s : State) (p : ℕ) (rd : Option Message) → 30 ≤ answer_number (start_answer (start_of s p rd)) → BothR s rd
 both_needed s p rd l = releasing_case (start-cases s p rd) l
 
 -- ---- the agreed terms
-agreed_of : (p : ℕ) {g : Message} {r : Bool} {ka mp : ℕ} {n : Timeout} {t : Terms} → InitWith g ka mp → g.session ≡ Session.Given r n → terms_of p n ka mp ≡ t → Agreed p (Reading.Whole g) t
+agreed_of : (p : ℕ) {g : Message} {r : Bool} {ka mp : ℕ} {n : Timeout} {t : Terms} → InitWith g ka mp → g.session ≡ Some (record { reconnect = r; timeout = n }) → terms_of p n ka mp ≡ t → Agreed p (Some g) t
 agreed_of p {g} {r} {ka} {mp} {n} {t} i e q =
     rw (← q)
     (record {
@@ -89,7 +88,7 @@ agreed_of p {g} {r} {ka} {mp} {n} {t} i e q =
       forever = lesser_zero p (millis_of n);
     })
 
-agreed-case : {s : State} {p : ℕ} {rd : Reading} {st : Start} (t : Terms) → StartCase s p rd st → BearsTerms st t → Agreed p rd t
+agreed-case : {s : State} {p : ℕ} {rd : Option Message} {st : Result Start Answer} (t : Terms) → StartCase s p rd st → BearsTerms st t → Agreed p rd t
 agreed-case t unread e = absurd e
 agreed-case t (another_type i) e = absurd e
 agreed-case t (without-parameters i q) e = absurd e
@@ -102,7 +101,7 @@ agreed-case t (sequence_error b q r) e = absurd e
 agreed-case {p = p} t (resumes b q r) e = agreed_of p b.init b.session e
 
 -- the timeout of a session that begins is the lesser of both, and 0 only where both are 0
-pub start-agreed : (s : State) (p : ℕ) (rd : Reading) (t : Terms) → BearsTerms (start_of s p rd) t → Agreed p rd t
+pub start-agreed : (s : State) (p : ℕ) (rd : Option Message) (t : Terms) → BearsTerms (start_of s p rd) t → Agreed p rd t
 start-agreed s p rd t e = agreed-case t (start-cases s p rd) e
 
 -- ---- the call
@@ -125,7 +124,7 @@ module _ (s : State) (ph : Phase) (m : List ℕ) where
       → BegunFrom s ph (init_start s ph m) (init_received s ph m)
   unfolding init_received
   init-begins fits w d =
-      let st : Start = init_start s ph m in
+      let st : (Result Start Answer) = init_start s ph m in
       let own : Answer = where_open (awaits ph) (start_answer st) in
       let e : own ≡ Answer.Done = rw w (done_is (start_answer st) d) in
       rw (admitted-does s ph fits own e (stepped Answer.Done (start_state s st) (start_phase ph st) [])) (record { answer = refl; state = refl; phase = refl; output = refl })

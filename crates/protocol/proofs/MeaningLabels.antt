@@ -1,4 +1,5 @@
 -- The labels that a received message touches are those that 01 names, and its protection is missing or wrong exactly where 01 says so. Assumes nothing.
+use Rattle.std.specs.Prelude.{Option, Some, None}
 use Prim.Native.Nat.{ℕ, ◌≤◌}
 use mathlib.Core.Bool.{Bool, true, false, not}
 use mathlib.Core.List.{List}
@@ -9,6 +10,7 @@ use lib.Dec.{eqb}
 use borrow.Author.Tests.{eq-eqb, eqb-true, eqb-false, ne_eqb, not-true}
 use Rattle.octets.specs.Pick.{pick, both}
 use Rattle.octets.proofs.Choice.{by_test, no, passed, cleared, both_true}
+use Rattle.octets.proofs.Pairs.{some_pair}
 use Rattle.ft_number.specs.declared.FtNumber.{FtNumber}
 use Rattle.label_list.specs.declared.LabelMessage.{LabelMessage}
 use Rattle.label_list.specs.declared.Protection.{Protection}
@@ -20,8 +22,6 @@ use Rattle.label_list.specs.Rules.{received_side}
 use Rattle.label_list.specs.Word.{on_side}
 use Rattle.label_list.proofs.Standing.{given_in, given_range, used_in, used_range}
 use Rattle.tlv.specs.declared.Fec.{Fec}
-use Rattle.tlv.specs.declared.Field.{Field}
-use Rattle.tlv.specs.declared.FtField.{FtField}
 use Rattle.tlv.specs.Element.{entry_of}
 use Rattle.label_events.specs.declared.Touched.{Touched}
 use Rattle.label_events.specs.Change.{code_at}
@@ -35,49 +35,48 @@ use Rattle.label_meaning.specs.Event.{Touches, named, among}
 use Rattle.label_meaning.specs.Protected.{TouchesProtected}
 use Rattle.label_meaning.specs.Valid.{IsValid}
 use Rattle.label_meaning.proofs.Protected.{touched_missing, missing_touches}
-use Rattle.protocol.specs.declared.LabelEffect.{LabelEffect}
 use Rattle.protocol.specs.Labels.{touched_by, effect_on, label_effect, is_protected, always_protected, effect_protection, protection_rule, reached}
 use Rattle.protocol.specs.MeaningLabels.{LabelType, of_mapping, of_withdraw, of_release, Touching, names, under_wildcard, under_prefix, NeverBare, address, address-withdraw, resources, Demands, by_kind, by_label, WronglyProtected, Guarded, to_mapping, to_withdraw, to_release, to_second}
 use Rattle.protocol.specs.State.{Table}
 
 -- ---- what a message touches
 -- its type is one of the three
-pub type_of_lem : (x : MessageType) (y : Touched) (m : LabelMessage) (t : Touched) → effect_on x y ≡ LabelEffect.Change m t → LabelType x m × (y ≡ t)
+pub type_of_lem : (x : MessageType) (y : Touched) (m : LabelMessage) (t : Touched) → effect_on x y ≡ Some (m, t) → LabelType x m × (y ≡ t)
 type_of_lem MessageType.Notification y m t e = no (cc)
 type_of_lem MessageType.Initialization y m t e = no (cc)
 type_of_lem MessageType.KeepAlive y m t e = no (cc)
 type_of_lem MessageType.Address y m t e = no (cc)
 type_of_lem MessageType.AddressWithdraw y m t e = no (cc)
-type_of_lem MessageType.Mapping y m t e = let p : LabelMessage.Mapping ≡ m = cc in (rw (← p) of_mapping, cc)
+type_of_lem MessageType.Mapping y m t e = let p = some_pair e in (rw (← p.0) of_mapping, p.1)
 type_of_lem MessageType.Request y m t e = no (cc)
-type_of_lem MessageType.Withdraw y m t e = let p : LabelMessage.Withdraw ≡ m = cc in (rw (← p) of_withdraw, cc)
-type_of_lem MessageType.Release y m t e = let p : LabelMessage.Release ≡ m = cc in (rw (← p) of_release, cc)
+type_of_lem MessageType.Withdraw y m t e = let p = some_pair e in (rw (← p.0) of_withdraw, p.1)
+type_of_lem MessageType.Release y m t e = let p = some_pair e in (rw (← p.0) of_release, p.1)
 type_of_lem MessageType.Abort y m t e = no (cc)
 type_of_lem MessageType.Other y m t e = no (cc)
 
-pub effect_of_lem : (x : MessageType) (m : LabelMessage) → LabelType x m → (t : Touched) → effect_on x t ≡ LabelEffect.Change m t
+pub effect_of_lem : (x : MessageType) (m : LabelMessage) → LabelType x m → (t : Touched) → effect_on x t ≡ Some (m, t)
 effect_of_lem MessageType.Mapping LabelMessage.Mapping of_mapping t = refl
 effect_of_lem MessageType.Withdraw LabelMessage.Withdraw of_withdraw t = refl
 effect_of_lem MessageType.Release LabelMessage.Release of_release t = refl
 effect_of_lem x m none t = elim none [ ]
 
 module _ (tb : Table) (g : Message) (m : LabelMessage) where
-  label_of_lem : LabelType g.typename m → (x : Field) → g.label ≡ x → (f : Fec) → g.fec ≡ f → {l : ℕ} → Touches (reached tb m (touched_by x f)) l → Touching tb g m l
-  label_of_lem k (Field.Value l) e f q named = names k e
-  label_of_lem k Field.Absent e Fec.Wildcard q (among z) = under_wildcard k e q
-  label_of_lem k Field.Absent e (Fec.Prefix p) q (among {k = l} z) = under_prefix k e q (eqb-true (entry_on tb.words tb.index (received_side m) l) (entry_of p) z)
-  label_of_lem k Field.Absent e Fec.Absent q {l = l} x6 = elim x6 [ ]
-  label_of_lem k Field.Absent e Fec.Other q {l = l} x7 = elim x7 [ ]
+  label_of_lem : LabelType g.typename m → (x : Option ℕ) → g.label ≡ x → (f : Option Fec) → g.fec ≡ f → {l : ℕ} → Touches (reached tb m (touched_by x f)) l → Touching tb g m l
+  label_of_lem k (Some l) e f q named = names k e
+  label_of_lem k None e (Some Fec.Wildcard) q (among z) = under_wildcard k e q
+  label_of_lem k None e (Some (Fec.Prefix p)) q (among {k = l} z) = under_prefix k e q (eqb-true (entry_on tb.words tb.index (received_side m) l) (entry_of p) z)
+  label_of_lem k None e None q {l = l} x6 = elim x6 [ ]
+  label_of_lem k None e (Some Fec.Other) q {l = l} x7 = elim x7 [ ]
 
   -- a message touches the label that it names, or all of them under the wildcard FEC
-  pub effect_touches : (t : Touched) → label_effect g ≡ LabelEffect.Change m t → {l : ℕ} → Touches (reached tb m t) l → Touching tb g m l
+  pub effect_touches : (t : Touched) → label_effect g ≡ Some (m, t) → {l : ℕ} → Touches (reached tb m t) l → Touching tb g m l
   unfolding label_effect
   effect_touches t e p =
       let k = type_of_lem g.typename (touched_by g.label g.fec) m t e in
       label_of_lem k.0 g.label refl g.fec refl (rw k.1 p)
 
   -- and back
-  pub touching_effect : {l : ℕ} → Touching tb g m l → (t : Touched) × (label_effect g ≡ LabelEffect.Change m t) × Touches (reached tb m t) l
+  pub touching_effect : {l : ℕ} → Touching tb g m l → (t : Touched) × (label_effect g ≡ Some (m, t)) × Touches (reached tb m t) l
   unfolding label_effect
   touching_effect (names {l = l} k e) = (Touched.Label l, rw e (effect_of_lem g.typename m k (Touched.Label l)), named)
   touching_effect (under_wildcard k e f) = (Touched.Every, rw (e, f) (effect_of_lem g.typename m k Touched.Every), among refl)
@@ -142,39 +141,39 @@ guarded_needs LabelMessage.Release code (to_second l h) = rw (ne_eqb code 6 (λ 
 
 module _ (tb : Table) (g : Message) where
   -- an unprotected message is judged by its kind, then by its labels
-  bare_rule : g.protection ≡ FtField.Absent → protection_rule tb g ≡ pick (always_protected (kind_of g)) Protection.Missing (effect_protection tb false (label_effect g))
+  bare_rule : g.protection ≡ None → protection_rule tb g ≡ pick (always_protected (kind_of g)) Protection.Missing (effect_protection tb false (label_effect g))
   unfolding protection_rule
   bare_rule e = rw e
 
-  bare_effect : IsValid tb.words → (f : LabelEffect) → label_effect g ≡ f → effect_protection tb false f ≡ Protection.Missing → Demands tb g
-  bare_effect v LabelEffect.Nothing q e = no (cc)
-  bare_effect v (LabelEffect.Change m t) q e =
+  bare_effect : IsValid tb.words → (f : Option (LabelMessage × Touched)) → label_effect g ≡ f → effect_protection tb false f ≡ Protection.Missing → Demands tb g
+  bare_effect v None q e = no (cc)
+  bare_effect v (Some (m, t)) q e =
       let p : TouchesProtected tb.words m (reached tb m t) = missing_touches tb.words v m (reached tb m t) e in
       by_label (effect_touches tb g m t q p.touches) (needs_guarded m _ p.needs)
 
   -- 33 comes only where 01 says so
-  pub missing_means : IsValid tb.words → protection_rule tb g ≡ Protection.Missing → (g.protection ≡ FtField.Absent) × Demands tb g
+  pub missing_means : IsValid tb.words → protection_rule tb g ≡ Protection.Missing → (g.protection ≡ None) × Demands tb g
   unfolding protection_rule
   missing_means v e = by g.protection refl e
     where
-      bare : g.protection ≡ FtField.Absent → pick (always_protected (kind_of g)) Protection.Missing (effect_protection tb false (label_effect g)) ≡ Protection.Missing → Demands tb g
+      bare : g.protection ≡ None → pick (always_protected (kind_of g)) Protection.Missing (effect_protection tb false (label_effect g)) ≡ Protection.Missing → Demands tb g
       bare q e =
           by_test (always_protected (kind_of g))
           (λ t. by_kind (bare_kind (kind_of g) t))
           (λ f. bare_effect v (label_effect g) refl (rw f at e))
 
-      guarded : (f : LabelEffect) → effect_protection tb true f ≡ Protection.Missing → ◌≡◌ {A = ℕ} 0 1
-      guarded LabelEffect.Nothing e = cc
-      guarded (LabelEffect.Change m t) e = never_missing tb.words m (reached tb m t) e
+      guarded : (f : Option (LabelMessage × Touched)) → effect_protection tb true f ≡ Protection.Missing → ◌≡◌ {A = ℕ} 0 1
+      guarded None e = cc
+      guarded (Some (m, t)) e = never_missing tb.words m (reached tb m t) e
 
-      by : (x : FtField) → g.protection ≡ x
+      by : (x : Option FtNumber) → g.protection ≡ x
           → pick (both (not (is_protected x)) (always_protected (kind_of g))) Protection.Missing (effect_protection tb (is_protected x) (label_effect g)) ≡ Protection.Missing
-          → (g.protection ≡ FtField.Absent) × Demands tb g
-      by FtField.Absent q e = (q, bare q e)
-      by (FtField.Number n) q e = no (guarded (label_effect g) e)
+          → (g.protection ≡ None) × Demands tb g
+      by None q e = (q, bare q e)
+      by (Some n) q e = no (guarded (label_effect g) e)
 
   -- and always there
-  pub means_missing : g.protection ≡ FtField.Absent → Demands tb g → protection_rule tb g ≡ Protection.Missing
+  pub means_missing : g.protection ≡ None → Demands tb g → protection_rule tb g ≡ Protection.Missing
   means_missing q (by_kind k) = bare_rule q ∙ rw (kind_bare k)
   means_missing q (by_label {m} {l} p guarded) =
       let e = touching_effect tb g m p in
@@ -207,19 +206,19 @@ never_wrong ls m (Label l) e = missing_or_right (needs_protection (received_side
 never_wrong ls m (Those reached) e = missing_or_right (any (guarded_by (received_side m) reached) ls) e
 never_wrong ls m Nothing e = cc
 
-pub named_in : (x : Field) (f : Fec) (l : ℕ) → touched_by x f ≡ Touched.Label l → x ≡ Field.Value l
-named_in (Field.Value k) f l e = let p : k ≡ l = cc in ap Field.Value p
-named_in Field.Absent Fec.Absent l e = no (cc)
-named_in Field.Absent Fec.Wildcard l e = no (cc)
-named_in Field.Absent (Fec.Prefix p) l e = no (cc)
-named_in Field.Absent Fec.Other l e = no (cc)
+pub named_in : (x : Option ℕ) (f : Option Fec) (l : ℕ) → touched_by x f ≡ Touched.Label l → x ≡ Some l
+named_in (Some k) f l e = let p : k ≡ l = cc in ap Some p
+named_in None None l e = no (cc)
+named_in None (Some Fec.Wildcard) l e = no (cc)
+named_in None (Some (Fec.Prefix p)) l e = no (cc)
+named_in None (Some Fec.Other) l e = no (cc)
 
 module _ (tb : Table) (g : Message) where
   -- under a wildcard protection is never wrong
-  guarded_wrong : (n : FtNumber) → g.protection ≡ FtField.Number n → (f : LabelEffect) → label_effect g ≡ f → effect_protection tb true f ≡ Protection.Wrong → WronglyProtected tb.words g
+  guarded_wrong : (n : FtNumber) → g.protection ≡ Some n → (f : Option (LabelMessage × Touched)) → label_effect g ≡ f → effect_protection tb true f ≡ Protection.Wrong → WronglyProtected tb.words g
   unfolding protection_of code_protection label_effect
-  guarded_wrong n q LabelEffect.Nothing r e = no (cc)
-  guarded_wrong n q (LabelEffect.Change m (Touched.Label l)) r e =
+  guarded_wrong n q None r e = no (cc)
+  guarded_wrong n q (Some (m, Touched.Label l)) r e =
       let b = passed (bars_protection m (code_at tb.words (received_side m) l)) Protection.Wrong Protection.Right Protection.Wrong (λ z. cc) e in
       let u = bars_used m (code_at tb.words (received_side m) l) b.0 in
       let k = type_of_lem g.typename (touched_by g.label g.fec) m (Touched.Label l) r in
@@ -233,25 +232,25 @@ module _ (tb : Table) (g : Message) where
         named = named_in g.label g.fec l k.1;
         bare = rw u.0 at u.1;
       }
-  guarded_wrong n q (LabelEffect.Change m Touched.Every) r e = no (cc)
-  guarded_wrong n q (LabelEffect.Change m (Touched.Prefix x)) r e = no (cc)
-  guarded_wrong n q (LabelEffect.Change m Touched.Nothing) r e = no (cc)
+  guarded_wrong n q (Some (m, Touched.Every)) r e = no (cc)
+  guarded_wrong n q (Some (m, Touched.Prefix x)) r e = no (cc)
+  guarded_wrong n q (Some (m, Touched.Nothing)) r e = no (cc)
 
   -- 32 comes only where 01 says so
   pub wrong_means : protection_rule tb g ≡ Protection.Wrong → WronglyProtected tb.words g
   unfolding protection_rule
   wrong_means e = by g.protection refl e
     where
-      bare : (f : LabelEffect) → effect_protection tb false f ≡ Protection.Wrong → ◌≡◌ {A = ℕ} 0 1
-      bare LabelEffect.Nothing e = cc
-      bare (LabelEffect.Change m t) e = never_wrong tb.words m (reached tb m t) e
+      bare : (f : Option (LabelMessage × Touched)) → effect_protection tb false f ≡ Protection.Wrong → ◌≡◌ {A = ℕ} 0 1
+      bare None e = cc
+      bare (Some (m, t)) e = never_wrong tb.words m (reached tb m t) e
 
-      by : (x : FtField) → g.protection ≡ x
+      by : (x : Option FtNumber) → g.protection ≡ x
           → pick (both (not (is_protected x)) (always_protected (kind_of g))) Protection.Missing (effect_protection tb (is_protected x) (label_effect g)) ≡ Protection.Wrong
           → WronglyProtected tb.words g
-      by FtField.Absent q e =
+      by None q e =
           no (bare (label_effect g) (cleared (always_protected (kind_of g)) Protection.Missing (effect_protection tb false (label_effect g)) Protection.Wrong (λ z. cc) e).1)
-      by (FtField.Number n) q e = guarded_wrong n q (label_effect g) refl e
+      by (Some n) q e = guarded_wrong n q (label_effect g) refl e
 
   -- and always there
   pub means_wrong : WronglyProtected tb.words g → protection_rule tb g ≡ Protection.Wrong

@@ -1,5 +1,6 @@
 -- What is left out, place by place: exactly the numbered Requests whose Abort is held behind them, from the count sent on up to the first message that is none.
 -- Assumes nothing.
+use Rattle.std.specs.Prelude.{Result, Ok, Err}
 use Prim.Native.Nat.{ℕ, zero, suc, ◌+◌, ◌-◌, ◌<◌}
 use mathlib.Core.Bool.{true, false, true≢false, false≢true}
 use mathlib.Core.List.{List, [], ◌∷◌}
@@ -11,7 +12,7 @@ use borrow.Author.Tests.{eq-eqb, eqb-true}
 use Rattle.octets.proofs.Choice.{by_test}
 use Rattle.ft_number.specs.declared.MessageId.{MessageId}
 use Rattle.message.specs.declared.Kind.{Kind}
-use Rattle.message.specs.declared.Submission.{Submission}
+use Rattle.message.specs.declared.SubmissionError.{SubmissionError}
 use Rattle.message.specs.Submission.{submission_of}
 use Rattle.protocol.specs.LeftOut.{aborts_id, is_aborted, is_undone, kind_held, next_place, passed_over}
 use Rattle.protocol.specs.MeaningSend.{LeftOutAt, PassesOver}
@@ -25,7 +26,7 @@ pub record AbortAmong (id : MessageId) (ms : List (List ℕ)) : Type 0 where
   pub inside : at < length ms
   pub named : MessageId
   pub label : ℕ
-  pub abort : submission_of (get_or ms at []) ≡ Submission.Accepted (Kind.Abort named) label
+  pub abort : submission_of (get_or ms at []) ≡ Ok (Kind.Abort named, label)
   pub same : named.0 ≡ id.0
 
 aborts_kind : (P : Kind → Type 0) (id : MessageId) (k : Kind) → ((named : MessageId) → named.0 ≡ id.0 → P (Kind.Abort named)) → aborts_id id k ≡ true → P k
@@ -40,11 +41,11 @@ aborts_kind P id (Kind.Abort named) r e = r named (eqb-true named.0 id.0 e)
 aborts_kind P id Kind.NoResources r e = absurd (false≢true e)
 aborts_kind P id Kind.NoKind r e = absurd (false≢true e)
 
-first_abort : (id : MessageId) (m : List ℕ) (ms : List (List ℕ)) (x : Submission) → submission_of m ≡ x → aborts_id id (kind_held x) ≡ true → AbortAmong id (m ∷ ms)
-first_abort id m ms Submission.Malformed e t = absurd (false≢true t)
-first_abort id m ms Submission.Refused e t = absurd (false≢true t)
-first_abort id m ms (Submission.Accepted k l) e t =
-    aborts_kind (λ k. submission_of m ≡ Submission.Accepted k l → AbortAmong id (m ∷ ms)) id k
+first_abort : (id : MessageId) (m : List ℕ) (ms : List (List ℕ)) (x : Result (Kind × ℕ) SubmissionError) → submission_of m ≡ x → aborts_id id (kind_held x) ≡ true → AbortAmong id (m ∷ ms)
+first_abort id m ms (Err SubmissionError.Malformed) e t = absurd (false≢true t)
+first_abort id m ms (Err SubmissionError.Refused) e t = absurd (false≢true t)
+first_abort id m ms (Ok (k, l)) e t =
+    aborts_kind (λ k. submission_of m ≡ Ok (k, l) → AbortAmong id (m ∷ ms)) id k
     (λ named same q. record { at = 0; inside = omega arith; named = named; label = l; abort = q; same = same }) t e
 
 aborted_means : (id : MessageId) (ms : List (List ℕ)) → is_aborted id ms ≡ true → AbortAmong id ms
@@ -57,7 +58,7 @@ aborted_means id (m ∷ ms) e =
     let a : AbortAmong id ms = aborted_means id ms (rw f at e) in
     record { at = suc a.at; inside = omega (arith, a.inside); named = a.named; label = a.label; abort = a.abort; same = a.same })
 
-means_aborted : (id named : MessageId) (label : ℕ) (ms : List (List ℕ)) (j : ℕ) → j < length ms → submission_of (get_or ms j []) ≡ Submission.Accepted (Kind.Abort named) label
+means_aborted : (id named : MessageId) (label : ℕ) (ms : List (List ℕ)) (j : ℕ) → j < length ms → submission_of (get_or ms j []) ≡ Ok (Kind.Abort named, label)
     → named.0 ≡ id.0 → is_aborted id ms ≡ true
 unfolding is_aborted
 means_aborted id named label [] j l e s = absurd (omega arith)
@@ -66,10 +67,10 @@ means_aborted id named label (m ∷ ms) (suc j) l e s =
     by_test (aborts_id id (kind_held (submission_of m))) (λ t. rw t) (λ f. rw f (means_aborted id named label ms j (omega arith) e s))
 
 -- ---- the message at a place of the queue
-held-request : (x : Submission) (id : MessageId) → kind_held x ≡ Kind.Request id → (label : ℕ) × (x ≡ Submission.Accepted (Kind.Request id) label)
-held-request Submission.Malformed id e = let z : ◌≡◌ {A = ℕ} 0 1 = cc in absurd (omega arith)
-held-request Submission.Refused id e = let z : ◌≡◌ {A = ℕ} 0 1 = cc in absurd (omega arith)
-held-request (Submission.Accepted k l) id e = (l, ap (λ (x : Kind). Submission.Accepted x l) e)
+held-request : (x : Result (Kind × ℕ) SubmissionError) (id : MessageId) → kind_held x ≡ Kind.Request id → (label : ℕ) × (x ≡ Ok (Kind.Request id, label))
+held-request (Err SubmissionError.Malformed) id e = let z : ◌≡◌ {A = ℕ} 0 1 = cc in absurd (omega arith)
+held-request (Err SubmissionError.Refused) id e = let z : ◌≡◌ {A = ℕ} 0 1 = cc in absurd (omega arith)
+held-request (Ok (k, l)) id e = (l, ap (λ (x : Kind). Ok (x, l)) e)
 
 module _ (s : State) (place : ℕ) (l : place < held s) where
   at_place : drop place s.queue ≡ get_or s.queue place [] ∷ drop (suc place) s.queue

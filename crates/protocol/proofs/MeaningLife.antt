@@ -1,4 +1,5 @@
 -- The life of a label that we gave over all calls: it ends with the state, by a Release while it is given, or by both a Release and the ACK of its Withdraw. Assumes nothing.
+use Rattle.std.specs.Prelude.{Result, Ok, Err, Option, Some, None}
 use Prim.Native.Nat.{ℕ}
 use mathlib.Core.Bool.{Bool, false, true≢false}
 use mathlib.Core.List.{List, [], ◌∷◌, ◌++◌}
@@ -8,21 +9,19 @@ use lib.ListN.{take}
 use Rattle.octets.specs.Pick.{both}
 use Rattle.octets.proofs.Choice.{by_test, pick_all}
 use Rattle.ft_number.specs.declared.MessageId.{MessageId}
-use Rattle.label_list.specs.declared.Found.{Found}
-use Rattle.label_list.specs.declared.Found.TheVariants.{At, Nowhere}
 use Rattle.label_list.specs.declared.LabelMessage.{LabelMessage}
 use Rattle.label_list.specs.declared.Side.{Side}
 use Rattle.label_list.specs.Requests.{open_at}
 use Rattle.label_list.specs.Rules.{sent_side}
 use Rattle.label_events.specs.declared.Acceptance.{Acceptance}
 use Rattle.label_events.specs.declared.Meets.{Meets}
+use Rattle.label_events.specs.declared.Touched.{Touched}
 use Rattle.label_events.specs.Change.{code_at}
 use Rattle.label_events.specs.Reach.{Reach}
 use Rattle.label_events.specs.Requests.{asked_plan}
 use Rattle.message.specs.declared.Kind.{Kind}
 use Rattle.message.specs.declared.Message.{Message}
-use Rattle.message.specs.declared.Reading.{Reading}
-use Rattle.message.specs.declared.Submission.{Submission}
+use Rattle.message.specs.declared.SubmissionError.{SubmissionError}
 use Rattle.message.specs.Reading.{reading_of}
 use Rattle.message.specs.Storable.{kind_in, label_in}
 use Rattle.message.specs.Submission.{submission_of, entry_in}
@@ -34,7 +33,6 @@ use Rattle.label_meaning.proofs.Meaning.{valid_means}
 use Rattle.label_meaning.proofs.RequestIds.{aborted_event, asked-event}
 use Rattle.label_meaning.proofs.Withdrawal.{refused}
 use Rattle.protocol.specs.declared.Answer.{Answer}
-use Rattle.protocol.specs.declared.LabelEffect.{LabelEffect}
 use Rattle.protocol.specs.declared.Phase.{Phase}
 use Rattle.protocol.specs.declared.Start.{Start}
 use Rattle.protocol.specs.Accepting.{accepted_as, is_barred, changes_entry}
@@ -76,13 +74,13 @@ run-append ls [] fs = refl
 run-append ls (e ∷ es) fs = run-append (after_event ls e) es fs
 
 -- a message received is one event of the list
-pub effect_event_lem : (t : Table) (y : Meets) (protected : Bool) (x : LabelEffect) → effect_labels t y protected x ≡ after_event t.words (effect_event t y protected x)
+pub effect_event_lem : (t : Table) (y : Meets) (protected : Bool) (x : Option (LabelMessage × Touched)) → effect_labels t y protected x ≡ after_event t.words (effect_event t y protected x)
 unfolding after_event
-effect_event_lem t y protected LabelEffect.Nothing = refl
-effect_event_lem t y protected (LabelEffect.Change m touched) = refl
+effect_event_lem t y protected None = refl
+effect_event_lem t y protected (Some (m, touched)) = refl
 
 -- a Request of an ID that is open is not taken
-pub request_open : (t : Table) (id : MessageId) (label i : ℕ) → open_at id t.words t.ids ≡ At i → (accepted_as t (Kind.Request id) label).1 ≡ t.words
+pub request_open : (t : Table) (id : MessageId) (label i : ℕ) → open_at id t.words t.ids ≡ Some i → (accepted_as t (Kind.Request id) label).1 ≡ t.words
 unfolding accepted_as asked_plan
 request_open t id label i o = rw o
 
@@ -105,7 +103,7 @@ module _ (s : State) (ph : Phase) where
   -- ---- Submit
   module _ (m : List ℕ) (label : ℕ) where
     abbrev Kinds : Kind → Type 0
-    Kinds kind = submission_of m ≡ Submission.Accepted kind label → LabelsFrom s ph (submits m) (submit_deed s ph m)
+    Kinds kind = submission_of m ≡ Ok (kind, label) → LabelsFrom s ph (submits m) (submit_deed s ph m)
 
     kind_events : (kind : Kind) → Kinds kind
     unfolding submitted accepted_as after_event asked_plan
@@ -117,9 +115,9 @@ module _ (s : State) (ph : Phase) where
     kind_events Kind.ResourcesAvailable e = same (submits m) (submit_deed s ph m) (rw e)
     kind_events (Kind.Request id) e = by (open_at id words s.table.ids) refl
       where
-        by : (f : Found) → open_at id words s.table.ids ≡ f → LabelsFrom s ph (submits m) (submit_deed s ph m)
-        by (At i) o = same (submits m) (submit_deed s ph m) (rw e (request_open s.table id label i o))
-        by Nowhere o = eventful (submits m) (submit_deed s ph m) asked (rw e (asked-event words s.table.ids id o).0)
+        by : (f : Option ℕ) → open_at id words s.table.ids ≡ f → LabelsFrom s ph (submits m) (submit_deed s ph m)
+        by (Some i) o = same (submits m) (submit_deed s ph m) (rw e (request_open s.table id label i o))
+        by None o = eventful (submits m) (submit_deed s ph m) asked (rw e (asked-event words s.table.ids id o).0)
     kind_events (Kind.Abort id) e = eventful (submits m) (submit_deed s ph m) (aborted (open_at id words s.table.ids)) (rw e (aborted_event words s.table.ids id))
     kind_events Kind.NoResources e = same (submits m) (submit_deed s ph m) (rw e)
     kind_events Kind.NoKind e = same (submits m) (submit_deed s ph m) (rw e)
@@ -128,35 +126,35 @@ module _ (s : State) (ph : Phase) where
   unfolding submitted
   submit_events m = by (submission_of m) refl
     where
-      by : (j : Submission) → submission_of m ≡ j → LabelsFrom s ph (submits m) (submit_deed s ph m)
-      by Submission.Malformed e = same (submits m) (submit_deed s ph m) (rw e)
-      by Submission.Refused e = same (submits m) (submit_deed s ph m) (rw e)
-      by (Submission.Accepted kind label) e = kind_events m label kind e
+      by : (j : Result (Kind × ℕ) SubmissionError) → submission_of m ≡ j → LabelsFrom s ph (submits m) (submit_deed s ph m)
+      by (Err SubmissionError.Malformed) e = same (submits m) (submit_deed s ph m) (rw e)
+      by (Err SubmissionError.Refused) e = same (submits m) (submit_deed s ph m) (rw e)
+      by (Ok (kind, label)) e = kind_events m label kind e
 
   -- ---- the peer's Init, and a message received
   greet_events : (m : List ℕ) → LabelsFrom s ph (greets m) (init_deed s ph m)
   unfolding fresh resumed acked
   greet_events m = by (init_start s ph m) refl
     where
-      by : (st : Start) → init_start s ph m ≡ st → LabelsFrom s ph (greets m) (init_deed s ph m)
-      by (Start.Refused a) e = same (greets m) (init_deed s ph m) (rw e)
-      by Start.Plain e = forgets (greets m) (init_deed s ph m) (rw e)
-      by (Start.Fresh t) e = forgets (greets m) (init_deed s ph m) (rw e)
-      by (Start.Resumed t k a) e = eventful (greets m) (init_deed s ph m) (MeaningLife.resumed k refl) (rw e (acked-run (take k s.queue) words))
+      by : (st : Result Start Answer) → init_start s ph m ≡ st → LabelsFrom s ph (greets m) (init_deed s ph m)
+      by (Err a) e = same (greets m) (init_deed s ph m) (rw e)
+      by (Ok Start.Plain) e = forgets (greets m) (init_deed s ph m) (rw e)
+      by (Ok (Start.Fresh t)) e = forgets (greets m) (init_deed s ph m) (rw e)
+      by (Ok (Start.Resumed t k a)) e = eventful (greets m) (init_deed s ph m) (MeaningLife.resumed k refl) (rw e (acked-run (take k s.queue) words))
 
   take_events : (m : List ℕ) → LabelsFrom s ph (receives m) (taken_as s ph (reading_of m))
   unfolding received_state taken acked
   take_events m = by ph refl (reading_of m) refl
     where
-      by : (p : Phase) → ph ≡ p → (r : Reading) → reading_of m ≡ r → LabelsFrom s ph (receives m) (taken_as s p r)
+      by : (p : Phase) → ph ≡ p → (r : Option Message) → reading_of m ≡ r → LabelsFrom s ph (receives m) (taken_as s p r)
       by Phase.Idle e r q = same (receives m) (taken_as s Phase.Idle r) refl
       by (Phase.InitWait v) e r q = same (receives m) (taken_as s (Phase.InitWait v) r) refl
-      by (Phase.UpFT u) e Reading.Malformed q = same (receives m) (taken_as s (Phase.UpFT u) Reading.Malformed) refl
-      by (Phase.UpFT u) e (Reading.Whole g) q =
+      by (Phase.UpFT u) e None q = same (receives m) (taken_as s (Phase.UpFT u) None) refl
+      by (Phase.UpFT u) e (Some g) q =
           let gone = take (ack_count (ack_on s g)) s.queue in
           let t : Table = table_after s (ack_count (ack_on s g)) in
           let event = message_event words t g in
-          eventful (receives m) (taken_as s (Phase.UpFT u) (Reading.Whole g)) (MeaningLife.received (record { done = refl; up = rw e; read = q }))
+          eventful (receives m) (taken_as s (Phase.UpFT u) (Some g)) (MeaningLife.received (record { done = refl; up = rw e; read = q }))
           (effect_event_lem t (meets words t g) (is_protected g.protection) (label_effect g)
           ∙ ap (λ (l : List ℕ). after_event l event) (acked-run gone words) ∙ sym (run-append words (ack_events gone) (event ∷ [])))
       by Phase.UpPlain e r q = same (receives m) (taken_as s Phase.UpPlain r) refl
@@ -209,12 +207,12 @@ module _ (s : State) (ph : Phase) (law : Lawful s) (k : ℕ) where
   valid = valid_means ls law.labels
 
   quiet : (brings : LabelEvent → Bool) → ((m : LabelMessage) (l : ℕ) → brings (Acked m l) ≡ false) → ((r : Meets) (m : LabelMessage) (p : Bool) (t : Reach) → brings (Received r m p t) ≡ false)
-      → ((r : Found) → brings (Ended r) ≡ false) → (n : ℕ) (g : Message) → comes brings (ack_events (take n s.queue) ++ (message_event ls (table_after s n) g ∷ [])) ≡ false
+      → ((r : Option ℕ) → brings (Ended r) ≡ false) → (n : ℕ) (g : Message) → comes brings (ack_events (take n s.queue) ++ (message_event ls (table_after s n) g ∷ [])) ≡ false
   quiet brings acks heard ended n g = comes-append brings (ack_events (take n s.queue)) _ (quiet_acks brings acks (take n s.queue)) (by (label_effect g))
     where
-      by : (x : LabelEffect) → comes brings (effect_event (table_after s n) (meets ls (table_after s n) g) (is_protected g.protection) x ∷ []) ≡ false
-      by LabelEffect.Nothing = rw (ended (meets ls (table_after s n) g).request)
-      by (LabelEffect.Change m touched) = rw (heard (meets ls (table_after s n) g) m (is_protected g.protection) (reached (table_after s n) m touched))
+      by : (x : Option (LabelMessage × Touched)) → comes brings (effect_event (table_after s n) (meets ls (table_after s n) g) (is_protected g.protection) x ∷ []) ≡ false
+      by None = rw (ended (meets ls (table_after s n) g).request)
+      by (Some (m, touched)) = rw (heard (meets ls (table_after s n) g) m (is_protected g.protection) (reached (table_after s n) m touched))
 
   life : {c : Call} {x : Step} {es : List LabelEvent} → Events s ph c x es → GivenMoves k es (code_at ls Side.Given k) (code_at (after_events ls es) Side.Given k)
   life nothing = heard_moves k [] ls valid refl refl
@@ -239,7 +237,7 @@ module _ (s : State) (ph : Phase) (law : Lawful s) (k : ℕ) where
 
 -- From the acceptance of its Withdraw until it is free a label is offered to nobody: a Mapping or a Withdraw of it that passes 1, 3, 4 and 5 is answered 6.
 module _ (s : State) (ph : Phase) (k : ℕ) (a r : Bool) (waits : both a r ≡ false) (code : code_at s.table.words Side.Given k ≡ withdrawn_code a r) (m : List ℕ) (fits : Fitting s m) where
-  forbidden : (kind : Kind) → submission_of m ≡ Submission.Accepted kind k → (accepted_as s.table kind k).0 ≡ Acceptance.NotAllowed → submit_rule s ph m ≡ Answer.LabelNotAllowed
+  forbidden : (kind : Kind) → submission_of m ≡ Ok (kind, k) → (accepted_as s.table kind k).0 ≡ Acceptance.NotAllowed → submit_rule s ph m ≡ Answer.LabelNotAllowed
   forbidden kind e n =
       by_test
       (is_barred s.queue kind k)
@@ -249,10 +247,10 @@ module _ (s : State) (ph : Phase) (k : ℕ) (a r : Bool) (waits : both a r ≡ f
       (λ o. case-submit s ph m (another_entry fits e f o))
       (λ o. case-submit s ph m (code_forbids (record { fitting = fits; accepted = e; free = f; same = o }) n)))
 
-  pub not-offered : submission_of m ≡ Submission.Accepted Kind.Mapping k → submit_rule s ph m ≡ Answer.LabelNotAllowed
+  pub not-offered : submission_of m ≡ Ok (Kind.Mapping, k) → submit_rule s ph m ≡ Answer.LabelNotAllowed
   unfolding accepted_as sent_side
   not-offered e = forbidden Kind.Mapping e (rw (refused s.table.words k a r waits code LabelMessage.Mapping refl))
 
-  pub not_withdrawn : submission_of m ≡ Submission.Accepted Kind.Withdraw k → submit_rule s ph m ≡ Answer.LabelNotAllowed
+  pub not_withdrawn : submission_of m ≡ Ok (Kind.Withdraw, k) → submit_rule s ph m ≡ Answer.LabelNotAllowed
   unfolding accepted_as sent_side
   not_withdrawn e = forbidden Kind.Withdraw e (rw (refused s.table.words k a r waits code LabelMessage.Withdraw refl))

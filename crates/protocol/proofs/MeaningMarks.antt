@@ -1,12 +1,14 @@
 -- Where the marks of "Requests stopped" come from, over all calls: they stay over every break and restart, are forgotten with the state, and move by kinds 9
 -- and 6 alone. Assumes nothing.
+use Rattle.std.specs.Prelude.{Result, Ok, Err, Option, Some, None}
 use Prim.Native.Nat.{ℕ}
 use mathlib.Core.List.{List}
 use mathlib.Core.Path.{◌≡◌, refl}
 use lib.Dec.{ltb}
 use Rattle.octets.proofs.Choice.{pick_all}
-use Rattle.message.specs.declared.Reading.{Reading}
+use Rattle.message.specs.declared.Message.{Message}
 use Rattle.message.specs.Reading.{reading_of}
+use Rattle.protocol.specs.declared.Answer.{Answer}
 use Rattle.protocol.specs.declared.Phase.{Phase}
 use Rattle.protocol.specs.declared.Start.{Start}
 use Rattle.protocol.specs.Acked.{acked}
@@ -27,21 +29,21 @@ module _ (s : State) (ph : Phase) where
   unfolding fresh resumed acked
   greeted_marks m = by (init_start s ph m) refl
     where
-      by : (st : Start) → init_start s ph m ≡ st → MarksFrom s ph (greets m) (init_deed s ph m)
-      by (Start.Refused a) e = remembered {x = init_deed s ph m} (rw e)
-      by Start.Plain e = forgotten {x = init_deed s ph m} (rw e) (rw e)
-      by (Start.Fresh t) e = forgotten {x = init_deed s ph m} (rw e) (rw e)
-      by (Start.Resumed t k a) e = remembered {x = init_deed s ph m} (rw e)
+      by : (st : Result Start Answer) → init_start s ph m ≡ st → MarksFrom s ph (greets m) (init_deed s ph m)
+      by (Err a) e = remembered {x = init_deed s ph m} (rw e)
+      by (Ok Start.Plain) e = forgotten {x = init_deed s ph m} (rw e) (rw e)
+      by (Ok (Start.Fresh t)) e = forgotten {x = init_deed s ph m} (rw e) (rw e)
+      by (Ok (Start.Resumed t k a)) e = remembered {x = init_deed s ph m} (rw e)
 
   taken_marks : (m : List ℕ) → MarksFrom s ph (receives m) (taken_as s ph (reading_of m))
   unfolding received_state taken acked
   taken_marks m = by ph refl (reading_of m) refl
     where
-      by : (p : Phase) → ph ≡ p → (r : Reading) → reading_of m ≡ r → MarksFrom s ph (receives m) (taken_as s p r)
+      by : (p : Phase) → ph ≡ p → (r : Option Message) → reading_of m ≡ r → MarksFrom s ph (receives m) (taken_as s p r)
       by Phase.Idle e r q = remembered refl
       by (Phase.InitWait v) e r q = remembered refl
-      by (Phase.UpFT u) e Reading.Malformed q = remembered refl
-      by (Phase.UpFT u) e (Reading.Whole g) q = told (record { done = refl; up = rw e; read = q }) refl
+      by (Phase.UpFT u) e None q = remembered refl
+      by (Phase.UpFT u) e (Some g) q = told (record { done = refl; up = rw e; read = q }) refl
       by Phase.UpPlain e r q = remembered refl
       by Phase.Failed e r q = remembered refl
 

@@ -1,4 +1,5 @@
 -- The life of a Request over all calls: it is open from its acceptance until its Abort is accepted, an answer is received, or the state is released. Assumes nothing.
+use Rattle.std.specs.Prelude.{Result, Ok, Err, Option, Some, None}
 use Prim.Native.Nat.{ℕ}
 use mathlib.Core.Bool.{false}
 use mathlib.Core.List.{List}
@@ -7,7 +8,7 @@ use mathlib.Core.Path.{◌≡◌, refl, sym, ap, ◌∙◌}
 use lib.Dec.{ltb}
 use Rattle.octets.proofs.Choice.{by_test, pick_all}
 use Rattle.ft_number.specs.declared.MessageId.{MessageId}
-use Rattle.message.specs.declared.Reading.{Reading}
+use Rattle.message.specs.declared.Message.{Message}
 use Rattle.message.specs.Reading.{reading_of}
 use Rattle.protocol.specs.declared.Answer.{Answer}
 use Rattle.protocol.specs.declared.Phase.{Phase}
@@ -41,21 +42,21 @@ module _ (s : State) (ph : Phase) (law : Lawful s) (id : MessageId) where
   unfolding fresh resumed
   greeted_moves m = by (init_start s ph m) refl
     where
-      by : (st : Start) → init_start s ph m ≡ st → RequestFrom s ph id (greets m) (init_deed s ph m)
-      by (Start.Refused a) e = inl (rw e)
-      by Start.Plain e = forgets (greets m) (init_deed s ph m) (rw e)
-      by (Start.Fresh t) e = forgets (greets m) (init_deed s ph m) (rw e)
-      by (Start.Resumed t k a) e = inl (rw e (acked_is s law id k a.0))
+      by : (st : Result Start Answer) → init_start s ph m ≡ st → RequestFrom s ph id (greets m) (init_deed s ph m)
+      by (Err a) e = inl (rw e)
+      by (Ok Start.Plain) e = forgets (greets m) (init_deed s ph m) (rw e)
+      by (Ok (Start.Fresh t)) e = forgets (greets m) (init_deed s ph m) (rw e)
+      by (Ok (Start.Resumed t k a)) e = inl (rw e (acked_is s law id k a.0))
 
   -- ---- what a call does where it is done
   taken_moves : (m : List ℕ) → RequestFrom s ph id (receives m) (taken_as s ph (reading_of m))
   taken_moves m = by ph refl (reading_of m) refl
     where
-      by : (p : Phase) → ph ≡ p → (r : Reading) → reading_of m ≡ r → RequestFrom s ph id (receives m) (taken_as s p r)
+      by : (p : Phase) → ph ≡ p → (r : Option Message) → reading_of m ≡ r → RequestFrom s ph id (receives m) (taken_as s p r)
       by Phase.Idle e r q = inl refl
       by (Phase.InitWait v) e r q = inl refl
-      by (Phase.UpFT u) e Reading.Malformed q = inl refl
-      by (Phase.UpFT u) e (Reading.Whole g) q = message_moves s ph law id m u g q (rw e)
+      by (Phase.UpFT u) e None q = inl refl
+      by (Phase.UpFT u) e (Some g) q = message_moves s ph law id m u g q (rw e)
       by Phase.UpPlain e r q = inl refl
       by Phase.Failed e r q = inl refl
 

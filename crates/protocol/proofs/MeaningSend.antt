@@ -1,4 +1,5 @@
 -- What Send next leaves: the state, the bytes, the numbers. Assumes nothing.
+use Rattle.std.specs.Prelude.{Some, None}
 use Prim.Native.Nat.{ℕ, ◌≤◌, ◌<◌, ◌-◌}
 use mathlib.Core.Bool.{Bool, true, false}
 use mathlib.Core.List.{List}
@@ -9,7 +10,6 @@ use lib.ListN.{length, drop}
 use borrow.Author.Tests.{lt-ltb, le-ltb, lt-leb}
 use Rattle.octets.specs.Pick.{pick}
 use Rattle.octets.proofs.Choice.{pick_all}
-use Rattle.tlv.specs.declared.FtField.{FtField}
 use Rattle.message_writer.specs.Forms.{protected_bytes}
 use Rattle.protocol.specs.declared.Answer.{Answer}
 use Rattle.protocol.specs.declared.Phase.{Phase}
@@ -26,7 +26,7 @@ use Rattle.protocol.proofs.MeaningLeftOut.{passes_over}
 use Rattle.protocol.proofs.PassedOver.{passed-within}
 use Rattle.protocol.proofs.Settling.{admitted-does}
 
-asked : (ask : Bool) (s : State) → ack_asked ask s ≡ pick ask (FtField.Number s.secured) FtField.Absent
+asked : (ask : Bool) (s : State) → ack_asked ask s ≡ pick ask (Some s.secured) None
 unfolding ack_asked
 asked true s = refl
 asked false s = refl

@@ -1,10 +1,12 @@
 -- What Submit leaves: the message is the newest held and has no number; whatever the answer, no number moves. Assumes nothing.
+use Rattle.std.specs.Prelude.{Result, Ok, Err}
 use Prim.Native.Nat.{ℕ}
 use mathlib.Core.List.{List, [], ◌∷◌}
 use mathlib.Core.Path.{◌≡◌, refl}
 use lib.ListN.{length-append, get_or-append}
 use lib.Seq.{get_or-append_seam}
-use Rattle.message.specs.declared.Submission.{Submission}
+use Rattle.message.specs.declared.Kind.{Kind}
+use Rattle.message.specs.declared.SubmissionError.{SubmissionError}
 use Rattle.message.specs.Submission.{submission_of}
 use Rattle.protocol.specs.declared.Answer.{Answer}
 use Rattle.protocol.specs.declared.Phase.{Phase}
@@ -21,10 +23,10 @@ use Rattle.protocol.proofs.Hearing.{unheard}
 use Rattle.protocol.proofs.KeepingNumbers.{issued_held}
 
 module _ (s : State) (ph : Phase) (m : List ℕ) where
-  marks_stopped : (j : Submission) → (accepted_marks s.marks j).stopped ≡ s.marks.stopped
-  marks_stopped Submission.Malformed = refl
-  marks_stopped Submission.Refused = refl
-  marks_stopped (Submission.Accepted kind label) = refl
+  marks_stopped : (j : Result (Kind × ℕ) SubmissionError) → (accepted_marks s.marks j).stopped ≡ s.marks.stopped
+  marks_stopped (Err SubmissionError.Malformed) = refl
+  marks_stopped (Err SubmissionError.Refused) = refl
+  marks_stopped (Ok (kind, label)) = refl
 
   submitted_from : Window s → QueuedFrom s ph m (stepped Answer.Done (submitted s m) ph [])
   unfolding submitted issued_count

@@ -1,9 +1,10 @@
 -- The agreed timeout changes only where an Init is taken, which makes it the lesser of both, or the state is released; Restore and Open leave it. Assumes nothing.
+use Rattle.std.specs.Prelude.{unwrap_or, Option, Some, None, Result, Ok, Err}
 use Prim.Native.Nat.{ℕ}
 use mathlib.Core.Bool.{Bool, not}
 use mathlib.Core.List.{List}
 use mathlib.Core.Logic.{⊎_elim}
-use mathlib.Core.Path.{◌≡◌, refl, sym, ap, ◌∙◌}
+use mathlib.Core.Path.{ap, sym, ◌∙◌, ◌≡◌, refl}
 use lib.Dec.{ltb}
 use Rattle.octets.proofs.Choice.{cleared, no, pick_all}
 use Rattle.ft_number.specs.declared.Form.{Form}
@@ -14,7 +15,6 @@ use Rattle.ft_number.specs.Timeout.{lesser_of, proposed_of, millis_of}
 use Rattle.ft_number.proofs.Timeouts.{lesser_commutes}
 use Rattle.tlv.specs.declared.Session.{Session}
 use Rattle.message.specs.declared.Message.{Message}
-use Rattle.message.specs.declared.Reading.{Reading}
 use Rattle.message.specs.Reading.{reading_of}
 use Rattle.message_writer.specs.declared.OwnParameters.{OwnParameters}
 use Rattle.message_writer.specs.ReadBack.{InitFits}
@@ -53,7 +53,7 @@ module _ (s : State) (ph : Phase) where
   unfolding done fresh resumed acked
   init_timeout m = by (init_start s ph m) refl
     where
-      taken-init : (t : Terms) (st : Start) → init_start s ph m ≡ st → BearsTerms st t → (start_state s st).terms.timeout ≡ t.timeout → TakenInit ph m (done (greets m) s ph)
+      taken-init : (t : Terms) (st : Result Start Answer) → init_start s ph m ≡ st → BearsTerms st t → (start_state s st).terms.timeout ≡ t.timeout → TakenInit ph m (done (greets m) s ph)
       taken-init t st e bears same =
           let a : Agreed (proposal_of ph) (reading_of m) t = start-agreed s (proposal_of ph) (reading_of m) t (rw e bears) in
           record {
@@ -66,19 +66,19 @@ module _ (s : State) (ph : Phase) where
             timeout = rw e (same ∙ a.timeout);
           }
 
-      by : (st : Start) → init_start s ph m ≡ st → TimeoutFrom s ph (greets m) (done (greets m) s ph)
-      by (Start.Refused a) e = stays {x = done (greets m) s ph} (rw e refl)
-      by Start.Plain e = released {x = done (greets m) s ph} (rw e refl)
-      by (Start.Fresh t) e = agreed (taken-init t (Start.Fresh t) e refl refl)
-      by (Start.Resumed t k a) e = agreed (taken-init t (Start.Resumed t k a) e refl refl)
+      by : (st : Result Start Answer) → init_start s ph m ≡ st → TimeoutFrom s ph (greets m) (done (greets m) s ph)
+      by (Err a) e = stays {x = done (greets m) s ph} (rw e refl)
+      by (Ok Start.Plain) e = released {x = done (greets m) s ph} (rw e refl)
+      by (Ok (Start.Fresh t)) e = agreed (taken-init t (Ok (Start.Fresh t)) e refl refl)
+      by (Ok (Start.Resumed t k a)) e = agreed (taken-init t (Ok (Start.Resumed t k a)) e refl refl)
 
   abbrev Same : State → Type 0
   Same t = t.terms.timeout ≡ s.terms.timeout
 
-  receive_timeout : (r : Reading) → Same (taken_as s ph r).state
+  receive_timeout : (r : Option Message) → Same (taken_as s ph r).state
   unfolding received_state taken acked
-  receive_timeout Reading.Malformed = pick_all (λ (x : Step). Same x.state) (is_up_ft ph) refl refl
-  receive_timeout (Reading.Whole g) = pick_all (λ (x : Step). Same x.state) (is_up_ft ph) refl refl
+  receive_timeout None = pick_all (λ (x : Step). Same x.state) (is_up_ft ph) refl refl
+  receive_timeout (Some g) = pick_all (λ (x : Step). Same x.state) (is_up_ft ph) refl refl
 
   send_timeout : (sent : ℕ) → Same (sent_state s sent)
   unfolding sent_state numbered
@@ -114,10 +114,10 @@ module _ (s : State) (ph : Phase) where
       (writer_says s ph (may_open ph) (awaiting proposal) (open_bytes s id own proposal) room)
 
 -- ---- an Init that is taken, of the call itself
-peers_same : {x : Session} {r t : Bool} {k n : Timeout} → x ≡ Session.Given r k → x ≡ Session.Given t n → k ≡ n
-peers_same e q = cc
+peers_same : {x : Option Session} {r t : Bool} {k n : Timeout} → x ≡ Some (record { reconnect = r; timeout = k }) → x ≡ Some (record { reconnect = t; timeout = n }) → k ≡ n
+peers_same {x} {r} {t} {k} {n} e q = ap (λ (o : Option Session). (unwrap_or o (record { reconnect = r; timeout = k })).timeout) (sym e ∙ q)
 
-case_agrees : {s : State} {p : ℕ} {g : Message} {st : Start} {r : Bool} {n : Timeout} → StartCase s p (Reading.Whole g) st → g.session ≡ Session.Given r n → start_answer st ≡ Answer.Done
+case_agrees : {s : State} {p : ℕ} {g : Message} {st : Result Start Answer} {r : Bool} {n : Timeout} → StartCase s p (Some g) st → g.session ≡ Some (record { reconnect = r; timeout = n }) → start_answer st ≡ Answer.Done
     → (start_state s st).terms.timeout ≡ lesser_of p (millis_of n)
 unfolding fresh resumed acked
 case_agrees (another_type i) e d = no (cc)
@@ -131,18 +131,18 @@ case_agrees (sequence_error b q a) e d = no (cc)
 case_agrees {p = p} (resumes b q a) e d = ap (λ (t : Timeout). lesser_of p (millis_of t)) (peers_same b.session e)
 
 -- an Init with FT Session that is answered Done leaves the lesser of our proposal, which the phase bears, and the peer's, whatever was stored before
-pub init_agrees : (s : State) (ph : Phase) (m : List ℕ) {g : Message} {r : Bool} {n : Timeout} → reading_of m ≡ Reading.Whole g → g.session ≡ Session.Given r n
+pub init_agrees : (s : State) (ph : Phase) (m : List ℕ) {g : Message} {r : Bool} {n : Timeout} → reading_of m ≡ Some g → g.session ≡ Some (record { reconnect = r; timeout = n })
     → (init_received s ph m).answer ≡ Answer.Done → (init_received s ph m).state.terms.timeout ≡ lesser_of (proposal_of ph) (millis_of n)
 unfolding admitted
 init_agrees s ph m {g} read e d =
     let own : Answer = start_answer (init_start s ph m) in
     let allowed : where_open (awaits ph) own ≡ Answer.Done = (cleared (not (phase_fits ph s)) Answer.WrongPhase (where_open (awaits ph) own) Answer.Done (λ z. cc) (sym (init_says s ph m) ∙ d)).1 in
     let accepted : own ≡ Answer.Done = (cleared (not (awaits ph)) Answer.WrongPhase own Answer.Done (λ z. cc) allowed).1 in
-    let start : StartCase s (proposal_of ph) (Reading.Whole g) (init_start s ph m) = rw (← read) (start-cases s (proposal_of ph) (reading_of m)) in
+    let start : StartCase s (proposal_of ph) (Some g) (init_start s ph m) = rw (← read) (start-cases s (proposal_of ph) (reading_of m)) in
     rw (init-does s ph m d) (case_agrees start e accepted)
 
 -- an Init of a peer that proposes 5 seconds still makes it 5, in whichever form it says so, where we gave no proposal of our own, whichever form our Init has
-pub five-agreed : (s : State) (form : Form) (m : List ℕ) {g : Message} {r : Bool} {n : Timeout} → reading_of m ≡ Reading.Whole g → g.session ≡ Session.Given r n → millis_of n ≡ 5000
+pub five-agreed : (s : State) (form : Form) (m : List ℕ) {g : Message} {r : Bool} {n : Timeout} → reading_of m ≡ Some g → g.session ≡ Some (record { reconnect = r; timeout = n }) → millis_of n ≡ 5000
     → (init_received s (awaiting (Proposal.NotGiven form)) m).answer ≡ Answer.Done → (init_received s (awaiting (Proposal.NotGiven form)) m).state.terms.timeout ≡ 5000
 unfolding lesser_of
 five-agreed s Form.Draft m read e five d = init_agrees s (awaiting (Proposal.NotGiven Form.Draft)) m read e d ∙ rw five

@@ -1,4 +1,5 @@
 -- What a call leaves of kept, of the peer's two parameters and of the store. Assumes nothing.
+use Rattle.std.specs.Prelude.{Option, Some, None}
 use Prim.Native.Nat.{◌≤◌, ℕ}
 use mathlib.Core.Bool.{Bool, false, true, true≢false}
 use mathlib.Core.List.{[], ◌++◌, List, append-nil, ◌∷◌}
@@ -9,7 +10,7 @@ use lib.ListN.{drop}
 use Rattle.octets.proofs.Choice.{by_test, pick_all}
 use Rattle.ft_number.specs.declared.MessageId.{MessageId}
 use Rattle.ft_number.specs.declared.Proposal.{Proposal}
-use Rattle.message.specs.declared.Reading.{Reading}
+use Rattle.message.specs.declared.Message.{Message}
 use Rattle.message.specs.Reading.{reading_of}
 use Rattle.message_writer.specs.declared.OwnParameters.{OwnParameters}
 use Rattle.protocol.specs.declared.Answer.{Answer}
@@ -107,12 +108,12 @@ module _ (s : State) (ph : Phase) where
   abbrev Frees : State → Type 0
   Frees t = (gone : ℕ) × Moves s t gone []
 
-  taken-frees : (p : Phase) (r : Reading) → Frees (taken_as s p r).state
+  taken-frees : (p : Phase) (r : Option Message) → Frees (taken_as s p r).state
   unfolding received_state taken acked
   taken-frees Phase.Idle r = (0, stays s)
   taken-frees (Phase.InitWait v) r = (0, stays s)
-  taken-frees (Phase.UpFT u) Reading.Malformed = (0, stays s)
-  taken-frees (Phase.UpFT u) (Reading.Whole g) =
+  taken-frees (Phase.UpFT u) None = (0, stays s)
+  taken-frees (Phase.UpFT u) (Some g) =
       let k = ack_count (ack_on s g) in
       (k, record { kept = refl; keepalive = refl; maxpdu = refl; queue = sym (append-nil (drop k s.queue)) })
   taken-frees Phase.UpPlain r = (0, stays s)

@@ -1,4 +1,5 @@
 -- The numbers that lower crates give to their verdicts are those of the answers that the rules make of them. Assumes nothing.
+use Rattle.std.specs.Prelude.{Result, Err, Option, Some, None}
 use Prim.Native.Nat.{ℕ}
 use mathlib.Core.Bool.{Bool, true, false}
 use mathlib.Core.List.{List}
@@ -7,8 +8,7 @@ use lib.Dec.{ltb}
 use lib.ListN.{length}
 use Rattle.octets.specs.Laid.{laid}
 use Rattle.octets.specs.Pick.{pick}
-use Rattle.ft_number.specs.declared.Ack.{Ack}
-use Rattle.ft_number.specs.declared.Turn.{Turn}
+use Rattle.ft_number.specs.declared.TurnError.{TurnError}
 use Rattle.ft_number.specs.Ack.{ack_number}
 use Rattle.label_list.specs.declared.Protection.{Protection}
 use Rattle.label_events.specs.declared.Acceptance.{Acceptance}
@@ -18,9 +18,8 @@ use Rattle.label_events.specs.Protect.{protection_number}
 use Rattle.label_events.specs.Receive.{reception_number}
 use Rattle.message.specs.declared.Kind.{Kind}
 use Rattle.message.specs.declared.Message.{Message}
-use Rattle.message.specs.declared.Submission.{Submission}
+use Rattle.message.specs.declared.SubmissionError.{SubmissionError}
 use Rattle.message.specs.Submission.{submission_number}
-use Rattle.message_writer.specs.declared.Written.{Written}
 use Rattle.message_writer.specs.Written.{written_number, written_of}
 use Rattle.protocol.specs.declared.Answer.{Answer}
 use Rattle.protocol.specs.declared.Phase.{Phase}
@@ -39,16 +38,16 @@ pub acceptance_numbered : (s : State) (ph : Phase) (kind : Kind) → (answer_num
 acceptance_numbered s ph kind = (refl, λ may. rw (may.going, may.up))
 
 -- 4 and 5; what is accepted goes on to its kind and label
-pub submission_numbered : (s : State) (ph : Phase) (entry : ℕ) → (answer_number (submission_rule s ph Submission.Malformed entry) ≡ submission_number Submission.Malformed)
-    × (answer_number (submission_rule s ph Submission.Refused entry) ≡ submission_number Submission.Refused)
+pub submission_numbered : (s : State) (ph : Phase) (entry : ℕ) → (answer_number (submission_rule s ph (Err SubmissionError.Malformed) entry) ≡ submission_number (Err SubmissionError.Malformed))
+    × (answer_number (submission_rule s ph (Err SubmissionError.Refused) entry) ≡ submission_number (Err SubmissionError.Refused))
 submission_numbered s ph entry = (refl, refl)
 
 -- 34, of an Init and of any other message; what is right goes on
-pub ack_numbered : (t : Terms) (a : ℕ) (x : Ack) → answer_number (start_answer (resumed_by t a x)) ≡ ack_number x
-ack_numbered t a (Ack.Releases k) = refl
-ack_numbered t a Ack.SequenceError = refl
+pub ack_numbered : (t : Terms) (a : ℕ) (x : Option ℕ) → answer_number (start_answer (resumed_by t a x)) ≡ ack_number x
+ack_numbered t a (Some k) = refl
+ack_numbered t a None = refl
 
-pub ack_error_numbered : (s : State) (resumed : Bool) (g : Message) → answer_number (ack_rule s resumed g Ack.SequenceError) ≡ ack_number Ack.SequenceError
+pub ack_error_numbered : (s : State) (resumed : Bool) (g : Message) → answer_number (ack_rule s resumed g None) ≡ ack_number None
 ack_error_numbered s resumed g = refl
 
 -- 9
@@ -56,7 +55,7 @@ pub room-numbered : (out bytes : List ℕ) → answer_number (room_for bytes (le
 unfolding written_of
 room-numbered out bytes = by (ltb (length out) (length bytes))
   where
-    by : (b : Bool) → answer_number (pick b Answer.OutputTooShort Answer.Done) ≡ written_number (pick {X = Written × List ℕ} b (Written.TooShort, out) (Written.Bytes (length bytes), laid out 0 bytes)).0
+    by : (b : Bool) → answer_number (pick b Answer.OutputTooShort Answer.Done) ≡ written_number (pick {X = (Option ℕ) × List ℕ} b (None, out) (Some (length bytes), laid out 0 bytes)).0
     by true = refl
     by false = refl
 
@@ -66,6 +65,6 @@ reception_numbered Reception.Taken = refl
 reception_numbered Reception.NoRoom = refl
 
 -- 32 and 33; what is right goes on to the number's turn
-pub protection_numbered : (old : List ℕ) (t : Table) (turn : Turn) (g : Message) → (answer_number (protected_rule old t turn g Protection.Wrong) ≡ protection_number Protection.Wrong)
+pub protection_numbered : (old : List ℕ) (t : Table) (turn : Result ℕ TurnError) (g : Message) → (answer_number (protected_rule old t turn g Protection.Wrong) ≡ protection_number Protection.Wrong)
     × (answer_number (protected_rule old t turn g Protection.Missing) ≡ protection_number Protection.Missing)
 protection_numbered old t s g = (refl, refl)

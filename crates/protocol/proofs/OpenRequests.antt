@@ -1,4 +1,5 @@
 -- Which Requests are open in a state as its words change by an event, beside the IDs that stay. Assumes nothing.
+use Rattle.std.specs.Prelude.{Some}
 use Prim.Native.Nat.{ℕ}
 use mathlib.Core.Bool.{Bool, false}
 use mathlib.Core.List.{List}
@@ -8,7 +9,6 @@ use native.Mathlib.Omega.{arith}
 use lib.ListN.{length, take}
 use Rattle.octets.proofs.Choice.{no}
 use Rattle.ft_number.specs.declared.MessageId.{MessageId}
-use Rattle.label_list.specs.declared.Found.TheVariants.{At}
 use Rattle.label_list.specs.Find.{is_found}
 use Rattle.label_list.specs.Requests.{open_at, open_ids, RequestAt}
 use Rattle.label_list.specs.Word.{is_request, word_count}
@@ -44,7 +44,7 @@ module _ (s : State) (law : Lawful s) (id : MessageId) where
   event_is words e n = masked_open id (after_event words e) s.table.ids (step-length words e ∙ n) law.ids
 
   -- an event that does not end it
-  pub kept_by_lem : (words : List ℕ) (e : LabelEvent) → length words ≡ word_count → e ≢ Asked → ((i : ℕ) → ends_at e ≡ At i → RequestAt words s.table.ids id.0 i → ⊥)
+  pub kept_by_lem : (words : List ℕ) (e : LabelEvent) → length words ≡ word_count → e ≢ Asked → ((i : ℕ) → ends_at e ≡ Some i → RequestAt words s.table.ids id.0 i → ⊥)
       → opens_of (after_event words e) s.table.ids id ≡ is_found (open_at id words s.table.ids)
   kept_by_lem words e n other apart = event_is words e n ∙ event_open words s.table.ids e other id apart
 
@@ -56,7 +56,7 @@ module _ (s : State) (law : Lawful s) (id : MessageId) where
         let same : RequestAt words s.table.ids q.0 i = found_request q words s.table.ids i (sym at ∙ here) in
         apart (sym same.same ∙ r.same))
 
-    pub ended_same : q.0 ≡ id.0 → (i : ℕ) → open_at q words s.table.ids ≡ At i → opens_of (after_event words e) s.table.ids id ≡ false
+    pub ended_same : q.0 ≡ id.0 → (i : ℕ) → open_at q words s.table.ids ≡ Some i → opens_of (after_event words e) s.table.ids id ≡ false
     ended_same same i o =
         event_is words e b.words
         ∙ event-closed words s.table.ids e other id i (at ∙ o) b.once (rw same at (found_request q words s.table.ids i o))

@@ -1,4 +1,5 @@
 -- What each call leaves of the queue and of the terms. Assumes nothing.
+use Rattle.std.specs.Prelude.{Result, Ok, Err, Option, Some, None}
 use Prim.Native.Nat.{ℕ, ◌≤◌}
 use mathlib.Core.Bool.{Bool}
 use mathlib.Core.List.{List, [], ◌∷◌, ◌++◌}
@@ -8,12 +9,10 @@ use native.Mathlib.Omega.{arith}
 use lib.Dec.{ltb}
 use lib.ListN.{drop}
 use Rattle.octets.proofs.Choice.{pick_all}
-use Rattle.ft_number.specs.declared.Ack.{Ack}
 use Rattle.ft_number.specs.declared.FtNumber.{FtNumber}
 use Rattle.ft_number.specs.declared.MessageId.{MessageId}
 use Rattle.ft_number.specs.declared.Proposal.{Proposal}
 use Rattle.message.specs.declared.Message.{Message}
-use Rattle.message.specs.declared.Reading.{Reading}
 use Rattle.message.specs.Reading.{reading_of}
 use Rattle.message_writer.specs.declared.OwnParameters.{OwnParameters}
 use Rattle.protocol.specs.declared.Answer.{Answer}
@@ -106,16 +105,16 @@ pub count_held : (s : State) → Window s → (g : Message) → ack_count (ack_o
 unfolding ack_on
 count_held s w g = by (ack_on s g) refl
   where
-    by : (x : Ack) → ack_on s g ≡ x → ack_count x ≤ held s
-    by (Ack.Releases k) e = ack_held s w (ack_borne s g.ack) k e
-    by Ack.SequenceError e = omega arith
+    by : (x : Option ℕ) → ack_on s g ≡ x → ack_count x ≤ held s
+    by (Some k) e = ack_held s w (ack_borne s g.ack) k e
+    by None e = omega arith
 
 pub received_queue : (s : State) (g : Message) → ((received_state s g).queue ≡ drop (ack_count (ack_on s g)) s.queue) × ((received_state s g).terms ≡ s.terms)
 unfolding received_state taken acked
 received_queue s g = (refl, refl)
 
 -- Receive in UpFT
-module _ (s : State) (u : Progress) (m : List ℕ) (g : Message) (read : reading_of m ≡ Reading.Whole g) (d : (receive s (Phase.UpFT u) m).answer ≡ Answer.Done) where
+module _ (s : State) (u : Progress) (m : List ℕ) (g : Message) (read : reading_of m ≡ Some g) (d : (receive s (Phase.UpFT u) m).answer ≡ Answer.Done) where
   pub receive_state : (receive s (Phase.UpFT u) m).state ≡ received_state s g
   receive_state = rw (receive-does s (Phase.UpFT u) m d, read)
 
@@ -125,13 +124,13 @@ module _ (s : State) (u : Progress) (m : List ℕ) (g : Message) (read : reading
 
 -- ---- an Init, by its start
 -- its ACK releases no more than are held
-abbrev pub StartWithin : ℕ → Start → Type 0
-StartWithin n (Start.Refused x) = Unit {0}
-StartWithin n Start.Plain = Unit {0}
-StartWithin n (Start.Fresh t) = Unit {0}
-StartWithin n (Start.Resumed t k a) = k ≤ n
+abbrev pub StartWithin : ℕ → Result Start Answer → Type 0
+StartWithin n (Err x) = Unit {0}
+StartWithin n (Ok Start.Plain) = Unit {0}
+StartWithin n (Ok (Start.Fresh t)) = Unit {0}
+StartWithin n (Ok (Start.Resumed t k a)) = k ≤ n
 
-case-within : (s : State) → Window s → {p : ℕ} {rd : Reading} {st : Start} → StartCase s p rd st → StartWithin (held s) st
+case-within : (s : State) → Window s → {p : ℕ} {rd : Option Message} {st : Result Start Answer} → StartCase s p rd st → StartWithin (held s) st
 case-within s w unread = tt
 case-within s w (another_type i) = tt
 case-within s w (without-parameters i q) = tt
@@ -143,20 +142,20 @@ case-within s w (parameters-changed b q) = tt
 case-within s w (sequence_error b q r) = tt
 case-within s w (resumes {k = k} {a = a} b q r) = ack_held s w a.0 k r
 
-pub start-within : (s : State) → Window s → (p : ℕ) (rd : Reading) → StartWithin (held s) (start_of s p rd)
+pub start-within : (s : State) → Window s → (p : ℕ) (rd : Option Message) → StartWithin (held s) (start_of s p rd)
 start-within s w p rd = case-within s w (start-cases s p rd)
 
 module _ (s : State) (ph : Phase) (m : List ℕ) (d : (init_received s ph m).answer ≡ Answer.Done) where
   pub init_state : (init_received s ph m).state ≡ start_state s (init_start s ph m)
   init_state = rw (init-does s ph m d)
 
-  pub plain_queue : init_start s ph m ≡ Start.Plain → (init_received s ph m).state ≡ released_state
+  pub plain_queue : init_start s ph m ≡ Ok Start.Plain → (init_received s ph m).state ≡ released_state
   plain_queue e = rw (init_state, e)
 
-  pub fresh_queue : {t : Terms} → init_start s ph m ≡ Start.Fresh t → ((init_received s ph m).state.queue ≡ []) × ((init_received s ph m).state.terms ≡ t)
+  pub fresh_queue : {t : Terms} → init_start s ph m ≡ Ok (Start.Fresh t) → ((init_received s ph m).state.queue ≡ []) × ((init_received s ph m).state.terms ≡ t)
   unfolding fresh
   fresh_queue e = rw (init_state, e) (refl, refl)
 
-  pub resumed_queue : {t : Terms} {k : ℕ} {a : FtNumber} → init_start s ph m ≡ Start.Resumed t k a → (init_received s ph m).state.queue ≡ drop k s.queue
+  pub resumed_queue : {t : Terms} {k : ℕ} {a : FtNumber} → init_start s ph m ≡ Ok (Start.Resumed t k a) → (init_received s ph m).state.queue ≡ drop k s.queue
   unfolding resumed acked
   resumed_queue e = rw (init_state, e)

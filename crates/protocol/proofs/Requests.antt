@@ -1,4 +1,5 @@
 -- Which Requests are open as the words and the IDs change. Assumes nothing.
+use Rattle.std.specs.Prelude.{Option, Some, None}
 use Prim.Native.Nat.{ℕ, ◌<◌}
 use mathlib.Core.Bool.{true, false, true≢false}
 use mathlib.Core.List.{List}
@@ -8,8 +9,6 @@ use lib.ListN.{length, get_or, set, length-set}
 use lib.Seq.{get_or-set_same, get_or-set_other}
 use Rattle.octets.proofs.Choice.{no}
 use Rattle.ft_number.specs.declared.MessageId.{MessageId}
-use Rattle.label_list.specs.declared.Found.{Found}
-use Rattle.label_list.specs.declared.Found.TheVariants.{At, Nowhere}
 use Rattle.label_list.specs.Find.{is_found}
 use Rattle.label_list.specs.Requests.{RequestAt, once_of, open_at}
 use Rattle.label_list.specs.Word.{request_word}
@@ -30,40 +29,40 @@ pub found_same : (id : MessageId) (vs xs ws ys : List ℕ) → ((j : ℕ) → Re
     → ((j : ℕ) → RequestAt ws ys id.0 j → RequestAt vs xs id.0 j) → is_found (open_at id vs xs) ≡ is_found (open_at id ws ys)
 found_same id vs xs ws ys there back = by (open_at id vs xs) refl (open_at id ws ys) refl
   where
-    by : (f : Found) → open_at id vs xs ≡ f → (g : Found) → open_at id ws ys ≡ g → is_found f ≡ is_found g
-    by (At i) e (At j) q = refl
-    by (At i) e Nowhere q = absurd (nowhere_request id ws ys i q (there i (found_request id vs xs i e)))
-    by Nowhere e (At j) q = absurd (nowhere_request id vs xs j e (back j (found_request id ws ys j q)))
-    by Nowhere e Nowhere q = refl
+    by : (f : Option ℕ) → open_at id vs xs ≡ f → (g : Option ℕ) → open_at id ws ys ≡ g → is_found f ≡ is_found g
+    by (Some i) e (Some j) q = refl
+    by (Some i) e None q = absurd (nowhere_request id ws ys i q (there i (found_request id vs xs i e)))
+    by None e (Some j) q = absurd (nowhere_request id vs xs j e (back j (found_request id ws ys j q)))
+    by None e None q = refl
 
 pub not_found : (id : MessageId) (vs xs : List ℕ) → ((j : ℕ) → RequestAt vs xs id.0 j → ⊥) → is_found (open_at id vs xs) ≡ false
 not_found id vs xs none = by (open_at id vs xs) refl
   where
-    by : (f : Found) → open_at id vs xs ≡ f → is_found f ≡ false
-    by (At i) e = absurd (none i (found_request id vs xs i e))
-    by Nowhere e = refl
+    by : (f : Option ℕ) → open_at id vs xs ≡ f → is_found f ≡ false
+    by (Some i) e = absurd (none i (found_request id vs xs i e))
+    by None e = refl
 
 pub is_found_lem : (id : MessageId) (vs xs : List ℕ) (i : ℕ) → RequestAt vs xs id.0 i → is_found (open_at id vs xs) ≡ true
 is_found_lem id vs xs i r = by (open_at id vs xs) refl
   where
-    by : (f : Found) → open_at id vs xs ≡ f → is_found f ≡ true
-    by (At j) e = refl
-    by Nowhere e = absurd (nowhere_request id vs xs i e r)
+    by : (f : Option ℕ) → open_at id vs xs ≡ f → is_found f ≡ true
+    by (Some j) e = refl
+    by None e = absurd (nowhere_request id vs xs i e r)
 
 -- ---- an event of the words
 module _ (words ids : List ℕ) (e : LabelEvent) (other : e ≢ Asked) (id : MessageId) where
   -- one that does not end the Request of that ID leaves it
-  pub event_open : ((i : ℕ) → ends_at e ≡ At i → RequestAt words ids id.0 i → ⊥) → is_found (open_at id (after_event words e) ids) ≡ is_found (open_at id words ids)
+  pub event_open : ((i : ℕ) → ends_at e ≡ Some i → RequestAt words ids id.0 i → ⊥) → is_found (open_at id (after_event words e) ids) ≡ is_found (open_at id words ids)
   event_open apart =
       found_same id (after_event words e) ids words ids (open_old words ids e other id.0)
       (λ j r. open_still words ids e id.0 j (λ at. apart j at r) r)
 
   -- one that ends it does
-  pub event-closed : (i : ℕ) → ends_at e ≡ At i → once_of words ids ≡ true → RequestAt words ids id.0 i → is_found (open_at id (after_event words e) ids) ≡ false
+  pub event-closed : (i : ℕ) → ends_at e ≡ Some i → once_of words ids ≡ true → RequestAt words ids id.0 i → is_found (open_at id (after_event words e) ids) ≡ false
   event-closed i at once r =
       not_found id (after_event words e) ids (λ j q.
       let same : j ≡ i = once_means words ids once id.0 j i (open_old words ids e other id.0 j q) r in
-      true≢false (sym q.request ∙ request_ends words e j (at ∙ ap At (sym same))))
+      true≢false (sym q.request ∙ request_ends words e j (at ∙ ap Some (sym same))))
 
 -- ACKs end none
 pub acked_open : (ids : List ℕ) (id : MessageId) (ms : List (List ℕ)) (words : List ℕ) → is_found (open_at id (released_labels ms words) ids) ≡ is_found (open_at id words ids)

@@ -1,4 +1,5 @@
 -- A message that Submit takes and the Requests that are open: a Request opens its ID, an Abort ends the one that it names, every other message leaves all. Assumes nothing.
+use Rattle.std.specs.Prelude.{Ok, Option, Some, None}
 use Prim.Native.Nat.{ℕ, ◌<◌}
 use mathlib.Core.Bool.{true, false}
 use mathlib.Core.List.{List}
@@ -10,9 +11,8 @@ use lib.ListN.{length, set, length-set}
 use borrow.Author.Tests.{eqb-true, eqb-false}
 use Rattle.octets.specs.Pick.{pick}
 use Rattle.octets.proofs.Choice.{by_test, no}
+use Rattle.octets.proofs.Pairs.{ok_pair}
 use Rattle.ft_number.specs.declared.MessageId.{MessageId}
-use Rattle.label_list.specs.declared.Found.{Found}
-use Rattle.label_list.specs.declared.Found.TheVariants.{At, Nowhere}
 use Rattle.label_list.specs.declared.LabelMessage.{LabelMessage}
 use Rattle.label_list.specs.Find.{is_found, find_of}
 use Rattle.label_list.specs.Requests.{open_at}
@@ -20,12 +20,10 @@ use Rattle.label_list.specs.Word.{is_free, request_word}
 use Rattle.label_list.proofs.OpenIds.{taken-request}
 use Rattle.label_list.proofs.Reached.{found_in_lem}
 use Rattle.label_events.specs.declared.Acceptance.{Acceptance}
-use Rattle.label_events.specs.declared.Plan.{Plan}
 use Rattle.label_events.specs.Accept.{accepted_by}
 use Rattle.label_events.specs.Change.{changed, take_free}
 use Rattle.label_events.specs.Requests.{asked_plan, aborted_plan, aborted_at}
 use Rattle.message.specs.declared.Kind.{Kind}
-use Rattle.message.specs.declared.Submission.{Submission}
 use Rattle.message.specs.Submission.{submission_of}
 use Rattle.label_meaning.specs.Event
 use Rattle.label_meaning.specs.Event.{after_event, Ended}
@@ -37,7 +35,6 @@ use Rattle.protocol.specs.Accepting.{accepted_as, ids_accepted}
 use Rattle.protocol.specs.Calls.{submits}
 use Rattle.protocol.specs.Lawful.{Lawful}
 use Rattle.protocol.specs.MeaningRequests.{is_open, opens_in, asked, aborted, RequestFrom}
-use Rattle.protocol.specs.Receive.{taken}
 use Rattle.protocol.specs.State.{State, table_of, Table}
 use Rattle.protocol.specs.Step.{Step}
 use Rattle.protocol.specs.Submit.{submit_deed, submitted, submit_rule, submit}
@@ -74,23 +71,23 @@ module _ (s : State) (ph : Phase) (law : Lawful s) (id : MessageId) where
 
   -- what Done tells of a Request: its ID was not open, and a word was free
   asked-done : (q : MessageId) (label : ℕ) → (accepted_as s.table (Kind.Request q) label).0 ≡ Acceptance.Taken
-      → (open_at q s.table.words s.table.ids ≡ Nowhere) × ((i : ℕ) × (find_of is_free s.table.words ≡ At i))
+      → (open_at q s.table.words s.table.ids ≡ None) × ((i : ℕ) × (find_of is_free s.table.words ≡ Some i))
   unfolding accepted_as asked_plan
   asked-done q label e = by (open_at q s.table.words s.table.ids) refl (find_of is_free s.table.words) refl e
     where
-      by : (f : Found) → open_at q s.table.words s.table.ids ≡ f → (g : Found) → find_of is_free s.table.words ≡ g
-          → (accepted_by s.table.words (pick (is_found f) Plan.Refused (Plan.Allowed (take_free g request_word)))).0 ≡ Acceptance.Taken
-          → (open_at q s.table.words s.table.ids ≡ Nowhere) × ((i : ℕ) × (find_of is_free s.table.words ≡ At i))
-      by (At i) o g p z = no cc
-      by Nowhere o (At i) p z = (o, (i, p))
-      by Nowhere o Nowhere p z = no cc
+      by : (f : Option ℕ) → open_at q s.table.words s.table.ids ≡ f → (g : Option ℕ) → find_of is_free s.table.words ≡ g
+          → (accepted_by s.table.words (pick (is_found f) None (Some (take_free g request_word)))).0 ≡ Acceptance.Taken
+          → (open_at q s.table.words s.table.ids ≡ None) × ((i : ℕ) × (find_of is_free s.table.words ≡ Some i))
+      by (Some i) o g p z = no cc
+      by None o (Some i) p z = (o, (i, p))
+      by None o None p z = no cc
 
   module _ (q : MessageId) (label : ℕ) (taken : (accepted_as s.table (Kind.Request q) label).0 ≡ Acceptance.Taken) where
     abbrev asked_table : Table
     asked_table = table_of (accepted_as s.table (Kind.Request q) label).1 (ids_accepted s.table (Kind.Request q)) s.table.index
 
     -- the words and the IDs then
-    asked_is : (i : ℕ) → find_of is_free s.table.words ≡ At i → opens_in asked_table id ≡ is_found (open_at id (set s.table.words i request_word) (set s.table.ids i q.0))
+    asked_is : (i : ℕ) → find_of is_free s.table.words ≡ Some i → opens_in asked_table id ≡ is_found (open_at id (set s.table.words i request_word) (set s.table.ids i q.0))
     unfolding accepted_as ids_accepted after_event changed
     asked_is i free =
         let is = asked-event s.table.words s.table.ids q (asked-done q label taken).0 in
@@ -115,27 +112,27 @@ module _ (s : State) (ph : Phase) (law : Lawful s) (id : MessageId) where
 
   -- ---- an Abort
   aborted_done : (q : MessageId) (label : ℕ) → (accepted_as s.table (Kind.Abort q) label).0 ≡ Acceptance.Taken
-      → (i : ℕ) × (open_at q s.table.words s.table.ids ≡ At i)
+      → (i : ℕ) × (open_at q s.table.words s.table.ids ≡ Some i)
   unfolding accepted_as aborted_plan
   aborted_done q label e = by (open_at q s.table.words s.table.ids) refl e
     where
-      by : (f : Found) → open_at q s.table.words s.table.ids ≡ f → (accepted_by s.table.words (aborted_at f)).0 ≡ Acceptance.Taken
-          → (i : ℕ) × (open_at q s.table.words s.table.ids ≡ At i)
-      by (At i) o z = (i, o)
-      by Nowhere o z = no cc
+      by : (f : Option ℕ) → open_at q s.table.words s.table.ids ≡ f → (accepted_by s.table.words (aborted_at f)).0 ≡ Acceptance.Taken
+          → (i : ℕ) × (open_at q s.table.words s.table.ids ≡ Some i)
+      by (Some i) o z = (i, o)
+      by None o z = no cc
 
   -- ---- Submit
   module _ (m : List ℕ) where
     abbrev deed : Step
     deed = submit_deed s ph m
 
-    left_is : (kind : Kind) (label : ℕ) → submission_of m ≡ Submission.Accepted kind label
+    left_is : (kind : Kind) (label : ℕ) → submission_of m ≡ Ok (kind, label)
         → is_open (submitted s m) id ≡ opens_of (accepted_as s.table kind label).1 (ids_accepted s.table kind) id
     unfolding submitted
     left_is kind label e = rw e
 
     request_moves : (q : MessageId) (label : ℕ) → (accepted_as s.table (Kind.Request q) label).0 ≡ Acceptance.Taken
-        → submission_of m ≡ Submission.Accepted (Kind.Request q) label → RequestFrom s ph id (submits m) deed
+        → submission_of m ≡ Ok (Kind.Request q, label) → RequestFrom s ph id (submits m) deed
     request_moves q label t e =
         by_test (eqb q.0 id.0)
         (λ z.
@@ -146,7 +143,7 @@ module _ (s : State) (ph : Phase) (law : Lawful s) (id : MessageId) where
         (λ z. inl (left_is (Kind.Request q) label e ∙ request-other q label t (eqb-false q.0 id.0 z)))
 
     abort_moves : (q : MessageId) (label : ℕ) → (accepted_as s.table (Kind.Abort q) label).0 ≡ Acceptance.Taken
-        → submission_of m ≡ Submission.Accepted (Kind.Abort q) label → RequestFrom s ph id (submits m) deed
+        → submission_of m ≡ Ok (Kind.Abort q, label) → RequestFrom s ph id (submits m) deed
     unfolding accepted_as ids_accepted
     abort_moves q label t e =
         let words = s.table.words in
@@ -164,11 +161,11 @@ module _ (s : State) (ph : Phase) (law : Lawful s) (id : MessageId) where
         inr (rw (before, after) (aborted refl (rw same at e))))
         (λ z. inl (is ∙ ended-other s law id words b (Ended (open_at q words ids)) (λ y. no cc) q refl (eqb-false q.0 id.0 z)))
 
-    plain_moves : (kind : Kind) (label : ℕ) → submission_of m ≡ Submission.Accepted kind label → ((q : MessageId) → kind ≡ Kind.Request q → ⊥) → ((q : MessageId) → kind ≡ Kind.Abort q → ⊥)
+    plain_moves : (kind : Kind) (label : ℕ) → submission_of m ≡ Ok (kind, label) → ((q : MessageId) → kind ≡ Kind.Request q → ⊥) → ((q : MessageId) → kind ≡ Kind.Abort q → ⊥)
         → RequestFrom s ph id (submits m) deed
     plain_moves kind label e r a = inl (left_is kind label e ∙ kind_is kind label (λ q z. absurd (r q z)) (λ q z. absurd (a q z)))
 
-    kind_moves : (kind : Kind) (label : ℕ) → (accepted_as s.table kind label).0 ≡ Acceptance.Taken → submission_of m ≡ Submission.Accepted kind label → RequestFrom s ph id (submits m) deed
+    kind_moves : (kind : Kind) (label : ℕ) → (accepted_as s.table kind label).0 ≡ Acceptance.Taken → submission_of m ≡ Ok (kind, label) → RequestFrom s ph id (submits m) deed
     kind_moves Kind.Mapping label t e = plain_moves Kind.Mapping label e (λ q z. no cc) (λ q z. no cc)
     kind_moves Kind.Withdraw label t e = plain_moves Kind.Withdraw label e (λ q z. no cc) (λ q z. no cc)
     kind_moves Kind.Release label t e = plain_moves Kind.Release label e (λ q z. no cc) (λ q z. no cc)
@@ -185,23 +182,21 @@ module _ (s : State) (ph : Phase) (law : Lawful s) (id : MessageId) where
 
   -- ---- and each of them does so
   -- a Request that is accepted is open,
-  pub asked_opens : (m : List ℕ) (label : ℕ) → (submit s ph m).answer ≡ Answer.Done → submission_of m ≡ Submission.Accepted (Kind.Request id) label → is_open (submit s ph m).state id ≡ true
+  pub asked_opens : (m : List ℕ) (label : ℕ) → (submit s ph m).answer ≡ Answer.Done → submission_of m ≡ Ok (Kind.Request id, label) → is_open (submit s ph m).state id ≡ true
   asked_opens m label d e =
       let w = (done-passes s ph m d).0 in
-      let same : Submission.Accepted w.storable.kind w.storable.label ≡ Submission.Accepted (Kind.Request id) label = sym w.storable.accepted ∙ e in
-      let kind : w.storable.kind ≡ Kind.Request id = cc in
+      let kind : w.storable.kind ≡ Kind.Request id = (ok_pair (sym w.storable.accepted ∙ e)).0 in
       let t : (accepted_as s.table (Kind.Request id) w.storable.label).0 ≡ Acceptance.Taken = rw kind at w.allowed in
       rw (submit-does s ph m d) (left_is m (Kind.Request id) w.storable.label (rw kind at w.storable.accepted) ∙ request_same id w.storable.label t refl)
 
   -- one whose Abort is accepted is open no more,
-  pub abort_ends : (m : List ℕ) (label : ℕ) → (submit s ph m).answer ≡ Answer.Done → submission_of m ≡ Submission.Accepted (Kind.Abort id) label → is_open (submit s ph m).state id ≡ false
+  pub abort_ends : (m : List ℕ) (label : ℕ) → (submit s ph m).answer ≡ Answer.Done → submission_of m ≡ Ok (Kind.Abort id, label) → is_open (submit s ph m).state id ≡ false
   unfolding accepted_as ids_accepted
   abort_ends m label d e =
       let words = s.table.words in
       let ids = s.table.ids in
       let w = (done-passes s ph m d).0 in
-      let same : Submission.Accepted w.storable.kind w.storable.label ≡ Submission.Accepted (Kind.Abort id) label = sym w.storable.accepted ∙ e in
-      let kind : w.storable.kind ≡ Kind.Abort id = cc in
+      let kind : w.storable.kind ≡ Kind.Abort id = (ok_pair (sym w.storable.accepted ∙ e)).0 in
       let t : (accepted_as s.table (Kind.Abort id) w.storable.label).0 ≡ Acceptance.Taken = rw kind at w.allowed in
       let o = aborted_done id w.storable.label t in
       rw (submit-does s ph m d)

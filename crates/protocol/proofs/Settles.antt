@@ -1,8 +1,9 @@
 -- Every call is its tests' answer, settled: so its answer is theirs, and what holds of the four ways to end holds of every call. Assumes nothing.
+use Rattle.std.specs.Prelude.{Option, Some, None}
 use Prim.Native.Nat.{ℕ}
 use mathlib.Core.Path.{◌≡◌, refl, ap, ◌∙◌}
 use Rattle.octets.proofs.Choice.{by_test, pick_all}
-use Rattle.message.specs.declared.Reading.{Reading}
+use Rattle.message.specs.declared.Message.{Message}
 use Rattle.message.specs.Reading.{reading_of}
 use Rattle.protocol.specs.declared.Answer.{Answer}
 use Rattle.protocol.specs.declared.Effect.{Effect}
@@ -39,11 +40,11 @@ settles (keeps-alive id) s ph room = refl
 settles (receives m) s ph room = refl
 
 -- ---- what is done is answered Done
-pub taken-done : (s : State) (ph : Phase) (r : Reading) → (taken_as s ph r).answer ≡ Answer.Done
+pub taken-done : (s : State) (ph : Phase) (r : Option Message) → (taken_as s ph r).answer ≡ Answer.Done
 taken-done s Phase.Idle r = refl
 taken-done s (Phase.InitWait v) r = refl
-taken-done s (Phase.UpFT u) Reading.Malformed = refl
-taken-done s (Phase.UpFT u) (Reading.Whole g) = refl
+taken-done s (Phase.UpFT u) None = refl
+taken-done s (Phase.UpFT u) (Some g) = refl
 taken-done s Phase.UpPlain r = refl
 taken-done s Phase.Failed r = refl
 

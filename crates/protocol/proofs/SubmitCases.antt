@@ -1,4 +1,5 @@
 -- The judgement of a submission is the list of its cases. Assumes nothing.
+use Rattle.std.specs.Prelude.{Result, Ok, Err}
 use Prim.Native.Nat.{ℕ, ◌≤◌, ◌<◌}
 use mathlib.Core.Bool.{Bool, true, false, not}
 use mathlib.Core.List.{List}
@@ -11,7 +12,7 @@ use Rattle.octets.specs.Pick.{pick, both}
 use Rattle.octets.proofs.Choice.{by_test, no}
 use Rattle.label_events.specs.declared.Acceptance.{Acceptance}
 use Rattle.message.specs.declared.Kind.{Kind}
-use Rattle.message.specs.declared.Submission.{Submission}
+use Rattle.message.specs.declared.SubmissionError.{SubmissionError}
 use Rattle.message.specs.Storable.{shortest, longest}
 use Rattle.message.specs.Submission.{submission_of, entry_in}
 use Rattle.protocol.specs.declared.Answer.{Answer}
@@ -60,7 +61,7 @@ module _ (s : State) (ph : Phase) (m : List ℕ) where
   acceptance_case u Acceptance.NoRoom e =
       ask_case u (λ n. let z : Acceptance.NoRoom ≡ Acceptance.NotAllowed = sym e ∙ n in no (cc)) (λ may. no_free_word u may e)
 
-  kind_case : {kind : Kind} {label : ℕ} → Fitting s m → submission_of m ≡ Submission.Accepted kind label → Here (kind_rule s ph kind label (entry_in m))
+  kind_case : {kind : Kind} {label : ℕ} → Fitting s m → submission_of m ≡ Ok (kind, label) → Here (kind_rule s ph kind label (entry_in m))
   unfolding kind_rule
   kind_case {kind} {label} f e = by (is_barred s.queue kind label) refl (changes_entry s.table kind label (entry_in m)) refl
     where
@@ -70,10 +71,10 @@ module _ (s : State) (ph : Phase) (m : List ℕ) where
       by false q true r = another_entry f e q r
       by false q false r = acceptance_case (record { fitting = f; accepted = e; free = q; same = r }) (accepted_as s.table kind label).0 refl
 
-  submission_case : Fitting s m → (j : Submission) → submission_of m ≡ j → Here (submission_rule s ph j (entry_in m))
-  submission_case f Submission.Malformed e = malformed_submission f e
-  submission_case f Submission.Refused e = not-sent f e
-  submission_case f (Submission.Accepted kind label) e = kind_case f e
+  submission_case : Fitting s m → (j : Result (Kind × ℕ) SubmissionError) → submission_of m ≡ j → Here (submission_rule s ph j (entry_in m))
+  submission_case f (Err SubmissionError.Malformed) e = malformed_submission f e
+  submission_case f (Err SubmissionError.Refused) e = not-sent f e
+  submission_case f (Ok (kind, label)) e = kind_case f e
 
   -- every answer of Submit is a case of the list,
   pub submit-cases : SubmitCase s ph m (submit_rule s ph m)

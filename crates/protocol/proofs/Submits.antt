@@ -1,4 +1,5 @@
 -- Submit is done where every test is passed, and changes nothing anywhere else. Assumes nothing.
+use Rattle.std.specs.Prelude.{Result, Ok, Err}
 use Prim.Native.Nat.{ℕ, ◌<◌}
 use mathlib.Core.Bool.{true, not}
 use mathlib.Core.List.{List}
@@ -9,7 +10,7 @@ use Rattle.octets.specs.Pick.{both}
 use Rattle.octets.proofs.Choice.{pick_all}
 use Rattle.label_events.specs.declared.Acceptance.{Acceptance}
 use Rattle.message.specs.declared.Kind.{Kind}
-use Rattle.message.specs.declared.Submission.{Submission}
+use Rattle.message.specs.declared.SubmissionError.{SubmissionError}
 use Rattle.message.specs.Storable.{shortest, longest, Storable}
 use Rattle.message.specs.Submission.{submission_of, entry_in}
 use Rattle.protocol.specs.declared.Answer.{Answer}
@@ -53,11 +54,11 @@ harmless_acceptance s ph kind Acceptance.Taken = harmless_ask s ph kind (room_ru
 harmless_acceptance s ph kind Acceptance.NotAllowed = λ n. refl
 harmless_acceptance s ph kind Acceptance.NoRoom = harmless_ask s ph kind Answer.NoLabelWord (λ n. refl)
 
-harmless_submission : (s : State) (ph : Phase) (j : Submission) (entry : ℕ) → Harmless (submission_rule s ph j entry)
+harmless_submission : (s : State) (ph : Phase) (j : Result (Kind × ℕ) SubmissionError) (entry : ℕ) → Harmless (submission_rule s ph j entry)
 unfolding kind_rule effect_of
-harmless_submission s ph Submission.Malformed entry = λ n. refl
-harmless_submission s ph Submission.Refused entry = λ n. refl
-harmless_submission s ph (Submission.Accepted kind label) entry =
+harmless_submission s ph (Err SubmissionError.Malformed) entry = λ n. refl
+harmless_submission s ph (Err SubmissionError.Refused) entry = λ n. refl
+harmless_submission s ph (Ok (kind, label)) entry =
     pick_all Harmless (is_barred s.queue kind label) (λ n. refl)
     (pick_all Harmless (changes_entry s.table kind label entry) (λ n. refl) (harmless_acceptance s ph kind (accepted_as s.table kind label).0))
 

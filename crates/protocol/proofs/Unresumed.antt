@@ -1,4 +1,5 @@
 -- On a connection that is not resumed nothing is ever left out: all that has a number was sent on it, and no call changes that. Assumes nothing.
+use Rattle.std.specs.Prelude.{Result, Ok, Err, Option, Some, None}
 use Prim.Native.Nat.{ℕ, ◌+◌, ◌-◌, ◌≤◌}
 use mathlib.Core.Bool.{Bool, true, false, true≢false, false≢true}
 use mathlib.Core.List.{List}
@@ -10,7 +11,6 @@ use Rattle.octets.specs.Pick.{pick}
 use Rattle.octets.proofs.Choice.{pick_all}
 use Rattle.ft_number.specs.Circle.{steps_of}
 use Rattle.message.specs.declared.Message.{Message}
-use Rattle.message.specs.declared.Reading.{Reading}
 use Rattle.message.specs.Reading.{reading_of}
 use Rattle.message.proofs.Widths.{Widths, read_widths}
 use Rattle.protocol.specs.declared.Answer.{Answer}
@@ -54,12 +54,12 @@ resting_sent s t = by s.kept
     by false = λ up un. absurd (false≢true up)
 
 -- ---- the peer's Init: a fresh session has no number yet
-start-sent : (s : State) (ph : Phase) → AllSent s ph → (st : Start) → AllSent (start_state s st) (start_phase ph st)
+start-sent : (s : State) (ph : Phase) → AllSent s ph → (st : Result Start Answer) → AllSent (start_state s st) (start_phase ph st)
 unfolding fresh issued_count steps_of
-start-sent s ph all (Start.Refused a) = all
-start-sent s ph all Start.Plain = λ up un. absurd (false≢true up)
-start-sent s ph all (Start.Fresh t) = λ up un. refl
-start-sent s ph all (Start.Resumed t k a) = λ up un. absurd (true≢false un)
+start-sent s ph all (Err a) = all
+start-sent s ph all (Ok Start.Plain) = λ up un. absurd (false≢true up)
+start-sent s ph all (Ok (Start.Fresh t)) = λ up un. refl
+start-sent s ph all (Ok (Start.Resumed t k a)) = λ up un. absurd (true≢false un)
 
 -- ---- a message sent is the first without a number, and gets one
 send-sent : (s : State) (ph : Phase) → Lawful s → AllSent s ph → Sendable s ph → AllSent (sent_state s (place_sent s ph)) (up_with (resumed_of ph) (place_sent s ph + 1))
@@ -76,10 +76,10 @@ take-sent s Phase.Idle m st byte all d = all
 take-sent s (Phase.InitWait v) m st byte all d = all
 take-sent s (Phase.UpFT u) m st byte all d = by (reading_of m) (read_widths m byte) d
   where
-    by : (rd : Reading) → ((g : Message) → rd ≡ Reading.Whole g → Widths g) → receive_rule s (Phase.UpFT u) rd ≡ Answer.Done → Sent (taken_as s (Phase.UpFT u) rd)
-    by Reading.Malformed w e = all
-    by (Reading.Whole g) w e = λ up un.
-        let t = done-takes (rw e at (cases s (Phase.UpFT u) (Reading.Whole g))) in
+    by : (rd : Option Message) → ((g : Message) → rd ≡ Some g → Widths g) → receive_rule s (Phase.UpFT u) rd ≡ Answer.Done → Sent (taken_as s (Phase.UpFT u) rd)
+    by None w e = all
+    by (Some g) w e = λ up un.
+        let t = done-takes (rw e at (cases s (Phase.UpFT u) (Some g))) in
         ap (λ (n : ℕ). n - ack_count (ack_on s g)) (all refl un) ∙ sym (received_issued s st.0 u st.1 g (w g refl) (ack_count (ack_on s g)) t.turn.protection.ack.acks)
 take-sent s Phase.UpPlain m st byte all d = all
 take-sent s Phase.Failed m st byte all d = all

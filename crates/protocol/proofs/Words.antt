@@ -1,4 +1,5 @@
 -- The label words that the rules leave: what every label event keeps, they keep; so they are valid again. Assumes nothing.
+use Rattle.std.specs.Prelude.{Result, Ok, Err, Option, Some, None}
 use Prim.Native.Nat.{ℕ}
 use mathlib.Core.Bool.{Bool, true}
 use mathlib.Core.List.{[], List, ◌∷◌}
@@ -6,8 +7,6 @@ use mathlib.Core.Path.{◌≡◌, refl}
 use lib.Dec.{eqb}
 use Rattle.octets.proofs.Choice.{pick_all}
 use Rattle.ft_number.specs.declared.MessageId.{MessageId}
-use Rattle.label_list.specs.declared.Found.{Found}
-use Rattle.label_list.specs.declared.Found.TheVariants.{At, Nowhere}
 use Rattle.label_list.specs.declared.LabelMessage.{LabelMessage}
 use Rattle.label_list.specs.declared.SweepRule.TheVariants.{AfterBreak}
 use Rattle.label_list.specs.Requests.{open_at}
@@ -15,10 +14,11 @@ use Rattle.label_list.specs.Sweep.{swept_of}
 use Rattle.label_list.specs.Valid.{valid_of, valid_word}
 use Rattle.label_list.specs.Word.{is_free}
 use Rattle.label_events.specs.declared.Meets.{Meets}
+use Rattle.label_events.specs.declared.Touched.{Touched}
 use Rattle.label_events.specs.Accept.{accepted_by}
 use Rattle.label_events.specs.Requests.{asked_plan}
 use Rattle.message.specs.declared.Kind.{Kind}
-use Rattle.message.specs.declared.Submission.{Submission}
+use Rattle.message.specs.declared.SubmissionError.{SubmissionError}
 use Rattle.message.specs.Kinds.{kind_number}
 use Rattle.message.specs.Storable.{kind_in, label_in}
 use Rattle.message.specs.Submission.{submission_of}
@@ -26,7 +26,6 @@ use Rattle.label_meaning.specs.Event
 use Rattle.label_meaning.specs.Event.{LabelEvent, Acked, Asked, Ended, Received, Broken, after_event}
 use Rattle.label_meaning.proofs.RequestIds.{aborted_event, asked-event}
 use Rattle.label_meaning.proofs.Step.{step_valid}
-use Rattle.protocol.specs.declared.LabelEffect.{LabelEffect}
 use Rattle.protocol.specs.Accepting.{accepted_as}
 use Rattle.protocol.specs.Acked.{released_kind, released_labels}
 use Rattle.protocol.specs.Labels.{effect_labels, reached}
@@ -39,9 +38,9 @@ asked-keeps : (P : List ℕ → Type 0) (t : Table) → P t.words → P (after_e
 unfolding asked_plan
 asked-keeps P t here asked id = by (open_at id t.words t.ids) refl
   where
-    by : (f : Found) → open_at id t.words t.ids ≡ f → P (accepted_by t.words (asked_plan t.words t.ids id)).1
-    by (At i) e = rw e here
-    by Nowhere e = rw (asked-event t.words t.ids id e).0 asked
+    by : (f : Option ℕ) → open_at id t.words t.ids ≡ f → P (accepted_by t.words (asked_plan t.words t.ids id)).1
+    by (Some i) e = rw e here
+    by None e = rw (asked-event t.words t.ids id e).0 asked
 
 -- what every event of the words keeps, accepting keeps
 module _ (P : List ℕ → Type 0) (t : Table) (here : P t.words) (each : (e : LabelEvent) → P (after_event t.words e)) where
@@ -58,10 +57,10 @@ module _ (P : List ℕ → Type 0) (t : Table) (here : P t.words) (each : (e : L
   kept_as Kind.NoResources label = here
   kept_as Kind.NoKind label = here
 
-  pub accepted_keeps : (j : Submission) → P (accepted_labels t j)
-  accepted_keeps Submission.Malformed = here
-  accepted_keeps Submission.Refused = here
-  accepted_keeps (Submission.Accepted kind label) = kept_as kind label
+  pub accepted_keeps : (j : Result (Kind × ℕ) SubmissionError) → P (accepted_labels t j)
+  accepted_keeps (Err SubmissionError.Malformed) = here
+  accepted_keeps (Err SubmissionError.Refused) = here
+  accepted_keeps (Ok (kind, label)) = kept_as kind label
 
 -- ---- messages are released
 module _ (P : List ℕ → Type 0) (each : (words : List ℕ) → P words → (message : LabelMessage) (label : ℕ) → P (after_event words (Acked message label))) where
@@ -87,13 +86,13 @@ pub none_valid : Valid no_table.words
 unfolding valid_of valid_word is_free
 none_valid = refl
 
-pub accepted_valid : (t : Table) → Valid t.words → (j : Submission) → Valid (accepted_labels t j)
+pub accepted_valid : (t : Table) → Valid t.words → (j : Result (Kind × ℕ) SubmissionError) → Valid (accepted_labels t j)
 accepted_valid t valid j = accepted_keeps Valid t valid (λ e. step_valid t.words e valid) j
 
-pub received_valid : (t : Table) → Valid t.words → (x : Meets) (protected : Bool) (e : LabelEffect) → Valid (effect_labels t x protected e)
+pub received_valid : (t : Table) → Valid t.words → (x : Meets) (protected : Bool) (e : Option (LabelMessage × Touched)) → Valid (effect_labels t x protected e)
 unfolding after_event
-received_valid t valid x protected LabelEffect.Nothing = step_valid t.words (Ended x.request) valid
-received_valid t valid x protected (LabelEffect.Change m touched) = step_valid t.words (Received x m protected (reached t m touched)) valid
+received_valid t valid x protected None = step_valid t.words (Ended x.request) valid
+received_valid t valid x protected (Some (m, touched)) = step_valid t.words (Received x m protected (reached t m touched)) valid
 
 module _ (words : List ℕ) (valid : Valid words) where
   pub broken_valid : Valid (swept_of words AfterBreak)

@@ -1,8 +1,8 @@
 -- What an acknowledgement makes of the state: "it releases every message through it".
-use Rattle.std.specs.Prelude.{ℕ, List, [], ◌∷◌, eqb, take, drop}
+use Rattle.std.specs.Prelude.{Option, Some, None, ℕ, List, [], ◌∷◌, eqb, take, drop}
 use Rattle.octets.specs.Pick.{pick}
+use Rattle.ft_number.specs.declared.FtNumber.{FtNumber}
 use Rattle.label_list.specs.declared.LabelMessage.{LabelMessage}
-use Rattle.tlv.specs.declared.FtField.{FtField}
 use Rattle.label_events.specs.Ack.{acked_of}
 use Rattle.message.specs.declared.Kind.{Kind}
 use Rattle.message.specs.Kinds.{kind_number}
@@ -28,6 +28,6 @@ acked s k a =
     with_queue (with_words (with_released s (record { 0 = a })) (released_labels (take k s.queue) s.table.words)) (drop k s.queue)
 
 -- the number that a message acknowledges: one that bears no FT ACK says nothing new, as the number acknowledged before does
-abbrev pub ack_borne : State → FtField → ℕ
-ack_borne s FtField.Absent = s.released.0
-ack_borne s (FtField.Number n) = n.0
+abbrev pub ack_borne : State → Option FtNumber → ℕ
+ack_borne s None = s.released.0
+ack_borne s (Some n) = n.0

@@ -1,12 +1,10 @@
 -- A received message case by case: the phase, what was read, and the answer. `cases` in proofs/Cases.antt says that the judgement is this list.
 -- 01: "Receive: 12, 1, 22, 36, 31, 30, 34, 33, 32, 20, 21; 33 and later judge labels as the ACK leaves them."
-use Rattle.std.specs.Prelude.{ℕ, Bool, true, false, List, ◌≡◌, take}
-use Rattle.ft_number.specs.declared.Ack.{Ack}
-use Rattle.ft_number.specs.declared.Turn.{Turn}
+use Rattle.std.specs.Prelude.{Ok, Err, Option, Some, None, ℕ, Bool, true, false, List, ◌≡◌, take}
+use Rattle.ft_number.specs.declared.TurnError.{TurnError}
 use Rattle.label_list.specs.declared.Protection.{Protection}
 use Rattle.label_events.specs.declared.Reception.{Reception}
 use Rattle.message.specs.declared.Message.{Message}
-use Rattle.message.specs.declared.Reading.{Reading}
 use Rattle.message.specs.Submission.{bears_ft}
 use Rattle.protocol.specs.declared.Answer.{Answer}
 use Rattle.protocol.specs.declared.Phase.{Phase}
@@ -42,7 +40,7 @@ pub record Heard (g : Message) : Type 0 where
 pub record AckRight (s : State) (g : Message) (k : ℕ) : Type 0 where
   pub heard : Heard g
   pub nonzero : is_zero g.protection ≡ false
-  pub acks : ack_on s g ≡ Ack.Releases k
+  pub acks : ack_on s g ≡ Some k
 
 -- 33 and 32 are passed too
 pub record ProtectionRight (s : State) (g : Message) (k : ℕ) : Type 0 where
@@ -53,7 +51,7 @@ pub record ProtectionRight (s : State) (g : Message) (k : ℕ) : Type 0 where
 pub record TurnRight (s : State) (resumed : Bool) (g : Message) (k : ℕ) : Type 0 where
   pub protection : ProtectionRight s g k
   pub leftout : ℕ
-  pub turn : turn_borne resumed s.secured.0 g.protection ≡ Turn.InTurn leftout
+  pub turn : turn_borne resumed s.secured.0 g.protection ≡ Ok leftout
 
 -- 21 is passed too: the message is taken
 pub record Takes (s : State) (resumed : Bool) (g : Message) (k : ℕ) : Type 0 where
@@ -61,33 +59,33 @@ pub record Takes (s : State) (resumed : Bool) (g : Message) (k : ℕ) : Type 0 w
   pub room : effect_reception (table_after s k) (meets s.table.words (table_after s k) g) (is_protected g.protection) (label_effect g)
       ≡ Reception.Taken
 
-pub data Case (s : State) : Phase → Reading → Answer → Type 0 where
+pub data Case (s : State) : Phase → Option Message → Answer → Type 0 where
   -- "1: wrong phase"
-  wrong_phase : {ph : Phase} {rd : Reading} → may_receive ph ≡ false → Case s ph rd Answer.WrongPhase
+  wrong_phase : {ph : Phase} {rd : Option Message} → may_receive ph ≡ false → Case s ph rd Answer.WrongPhase
   -- "22: malformed received", "Init received in UpFT or UpPlain"
-  malformed : {ph : Phase} → may_receive ph ≡ true → Case s ph Reading.Malformed Answer.MalformedReceived
-  an_init : {ph : Phase} {g : Message} → may_receive ph ≡ true → is_init g.typename ≡ true → Case s ph (Reading.Whole g) Answer.MalformedReceived
+  malformed : {ph : Phase} → may_receive ph ≡ true → Case s ph None Answer.MalformedReceived
+  an_init : {ph : Phase} {g : Message} → may_receive ph ≡ true → is_init g.typename ≡ true → Case s ph (Some g) Answer.MalformedReceived
   -- "36: Status with E set"
-  fatal : {ph : Phase} {g : Message} → may_receive ph ≡ true → is_init g.typename ≡ false → is_fatal g.status ≡ true → Case s ph (Reading.Whole g) Answer.StatusFatal
+  fatal : {ph : Phase} {g : Message} → may_receive ph ≡ true → is_init g.typename ≡ false → is_fatal g.status ≡ true → Case s ph (Some g) Answer.StatusFatal
   -- "31: FT TLV in UpPlain"
-  ft_tlv : {g : Message} → Heard g → bears_ft g.found ≡ true → Case s Phase.UpPlain (Reading.Whole g) Answer.FtTlvInPlain
+  ft_tlv : {g : Message} → Heard g → bears_ft g.found ≡ true → Case s Phase.UpPlain (Some g) Answer.FtTlvInPlain
   -- "In UpPlain messages are passed on."
-  passed_on_plain : {g : Message} → Heard g → bears_ft g.found ≡ false → Case s Phase.UpPlain (Reading.Whole g) Answer.Done
+  passed_on_plain : {g : Message} → Heard g → bears_ft g.found ≡ false → Case s Phase.UpPlain (Some g) Answer.Done
   -- "30: zero number"
-  zero_number : {u : Progress} {g : Message} → Heard g → is_zero g.protection ≡ true → Case s (Phase.UpFT u) (Reading.Whole g) Answer.ZeroNumber
+  zero_number : {u : Progress} {g : Message} → Heard g → is_zero g.protection ≡ true → Case s (Phase.UpFT u) (Some g) Answer.ZeroNumber
   -- "34: ACK sequence error"
-  wrong_ack : {u : Progress} {g : Message} → Heard g → is_zero g.protection ≡ false → ack_on s g ≡ Ack.SequenceError
-      → Case s (Phase.UpFT u) (Reading.Whole g) Answer.AckSequenceError
+  wrong_ack : {u : Progress} {g : Message} → Heard g → is_zero g.protection ≡ false → ack_on s g ≡ None
+      → Case s (Phase.UpFT u) (Some g) Answer.AckSequenceError
   -- "32, 33: protection wrong, missing"
   missing : {u : Progress} {k : ℕ} {g : Message} → AckRight s g k → protection_rule (table_after s k) g ≡ Protection.Missing
-      → Case s (Phase.UpFT u) (Reading.Whole g) Answer.ProtectionMissing
+      → Case s (Phase.UpFT u) (Some g) Answer.ProtectionMissing
   wrong : {u : Progress} {k : ℕ} {g : Message} → AckRight s g k → protection_rule (table_after s k) g ≡ Protection.Wrong
-      → Case s (Phase.UpFT u) (Reading.Whole g) Answer.ProtectionWrong
+      → Case s (Phase.UpFT u) (Some g) Answer.ProtectionWrong
   -- "20: number out of turn"
-  out_of_turn : {u : Progress} {k : ℕ} {g : Message} → ProtectionRight s g k → turn_borne u.resumed s.secured.0 g.protection ≡ Turn.OutOfTurn
-      → Case s (Phase.UpFT u) (Reading.Whole g) Answer.OutOfTurn
+  out_of_turn : {u : Progress} {k : ℕ} {g : Message} → ProtectionRight s g k → turn_borne u.resumed s.secured.0 g.protection ≡ Err TurnError.OutOfTurn
+      → Case s (Phase.UpFT u) (Some g) Answer.OutOfTurn
   -- "21: Mapping received that needs a word, none free"
   no_word : {u : Progress} {k : ℕ} {g : Message} → TurnRight s u.resumed g k
       → effect_reception (table_after s k) (meets s.table.words (table_after s k) g) (is_protected g.protection) (label_effect g) ≡ Reception.NoRoom
-      → Case s (Phase.UpFT u) (Reading.Whole g) Answer.NoWordForMapping
-  taken : {u : Progress} {k : ℕ} {g : Message} → Takes s u.resumed g k → Case s (Phase.UpFT u) (Reading.Whole g) Answer.Done
+      → Case s (Phase.UpFT u) (Some g) Answer.NoWordForMapping
+  taken : {u : Progress} {k : ℕ} {g : Message} → Takes s u.resumed g k → Case s (Phase.UpFT u) (Some g) Answer.Done

@@ -1,7 +1,6 @@
 -- A state that an image can hold, clause by clause: restore's "Fields: the ranges above; R to I no longer than held, and I not zero unless R is; label words by
 -- the rules below; a slot's message passes Submit's 4 and 5". Every call keeps it.
-use Rattle.std.specs.Prelude.{ℕ, ◌<◌, ◌≤◌, true, false, [], ◌≡◌, length, get_or}
-use Rattle.ft_number.specs.declared.Steps.TheVariants.{Count}
+use Rattle.std.specs.Prelude.{Some, ℕ, ◌<◌, ◌≤◌, true, false, [], ◌≡◌, length, get_or}
 use Rattle.ft_number.specs.Circle.{steps_of}
 use Rattle.label_list.specs.Counting.{counting}
 use Rattle.label_list.specs.Requests.{once_of, open_ids}
@@ -14,7 +13,7 @@ use Rattle.protocol.specs.State.{State, capacity, held, released_state}
 -- "R to I is at most 64 steps": the numbers issued and not released are those of messages held
 pub record Window (s : State) : Type 0 where
   pub steps : ℕ
-  pub reaches : steps_of s.released.0 s.issued.0 ≡ Count steps
+  pub reaches : steps_of s.released.0 s.issued.0 ≡ Some steps
   pub within : steps ≤ held s
 
 -- each number has its width

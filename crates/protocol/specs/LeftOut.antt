@@ -1,19 +1,19 @@
 -- What a re-issue leaves out. 02, ticket 3: "Of ours only a numbered Request is left out, at every re-issue exactly if an Abort naming its message ID, queued after it,
 -- is held too; it counts as sent with the next message." What this means place by place: `LeftOutAt` in MeaningSend.antt.
-use Rattle.std.specs.Prelude.{ℕ, zero, suc, ◌+◌, ◌-◌, Bool, true, false, List, [], ◌∷◌, eqb, drop}
+use Rattle.std.specs.Prelude.{Result, Ok, Err, ℕ, zero, suc, ◌+◌, ◌-◌, Bool, true, false, List, [], ◌∷◌, eqb, drop}
 use Rattle.octets.specs.Pick.{pick}
 use Rattle.ft_number.specs.declared.MessageId.{MessageId}
 use Rattle.message.specs.declared.Kind.{Kind}
-use Rattle.message.specs.declared.Submission.{Submission}
+use Rattle.message.specs.declared.SubmissionError.{SubmissionError}
 use Rattle.message.specs.Submission.{submission_of}
 use Rattle.protocol.specs.Phases.{issued_count}
 use Rattle.protocol.specs.State.{State}
 
 -- the kind as which a message is held
-abbrev pub kind_held : Submission → Kind
-kind_held Submission.Malformed = Kind.NoKind
-kind_held Submission.Refused = Kind.NoKind
-kind_held (Submission.Accepted kind label) = kind
+abbrev pub kind_held : Result (Kind × ℕ) SubmissionError → Kind
+kind_held (Err SubmissionError.Malformed) = Kind.NoKind
+kind_held (Err SubmissionError.Refused) = Kind.NoKind
+kind_held (Ok (kind, label)) = kind
 
 -- "an Abort naming its message ID"
 abbrev pub aborts_id : MessageId → Kind → Bool

@@ -1,7 +1,6 @@
 -- What it is that a message of some kind and label is held: 01's "same label's Withdraw/Release of that kind still held".
-use Rattle.std.specs.Prelude.{ℕ, ◌<◌, List, [], ◌≡◌, length, get_or}
+use Rattle.std.specs.Prelude.{Ok, ℕ, ◌<◌, List, [], ◌≡◌, length, get_or}
 use Rattle.message.specs.declared.Kind.{Kind}
-use Rattle.message.specs.declared.Submission.{Submission}
 use Rattle.message.specs.Kinds.{kind_number}
 use Rattle.message.specs.Submission.{submission_of}
 
@@ -10,7 +9,7 @@ pub record HeldSomewhere (queue : List (List ℕ)) (kind label : ℕ) : Type 0 w
   pub place : ℕ
   pub inside : place < length queue
   pub type : Kind
-  pub accepted : submission_of (get_or queue place []) ≡ Submission.Accepted type label
+  pub accepted : submission_of (get_or queue place []) ≡ Ok (type, label)
   pub same : kind_number type ≡ kind
 
 -- a Withdraw or a Release is barred by one of its own kind and label

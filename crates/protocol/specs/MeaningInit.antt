@@ -1,12 +1,9 @@
 -- What the theorems on the peer's Init say.
-use Rattle.std.specs.Prelude.{ℕ, Bool, true, [], ◌≡◌, take, drop}
+use Rattle.std.specs.Prelude.{Option, Some, Result, Ok, Err, ℕ, Bool, true, [], ◌≡◌, take, drop}
 use Rattle.ft_number.specs.declared.Timeout.{Timeout}
 use Rattle.ft_number.specs.Timeout.{lesser_of, millis_of}
 use Rattle.label_list.specs.Requests.{open_ids}
-use Rattle.tlv.specs.declared.Parameters.{Parameters}
-use Rattle.tlv.specs.declared.Session.{Session}
 use Rattle.message.specs.declared.Message.{Message}
-use Rattle.message.specs.declared.Reading.{Reading}
 use Rattle.protocol.specs.declared.Answer.{Answer}
 use Rattle.protocol.specs.declared.Phase.{Phase}
 use Rattle.protocol.specs.declared.Start.{Start}
@@ -17,33 +14,33 @@ use Rattle.protocol.specs.State.{State}
 use Rattle.protocol.specs.Step.{Step}
 
 -- R is set on both sides: the state is kept, and the peer's FT Session says so
-pub record BothR (s : State) (rd : Reading) : Type 0 where
+pub record BothR (s : State) (rd : Option Message) : Type 0 where
   pub message : Message
   pub timeout : Timeout
-  pub read : rd ≡ Reading.Whole message
-  pub peers : message.session ≡ Session.Given true timeout
+  pub read : rd ≡ Some message
+  pub peers : message.session ≡ Some (record { reconnect = true; timeout = timeout })
   pub ours : s.kept ≡ true
 
 -- the terms that a start bears
-abbrev pub BearsTerms : Start → Terms → Type 0
-BearsTerms (Start.Refused a) t = ⊥
-BearsTerms Start.Plain t = ⊥
-BearsTerms (Start.Fresh u) t = u ≡ t
-BearsTerms (Start.Resumed u k a) t = u ≡ t
+abbrev pub BearsTerms : Result Start Answer → Terms → Type 0
+BearsTerms (Err a) t = ⊥
+BearsTerms (Ok Start.Plain) t = ⊥
+BearsTerms (Ok (Start.Fresh u)) t = u ≡ t
+BearsTerms (Ok (Start.Resumed u k a)) t = u ≡ t
 
 -- the terms are those of the two Inits: "the agreed timeout is the lesser of both, zero counting as infinite"; it is zero only where both are
-pub record Agreed (proposed : ℕ) (rd : Reading) (t : Terms) : Type 0 where
+pub record Agreed (proposed : ℕ) (rd : Option Message) (t : Terms) : Type 0 where
   pub message : Message
   pub reconnect : Bool
   pub peers : Timeout
-  pub read : rd ≡ Reading.Whole message
-  pub session : message.session ≡ Session.Given reconnect peers
-  pub parameters : message.parameters ≡ Parameters.Given t.keepalive t.maxpdu
+  pub read : rd ≡ Some message
+  pub session : message.session ≡ Some (record { reconnect = reconnect; timeout = peers })
+  pub parameters : message.parameters ≡ Some (record { keepalive = t.keepalive; pdulength = t.maxpdu })
   pub timeout : t.timeout ≡ lesser_of proposed (millis_of peers)
   pub forever : t.timeout ≡ 0 → (proposed ≡ 0) × (millis_of peers ≡ 0)
 
 -- a session that began: the state is the start's, and so is the phase
-pub record BegunFrom (s : State) (ph : Phase) (st : Start) (x : Step) : Type 0 where
+pub record BegunFrom (s : State) (ph : Phase) (st : Result Start Answer) (x : Step) : Type 0 where
   pub answer : x.answer ≡ Answer.Done
   pub state : x.state ≡ start_state s st
   pub phase : x.phase ≡ start_phase ph st

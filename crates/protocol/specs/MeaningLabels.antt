@@ -1,13 +1,11 @@
 -- Which labels a received message touches, and when its protection is missing or wrong, clause by clause.
-use Rattle.std.specs.Prelude.{ℕ, ◌≤◌, List, ◌≡◌}
+use Rattle.std.specs.Prelude.{Some, None, ℕ, ◌≤◌, List, ◌≡◌}
 use Rattle.ft_number.specs.declared.FtNumber.{FtNumber}
 use Rattle.label_list.specs.declared.LabelMessage.{LabelMessage}
 use Rattle.label_list.specs.declared.Side.{Side}
 use Rattle.label_list.specs.Beside.{entry_on}
 use Rattle.label_list.specs.Rules.{received_side}
 use Rattle.tlv.specs.declared.Fec.{Fec}
-use Rattle.tlv.specs.declared.Field.{Field}
-use Rattle.tlv.specs.declared.FtField.{FtField}
 use Rattle.tlv.specs.declared.Ipv4Prefix.{Ipv4Prefix}
 use Rattle.tlv.specs.Element.{entry_of}
 use Rattle.label_events.specs.Change.{code_at}
@@ -25,10 +23,10 @@ pub data LabelType : MessageType → LabelMessage → Type 0 where
 
 -- a message touches the label that it names; "With no Label TLV, .. of the wildcard FEC .. acts on every label"
 pub data Touching (t : Table) (g : Message) : LabelMessage → ℕ → Type 0 where
-  names : {m : LabelMessage} {l : ℕ} → LabelType g.typename m → g.label ≡ Field.Value l → Touching t g m l
-  under_prefix : {m : LabelMessage} {l : ℕ} {p : Ipv4Prefix} → LabelType g.typename m → g.label ≡ Field.Absent → g.fec ≡ Fec.Prefix p
+  names : {m : LabelMessage} {l : ℕ} → LabelType g.typename m → g.label ≡ Some l → Touching t g m l
+  under_prefix : {m : LabelMessage} {l : ℕ} {p : Ipv4Prefix} → LabelType g.typename m → g.label ≡ None → g.fec ≡ Some (Fec.Prefix p)
       → entry_on t.words t.index (received_side m) l ≡ entry_of p → Touching t g m l
-  under_wildcard : {m : LabelMessage} {l : ℕ} → LabelType g.typename m → g.label ≡ Field.Absent → g.fec ≡ Fec.Wildcard → Touching t g m l
+  under_wildcard : {m : LabelMessage} {l : ℕ} → LabelType g.typename m → g.label ≡ None → g.fec ≡ Some Fec.Wildcard → Touching t g m l
 
 -- "Protection is missing (33) on Address, Address Withdraw and Resources Available"
 pub data NeverBare : Kind → Type 0 where
@@ -51,12 +49,12 @@ pub data Demands (t : Table) (g : Message) : Type 0 where
 -- "It is wrong (32) on a Mapping or Withdraw that names a label of code 6."
 pub record WronglyProtected (ls : List ℕ) (g : Message) : Type 0 where
   pub number : FtNumber
-  pub protected : g.protection ≡ FtField.Number number
+  pub protected : g.protection ≡ Some number
   pub message : LabelMessage
   pub type : LabelType g.typename message
   pub side : received_side message ≡ Side.Used
   pub label : ℕ
-  pub named : g.label ≡ Field.Value label
+  pub named : g.label ≡ Some label
   pub bare : code_at ls Side.Used label ≡ 6
 
 -- ---- what we send

@@ -1,22 +1,20 @@
 -- The life of a label that we gave, over all calls: by which events of the label list each call moves it.
 -- 02: "Free a withdrawn label at the second of Release and ACK. .. A Release at code 1 still frees it."
-use Rattle.std.specs.Prelude.{ℕ, Bool, List, [], ◌∷◌, ◌++◌, ◌≡◌, eqb, take}
+use Rattle.std.specs.Prelude.{Ok, Option, Some, None, ℕ, Bool, List, [], ◌∷◌, ◌++◌, ◌≡◌, eqb, take}
 use Rattle.octets.specs.Pick.{pick}
-use Rattle.label_list.specs.declared.Found.{Found}
 use Rattle.label_list.specs.declared.LabelMessage.{LabelMessage}
 use Rattle.label_list.specs.declared.Side.{Side}
 use Rattle.label_events.specs.declared.Meets.{Meets}
+use Rattle.label_events.specs.declared.Touched.{Touched}
 use Rattle.label_events.specs.Change.{code_at}
 use Rattle.message.specs.declared.Kind.{Kind}
 use Rattle.message.specs.declared.Message.{Message}
-use Rattle.message.specs.declared.Submission.{Submission}
 use Rattle.message.specs.Kinds.{kind_number}
 use Rattle.message.specs.Storable.{kind_in, label_in}
 use Rattle.message.specs.Submission.{submission_of}
 use Rattle.label_meaning.specs.Event.{LabelEvent, Accepted, Acked, Received, Asked, Ended, Broken}
 use Rattle.label_meaning.specs.Withdrawal.{GivenMoves, after_events}
 use Rattle.protocol.specs.declared.Answer.{Answer}
-use Rattle.protocol.specs.declared.LabelEffect.{LabelEffect}
 use Rattle.protocol.specs.declared.Phase.{Phase}
 use Rattle.protocol.specs.Calls.{Call, submits, greets, receives}
 use Rattle.protocol.specs.Cases.{table_after}
@@ -40,9 +38,9 @@ ack_events [] = []
 ack_events (m ∷ ms) = ack_event (kind_in (submission_of m)) (label_in (submission_of m)) ++ ack_events ms
 
 -- a message that has that effect on the labels is received, over that table, and meets `x` beside the words
-abbrev pub effect_event : Table → Meets → Bool → LabelEffect → LabelEvent
-effect_event t x protected LabelEffect.Nothing = Ended x.request
-effect_event t x protected (LabelEffect.Change message touched) = Received x message protected (reached t message touched)
+abbrev pub effect_event : Table → Meets → Bool → Option (LabelMessage × Touched) → LabelEvent
+effect_event t x protected None = Ended x.request
+effect_event t x protected (Some (message, touched)) = Received x message protected (reached t message touched)
 
 -- `old` are the words before the call, `t` the table as the message's ACK leaves it
 abbrev pub message_event : List ℕ → Table → Message → LabelEvent
@@ -54,10 +52,10 @@ pub data Events (s : State) (ph : Phase) : Call → Step → List LabelEvent →
   -- the connection has ended
   broke : {c : Call} {x : Step} → Events s ph c x (Broken ∷ [])
   -- a message of ours is taken: of a label, or about a Request
-  took : {m : List ℕ} {x : Step} {kind : Kind} {message : LabelMessage} {label : ℕ} → x.answer ≡ Answer.Done → submission_of m ≡ Submission.Accepted kind label → SentKind kind message
+  took : {m : List ℕ} {x : Step} {kind : Kind} {message : LabelMessage} {label : ℕ} → x.answer ≡ Answer.Done → submission_of m ≡ Ok (kind, label) → SentKind kind message
       → Events s ph (submits m) x (Accepted message label ∷ [])
   asked : {m : List ℕ} {x : Step} → Events s ph (submits m) x (Asked ∷ [])
-  aborted : {m : List ℕ} {x : Step} (request : Found) → Events s ph (submits m) x (Ended request ∷ [])
+  aborted : {m : List ℕ} {x : Step} (request : Option ℕ) → Events s ph (submits m) x (Ended request ∷ [])
   -- the peer's Init acknowledges the oldest k
   resumed : {m : List ℕ} {x : Step} (k : ℕ) → x.answer ≡ Answer.Done → Events s ph (greets m) x (ack_events (take k s.queue))
   -- a message is received: its ACK first

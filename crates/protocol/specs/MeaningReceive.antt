@@ -1,12 +1,11 @@
 -- What a received message means for the state, clause by clause.
-use Rattle.std.specs.Prelude.{ℕ, ◌+◌, ◌-◌, ◌≤◌, Bool, false, [], ◌≡◌, drop}
+use Rattle.std.specs.Prelude.{Some, None, ℕ, ◌+◌, ◌-◌, ◌≤◌, Bool, false, [], ◌≡◌, drop}
 use Rattle.ft_number.specs.declared.FtNumber.{FtNumber}
 use Rattle.ft_number.specs.Circle.{next, after}
 use Rattle.ft_number.specs.Turn.{farthest}
 use Rattle.label_list.specs.Counting.{counting}
 use Rattle.label_list.specs.Requests.{open_ids}
 use Rattle.label_list.specs.Word.{lists_label}
-use Rattle.tlv.specs.declared.FtField.{FtField}
 use Rattle.message.specs.declared.Message.{Message}
 use Rattle.message.specs.Kinds.{kind_of}
 use Rattle.protocol.specs.declared.Answer.{Answer}
@@ -48,12 +47,12 @@ pub record AckThenMessage (s : State) (g : Message) (k : ℕ) (t : State) : Type
 -- "a protected one must bear the successor of S, and S moves to it"; 02: "On a resumed connection .. 1 to 64 steps ahead of S", and so many less one were left out;
 -- every other message leaves S
 pub record SecuresFrom (s : State) (resumed : Bool) (g : Message) (x : Step) : Type 0 where
-  pub moves : (n : FtNumber) → g.protection ≡ FtField.Number n → x.state.secured ≡ n
-  pub ahead : (n : FtNumber) → g.protection ≡ FtField.Number n → n.0 ≡ after (x.leftout + 1) s.secured.0
+  pub moves : (n : FtNumber) → g.protection ≡ Some n → x.state.secured ≡ n
+  pub ahead : (n : FtNumber) → g.protection ≡ Some n → n.0 ≡ after (x.leftout + 1) s.secured.0
   pub near : x.leftout + 1 ≤ farthest resumed
   -- on a connection that is not resumed
-  pub successor : resumed ≡ false → (n : FtNumber) → g.protection ≡ FtField.Number n → n.0 ≡ next s.secured.0
-  pub stays : g.protection ≡ FtField.Absent → (x.state.secured ≡ s.secured) × (x.leftout ≡ 0)
+  pub successor : resumed ≡ false → (n : FtNumber) → g.protection ≡ Some n → n.0 ≡ next s.secured.0
+  pub stays : g.protection ≡ None → (x.state.secured ≡ s.secured) × (x.leftout ≡ 0)
 
 -- the answers in UpPlain: 22, 36, 31, 0
 pub data PlainAnswer : Answer → Type 0 where

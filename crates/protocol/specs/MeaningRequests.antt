@@ -1,15 +1,12 @@
 -- The life of a Request, and what both ends remember of "Requests stopped", over all calls.
 -- 02: "It ends when its Abort is accepted, or a Notification (Status) or Mapping (TLV 0x0600, length 4) naming its ID is received"; "both ends remember this
 -- over a break .. and forget it when state is released".
-use Rattle.std.specs.Prelude.{ℕ, Bool, true, false, List, ◌⊎◌, ◌≡◌}
+use Rattle.std.specs.Prelude.{Ok, Some, ℕ, Bool, true, false, List, ◌⊎◌, ◌≡◌}
 use Rattle.ft_number.specs.declared.MessageId.{MessageId}
 use Rattle.label_list.specs.Find.{is_found}
 use Rattle.label_list.specs.Requests.{open_at}
-use Rattle.tlv.specs.declared.IdField.{IdField}
 use Rattle.message.specs.declared.Kind.{Kind}
 use Rattle.message.specs.declared.Message.{Message}
-use Rattle.message.specs.declared.Reading.{Reading}
-use Rattle.message.specs.declared.Submission.{Submission}
 use Rattle.message.specs.Kinds.{kind_of}
 use Rattle.message.specs.Reading.{reading_of}
 use Rattle.message.specs.Submission.{submission_of}
@@ -34,18 +31,18 @@ is_open s id = opens_in s.table id
 pub record TakenUp (ph : Phase) (m : List ℕ) (g : Message) (x : Step) : Type 0 where
   pub done : x.answer ≡ Answer.Done
   pub up : is_up_ft ph ≡ true
-  pub read : reading_of m ≡ Reading.Whole g
+  pub read : reading_of m ≡ Some g
 
 -- by which call, which leaves x, a Request of that ID is open or open no more
 pub data RequestMoves (ph : Phase) (id : MessageId) : Call → Step → Bool → Bool → Type 0 where
   -- it is accepted
-  asked : {m : List ℕ} {x : Step} {label : ℕ} → x.answer ≡ Answer.Done → submission_of m ≡ Submission.Accepted (Kind.Request id) label
+  asked : {m : List ℕ} {x : Step} {label : ℕ} → x.answer ≡ Answer.Done → submission_of m ≡ Ok (Kind.Request id, label)
       → RequestMoves ph id (submits m) x false true
   -- "its Abort is accepted"
-  aborted : {m : List ℕ} {x : Step} {label : ℕ} → x.answer ≡ Answer.Done → submission_of m ≡ Submission.Accepted (Kind.Abort id) label
+  aborted : {m : List ℕ} {x : Step} {label : ℕ} → x.answer ≡ Answer.Done → submission_of m ≡ Ok (Kind.Abort id, label)
       → RequestMoves ph id (submits m) x true false
   -- "or a Notification (Status) or Mapping (TLV 0x0600, length 4) naming its ID is received"
-  answered : {m : List ℕ} {x : Step} {g : Message} → TakenUp ph m g x → answers g ≡ IdField.Id id → RequestMoves ph id (receives m) x true false
+  answered : {m : List ℕ} {x : Step} {g : Message} → TakenUp ph m g x → answers g ≡ Some id → RequestMoves ph id (receives m) x true false
   -- "when state is released"
   forgotten : {c : Call} {x : Step} → x.state.table ≡ no_table → RequestMoves ph id c x true false
 

@@ -1,11 +1,9 @@
 -- What a message sent means for the state, clause by clause.
-use Rattle.std.specs.Prelude.{ℕ, ◌+◌, ◌≤◌, ◌<◌, Bool, true, false, ◌≡◌}
+use Rattle.std.specs.Prelude.{Ok, Some, None, ℕ, ◌+◌, ◌≤◌, ◌<◌, Bool, true, false, ◌≡◌}
 use Rattle.octets.specs.Pick.{pick}
 use Rattle.ft_number.specs.declared.MessageId.{MessageId}
 use Rattle.ft_number.specs.Circle.{next}
-use Rattle.tlv.specs.declared.FtField.{FtField}
 use Rattle.message.specs.declared.Kind.{Kind}
-use Rattle.message.specs.declared.Submission.{Submission}
 use Rattle.message.specs.Submission.{submission_of}
 use Rattle.message_writer.specs.Forms.{protected_bytes}
 use Rattle.protocol.specs.declared.Answer.{Answer}
@@ -21,13 +19,13 @@ pub record LeftOutAt (s : State) (place : ℕ) : Type 0 where
   pub numbered : place < issued_count s
   pub id : MessageId
   pub label : ℕ
-  pub request : submission_of (queue_message s place) ≡ Submission.Accepted (Kind.Request id) label
+  pub request : submission_of (queue_message s place) ≡ Ok (Kind.Request id, label)
   pub later : ℕ
   pub behind : place < later
   pub inside : later < held s
   pub named : MessageId
   pub beside : ℕ
-  pub abort : submission_of (queue_message s later) ≡ Submission.Accepted (Kind.Abort named) beside
+  pub abort : submission_of (queue_message s later) ≡ Ok (Kind.Abort named, beside)
   pub same : named.0 ≡ id.0
 
 -- "it counts as sent with the next message": from the count sent on these places are left out, and the next is not; it is one that is held
@@ -47,7 +45,7 @@ pub record SentFrom (s : State) (u : Progress) (place : ℕ) (ask : Bool) (x : S
   pub phase : x.phase ≡ up_with u.resumed (place + 1)
   pub state : x.state ≡ sent_state s place
   -- the ACK says S
-  pub output : x.output ≡ protected_bytes (queue_message s place) (queue_number s place) (pick ask (FtField.Number s.secured) FtField.Absent)
+  pub output : x.output ≡ protected_bytes (queue_message s place) (queue_number s place) (pick ask (Some s.secured) None)
   pub passes : PassesOver s u.sent place
   -- how many were passed over
   pub leftout : u.sent + x.leftout ≡ place

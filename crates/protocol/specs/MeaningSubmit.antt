@@ -1,8 +1,7 @@
 -- What a message queued means for the state, clause by clause: "Submit is open while kept is 1 and queues the message."
-use Rattle.std.specs.Prelude.{ℕ, ◌+◌, ◌≤◌, ◌<◌, List, [], ◌≡◌, get_or}
+use Rattle.std.specs.Prelude.{Ok, ℕ, ◌+◌, ◌≤◌, ◌<◌, List, [], ◌≡◌, get_or}
 use Rattle.label_list.specs.Requests.{open_ids}
 use Rattle.message.specs.declared.Kind.{Kind}
-use Rattle.message.specs.declared.Submission.{Submission}
 use Rattle.message.specs.Submission.{submission_of}
 use Rattle.protocol.specs.declared.Phase.{Phase}
 use Rattle.protocol.specs.Accepting.{accepted_as, ids_accepted, stop_after}
@@ -25,9 +24,9 @@ pub record QueuedFrom (s : State) (ph : Phase) (m : List ℕ) (x : Step) : Type 
   pub kept : x.state.kept ≡ s.kept
   pub terms : x.state.terms ≡ s.terms
   -- "Accepted for sending": the label words become what its kind makes of its label
-  pub labels : (kind : Kind) (label : ℕ) → submission_of m ≡ Submission.Accepted kind label → x.state.table.words ≡ (accepted_as s.table kind label).1
+  pub labels : (kind : Kind) (label : ℕ) → submission_of m ≡ Ok (kind, label) → x.state.table.words ≡ (accepted_as s.table kind label).1
   -- the IDs that count, a Request's own among them
-  pub ids : (kind : Kind) (label : ℕ) → submission_of m ≡ Submission.Accepted kind label → x.state.table.ids ≡ open_ids x.state.table.words (ids_accepted s.table kind)
+  pub ids : (kind : Kind) (label : ℕ) → submission_of m ≡ Ok (kind, label) → x.state.table.ids ≡ open_ids x.state.table.words (ids_accepted s.table kind)
   -- kind 9 tells the peer to stop, kind 6 to go on; what the peer told us stays
   pub stopped : x.state.marks.stopped ≡ s.marks.stopped
-  pub stopping : (kind : Kind) (label : ℕ) → submission_of m ≡ Submission.Accepted kind label → x.state.marks.stopping ≡ stop_after s.marks.stopping kind
+  pub stopping : (kind : Kind) (label : ℕ) → submission_of m ≡ Ok (kind, label) → x.state.marks.stopping ≡ stop_after s.marks.stopping kind

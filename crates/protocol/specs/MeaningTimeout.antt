@@ -1,10 +1,8 @@
 -- Where the agreed timeout of a state comes from, over all calls. 02: "A stored agreed timeout changes by this only at the next Init."
-use Rattle.std.specs.Prelude.{ℕ, Bool, List, ◌≡◌}
+use Rattle.std.specs.Prelude.{Some, ℕ, Bool, List, ◌≡◌}
 use Rattle.ft_number.specs.declared.Timeout.{Timeout}
 use Rattle.ft_number.specs.Timeout.{lesser_of, millis_of}
-use Rattle.tlv.specs.declared.Session.{Session}
 use Rattle.message.specs.declared.Message.{Message}
-use Rattle.message.specs.declared.Reading.{Reading}
 use Rattle.message.specs.Reading.{reading_of}
 use Rattle.protocol.specs.declared.Answer.{Answer}
 use Rattle.protocol.specs.declared.Phase.{Phase}
@@ -19,8 +17,8 @@ pub record TakenInit (ph : Phase) (m : List ℕ) (x : Step) : Type 0 where
   pub message : Message
   pub reconnect : Bool
   pub peers : Timeout
-  pub read : reading_of m ≡ Reading.Whole message
-  pub session : message.session ≡ Session.Given reconnect peers
+  pub read : reading_of m ≡ Some message
+  pub session : message.session ≡ Some (record { reconnect = reconnect; timeout = peers })
   pub timeout : x.state.terms.timeout ≡ lesser_of (proposal_of ph) (millis_of peers)
 
 -- of a call that leaves x of the state s: the timeout stays, the state is released and has none, or the call takes an Init

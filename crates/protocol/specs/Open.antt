@@ -1,10 +1,10 @@
 -- Open: "Open (Idle, Failed): writes Init, R = kept, ACK = S." Answers: 1, 9.
-use Rattle.std.specs.Prelude.{ℕ, List}
+use Rattle.std.specs.Prelude.{Option, Some, None, ℕ, List}
 use Rattle.octets.specs.Pick.{pick}
+use Rattle.ft_number.specs.declared.FtNumber.{FtNumber}
 use Rattle.ft_number.specs.declared.MessageId.{MessageId}
 use Rattle.ft_number.specs.declared.Proposal.{Proposal}
 use Rattle.ft_number.specs.Timeout.{millis_of, proposed_of}
-use Rattle.tlv.specs.declared.FtField.{FtField}
 use Rattle.message_writer.specs.declared.OwnParameters.{OwnParameters}
 use Rattle.message_writer.specs.Forms.{init_bytes}
 use Rattle.protocol.specs.declared.Phase.{Phase}
@@ -14,8 +14,8 @@ use Rattle.protocol.specs.Step.{Step}
 use Rattle.protocol.specs.Writer.{writer}
 
 -- "Our Init: parameters .., FT Session, then FT ACK if R is 1": with kept state R is set, and the ACK is S; without, R is clear and no ACK is borne
-unfoldable pub kept_ack : State → FtField
-kept_ack s = pick s.kept (FtField.Number s.secured) FtField.Absent
+unfoldable pub kept_ack : State → Option FtNumber
+kept_ack s = pick s.kept (Some s.secured) None
 
 abbrev pub open_bytes : State → MessageId → OwnParameters → Proposal → List ℕ
 open_bytes s id p t = init_bytes id p (proposed_of t) (kept_ack s)

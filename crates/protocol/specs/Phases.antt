@@ -1,16 +1,14 @@
 -- 01's phases: which of them the state rules out, and which of them a call asks for.
-use Rattle.std.specs.Prelude.{ℕ, Bool, true, false, not, leb}
+use Rattle.std.specs.Prelude.{Option, Some, None, ℕ, Bool, true, false, not, leb}
 use Rattle.octets.specs.Pick.{pick, both}
-use Rattle.ft_number.specs.declared.Steps.{Steps}
-use Rattle.ft_number.specs.declared.Steps.TheVariants.{Count, Unreachable}
 use Rattle.ft_number.specs.Circle.{steps_of}
 use Rattle.protocol.specs.declared.Phase.{Phase}
 use Rattle.protocol.specs.State.{State}
 
 -- a count of steps; none where nothing leads there
-abbrev pub count_of : Steps → ℕ
-count_of (Count k) = k
-count_of Unreachable = 0
+abbrev pub count_of : Option ℕ → ℕ
+count_of (Some k) = k
+count_of None = 0
 
 -- how many of the held messages have a number: the steps from R to I
 unfoldable pub issued_count : State → ℕ

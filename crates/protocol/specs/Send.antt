@@ -1,11 +1,10 @@
 -- Send next: "Send next (UpFT) gives the oldest not sent on this connection, after a break from the oldest held; it numbers it if it has no number and
 -- adds at its end FT Protection, then FT ACK if asked, raising its length. Everything held is re-issued, net-zero pairs too"; 02: but for the Requests that are left
 -- out (LeftOut.antt). Answers: 1, 8, 9.
-use Rattle.std.specs.Prelude.{ℕ, ◌+◌, Bool, true, false, List, [], leb, ltb, get_or}
+use Rattle.std.specs.Prelude.{Option, Some, None, ℕ, ◌+◌, Bool, true, false, List, [], leb, ltb, get_or}
 use Rattle.octets.specs.Pick.{pick}
 use Rattle.ft_number.specs.declared.FtNumber.{FtNumber}
 use Rattle.ft_number.specs.Circle.{after}
-use Rattle.tlv.specs.declared.FtField.{FtField}
 use Rattle.message_writer.specs.Forms.{protected_bytes}
 use Rattle.protocol.specs.declared.Answer.{Answer}
 use Rattle.protocol.specs.declared.Phase.{Phase}
@@ -23,9 +22,9 @@ unfoldable pub queue_number : State → ℕ → FtNumber
 queue_number s place = record { 0 = after (place + 1) s.released.0 }
 
 -- FT ACK, if asked, says what is secured
-unfoldable pub ack_asked : Bool → State → FtField
-ack_asked true s = FtField.Number s.secured
-ack_asked false s = FtField.Absent
+unfoldable pub ack_asked : Bool → State → Option FtNumber
+ack_asked true s = Some s.secured
+ack_asked false s = None
 
 unfoldable pub send_bytes : State → ℕ → Bool → List ℕ
 send_bytes s place ask = protected_bytes (queue_message s place) (queue_number s place) (ack_asked ask s)

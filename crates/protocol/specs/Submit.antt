@@ -1,9 +1,9 @@
 -- Submit: "Submit is open while kept is 1 and queues the message." Answers: 1, 3, 4, 5, 6, 14, 15, 13, 7.
-use Rattle.std.specs.Prelude.{ℕ, not, List, [], ◌∷◌, ◌++◌, leb, ltb, length}
+use Rattle.std.specs.Prelude.{Result, Ok, Err, ℕ, not, List, [], ◌∷◌, ◌++◌, leb, ltb, length}
 use Rattle.octets.specs.Pick.{pick, both}
 use Rattle.label_events.specs.declared.Acceptance.{Acceptance}
 use Rattle.message.specs.declared.Kind.{Kind}
-use Rattle.message.specs.declared.Submission.{Submission}
+use Rattle.message.specs.declared.SubmissionError.{SubmissionError}
 use Rattle.message.specs.Storable.{longest, shortest}
 use Rattle.message.specs.Submission.{submission_of, entry_in}
 use Rattle.protocol.specs.declared.Answer.{Answer}
@@ -37,10 +37,10 @@ kind_rule s ph kind label entry =
     (pick (changes_entry s.table kind label entry) Answer.LabelNotAllowed (acceptance_rule s ph kind (accepted_as s.table kind label).0))
 
 -- "4: malformed submission"; "5: submitted kind not 1 to 6, FT TLV present, or kinds 1-3 without a label"
-abbrev pub submission_rule : State → Phase → Submission → ℕ → Answer
-submission_rule s ph Submission.Malformed entry = Answer.Malformed
-submission_rule s ph Submission.Refused entry = Answer.KindNotSent
-submission_rule s ph (Submission.Accepted kind label) entry = kind_rule s ph kind label entry
+abbrev pub submission_rule : State → Phase → Result (Kind × ℕ) SubmissionError → ℕ → Answer
+submission_rule s ph (Err SubmissionError.Malformed) entry = Answer.Malformed
+submission_rule s ph (Err SubmissionError.Refused) entry = Answer.KindNotSent
+submission_rule s ph (Ok (kind, label)) entry = kind_rule s ph kind label entry
 
 -- "1: .. submit with kept 0"; "3: submitted length outside 8 to 480"
 unfoldable pub submit_rule : State → Phase → List ℕ → Answer
@@ -51,29 +51,29 @@ submit_rule s ph m =
     (submission_rule s ph (submission_of m) (entry_in m))))
 
 -- the label words, the IDs and the index once the message is accepted for sending
-abbrev pub accepted_labels : Table → Submission → List ℕ
-accepted_labels t Submission.Malformed = t.words
-accepted_labels t Submission.Refused = t.words
-accepted_labels t (Submission.Accepted kind label) = (accepted_as t kind label).1
+abbrev pub accepted_labels : Table → Result (Kind × ℕ) SubmissionError → List ℕ
+accepted_labels t (Err SubmissionError.Malformed) = t.words
+accepted_labels t (Err SubmissionError.Refused) = t.words
+accepted_labels t (Ok (kind, label)) = (accepted_as t kind label).1
 
-abbrev pub accepted_ids : Table → Submission → List ℕ
-accepted_ids t Submission.Malformed = t.ids
-accepted_ids t Submission.Refused = t.ids
-accepted_ids t (Submission.Accepted kind label) = ids_accepted t kind
+abbrev pub accepted_ids : Table → Result (Kind × ℕ) SubmissionError → List ℕ
+accepted_ids t (Err SubmissionError.Malformed) = t.ids
+accepted_ids t (Err SubmissionError.Refused) = t.ids
+accepted_ids t (Ok (kind, label)) = ids_accepted t kind
 
-abbrev pub accepted_index : Table → Submission → ℕ → List ℕ
-accepted_index t Submission.Malformed entry = t.index
-accepted_index t Submission.Refused entry = t.index
-accepted_index t (Submission.Accepted kind label) entry = index_accepted t kind label entry
+abbrev pub accepted_index : Table → Result (Kind × ℕ) SubmissionError → ℕ → List ℕ
+accepted_index t (Err SubmissionError.Malformed) entry = t.index
+accepted_index t (Err SubmissionError.Refused) entry = t.index
+accepted_index t (Ok (kind, label)) entry = index_accepted t kind label entry
 
-abbrev pub accepted_table : Table → Submission → ℕ → Table
+abbrev pub accepted_table : Table → Result (Kind × ℕ) SubmissionError → ℕ → Table
 accepted_table t j entry = table_of (accepted_labels t j) (accepted_ids t j) (accepted_index t j entry)
 
 -- 02: "4 from accepting kind 9 until kind 6"
-abbrev pub accepted_marks : Marks → Submission → Marks
-accepted_marks m Submission.Malformed = m
-accepted_marks m Submission.Refused = m
-accepted_marks m (Submission.Accepted kind label) = record { stopped = m.stopped; stopping = stop_after m.stopping kind }
+abbrev pub accepted_marks : Marks → Result (Kind × ℕ) SubmissionError → Marks
+accepted_marks m (Err SubmissionError.Malformed) = m
+accepted_marks m (Err SubmissionError.Refused) = m
+accepted_marks m (Ok (kind, label)) = record { stopped = m.stopped; stopping = stop_after m.stopping kind }
 
 -- the state with the message queued as the newest; it is pended: it has no number yet
 unfoldable pub submitted : State → List ℕ → State

@@ -1,10 +1,10 @@
 -- A submission case by case: what it is, and the answer. `submit-cases` in proofs/SubmitCases.antt says that the judgement is this list.
 -- 01: "Submit: 12, 1, 3, 4, 5, 6, 13, 7."; with 02: 12, 1, 3, 4, 5, 6, 14, 15, 13, 7.
-use Rattle.std.specs.Prelude.{ℕ, ◌≤◌, ◌<◌, true, false, not, List, ◌≢◌, ◌≡◌, length}
+use Rattle.std.specs.Prelude.{Ok, Err, ℕ, ◌≤◌, ◌<◌, true, false, not, List, ◌≢◌, ◌≡◌, length}
 use Rattle.octets.specs.Pick.{both}
 use Rattle.label_events.specs.declared.Acceptance.{Acceptance}
 use Rattle.message.specs.declared.Kind.{Kind}
-use Rattle.message.specs.declared.Submission.{Submission}
+use Rattle.message.specs.declared.SubmissionError.{SubmissionError}
 use Rattle.message.specs.Storable.{shortest, longest, Storable}
 use Rattle.message.specs.Submission.{submission_of, entry_in}
 use Rattle.protocol.specs.declared.Answer.{Answer}
@@ -22,7 +22,7 @@ pub record Fitting (s : State) (m : List ℕ) : Type 0 where
 -- 4 and 5 are passed too, and nothing held bars the message
 pub record Unbarred (s : State) (m : List ℕ) (kind : Kind) (label : ℕ) : Type 0 where
   pub fitting : Fitting s m
-  pub accepted : submission_of m ≡ Submission.Accepted kind label
+  pub accepted : submission_of m ≡ Ok (kind, label)
   pub free : is_barred s.queue kind label ≡ false
   pub same : changes_entry s.table kind label (entry_in m) ≡ false
 
@@ -38,14 +38,14 @@ pub data SubmitCase (s : State) (ph : Phase) (m : List ℕ) : Answer → Type 0 
   too_short : s.kept ≡ true → length m < shortest → SubmitCase s ph m Answer.LengthOutOfRange
   too_long : s.kept ≡ true → longest < length m → SubmitCase s ph m Answer.LengthOutOfRange
   -- "4: malformed submission"
-  malformed_submission : Fitting s m → submission_of m ≡ Submission.Malformed → SubmitCase s ph m Answer.Malformed
+  malformed_submission : Fitting s m → submission_of m ≡ Err SubmissionError.Malformed → SubmitCase s ph m Answer.Malformed
   -- "5: submitted kind not 1 to 6, FT TLV present, or kinds 1-3 without a label"
-  not-sent : Fitting s m → submission_of m ≡ Submission.Refused → SubmitCase s ph m Answer.KindNotSent
+  not-sent : Fitting s m → submission_of m ≡ Err SubmissionError.Refused → SubmitCase s ph m Answer.KindNotSent
   -- "6: .. same label's Withdraw/Release of that kind still held"; "label code doesn't allow it, label below 16"; 02: "6 also for an ID already open or an Abort of none"
-  still-held : {kind : Kind} {label : ℕ} → Fitting s m → submission_of m ≡ Submission.Accepted kind label → is_barred s.queue kind label ≡ true
+  still-held : {kind : Kind} {label : ℕ} → Fitting s m → submission_of m ≡ Ok (kind, label) → is_barred s.queue kind label ≡ true
       → SubmitCase s ph m Answer.LabelNotAllowed
   -- 02: "6 for submitting such a Mapping"
-  another_entry : {kind : Kind} {label : ℕ} → Fitting s m → submission_of m ≡ Submission.Accepted kind label → is_barred s.queue kind label ≡ false
+  another_entry : {kind : Kind} {label : ℕ} → Fitting s m → submission_of m ≡ Ok (kind, label) → is_barred s.queue kind label ≡ false
       → changes_entry s.table kind label (entry_in m) ≡ true → SubmitCase s ph m Answer.LabelNotAllowed
   code_forbids : {kind : Kind} {label : ℕ} → Unbarred s m kind label → (accepted_as s.table kind label).0 ≡ Acceptance.NotAllowed
       → SubmitCase s ph m Answer.LabelNotAllowed

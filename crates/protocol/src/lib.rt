@@ -78,15 +78,7 @@ pub struct Terms {
 // How a session begins with the peer's Init; Resumed with the count of messages that its ACK releases, and that ACK.
 #[derive(Clone, Copy)]
 pub enum Start {
-    Refused(Answer),
     Plain,
     Fresh(Terms),
     Resumed(Terms, u32, FtNumber),
-}
-
-// What a received message does to the labels: nothing, or what its type does to those that it touches.
-#[derive(Clone, Copy)]
-pub enum LabelEffect {
-    Nothing,
-    Change(label_list::LabelMessage, label_events::Touched),
 }

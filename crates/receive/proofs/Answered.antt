@@ -1,4 +1,5 @@
 -- The Request that a message answers: the IDs of the image find it in the words that the ACK leaves. Assumes nothing.
+use Rattle.std.specs.Prelude.{Option, Some, None}
 use Prim.Native.Nat.{ℕ}
 use mathlib.Core.Bool.{true, false}
 use mathlib.Core.List.{List}
@@ -7,7 +8,6 @@ use native.Mathlib.Omega.{arith}
 use lib.ListN.{length, take}
 use Rattle.octets.proofs.Choice.{no}
 use Rattle.ft_number.specs.declared.MessageId.{MessageId}
-use Rattle.label_list.specs.declared.Found.{Found}
 use Rattle.label_list.specs.declared.LabelMessage.{LabelMessage}
 use Rattle.label_list.specs.Counting.{counting}
 use Rattle.label_list.specs.Find.{find_of}
@@ -17,7 +17,6 @@ use Rattle.label_list.specs.Valid.{valid_of}
 use Rattle.label_list.specs.Word.{lists_label, stands_for, word_count}
 use Rattle.label_list.proofs.Counting.{counting-freed}
 use Rattle.label_list.proofs.OpenIds.{found_request, open_counting}
-use Rattle.tlv.specs.declared.IdField.{IdField}
 use Rattle.label_events.specs.Ack.{acked_of}
 use Rattle.message.specs.declared.Message.{Message}
 use Rattle.label_meaning.specs.Event.{Acked, after_event}
@@ -37,31 +36,31 @@ use Rattle.calls.specs.State.{state_of}
 use Rattle.receive.specs.Speed.{labels_stay, touches_none}
 use Rattle.receive.specs.Words.{RequestFound, table_on}
 
-pub answers_is : (g : Message) {j : IdField} → j ≡ answered_by g.typename g.statusid g.requestid → j ≡ answers g
+pub answers_is : (g : Message) {j : Option MessageId} → j ≡ answered_by g.typename g.statusid g.requestid → j ≡ answers g
 unfolding answers
 answers_is g e = e
 
-module _ (im words : List ℕ) (g : Message) {j : IdField} (e : j ≡ answers g) where
-  pub answered_none : j ≡ IdField.Absent → Found.Nowhere ≡ answered_at (table_on im words) g
+module _ (im words : List ℕ) (g : Message) {j : Option MessageId} (e : j ≡ answers g) where
+  pub answered_none : j ≡ None → None ≡ answered_at (table_on im words) g
   unfolding answered_at
   answered_none t = rw (← e, t)
 
-  pub answered_open : {id : MessageId} {f : Found} → length words ≡ word_count → j ≡ IdField.Id id → f ≡ open_at id words (stored_ids im) → f ≡ answered_at (table_on im words) g
+  pub answered_open : {id : MessageId} {f : Option ℕ} → length words ≡ word_count → j ≡ Some id → f ≡ open_at id words (stored_ids im) → f ≡ answered_at (table_on im words) g
   unfolding answered_at
   answered_open {id} n t p = rw (← e, t) (p ∙ sym (open_counting id words (stored_ids im) (omega (arith, n, stored-count im))))
 
 -- what was found is a Request's word
-pub answered-request : (t : Table) (g : Message) {f : Found} → f ≡ answered_at t g → RequestFound t.words f
+pub answered-request : (t : Table) (g : Message) {f : Option ℕ} → f ≡ answered_at t g → RequestFound t.words f
 unfolding answered_at
 answered-request t g e = rw e (by (answers g))
   where
-    at : (id : MessageId) (f : Found) → open_at id t.words t.ids ≡ f → RequestFound t.words f
-    at id (Found.At i) q = (found_request id t.words t.ids i q).request
-    at id Found.Nowhere q = tt
+    at : (id : MessageId) (f : Option ℕ) → open_at id t.words t.ids ≡ f → RequestFound t.words f
+    at id (Some i) q = (found_request id t.words t.ids i q).request
+    at id None q = tt
 
-    by : (j : IdField) → RequestFound t.words (request_at t j)
-    by IdField.Absent = tt
-    by (IdField.Id id) = at id (open_at id t.words t.ids) refl
+    by : (j : Option MessageId) → RequestFound t.words (request_at t j)
+    by None = tt
+    by (Some id) = at id (open_at id t.words t.ids) refl
 
 -- an ACK makes no Request, and lists no label
 pub released_fewer : (ms : List (List ℕ)) (words : List ℕ) → (length (released_labels ms words) ≡ length words) × Fewer (released_labels ms words) words
@@ -70,12 +69,12 @@ released_fewer ms words =
     (λ ws p message label. (step-length ws (Acked message label) ∙ p.0, λ i t. p.1 i (request-old ws (Acked message label) (λ z. no cc) i t)))
     ms words (refl, λ i t. t)
 
-one_listed : (words ws : List ℕ) → ListedOld words ws Found.Nowhere → (message : LabelMessage) (label : ℕ) → ListedOld words (after_event ws (Acked message label)) Found.Nowhere
+one_listed : (words ws : List ℕ) → ListedOld words ws None → (message : LabelMessage) (label : ℕ) → ListedOld words (after_event ws (Acked message label)) None
 unfolding after_event
-one_listed words ws p message label = then_listed words ws (acked_of ws message label) Found.Nowhere p (acked-listed ws message label (find_of (stands_for (sent_side message) label) ws) refl)
+one_listed words ws p message label = then_listed words ws (acked_of ws message label) None p (acked-listed ws message label (find_of (stands_for (sent_side message) label) ws) refl)
 
-pub released-listed : (ms : List (List ℕ)) (words : List ℕ) → ListedOld words (released_labels ms words) Found.Nowhere
-released-listed ms words = released-keeps (λ (ws : List ℕ). ListedOld words ws Found.Nowhere) (one_listed words) ms words (same_listed words Found.Nowhere)
+pub released-listed : (ms : List (List ℕ)) (words : List ℕ) → ListedOld words (released_labels ms words) None
+released-listed ms words = released-keeps (λ (ws : List ℕ). ListedOld words ws None) (one_listed words) ms words (same_listed words None)
 
 -- so of the IDs in block 65, and of the entries in blocks 66 and 67, those that count then counted before
 module _ (im : List ℕ) (k : ℕ) where

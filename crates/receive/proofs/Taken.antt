@@ -1,4 +1,5 @@
 -- What a message leaves, by its answer. Assumes nothing.
+use Rattle.std.specs.Prelude.{Result, Option, Some, None}
 use Prim.Native.Nat.{ℕ, ◌-◌, ◌<◌}
 use mathlib.Core.Bool.{Bool, true, false, false≢true}
 use mathlib.Core.List.{List, []}
@@ -10,11 +11,11 @@ use Rattle.octets.specs.Differ.{differ}
 use Rattle.octets.specs.Laid.{laid}
 use Rattle.octets.proofs.Choice.{by_test, both_true}
 use Rattle.octets.proofs.Differ.{differ_self}
-use Rattle.ft_number.specs.declared.Turn.{Turn}
+use Rattle.ft_number.specs.declared.MessageId.{MessageId}
+use Rattle.ft_number.specs.declared.TurnError.{TurnError}
 use Rattle.ft_number.specs.Turn.{turn_gap}
-use Rattle.label_list.specs.declared.Found.{Found}
+use Rattle.label_list.specs.declared.LabelMessage.{LabelMessage}
 use Rattle.label_list.specs.Find.{FoundIn}
-use Rattle.tlv.specs.declared.IdField.{IdField}
 use Rattle.tlv.specs.Element.{entry_by}
 use Rattle.block0.specs.declared.Header.{Header}
 use Rattle.label_events.specs.declared.Meets.{Meets}
@@ -22,7 +23,6 @@ use Rattle.label_events.specs.declared.Touched.{Touched}
 use Rattle.label_events.specs.Receive.{received_place}
 use Rattle.label_events.specs.Requests.{ended_at}
 use Rattle.message.specs.declared.Message.{Message}
-use Rattle.message.specs.declared.Reading.{Reading}
 use Rattle.message.specs.Reading.{reading_of}
 use Rattle.image.specs.Sizes.{block, slot_at}
 use Rattle.image.specs.State.{decode, store0}
@@ -34,7 +34,6 @@ use Rattle.image.proofs.Ranges.{labels-count}
 use Rattle.image.proofs.Requests.{Fewer}
 use Rattle.image.proofs.Sound.{sound_valid}
 use Rattle.protocol.specs.declared.Answer.{Answer}
-use Rattle.protocol.specs.declared.LabelEffect.{LabelEffect}
 use Rattle.protocol.specs.declared.Phase.{Phase}
 use Rattle.protocol.specs.declared.Progress.{Progress}
 use Rattle.protocol.specs.Acked.{acked, released_labels}
@@ -76,11 +75,11 @@ stay_labels s g k ek y =
     let freed : released_labels (take (ack_count (ack_on s g)) s.queue) s.table.words ≡ s.table.words = rw (← ek) (none_freed (take k s.queue) s.table.words p.1) in
     sym freed ∙ by (label_effect g) (answers g) (after_ack s g).table (meets s.table.words (after_ack s g).table g) refl q.0 q.1
   where
-    by : (f : LabelEffect) (j : IdField) (t : Table) (x : Meets) → x.request ≡ request_at t j → touches_none f ≡ true → names_none j ≡ true
+    by : (f : Option (LabelMessage × Touched)) (j : Option MessageId) (t : Table) (x : Meets) → x.request ≡ request_at t j → touches_none f ≡ true → names_none j ≡ true
         → t.words ≡ effect_labels t x (is_protected g.protection) f
-    by LabelEffect.Nothing IdField.Absent t x e n u = rw e
-    by LabelEffect.Nothing (IdField.Id id) t x e n u = absurd (false≢true u)
-    by (LabelEffect.Change m w) j t x e n u = absurd (false≢true n)
+    by None None t x e n u = rw e
+    by None (Some id) t x e n u = absurd (false≢true u)
+    by (Some (m, w)) j t x e n u = absurd (false≢true n)
 
 -- what is said of the header read is said of the image
 pub count_read : (im : List ℕ) (g : Message) {h : Header} {k : ℕ} → h ≡ (decode im).header → k ≡ ack_count (ack_on (state_of_numbers h) g) → k ≡ ack_count (ack_on (state_of im) g)
@@ -109,7 +108,7 @@ module _ (im : List ℕ) (g : Message) where
   abbrev left : Table
   left = (after_ack (state_of im) g).table
 
-  abbrev taking : Found
+  abbrev taking : Option ℕ
   taking = message_takes (decode im).labels left g
 
   pub takes_none : DeadAt (decode im).labels taking
@@ -119,46 +118,46 @@ module _ (im : List ℕ) (g : Message) where
       fewer : (length left.words ≡ length (decode im).labels) × Fewer left.words (decode im).labels
       fewer = released_fewer (take (ack_count (ack_on (state_of im) g)) (decode im).queue) (decode im).labels
 
-      by : (e : LabelEffect) → DeadAt (decode im).labels (effect_takes left (meets (decode im).labels left g) (is_protected g.protection) e)
-      by LabelEffect.Nothing = tt
-      by (LabelEffect.Change m (Touched.Label l)) =
+      by : (e : Option (LabelMessage × Touched)) → DeadAt (decode im).labels (effect_takes left (meets (decode im).labels left g) (is_protected g.protection) e)
+      by None = tt
+      by (Some (m, (Touched.Label l))) =
           received_dead (decode im).labels left.words fewer.0 fewer.1 (answered_at left g) (brings_another left g) m (is_protected g.protection) l
-      by (LabelEffect.Change m Touched.Every) = tt
-      by (LabelEffect.Change m (Touched.Prefix entry)) = tt
-      by (LabelEffect.Change m Touched.Nothing) = tt
+      by (Some (m, Touched.Every)) = tt
+      by (Some (m, (Touched.Prefix entry))) = tt
+      by (Some (m, Touched.Nothing)) = tt
 
-none_inside : (words : List ℕ) (f : Found) → DeadAt words f → FoundIn words f
-none_inside words (Found.At j) p = p.0
-none_inside words Found.Nowhere p = tt
+none_inside : (words : List ℕ) (f : Option ℕ) → DeadAt words f → FoundIn words f
+none_inside words (Some j) p = p.0
+none_inside words None p = tt
 
 -- so an entry may be put there
-pub dead_fits : (im : List ℕ) (f : Found) (entry : ℕ) → DeadAt (decode im).labels f → FurtherFits im (entry_put f entry)
-dead_fits im (Found.At j) entry p = (omega (arith, p.0, labels-count im), p.1)
-dead_fits im Found.Nowhere entry p = tt
+pub dead_fits : (im : List ℕ) (f : Option ℕ) (entry : ℕ) → DeadAt (decode im).labels f → FurtherFits im (entry_put f entry)
+dead_fits im (Some j) entry p = (omega (arith, p.0, labels-count im), p.1)
+dead_fits im None entry p = tt
 
 pub received_fits : (im : List ℕ) (g : Message) → FurtherFits im (entry_put (taking im g) (entry_by g.fec))
 received_fits im g = dead_fits im (taking im g) (entry_by g.fec) (takes_none im g)
 
 -- an entry that is put leaves the image sound and the state as it was
 module _ (im : List ℕ) (sound : IsSound im) (entry : ℕ) where
-  entry-sound : (f : Found) → DeadAt (decode im).labels f → IsSound (further_stored im (entry_put f entry))
-  entry-sound (Found.At j) p = sound-entry im sound j entry (omega (arith, p.0, labels-count im)) p.1
-  entry-sound Found.Nowhere p = sound
+  entry-sound : (f : Option ℕ) → DeadAt (decode im).labels f → IsSound (further_stored im (entry_put f entry))
+  entry-sound (Some j) p = sound-entry im sound j entry (omega (arith, p.0, labels-count im)) p.1
+  entry-sound None p = sound
 
-  entry_decodes : (f : Found) → DeadAt (decode im).labels f → decode (further_stored im (entry_put f entry)) ≡ decode im
-  entry_decodes (Found.At j) p = decode-entry im sound.size j (omega (arith, p.0, labels-count im)) entry (sound_wide im sound) p.1
-  entry_decodes Found.Nowhere p = refl
+  entry_decodes : (f : Option ℕ) → DeadAt (decode im).labels f → decode (further_stored im (entry_put f entry)) ≡ decode im
+  entry_decodes (Some j) p = decode-entry im sound.size j (omega (arith, p.0, labels-count im)) entry (sound_wide im sound) p.1
+  entry_decodes None p = refl
 
-  has_place : (f : Found) → DeadAt (decode im).labels f → HasPlace (entry_put f entry)
-  has_place (Found.At j) p = omega (arith, p.0, labels-count im)
-  has_place Found.Nowhere p = tt
+  has_place : (f : Option ℕ) → DeadAt (decode im).labels f → HasPlace (entry_put f entry)
+  has_place (Some j) p = omega (arith, p.0, labels-count im)
+  has_place None p = tt
 
-  has_width : (f : Found) → DeadAt (decode im).labels f → entry < 18446744073709551616 → HasWidth (entry_put f entry)
-  has_width (Found.At j) p w = (omega (arith, p.0, labels-count im), w)
-  has_width Found.Nowhere p w = tt
+  has_width : (f : Option ℕ) → DeadAt (decode im).labels f → entry < 18446744073709551616 → HasWidth (entry_put f entry)
+  has_width (Some j) p w = (omega (arith, p.0, labels-count im), w)
+  has_width None p w = tt
 
 -- ---- the act, after its judgement
-module _ (im : List ℕ) (g : Message) (words : List ℕ) (t : Taken im g words) {takes : Found} (at : takes ≡ taking im g) where
+module _ (im : List ℕ) (g : Message) (words : List ℕ) (t : Taken im g words) {takes : Option ℕ} (at : takes ≡ taking im g) where
   listed : DeadAt (decode im).labels takes
   listed = rw at (takes_none im g)
 
@@ -188,7 +187,7 @@ module _ (im : List ℕ) (g : Message) (words : List ℕ) (t : Taken im g words)
     f = entry_put (taking im g) (entry_by g.fec)
 
     -- then block 0
-    pub take_is : (u : Progress) {im₂ : List ℕ} {h : Header} {k n gap told : ℕ} {turn : Turn} {b : Bool} → Bytes im → entry_by g.fec < 18446744073709551616
+    pub take_is : (u : Progress) {im₂ : List ℕ} {h : Header} {k n gap told : ℕ} {turn : Result ℕ TurnError} {b : Bool} → Bytes im → entry_by g.fec < 18446744073709551616
         → h ≡ (decode im).header → k ≡ ack_count (ack_on (state_of_numbers h) g) → turn ≡ turn_borne u.resumed h.secured.0 g.protection
         → told ≡ further_told im (entry_put takes entry)
         → (im₂ ≡ stored im₁ (fewer (ack_count (ack_on (state_of im₁) g))) same (received_state (state_of im₁) g)) × (b ≡ differ (block im₁ 0) (block im₂ 0)) → n ≡ u.sent - k → gap ≡ turn_gap turn
@@ -225,25 +224,25 @@ module _ (im : List ℕ) (u : Progress) (g : Message) {a : Answer} (e : a ≡ ft
   ft_taken t p = rw (← e) (own_done a (Phase.UpFT u) im [] (taken_ft im u g) t p)
 
 -- Done in UpPlain changes nothing
-plain-untouched : (im : List ℕ) → IsSound im → Bytes im → (r : Reading) → taken_on im Phase.UpPlain r ≡ untouched Answer.Done Phase.UpPlain im []
+plain-untouched : (im : List ℕ) → IsSound im → Bytes im → (r : Option Message) → taken_on im Phase.UpPlain r ≡ untouched Answer.Done Phase.UpPlain im []
 unfolding laid
 plain-untouched im s byte r = rw (put_same im s byte, differ_self (block im 0), further_self im)
 
 pub plain_settled : (im : List ℕ) → IsSound im → Bytes im → (g : Message) {a : Answer} {x : After} → a ≡ plain_rule g → x ≡ settle_of a Phase.UpPlain im [] (untouched a Phase.UpPlain im [])
-    → x ≡ settle_of (plain_rule g) Phase.UpPlain im [] (taken_on im Phase.UpPlain (Reading.Whole g))
+    → x ≡ settle_of (plain_rule g) Phase.UpPlain im [] (taken_on im Phase.UpPlain (Some g))
 plain_settled im s byte g {a} e p =
-    rw (← e, plain-untouched im s byte (Reading.Whole g))
+    rw (← e, plain-untouched im s byte (Some g))
     (by_test (is_done a)
     (λ t. p ∙ ap (λ (z : Answer). settle_of a Phase.UpPlain im [] (untouched z Phase.UpPlain im [])) (done_is a t))
     (λ n. p ∙ settle_other a Phase.UpPlain im [] (untouched a Phase.UpPlain im []) (untouched Answer.Done Phase.UpPlain im []) n))
 
 -- what was read decides the rule
-module _ (im : List ℕ) (ph : Phase) (rule : Message → Answer) (m : List ℕ) {r : Reading} (e : r ≡ reading_of m) {x : After} where
-  pub read_malformed : (d : After) → r ≡ Reading.Malformed → x ≡ settle_of Answer.MalformedReceived ph im [] d
+module _ (im : List ℕ) (ph : Phase) (rule : Message → Answer) (m : List ℕ) {r : Option Message} (e : r ≡ reading_of m) {x : After} where
+  pub read_malformed : (d : After) → r ≡ None → x ≡ settle_of Answer.MalformedReceived ph im [] d
       → x ≡ settle_of (read_rule (reading_of m) rule) ph im [] (taken_on im ph (reading_of m))
-  read_malformed d t p = rw (← e, t) (p ∙ settle_other Answer.MalformedReceived ph im [] d (taken_on im ph Reading.Malformed) refl)
+  read_malformed d t p = rw (← e, t) (p ∙ settle_other Answer.MalformedReceived ph im [] d (taken_on im ph None) refl)
 
-  pub read_whole : {g : Message} → r ≡ Reading.Whole g → x ≡ settle_of (rule g) ph im [] (taken_on im ph (Reading.Whole g))
+  pub read_whole : {g : Message} → r ≡ Some g → x ≡ settle_of (rule g) ph im [] (taken_on im ph (Some g))
       → x ≡ settle_of (read_rule (reading_of m) rule) ph im [] (taken_on im ph (reading_of m))
   read_whole t p = rw (← e, t) p
 

@@ -8,30 +8,33 @@ ghost use Rattle.protocol.specs.Labels.{answered_by, answers, answered_at};
 ghost use Rattle.receive.specs.Words.{table_on};
 
 use ft_number::MessageId;
-use label_list::Found;
-use message::{IdField, Message, MessageType};
+use message::{Message, MessageType};
 
 // What a message of that type answers: a Notification the ID in its Status, a Mapping the one in its Label Request Message ID.
-fn answered_by(t: MessageType, status: IdField, request: IdField) -> IdField
+fn answered_by(
+    t: MessageType,
+    status: Option<MessageId>,
+    request: Option<MessageId>,
+) -> Option<MessageId>
     ensures { result ≡ answered_by t status request }
 {
     match t {
         MessageType::Notification => status,
-        MessageType::Initialization => IdField::Absent,
-        MessageType::KeepAlive => IdField::Absent,
-        MessageType::Address => IdField::Absent,
-        MessageType::AddressWithdraw => IdField::Absent,
+        MessageType::Initialization => None,
+        MessageType::KeepAlive => None,
+        MessageType::Address => None,
+        MessageType::AddressWithdraw => None,
         MessageType::Mapping => request,
-        MessageType::Request => IdField::Absent,
-        MessageType::Withdraw => IdField::Absent,
-        MessageType::Release => IdField::Absent,
-        MessageType::Abort => IdField::Absent,
-        MessageType::Other => IdField::Absent,
+        MessageType::Request => None,
+        MessageType::Withdraw => None,
+        MessageType::Release => None,
+        MessageType::Abort => None,
+        MessageType::Other => None,
     }
 }
 
 // The ID of the Request that a message answers.
-pub fn answered_id(g: Message) -> IdField
+pub fn answered_id(g: Message) -> Option<MessageId>
     ensures { result ≡ answers g }
 {
     let t = g.typename;
@@ -41,7 +44,7 @@ pub fn answered_id(g: Message) -> IdField
 }
 
 // The place of the open Request with that ID, by the IDs that the image bears.
-fn find_open(image: &[u8], words: &[u32], id: MessageId) -> Found
+fn find_open(image: &[u8], words: &[u32], id: MessageId) -> Option<usize>
     requires { length image.now ≡ image_size }
     ensures { result ≡ open_at id words.now (stored_ids image.now) }
 {
@@ -51,12 +54,12 @@ fn find_open(image: &[u8], words: &[u32], id: MessageId) -> Found
 }
 
 // The place of the open Request that a message answers; of one that names none the IDs are not read.
-pub fn answered_place(image: &[u8], words: &[u32], g: Message) -> Found
+pub fn answered_place(image: &[u8], words: &[u32], g: Message) -> Option<usize>
     requires { (length image.now ≡ image_size) × (length words.now ≡ word_count) }
     ensures { result ≡ answered_at (table_on image.now words.now) g }
 {
     match answered_id(g) {
-        IdField::Absent => Found::Nowhere,
-        IdField::Id(id) => find_open(image, words, id),
+        None => None,
+        Some(id) => find_open(image, words, id),
     }
 }

@@ -1,5 +1,5 @@
 // The answer to a message that was read, in 01's order.
-ghost use Rattle.std.specs.Prelude.{◌≤◌, true, false, ◌≡◌, length, take};
+ghost use Rattle.std.specs.Prelude.{◌≤◌, Err, true, false, ◌≡◌, length, take};
 ghost use Rattle.label_list.specs.Valid.{valid_of};
 ghost use Rattle.label_list.specs.Word.{word_count};
 ghost use Rattle.image.specs.Sizes.{image_size};
@@ -7,7 +7,7 @@ ghost use Rattle.image.specs.State.{decode, stored_index};
 ghost use Rattle.image.specs.Verdict.{IsSound};
 ghost use Rattle.protocol.specs.Acked.{released_labels};
 ghost use Rattle.protocol.specs.Labels.{label_effect, effect_place};
-ghost use Rattle.protocol.specs.Receive.{plain_rule, labels_rule, ack_on, ack_rule, ft_rule};
+ghost use Rattle.protocol.specs.Receive.{plain_rule, turn_rule, labels_rule, ack_on, ack_rule, ft_rule};
 ghost use Rattle.calls.specs.State.{state_of};
 ghost use Rattle.receive.specs.Call.{effect_rule, Serves, Changed, Told};
 ghost use Rattle.receive.specs.Speed.{touches_none, labels_stay};
@@ -21,11 +21,10 @@ use crate::reading::{ack_borne, is_fatal, is_protected, is_zero, turn_borne};
 use crate::room::{brings_another, spare_for};
 use block0::Header;
 use calls::Answer;
-use ft_number::{Ack, Turn};
-use label_events::{Meets, Reception};
-use label_list::{Found, Protection};
+use ft_number::TurnError;
+use label_events::{Meets, Reception, Touched};
+use label_list::{LabelMessage, Protection};
 use message::Message;
-use protocol::LabelEffect;
 
 // 22, 36, 31: a message in UpPlain.
 pub fn judge_plain(g: Message) -> Answer
@@ -50,7 +49,7 @@ pub fn judge_plain(g: Message) -> Answer
 #[derive(Clone, Copy)]
 pub struct Judged {
     pub answer: Answer,
-    pub taken: Found,
+    pub taken: Option<usize>,
 }
 
 fn refused(answer: Answer) -> Judged
@@ -58,12 +57,18 @@ fn refused(answer: Answer) -> Judged
 {
     Judged {
         answer: answer,
-        taken: Found::Nowhere,
+        taken: None,
     }
 }
 
 // What a message of that effect meets, whose label was found at that place.
-fn met_by(image: &[u8], words: &[u32], place: Found, effect: LabelEffect, g: Message) -> Meets
+fn met_by(
+    image: &[u8],
+    words: &[u32],
+    place: Option<usize>,
+    effect: Option<(LabelMessage, Touched)>,
+    g: Message,
+) -> Meets
     requires { (length image.now ≡ image_size) × (length words.now ≡ word_count) × (effect ≡ label_effect g) × (place ≡ effect_place words.now effect) }
     ensures { Serves (decode image.now).labels (table_on image.now words.now) g result }
 {
@@ -82,8 +87,8 @@ fn judge_room(
     image: &[u8],
     words: &mut [u32],
     entries: &[u64],
-    place: Found,
-    effect: LabelEffect,
+    place: Option<usize>,
+    effect: Option<(LabelMessage, Touched)>,
     g: Message,
 ) -> Judged
     requires { (length image.now ≡ image_size) × (length words.old ≡ word_count) × (effect ≡ label_effect g) × (place ≡ effect_place words.old effect) × (touches_none (label_effect g) ≡ false → valid_of words.old ≡ true) × (asks_entries (label_effect g) ≡ true → entries.now ≡ stored_index image.now) }
@@ -103,13 +108,23 @@ fn judge_room(
     }
 }
 
+// 20 and 30, of a number that is not one that may come next.
+fn turn_answer(fault: TurnError) -> Answer
+    ensures { result ≡ turn_rule (Err fault) Answer.Done }
+{
+    match fault {
+        TurnError::OutOfTurn => Answer::OutOfTurn,
+        TurnError::ZeroNumber => Answer::ZeroNumber,
+    }
+}
+
 // 33, 32, 20, 21: a message of that turn over the label words as its ACK leaves them. Where the answer is Done, the message has changed them.
 fn judge_beside(
     image: &[u8],
     words: &mut [u32],
     entries: &[u64],
-    effect: LabelEffect,
-    turn: Turn,
+    effect: Option<(LabelMessage, Touched)>,
+    turn: Result<u32, TurnError>,
     g: Message,
 ) -> Judged
     requires { (length image.now ≡ image_size) × (length words.old ≡ word_count) × (effect ≡ label_effect g) × (touches_none (label_effect g) ≡ false → valid_of words.old ≡ true) × (asks_entries (label_effect g) ≡ true → entries.now ≡ stored_index image.now) }
@@ -126,13 +141,10 @@ fn judge_beside(
         Protection::Right => {}
     }
     match turn {
-        Turn::OutOfTurn => {
-            return refused(Answer::OutOfTurn);
+        Err(fault) => {
+            return refused(turn_answer(fault));
         }
-        Turn::ZeroNumber => {
-            return refused(Answer::ZeroNumber);
-        }
-        Turn::InTurn(_) => {}
+        Ok(_) => {}
     }
     judge_room(image, words, entries, place, effect, g)
 }
@@ -141,8 +153,8 @@ fn judge_beside(
 fn judge_prefix(
     image: &[u8],
     words: &mut [u32],
-    effect: LabelEffect,
-    turn: Turn,
+    effect: Option<(LabelMessage, Touched)>,
+    turn: Result<u32, TurnError>,
     g: Message,
 ) -> Judged
     requires { (length image.now ≡ image_size) × (length words.old ≡ word_count) × (effect ≡ label_effect g) × (touches_none (label_effect g) ≡ false → valid_of words.old ≡ true) }
@@ -153,7 +165,7 @@ fn judge_prefix(
     judge_beside(image, words, &entries, effect, turn, g)
 }
 
-fn judge_labels(image: &[u8], words: &mut [u32], turn: Turn, g: Message) -> Judged
+fn judge_labels(image: &[u8], words: &mut [u32], turn: Result<u32, TurnError>, g: Message) -> Judged
     requires { (length image.now ≡ image_size) × (length words.old ≡ word_count) × (touches_none (label_effect g) ≡ false → valid_of words.old ≡ true) }
     ensures { (result.answer ≡ labels_rule (decode image.now).labels (table_on image.now words.old) turn g) × (result.answer ≡ Answer.Done → Changed (decode image.now).labels (table_on image.now words.old) g words.new result.taken) }
 {
@@ -184,8 +196,8 @@ fn judge_ack(image: &[u8], h: Header, resumed: bool, g: Message, words: &mut [u3
 {
     let ack = g.ack;
     match ft_number::acknowledge(h.released, h.issued, ack_borne(h, ack)) {
-        Ack::SequenceError => refused(Answer::AckSequenceError),
-        Ack::Releases(k) => {
+        None => refused(Answer::AckSequenceError),
+        Some(k) => {
             load_acked(image, k, g, words);
             let number = g.protection;
             judge_labels(image, words, turn_borne(h.secured, number, resumed), g)

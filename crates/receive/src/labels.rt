@@ -11,21 +11,20 @@ ghost use Rattle.receive.specs.Words.{names_prefix, asks_entries, protection_len
 use crate::answering::answered_id;
 use crate::reading::is_protected;
 use label_events::{Meets, Receipt, Reception, Touched};
-use label_list::{Found, LabelMessage, Protection};
-use message::{Fec, Field, IdField, Kind, Message, MessageType};
-use protocol::LabelEffect;
+use label_list::{LabelMessage, Protection};
+use message::{Fec, Kind, Message, MessageType};
 
 // The labels that a message touches.
-fn touched_by(label: Field, fec: Fec) -> Touched
+fn touched_by(label: Option<u32>, fec: Option<Fec>) -> Touched
     ensures { result ≡ touched_by label fec }
 {
     match label {
-        Field::Value(l) => Touched::Label(l),
-        Field::Absent => match fec {
-            Fec::Absent => Touched::Nothing,
-            Fec::Wildcard => Touched::Every,
-            Fec::Prefix(_) => Touched::Prefix(tlv::element::entry_by(fec)),
-            Fec::Other => Touched::Nothing,
+        Some(l) => Touched::Label(l),
+        None => match fec {
+            None => Touched::Nothing,
+            Some(Fec::Wildcard) => Touched::Every,
+            Some(Fec::Prefix(_)) => Touched::Prefix(tlv::element::entry_by(fec)),
+            Some(Fec::Other) => Touched::Nothing,
         },
     }
 }
@@ -41,26 +40,26 @@ fn names_prefix(touched: Touched) -> bool
     }
 }
 
-fn effect_on(t: MessageType, touched: Touched) -> LabelEffect
+fn effect_on(t: MessageType, touched: Touched) -> Option<(LabelMessage, Touched)>
     ensures { result ≡ effect_on t touched }
 {
     match t {
-        MessageType::Notification => LabelEffect::Nothing,
-        MessageType::Initialization => LabelEffect::Nothing,
-        MessageType::KeepAlive => LabelEffect::Nothing,
-        MessageType::Address => LabelEffect::Nothing,
-        MessageType::AddressWithdraw => LabelEffect::Nothing,
-        MessageType::Mapping => LabelEffect::Change(LabelMessage::Mapping, touched),
-        MessageType::Request => LabelEffect::Nothing,
-        MessageType::Withdraw => LabelEffect::Change(LabelMessage::Withdraw, touched),
-        MessageType::Release => LabelEffect::Change(LabelMessage::Release, touched),
-        MessageType::Abort => LabelEffect::Nothing,
-        MessageType::Other => LabelEffect::Nothing,
+        MessageType::Notification => None,
+        MessageType::Initialization => None,
+        MessageType::KeepAlive => None,
+        MessageType::Address => None,
+        MessageType::AddressWithdraw => None,
+        MessageType::Mapping => Some((LabelMessage::Mapping, touched)),
+        MessageType::Request => None,
+        MessageType::Withdraw => Some((LabelMessage::Withdraw, touched)),
+        MessageType::Release => Some((LabelMessage::Release, touched)),
+        MessageType::Abort => None,
+        MessageType::Other => None,
     }
 }
 
 // What a message does to the labels.
-pub fn label_effect(g: Message) -> LabelEffect
+pub fn label_effect(g: Message) -> Option<(LabelMessage, Touched)>
     ensures { result ≡ label_effect g }
 {
     let t = g.typename;
@@ -70,12 +69,12 @@ pub fn label_effect(g: Message) -> LabelEffect
 }
 
 // The place of the label that a message names: found once, for its protection and for its change.
-pub fn effect_place(words: &[u32], effect: LabelEffect) -> Found
+pub fn effect_place(words: &[u32], effect: Option<(LabelMessage, Touched)>) -> Option<usize>
     ensures { result ≡ effect_place words.now effect }
 {
     match effect {
-        LabelEffect::Nothing => Found::Nowhere,
-        LabelEffect::Change(m, t) => label_events::received_place(words, m, t),
+        None => None,
+        Some((m, t)) => label_events::received_place(words, m, t),
     }
 }
 
@@ -84,11 +83,11 @@ fn leaves_words(g: Message) -> bool
     ensures { result ≡ leaves_words g }
 {
     match label_effect(g) {
-        LabelEffect::Nothing => match answered_id(g) {
-            IdField::Absent => true,
-            IdField::Id(_) => false,
+        None => match answered_id(g) {
+            None => true,
+            Some(_) => false,
         },
-        LabelEffect::Change(_, _) => false,
+        Some((_, _)) => false,
     }
 }
 
@@ -132,30 +131,28 @@ fn lacks_protection(protected: bool, kind: Kind) -> bool
 }
 
 // Whether only the entries tell which labels a message touches.
-pub fn asks_entries(effect: LabelEffect) -> bool
+pub fn asks_entries(effect: Option<(LabelMessage, Touched)>) -> bool
     ensures { result ≡ asks_entries effect }
 {
     match effect {
-        LabelEffect::Nothing => false,
-        LabelEffect::Change(_, t) => names_prefix(t),
+        None => false,
+        Some((_, t)) => names_prefix(t),
     }
 }
 
 fn judge_effect(
     words: &[u32],
     entries: &[u64],
-    place: Found,
+    place: Option<usize>,
     protected: bool,
-    effect: LabelEffect,
+    effect: Option<(LabelMessage, Touched)>,
 ) -> Protection
     requires { place ≡ effect_place words.now effect }
     ensures { result ≡ protection_lent words.now entries.now protected effect }
 {
     match effect {
-        LabelEffect::Nothing => Protection::Right,
-        LabelEffect::Change(m, t) => label_events::judge_protection(
-            words, entries, place, m, protected, t,
-        ),
+        None => Protection::Right,
+        Some((m, t)) => label_events::judge_protection(words, entries, place, m, protected, t),
     }
 }
 
@@ -163,8 +160,8 @@ fn judge_effect(
 pub fn judge_protection(
     words: &[u32],
     entries: &[u64],
-    place: Found,
-    effect: LabelEffect,
+    place: Option<usize>,
+    effect: Option<(LabelMessage, Touched)>,
     g: Message,
 ) -> Protection
     requires { place ≡ effect_place words.now effect }
@@ -182,25 +179,23 @@ pub fn judge_protection(
 pub fn change_labels(
     words: &mut [u32],
     entries: &[u64],
-    place: Found,
+    place: Option<usize>,
     meets: Meets,
     protected: bool,
-    effect: LabelEffect,
+    effect: Option<(LabelMessage, Touched)>,
 ) -> Receipt
     requires { place ≡ effect_place words.old effect }
     ensures { (result.reception ≡ (received_lent words.old entries.now meets protected effect).0) × (result.taken ≡ takes_lent words.old meets protected effect) × (words.new ≡ (received_lent words.old entries.now meets protected effect).1) }
 {
     let request = meets.request;
     match effect {
-        LabelEffect::Nothing => {
+        None => {
             label_events::end_request(words, request);
             Receipt {
                 reception: Reception::Taken,
-                taken: Found::Nowhere,
+                taken: None,
             }
         }
-        LabelEffect::Change(m, t) => label_events::receive(
-            words, entries, place, meets, m, protected, t,
-        ),
+        Some((m, t)) => label_events::receive(words, entries, place, meets, m, protected, t),
     }
 }

@@ -7,66 +7,65 @@ ghost use Rattle.protocol.specs.Receive.{is_fatal, is_zero, turn_borne};
 ghost use Rattle.calls.specs.State.{state_of_numbers};
 
 use block0::Header;
-use ft_number::{FtNumber, Turn};
-use message::{Field, FtField};
+use ft_number::{FtNumber, TurnError};
 
 // Whether its Status has E set.
-pub fn is_fatal(status: Field) -> bool
+pub fn is_fatal(status: Option<u32>) -> bool
     ensures { result ≡ is_fatal status }
 {
     match status {
-        Field::Absent => false,
-        Field::Value(v) => message::is_fatal(v),
+        None => false,
+        Some(v) => message::is_fatal(v),
     }
 }
 
 // Whether it bears FT Protection.
-pub fn is_protected(n: FtField) -> bool
+pub fn is_protected(n: Option<FtNumber>) -> bool
     ensures { result ≡ is_protected n }
 {
     match n {
-        FtField::Absent => false,
-        FtField::Number(_) => true,
+        None => false,
+        Some(_) => true,
     }
 }
 
 // Whether its FT Protection is the number zero.
-pub fn is_zero(n: FtField) -> bool
+pub fn is_zero(n: Option<FtNumber>) -> bool
     ensures { result ≡ is_zero n }
 {
     match n {
-        FtField::Absent => false,
-        FtField::Number(m) => m.0 == 0,
+        None => false,
+        Some(m) => m.0 == 0,
     }
 }
 
 // The turn of its number, after the last one secured; without FT Protection it is always in turn.
-pub fn turn_borne(secured: FtNumber, n: FtField, resumed: bool) -> Turn
+pub fn turn_borne(secured: FtNumber, n: Option<FtNumber>, resumed: bool) -> Result<u32, TurnError>
     ensures { result ≡ turn_borne resumed secured.0 n }
 {
     match n {
-        FtField::Absent => Turn::InTurn(0),
-        FtField::Number(m) => ft_number::judge_turn(secured, m, resumed),
+        None => Ok(0),
+        Some(m) => ft_number::judge_turn(secured, m, resumed),
     }
 }
 
 // How many were left out before it.
-pub fn turn_gap(turn: Turn) -> u32
+pub fn turn_gap(turn: Result<u32, TurnError>) -> u32
     ensures { result ≡ turn_gap turn }
 {
     match turn {
-        Turn::InTurn(k) => k,
-        Turn::OutOfTurn => 0,
-        Turn::ZeroNumber => 0,
+        Ok(k) => k,
+        Err(TurnError::OutOfTurn) => 0,
+        Err(TurnError::ZeroNumber) => 0,
     }
 }
 
 // The number that it acknowledges.
-pub fn ack_borne(h: Header, ack: FtField) -> FtNumber
+pub fn ack_borne(h: Header, ack: Option<FtNumber>) -> FtNumber
     ensures { result.0 ≡ ack_borne (state_of_numbers h) ack }
 {
     match ack {
-        FtField::Absent => h.released,
-        FtField::Number(n) => n,
+        None => h.released,
+        Some(n) => n,
     }
 }

@@ -9,19 +9,18 @@ ghost use Rattle.image.specs.State.{decode, stored_index};
 ghost use Rattle.receive.specs.Words.{takes_anew, mapping_needs, message_needs, needs_word, spare_beside, spare_for};
 
 use label_events::Touched;
-use label_list::{FIRST_LABEL, Found, LABEL_COUNT, LabelMessage};
+use label_list::{FIRST_LABEL, LABEL_COUNT, LabelMessage};
 use message::Fec;
-use protocol::LabelEffect;
 
 // Whether the FEC has another entry than the label at that place.
-pub fn brings_another(image: &[u8], place: Found, fec: Fec) -> bool
+pub fn brings_another(image: &[u8], place: Option<usize>, fec: Option<Fec>) -> bool
     requires { (length image.now ≡ image_size) × FoundIn (decode image.now).labels place }
     ensures { result ≡ not (eqb (entry_at (stored_index image.now) place) (entry_by fec)) }
 {
     let entry = tlv::element::entry_by(fec);
     match place {
-        Found::At(i) => image::entry_at(image, i) != entry,
-        Found::Nowhere => entry != 0,
+        Some(i) => image::entry_at(image, i) != entry,
+        None => entry != 0,
     }
 }
 
@@ -37,37 +36,35 @@ fn is_spare(image: &[u8], words: &[u32], i: usize) -> bool
 }
 
 // The first such word.
-fn find_spare(image: &[u8], words: &[u32]) -> Found
+fn find_spare(image: &[u8], words: &[u32]) -> Option<usize>
     requires { (length image.now ≡ image_size) × (length words.now ≡ word_count) }
     ensures { result ≡ spare_in (decode image.now).labels words.now }
 {
-    let mut i: usize = 0;
-    while i < words.len() {
+    for i in 0..words.len() {
         if is_spare(image, words, i) {
-            return Found::At(i);
+            return Some(i);
         }
-        i += 1;
     }
-    Found::Nowhere
+    None
 }
 
 // A spare word, where there is no Request's.
-fn spare_beside(image: &[u8], words: &[u32], request: Found) -> Found
+fn spare_beside(image: &[u8], words: &[u32], request: Option<usize>) -> Option<usize>
     requires { (length image.now ≡ image_size) × (length words.now ≡ word_count) }
     ensures { result ≡ spare_beside (decode image.now).labels words.now request }
 {
     match request {
-        Found::At(_) => Found::Nowhere,
-        Found::Nowhere => find_spare(image, words),
+        Some(_) => None,
+        None => find_spare(image, words),
     }
 }
 
-fn takes_anew(place: Found, another: bool) -> bool
+fn takes_anew(place: Option<usize>, another: bool) -> bool
     ensures { result ≡ takes_anew place another }
 {
     match place {
-        Found::At(_) => another,
-        Found::Nowhere => true,
+        Some(_) => another,
+        None => true,
     }
 }
 
@@ -84,7 +81,7 @@ fn is_listable(label: u32) -> bool
     true
 }
 
-fn mapping_needs(touched: Touched, place: Found, another: bool) -> bool
+fn mapping_needs(touched: Touched, place: Option<usize>, another: bool) -> bool
     ensures { result ≡ mapping_needs touched place another }
 {
     match touched {
@@ -100,7 +97,12 @@ fn mapping_needs(touched: Touched, place: Found, another: bool) -> bool
     }
 }
 
-fn message_needs(message: LabelMessage, touched: Touched, place: Found, another: bool) -> bool
+fn message_needs(
+    message: LabelMessage,
+    touched: Touched,
+    place: Option<usize>,
+    another: bool,
+) -> bool
     ensures { result ≡ message_needs message touched place another }
 {
     match message {
@@ -110,12 +112,12 @@ fn message_needs(message: LabelMessage, touched: Touched, place: Found, another:
     }
 }
 
-fn needs_word(effect: LabelEffect, place: Found, another: bool) -> bool
+fn needs_word(effect: Option<(LabelMessage, Touched)>, place: Option<usize>, another: bool) -> bool
     ensures { result ≡ needs_word effect place another }
 {
     match effect {
-        LabelEffect::Nothing => false,
-        LabelEffect::Change(m, t) => message_needs(m, t, place, another),
+        None => false,
+        Some((m, t)) => message_needs(m, t, place, another),
     }
 }
 
@@ -123,16 +125,16 @@ fn needs_word(effect: LabelEffect, place: Found, another: bool) -> bool
 pub fn spare_for(
     image: &[u8],
     words: &[u32],
-    place: Found,
-    request: Found,
+    place: Option<usize>,
+    request: Option<usize>,
     another: bool,
-    effect: LabelEffect,
-) -> Found
+    effect: Option<(LabelMessage, Touched)>,
+) -> Option<usize>
     requires { (length image.now ≡ image_size) × (length words.now ≡ word_count) }
     ensures { result ≡ spare_for (decode image.now).labels words.now place request another effect }
 {
     if !needs_word(effect, place, another) {
-        return Found::Nowhere;
+        return None;
     }
     spare_beside(image, words, request)
 }

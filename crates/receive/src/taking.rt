@@ -17,9 +17,8 @@ use crate::labels::labels_stay;
 use crate::reading::{ack_borne, turn_borne, turn_gap};
 use block0::Header;
 use calls::{Answer, Outcome, Phase, Progress};
-use ft_number::{Ack, FtNumber};
-use label_list::Found;
-use message::{FtField, Message, Reading};
+use ft_number::FtNumber;
+use message::Message;
 
 // How many messages the ACK releases.
 fn ack_count(h: Header, g: Message) -> u32
@@ -27,18 +26,18 @@ fn ack_count(h: Header, g: Message) -> u32
 {
     let ack = g.ack;
     match ft_number::acknowledge(h.released, h.issued, ack_borne(h, ack)) {
-        Ack::Releases(k) => k,
-        Ack::SequenceError => 0,
+        Some(k) => k,
+        None => 0,
     }
 }
 
 // S after the message.
-fn secured_by(secured: FtNumber, number: FtField) -> FtNumber
+fn secured_by(secured: FtNumber, number: Option<FtNumber>) -> FtNumber
     ensures { result ≡ secured_by secured number }
 {
     match number {
-        FtField::Absent => secured,
-        FtField::Number(n) => n,
+        None => secured,
+        Some(n) => n,
     }
 }
 
@@ -79,7 +78,13 @@ fn store_zeroth(image: &mut [u8], h: Header, k: u32, g: Message, words: &[u32]) 
 
 // A message that was judged Done in UpFT: the words are those that its ACK and the message leave. The entry of its FEC is stored at the word that its
 // label takes, before block 0.
-fn take_ft(image: &mut [u8], u: Progress, g: Message, words: &[u32], taken: Found) -> Outcome
+fn take_ft(
+    image: &mut [u8],
+    u: Progress,
+    g: Message,
+    words: &[u32],
+    taken: Option<usize>,
+) -> Outcome
     requires { Taken image.old g words.now × (taken ≡ message_takes (state_of image.old).table.words (after_ack (state_of image.old) g).table g) × (entry_by g.fec < 18446744073709551616) }
     ensures { after_with result image.new [] ≡ taken_ft image.old u g }
 {
@@ -124,8 +129,8 @@ fn receive_up(image: &mut [u8], u: Progress, msg: &[u8]) -> Outcome
     ensures { after_with result image.new [] ≡ settle_of (read_rule (reading_of msg.now) (ft_rule (state_of image.old) u.resumed)) (Phase.UpFT u) image.old [] (taken_on image.old (Phase.UpFT u) (reading_of msg.now)) }
 {
     match message::read_message(msg) {
-        Reading::Malformed => calls::settle(image, Answer::MalformedReceived, Phase::UpFT(u)),
-        Reading::Whole(g) => receive_ft(image, u, g),
+        None => calls::settle(image, Answer::MalformedReceived, Phase::UpFT(u)),
+        Some(g) => receive_ft(image, u, g),
     }
 }
 
@@ -135,8 +140,8 @@ fn receive_plain(image: &mut [u8], msg: &[u8]) -> Outcome
     ensures { after_with result image.new [] ≡ settle_of (read_rule (reading_of msg.now) plain_rule) Phase.UpPlain image.old [] (taken_on image.old Phase.UpPlain (reading_of msg.now)) }
 {
     match message::read_message(msg) {
-        Reading::Malformed => calls::settle(image, Answer::MalformedReceived, Phase::UpPlain),
-        Reading::Whole(g) => calls::settle(image, judge_plain(g), Phase::UpPlain),
+        None => calls::settle(image, Answer::MalformedReceived, Phase::UpPlain),
+        Some(g) => calls::settle(image, judge_plain(g), Phase::UpPlain),
     }
 }
 

@@ -1,4 +1,5 @@
 -- What Send next writes and stores; the premises are what the callees ensure. Assumes nothing.
+use Rattle.std.specs.Prelude.{Option, Some, None}
 use Prim.Native.Nat.{ℕ, ◌+◌, ◌≤◌, ◌<◌}
 use mathlib.Core.Bool.{Bool, true, false}
 use mathlib.Core.List.{List, []}
@@ -12,11 +13,9 @@ use Rattle.octets.specs.Laid.{laid}
 use Rattle.octets.proofs.Differ.{differ_self}
 use Rattle.ft_number.specs.declared.FtNumber.{FtNumber}
 use Rattle.ft_number.specs.Circle.{after}
-use Rattle.tlv.specs.declared.FtField.{FtField}
 use Rattle.block0.specs.declared.Header.{Header}
 use Rattle.block0.specs.Updates.{header_issued}
 use Rattle.message.specs.Storable.{shortest, longest, Storable}
-use Rattle.message_writer.specs.declared.Written.{Written}
 use Rattle.message_writer.specs.Forms.{protected_bytes}
 use Rattle.message_writer.specs.Written.{written_of}
 use Rattle.message_writer.proofs.Room.{too_short, long_enough}
@@ -49,9 +48,6 @@ pub number_is : (s : State) (sent : ℕ) {n : FtNumber} → n.0 ≡ after (sent 
 unfolding queue_number
 number_is s sent e = λ i. record { 0 = e i }
 
-pub ack_is : (s : State) {ask b : Bool} → ask ≡ b → ack_asked b s ≡ ack_asked ask s
-ack_is s e = rw e
-
 -- block 0's numbers say it alone
 ack_alone : (im : List ℕ) (ask : Bool) → ack_asked ask (state_of_numbers (decode im).header) ≡ ack_asked ask (state_of im)
 unfolding ack_asked
@@ -64,7 +60,7 @@ pub next_fits : (im : List ℕ) (sent : ℕ) {m : List ℕ} → IsSound im → s
     → (shortest ≤ length m) × (length m ≤ longest)
 next_fits im sent s l e = let f : Storable (get_or (decode im).queue sent []) = queue_storable im s sent l in rw e (f.low, f.short)
 
-pub next-written : (im : List ℕ) (sent : ℕ) (ask : Bool) (o : List ℕ) {h : Header} {m o' : List ℕ} {n : FtNumber} {a : FtField} {w : Written}
+pub next-written : (im : List ℕ) (sent : ℕ) (ask : Bool) (o : List ℕ) {h : Header} {m o' : List ℕ} {n : FtNumber} {a : Option FtNumber} {w : Option ℕ}
     → h ≡ (decode im).header → m ≡ get_or (decode im).queue sent [] → n ≡ queue_number (state_of_numbers h) sent → a ≡ ack_asked ask (state_of_numbers h)
     → (w, o') ≡ written_of o (protected_bytes m n a) → (w, o') ≡ written_of o (send_bytes (state_of im) sent ask)
 unfolding send_bytes queue_number
@@ -103,7 +99,7 @@ module _ (im : List ℕ) (ph : Phase) (ask : Bool) (o : List ℕ) where
       → after_with x im o ≡ send_of im ph ask o
   send_refused e n ex = judged_refused im ph (room_for bytes (length o)) o (step_stored im stay same step o) e n ex ∙ send_settles
 
-  module _ (d : Sendable im ph) {sent left : ℕ} {w : Written} {o' : List ℕ} (es : sent ≡ sent_of ph) (el : left ≡ left_out_from (state_of im) sent)
+  module _ (d : Sendable im ph) {sent left : ℕ} {w : Option ℕ} {o' : List ℕ} (es : sent ≡ sent_of ph) (el : left ≡ left_out_from (state_of im) sent)
       (ew : (w, o') ≡ written_of o (send_bytes (state_of im) (sent + left) ask)) where
     place : sent + left ≡ place_sent (state_of im) ph
     unfolding place_sent
@@ -116,13 +112,13 @@ module _ (im : List ℕ) (ph : Phase) (ask : Bool) (o : List ℕ) where
     answered : (a : Answer) {x : After} → room_for bytes (length o) ≡ a → x ≡ settle_of a ph im o (step_stored im stay same step o) → x ≡ send_of im ph ask o
     answered a e p = p ∙ (rw (← e, ← sendable_rule d (room_for bytes (length o))) send_settles)
 
-    pub send-short : {x : Outcome} → w ≡ Written.TooShort → x ≡ refusal Answer.OutputTooShort ph → after_with x im o' ≡ send_of im ph ask o
+    pub send-short : {x : Outcome} → w ≡ None → x ≡ refusal Answer.OutputTooShort ph → after_with x im o' ≡ send_of im ph ask o
     unfolding effect_of
     send-short t ex =
         let p : (ltb (length o) (length bytes) ≡ true) × (o' ≡ o) = too_short o bytes written t in
         rw p.1 (answered Answer.OutputTooShort (rw p.0) (own_refused Answer.OutputTooShort ph im o (step_stored im stay same step o) refl ex))
 
-    pub send_acts : {n : ℕ} {b resumed : Bool} {im' : List ℕ} → w ≡ Written.Bytes n → resumed ≡ resumed_of ph
+    pub send_acts : {n : ℕ} {b resumed : Bool} {im' : List ℕ} → w ≡ Some n → resumed ≡ resumed_of ph
         → (b ≡ differ (block im 0) (block im' 0)) × (im' ≡ stored im stay same (sent_state (state_of im) (sent + left)))
         → after_with (record { answer = Answer.Done; phase = up_with resumed (sent + left + 1); written = n; slot = 0; block0 = b; further = 0; leftout = left }) im' o' ≡ send_of im ph ask o
     send_acts {n} {b} {resumed} {im'} t er q =

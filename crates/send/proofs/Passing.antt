@@ -1,16 +1,14 @@
 -- The walk over the Requests that a Send passes over, and what block 0's numbers say of them. Assumes nothing.
+use Rattle.std.specs.Prelude.{Option}
 use Prim.Native.Nat.{ℕ, zero, suc, ◌+◌, ◌-◌, ◌≤◌, ◌<◌}
 use mathlib.Core.Bool.{Bool, true, false}
 use mathlib.Core.List.{List, [], ◌∷◌}
 use mathlib.Core.Path.{◌≡◌, refl, sym, ap, ◌∙◌}
-use native.Mathlib.Numerals.{add-one, unary_clauses}
+use native.Mathlib.Numerals.{add-one}
 use native.Mathlib.Omega.{arith}
-use lib.Dec.{eqb}
-use lib.ListN.{length, get_or, drop, take, length-drop, length-map}
-use lib.Seq.{drop-cons, drop-drop, length-take-le}
+use lib.ListN.{length, get_or, drop, take, length-drop}
+use lib.Seq.{drop-cons, drop-drop, take_all}
 use Rattle.ft_number.specs.declared.MessageId.{MessageId}
-use Rattle.label_list.specs.Find.{any}
-use Rattle.label_list.proofs.Sought.{later, later_is}
 use Rattle.block0.specs.declared.Header.{Header}
 use Rattle.message.specs.declared.Kind.{Kind}
 use Rattle.message.specs.Reading.{id_in}
@@ -24,7 +22,7 @@ use Rattle.protocol.specs.Phases.{count_of, issued_count}
 use Rattle.protocol.proofs.PassedOver.{none_passed}
 use Rattle.calls.specs.State.{state_of, state_of_numbers}
 use Rattle.call_meaning.proofs.Putting.{image_window}
-use Rattle.send.specs.Aborted.{aborted_ids, no_id}
+use Rattle.send.specs.Aborted.{aborted_ids, is_among}
 use Rattle.send.proofs.Aborted.{kind_in_lem, none_undone, request-held, among_aborted}
 
 -- ---- the message at a place of the queue
@@ -38,15 +36,11 @@ module _ (queue : List (List ℕ)) (i : ℕ) (inside : i < length queue) where
   pub undone_none : {k : ℕ} → k ≡ kind_in (submission_of here) → (k ≡ 7 → ⊥) → false ≡ is_undone (drop i queue)
   undone_none e n = rw at_place (none_undone (kind_held (submission_of here)) (drop (i + 1) queue) (λ q. n (e ∙ kind_in_lem (submission_of here) ∙ q)))
 
-  pub undone_among : {k : ℕ} {m : List ℕ} {id : MessageId} {ids : List ℕ} {b : Bool} → k ≡ kind_in (submission_of here) → k ≡ 7 → m ≡ here → id ≡ id_in m → id.0 < no_id
-      → ids ≡ aborted_ids (drop (i + 1) queue) → b ≡ any (λ n. eqb n id.0) ids → b ≡ is_undone (drop i queue)
-  undone_among {id = id} ek k em ei small es eb =
+  pub undone_among : {k : ℕ} {m : List ℕ} {id : MessageId} {ids : List (Option MessageId)} {b : Bool} → k ≡ kind_in (submission_of here) → k ≡ 7 → m ≡ here → id ≡ id_in m
+      → ids ≡ aborted_ids (drop (i + 1) queue) → b ≡ is_among id ids → b ≡ is_undone (drop i queue)
+  undone_among {id = id} ek k em ei es eb =
       let request : kind_held (submission_of here) ≡ Kind.Request id = request-held here (sym ek ∙ k) ∙ ap Kind.Request (sym (ei ∙ ap id_in em)) in
-      rw (at_place, request) (eb ∙ ap (any (λ n. eqb n id.0)) es ∙ among_aborted id small (drop (i + 1) queue))
-
--- as many as there are messages from that place on
-pub aborted_count : (queue : List (List ℕ)) (from : ℕ) {ids : List ℕ} → ids ≡ aborted_ids (drop from queue) → length ids ≡ length queue - from
-aborted_count queue from e = rw e (length-map (drop from queue) _ ∙ length-drop from queue)
+      rw (at_place, request) (eb ∙ ap (is_among id) es ∙ among_aborted id (drop (i + 1) queue))
 
 -- the IDs behind one more
 drop_aborted : (n : ℕ) (ms : List (List ℕ)) → drop n (aborted_ids ms) ≡ aborted_ids (drop n ms)
@@ -54,10 +48,14 @@ drop_aborted zero ms = refl
 drop_aborted (suc n) [] = refl
 drop_aborted (suc n) (m ∷ ms) = drop_aborted n ms
 
-pub behind_is : (queue : List (List ℕ)) (from i : ℕ) {ids : List ℕ} → ids ≡ aborted_ids (drop from queue) → later ids (i + 1) ≡ aborted_ids (drop (from + i + 1) queue)
+pub behind_is : (queue : List (List ℕ)) (from i : ℕ) {ids : List (Option MessageId)} → ids ≡ aborted_ids (drop from queue)
+    → take (length ids - (i + 1)) (drop (i + 1) ids) ≡ aborted_ids (drop (from + i + 1) queue)
 behind_is queue from i {ids} e =
     let q : from + (i + 1) ≡ from + i + 1 = omega arith in
-    later_is ids (i + 1) ∙ ap (drop (i + 1)) e ∙ drop_aborted (i + 1) (drop from queue) ∙ ap aborted_ids (drop-drop (i + 1) from queue ∙ ap (λ (n : ℕ). drop n queue) q)
+    take_all (length ids - (i + 1)) (drop (i + 1) ids) (simp length-drop (omega arith))
+    ∙ ap (drop (i + 1)) e
+    ∙ drop_aborted (i + 1) (drop from queue)
+    ∙ ap aborted_ids (drop-drop (i + 1) from queue ∙ ap (λ (n : ℕ). drop n queue) q)
 
 -- ---- a walk that has passed over i of the n that have a number: what is left to say is of the rest
 pub record Passing (n : ℕ) (ms : List (List ℕ)) (i : ℕ) : Type 0 where
@@ -74,12 +72,9 @@ passed_none zero ms f = refl
 passed_none (suc n) [] f = refl
 passed_none (suc n) (m ∷ ms) f = rw f
 
-pub passing_none : (n : ℕ) (ms : List (List ℕ)) → Passing n ms 0
-passing_none n ms = record { inside = omega arith; rest = simp unary_clauses (omega arith) }
-
-pub passing_all : (n : ℕ) (ms : List (List ℕ)) (i : ℕ) → Passing n ms i → n ≤ i → i ≡ passed_over n ms
+pub passing_all : (n : ℕ) (ms : List (List ℕ)) (i : ℕ) → Passing n ms i → n ≤ i → n ≡ passed_over n ms
 unfolding passed_over
-passing_all n ms i p h = let z : n - i ≡ 0 = omega arith in let none : passed_over (n - i) (drop i ms) ≡ 0 = rw z in omega (arith, p.rest, none)
+passing_all n ms i p h = let z : n - i ≡ 0 = omega arith in let none : passed_over (n - i) (drop i ms) ≡ 0 = rw z in omega (arith, p.inside, p.rest, none)
 
 module _ (queue : List (List ℕ)) (from n i : ℕ) (p : Passing n (drop from queue) i) (within : from + n ≤ length queue) (h : i < n) where
   abbrev ms : List (List ℕ)
@@ -96,10 +91,6 @@ module _ (queue : List (List ℕ)) (from n i : ℕ) (p : Passing n (drop from qu
 
   pub passing_stops : is_undone (drop (from + i) queue) ≡ false → i ≡ passed_over n ms
   passing_stops f = omega (arith, p.rest, passed_none (n - i) (drop i ms) (rw (← drop-drop i from queue) at f))
-
--- the first part of the room has an ID for each message from that place on
-pub room_fits : (room : List ℕ) (from : ℕ) {n held : ℕ} → n ≡ held → from ≤ held → held ≤ length room → from + length (take (n - from - 0) room) ≡ held
-room_fits room from {n} {held} e l fits = omega (arith, length-take-le (n - from - 0) room (omega arith))
 
 -- ---- of an image: what the code was told of its message and of block 0's numbers
 module _ (im : List ℕ) (sent : ℕ) where

@@ -17,8 +17,6 @@ ghost use Rattle.send.specs.Send.{send_of};
 use block0::Header;
 use calls::{Answer, Outcome, Phase, Progress};
 use ft_number::FtNumber;
-use message_writer::Written;
-use tlv::FtField;
 
 mod leaving_out;
 
@@ -26,13 +24,7 @@ mod leaving_out;
 fn is_up_ft(phase: Phase) -> bool
     ensures { result ≡ is_up_ft phase }
 {
-    match phase {
-        Phase::Idle => false,
-        Phase::InitWait(_) => false,
-        Phase::UpFT(_) => true,
-        Phase::UpPlain => false,
-        Phase::Failed => false,
-    }
+    matches!(phase, Phase::UpFT(_))
 }
 
 // The count sent on this connection.
@@ -40,11 +32,8 @@ fn sent_of(phase: Phase) -> u32
     ensures { result ≡ sent_of phase }
 {
     match phase {
-        Phase::Idle => 0,
-        Phase::InitWait(_) => 0,
         Phase::UpFT(u) => u.sent,
-        Phase::UpPlain => 0,
-        Phase::Failed => 0,
+        _ => 0,
     }
 }
 
@@ -53,11 +42,8 @@ fn is_resumed(phase: Phase) -> bool
     ensures { result ≡ resumed_of phase }
 {
     match phase {
-        Phase::Idle => false,
-        Phase::InitWait(_) => false,
         Phase::UpFT(u) => u.resumed,
-        Phase::UpPlain => false,
-        Phase::Failed => false,
+        _ => false,
     }
 }
 
@@ -88,18 +74,19 @@ fn number_at(h: Header, place: u32) -> FtNumber
 }
 
 // The FT ACK to write.
-fn ack_asked(ack: bool, h: Header) -> FtField
+#[tactic(auto, unfolding(protocol::specs::Send::ack_asked))]
+fn ack_asked(ack: bool, h: Header) -> Option<FtNumber>
     ensures { result ≡ ack_asked ack (state_of_numbers h) }
 {
     let secured = h.secured;
     if ack {
-        return FtField::Number(secured);
+        return Some(secured);
     }
-    FtField::Absent
+    None
 }
 
 // Writes the message at a place of the queue, with its number; the writer tests the room (9).
-fn write_next(image: &[u8], place: u32, ack: bool, out: &mut [u8]) -> Written
+fn write_next(image: &[u8], place: u32, ack: bool, out: &mut [u8]) -> Option<usize>
     requires { IsSound image.now × (place < (decode image.now).header.held) }
     ensures { (result, out.new) ≡ written_of out.old (send_bytes (state_of image.now) place ack) }
 {
@@ -135,8 +122,8 @@ pub fn send_next(image: &mut [u8], phase: Phase, ack: bool, out: &mut [u8]) -> O
     let leftout = leaving_out::left_out(image, sent);
     let place = sent + leftout;
     match write_next(image, place, ack, out) {
-        Written::TooShort => calls::refuse(Answer::OutputTooShort, phase),
-        Written::Bytes(n) => Outcome {
+        None => calls::refuse(Answer::OutputTooShort, phase),
+        Some(n) => Outcome {
             answer: Answer::Done,
             phase: Phase::UpFT(Progress {
                 sent: place + 1,
@@ -146,7 +133,7 @@ pub fn send_next(image: &mut [u8], phase: Phase, ack: bool, out: &mut [u8]) -> O
             slot: 0,
             block0: issue(image, place),
             further: 0,
-            leftout: leftout,
+            leftout,
         },
     }
 }

@@ -1,10 +1,11 @@
 -- How an image and a session begin: Format of any bytes, Restore of any image. Assumes nothing.
+use Rattle.std.specs.Prelude.{Result, Ok, Err}
 use Prim.Native.Nat.{ℕ}
 use mathlib.Core.List.{List, []}
 use mathlib.Core.Path.{◌≡◌, refl}
 use lib.ListN.{length}
 use borrow.Author.Tests.{eq-eqb, ne_eqb}
-use Rattle.image.specs.declared.Verdict.{Verdict}
+use Rattle.image.specs.declared.ImageFault.{ImageFault}
 use Rattle.image.specs.Sizes.{image_size}
 use Rattle.image.specs.Verdict.{IsSound, verdict}
 use Rattle.image.proofs.Changes.{in_range_released, new_decodes, new_sound}
@@ -31,12 +32,12 @@ module _ (im : List ℕ) (ph : Phase) (out : List ℕ) where
   format-refuses other = rw (ne_eqb (length im) image_size other)
 
   -- what restore's checks refuse is left, and is no session
-  pub restore-refuses : (v : Verdict) → verdict im ≡ v → (v ≡ Verdict.Sound → ⊥) → leaves restores im ph out ≡ untouched (checked v Answer.Done) Phase.Idle im []
+  pub restore-refuses : (v : Result Unit ImageFault) → verdict im ≡ v → (v ≡ Ok tt → ⊥) → leaves restores im ph out ≡ untouched (checked v Answer.Done) Phase.Idle im []
   unfolding leaves restore_of call_of settle_of effect_of
-  restore-refuses Verdict.Sound e n = absurd (n refl)
-  restore-refuses Verdict.WrongSize e n = rw e
-  restore-refuses (Verdict.BadBlock b) e n = rw e
-  restore-refuses (Verdict.BadField b) e n = rw e
+  restore-refuses (Ok tt) e n = absurd (n refl)
+  restore-refuses (Err ImageFault.WrongSize) e n = rw e
+  restore-refuses (Err (ImageFault.BadBlock b)) e n = rw e
+  restore-refuses (Err (ImageFault.BadField b)) e n = rw e
 
   -- what they pass is as after a break: "It frees code 6 words, as after a break, and answers Failed if kept, else Idle"
   pub restore-passes : IsSound im → leaves restores im ph out ≡ failed_on Answer.Done im []

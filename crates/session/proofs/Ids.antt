@@ -1,4 +1,5 @@
 -- The IDs of the state that a call leaves are those that block 65 bears under its words: no call but the Submit of a Request opens one. Assumes nothing.
+use Rattle.std.specs.Prelude.{Result, Ok, Err, Option, Some, None}
 use Prim.Native.Nat.{ℕ, ◌<◌}
 use mathlib.Core.Bool.{Bool, true, false}
 use mathlib.Core.List.{List}
@@ -9,8 +10,6 @@ use lib.ListN.{take, length, length-map, set}
 use Rattle.octets.specs.Pick.{pick}
 use Rattle.octets.proofs.Choice.{no}
 use Rattle.ft_number.specs.declared.MessageId.{MessageId}
-use Rattle.label_list.specs.declared.Found.{Found}
-use Rattle.label_list.specs.declared.Found.TheVariants.{At, Nowhere}
 use Rattle.label_list.specs.declared.LabelMessage.{LabelMessage}
 use Rattle.label_list.specs.declared.Side.{Side}
 use Rattle.label_list.specs.declared.SweepRule.TheVariants.{AfterBreak}
@@ -23,13 +22,13 @@ use Rattle.label_list.proofs.Reached.{found_in_lem}
 use Rattle.tlv.specs.Element.{entry_by}
 use Rattle.block0.specs.Layout.{no_labels}
 use Rattle.label_events.specs.declared.Meets.{Meets}
-use Rattle.label_events.specs.declared.Plan.{Plan}
+use Rattle.label_events.specs.declared.Touched.{Touched}
 use Rattle.label_events.specs.Accept.{accepted_by, plan_change}
 use Rattle.label_events.specs.Change.{changed, take_free, taken_at}
 use Rattle.label_events.specs.Requests.{asked_plan, ids_put}
 use Rattle.message.specs.declared.Kind.{Kind}
 use Rattle.message.specs.declared.Message.{Message}
-use Rattle.message.specs.declared.Submission.{Submission}
+use Rattle.message.specs.declared.SubmissionError.{SubmissionError}
 use Rattle.message.specs.Submission.{submission_of, entry_in}
 use Rattle.label_meaning.specs.Event
 use Rattle.label_meaning.specs.Event.{LabelEvent, Acked, Asked, Broken, Ended, Received, after_event}
@@ -38,7 +37,6 @@ use Rattle.label_meaning.proofs.RequestIds.{aborted_event}
 use Rattle.label_meaning.proofs.Requests.{request-old, request_itself}
 use Rattle.image.specs.State.{stored_ids}
 use Rattle.image.proofs.Requests.{Fewer, ids_fewer, no_ids, ids-taken}
-use Rattle.protocol.specs.declared.LabelEffect.{LabelEffect}
 use Rattle.protocol.specs.Accepting.{accepted_as, ids_accepted}
 use Rattle.protocol.specs.Acked.{released_labels, acked}
 use Rattle.protocol.specs.Labels.{effect_labels, is_protected, label_effect, meets, reached}
@@ -73,9 +71,9 @@ module _ (im : List ℕ) (law : Lawful (state_of im)) where
   Borne f t = open_ids t.table.words (ids_after im f) ≡ t.table.ids
 
   -- an entry leaves the IDs
-  entry-ids : (place : Found) (entry : ℕ) → ids_after im (entry_put place entry) ≡ stored_ids im
-  entry-ids (At j) entry = refl
-  entry-ids Nowhere entry = refl
+  entry-ids : (place : Option ℕ) (entry : ℕ) → ids_after im (entry_put place entry) ≡ stored_ids im
+  entry-ids (Some j) entry = refl
+  entry-ids None entry = refl
 
   -- ---- nothing is open
   pub none_borne : (t : State) → t.table ≡ no_table → Borne same t
@@ -105,15 +103,15 @@ module _ (im : List ℕ) (law : Lawful (state_of im)) where
     abbrev t : Table
     t = (acked (state_of im) k a).table
 
-    effect_fewer : (x : Meets) (p : Bool) (e : LabelEffect) → Fewer (effect_labels t x p e) t.words
+    effect_fewer : (x : Meets) (p : Bool) (e : Option (LabelMessage × Touched)) → Fewer (effect_labels t x p e) t.words
     unfolding after_event
-    effect_fewer x p LabelEffect.Nothing = event_fewer t.words t.words (Ended x.request) (λ z. no cc) (λ i t. t)
-    effect_fewer x p (LabelEffect.Change m touched) = event_fewer t.words t.words (Received x m p (reached t m touched)) (λ z. no cc) (λ i t. t)
+    effect_fewer x p None = event_fewer t.words t.words (Ended x.request) (λ z. no cc) (λ i t. t)
+    effect_fewer x p (Some (m, touched)) = event_fewer t.words t.words (Received x m p (reached t m touched)) (λ z. no cc) (λ i t. t)
 
-    effect_long : (x : Meets) (p : Bool) (e : LabelEffect) → length (effect_labels t x p e) ≡ length t.words
+    effect_long : (x : Meets) (p : Bool) (e : Option (LabelMessage × Touched)) → length (effect_labels t x p e) ≡ length t.words
     unfolding after_event
-    effect_long x p LabelEffect.Nothing = step-length t.words (Ended x.request)
-    effect_long x p (LabelEffect.Change m touched) = step-length t.words (Received x m p (reached t m touched))
+    effect_long x p None = step-length t.words (Ended x.request)
+    effect_long x p (Some (m, touched)) = step-length t.words (Received x m p (reached t m touched))
 
     pub taken-borne : (g : Message) → Borne (entry_put (message_takes words t g) (entry_by g.fec)) (taken words (acked (state_of im) k a) g)
     unfolding acked taken
@@ -142,18 +140,18 @@ module _ (im : List ℕ) (law : Lawful (state_of im)) where
   unfolding accepted_as ids_accepted accepted_further accepted_change asked_plan changed
   asked-left id label entry = by (is_found (open_at id words ids)) (find_of is_free words) refl
     where
-      by : (b : Bool) (f : Found) → find_of is_free words ≡ f
-          → open_ids (accepted_by words (pick b Plan.Refused (Plan.Allowed (take_free f request_word)))).1
-          (ids_after im (id_put (plan_change (pick b Plan.Refused (Plan.Allowed (take_free f request_word)))) id))
-          ≡ open_ids (accepted_by words (pick b Plan.Refused (Plan.Allowed (take_free f request_word)))).1
-          (ids_put ids (plan_change (pick b Plan.Refused (Plan.Allowed (take_free f request_word)))) id)
+      by : (b : Bool) (f : Option ℕ) → find_of is_free words ≡ f
+          → open_ids (accepted_by words (pick b None (Some (take_free f request_word)))).1
+          (ids_after im (id_put (plan_change (pick b None (Some (take_free f request_word)))) id))
+          ≡ open_ids (accepted_by words (pick b None (Some (take_free f request_word)))).1
+          (ids_put ids (plan_change (pick b None (Some (take_free f request_word)))) id)
       by true f e = same_left
-      by false (At i) e =
+      by false (Some i) e =
           let inside : i < length words = found_in_lem is_free words (sym e) in
           ids-taken im i id (omega (arith, law.words, inside))
           ∙ sym (counting-taken 0 is_request words ids i request_word id.0 request_itself inside (omega (arith, law.words, law.ids, inside))
           ∙ ap (λ (l : List ℕ). set l i id.0) law.counted)
-      by false Nowhere e = same_left
+      by false None e = same_left
 
   kind_left : (kind : Kind) (label entry : ℕ) → Left kind label entry
   unfolding accepted_as ids_accepted accepted_further accepted_change after_event
@@ -173,8 +171,8 @@ module _ (im : List ℕ) (law : Lawful (state_of im)) where
   unfolding submitted
   submitted-borne m = by (submission_of m)
     where
-      by : (j : Submission) → open_ids (accepted_labels (state_of im).table j) (ids_after im (further_left (state_of im).table j (entry_in m)))
+      by : (j : Result (Kind × ℕ) SubmissionError) → open_ids (accepted_labels (state_of im).table j) (ids_after im (further_left (state_of im).table j (entry_in m)))
           ≡ (accepted_table (state_of im).table j (entry_in m)).ids
-      by Submission.Malformed = same_left
-      by Submission.Refused = same_left
-      by (Submission.Accepted kind label) = kind_left kind label (entry_in m)
+      by (Err SubmissionError.Malformed) = same_left
+      by (Err SubmissionError.Refused) = same_left
+      by (Ok (kind, label)) = kind_left kind label (entry_in m)

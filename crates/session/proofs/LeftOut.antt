@@ -1,4 +1,5 @@
 -- What Send next leaves out, and what the peer left out before a message that is received, of an image that stands. Assumes nothing.
+use Rattle.std.specs.Prelude.{Some}
 use Prim.Native.Nat.{ℕ, ◌≤◌, ◌<◌}
 use mathlib.Core.Bool.{Bool, false}
 use mathlib.Core.List.{List}
@@ -6,7 +7,6 @@ use mathlib.Core.Path.{◌≡◌, refl, sym, ap, ◌∙◌}
 use lib.ListN.{length}
 use Rattle.octets.specs.Bytes.{Bytes}
 use Rattle.message.specs.declared.Message.{Message}
-use Rattle.message.specs.declared.Reading.{Reading}
 use Rattle.message.specs.Reading.{reading_of}
 use Rattle.message.proofs.Widths.{read_widths}
 use Rattle.protocol.specs.declared.Answer.{Answer}
@@ -55,7 +55,7 @@ module _ (im : List ℕ) (u : Progress) (st : Standing im (Phase.UpFT u)) where
   sends_first ask out some room = rw (refines im (Phase.UpFT u) st out (sends ask) tt) (send-leaves (state_of im) u st.fits ask (length out) some room)
 
   -- ---- a message received that is taken: its number is in turn after S, and the outcome says how many were left out before it
-  pub secures-next : (m out : List ℕ) → Bytes m → (g : Message) → reading_of m ≡ Reading.Whole g → (leaves (receives m) im (Phase.UpFT u) out).outcome.answer ≡ Answer.Done
+  pub secures-next : (m out : List ℕ) → Bytes m → (g : Message) → reading_of m ≡ Some g → (leaves (receives m) im (Phase.UpFT u) out).outcome.answer ≡ Answer.Done
       → SecuresFrom (state_of im) u.resumed g (seen (leaves (receives m) im (Phase.UpFT u) out))
   unfolding step
   secures-next m out byte g read d =

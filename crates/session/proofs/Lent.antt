@@ -1,4 +1,5 @@
 -- What a call writes where it is done has room in the bytes that it is lent: "9: output too short" was passed. Assumes nothing.
+use Rattle.std.specs.Prelude.{Option, Some, None}
 use Prim.Native.Nat.{ℕ, ◌≤◌}
 use mathlib.Core.Bool.{Bool, not}
 use mathlib.Core.List.{List}
@@ -8,7 +9,7 @@ use lib.Dec.{leb, ltb}
 use lib.ListN.{length}
 use borrow.Author.Tests.{ltb-false}
 use Rattle.octets.proofs.Choice.{cleared, pick_all}
-use Rattle.message.specs.declared.Reading.{Reading}
+use Rattle.message.specs.declared.Message.{Message}
 use Rattle.message.specs.Reading.{reading_of}
 use Rattle.protocol.specs.declared.Answer.{Answer}
 use Rattle.protocol.specs.declared.Phase.{Phase}
@@ -41,11 +42,11 @@ has_room : (bytes : List ℕ) (room : ℕ) → room_for bytes room ≡ Answer.Do
 has_room bytes room e = ltb-false room (length bytes) (cleared (ltb room (length bytes)) Answer.OutputTooShort Answer.Done Answer.Done (λ z. cc) e).0
 
 -- nothing is written to what is received
-taken_none : (s : State) (ph : Phase) (r : Reading) → length (taken_as s ph r).output ≤ 0
+taken_none : (s : State) (ph : Phase) (r : Option Message) → length (taken_as s ph r).output ≤ 0
 taken_none s Phase.Idle r = omega arith
 taken_none s (Phase.InitWait v) r = omega arith
-taken_none s (Phase.UpFT u) Reading.Malformed = omega arith
-taken_none s (Phase.UpFT u) (Reading.Whole g) = omega arith
+taken_none s (Phase.UpFT u) None = omega arith
+taken_none s (Phase.UpFT u) (Some g) = omega arith
 taken_none s Phase.UpPlain r = omega arith
 taken_none s Phase.Failed r = omega arith
 

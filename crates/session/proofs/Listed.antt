@@ -1,4 +1,5 @@
 -- Words that list a label, over the events of the list: no event makes one at a place that listed none, but a Mapping that takes a word there. Assumes nothing.
+use Rattle.std.specs.Prelude.{Option, Some, None}
 use Prim.Native.Nat.{ℕ, ◌+◌, ◌*◌, ◌/◌}
 use mathlib.Core.Bool.{Bool, true, false, true≢false}
 use mathlib.Core.List.{List}
@@ -8,12 +9,8 @@ use lib.Dec.{eqb}
 use lib.ListN.{get_or}
 use Rattle.octets.specs.Pick.{pick}
 use Rattle.octets.proofs.Choice.{by_test, pick_all}
-use Rattle.label_list.specs.declared.Found.{Found}
-use Rattle.label_list.specs.declared.Found.TheVariants.{Nowhere}
 use Rattle.label_list.specs.declared.LabelMessage.{LabelMessage}
 use Rattle.label_list.specs.declared.LabelMessage.TheVariants.{Mapping, Withdraw, Release}
-use Rattle.label_list.specs.declared.Next.{Next}
-use Rattle.label_list.specs.declared.Next.TheVariants.{Code, NotAllowed}
 use Rattle.label_list.specs.declared.Side.TheVariants.{Given, Used}
 use Rattle.label_list.specs.declared.SweepRule.{SweepRule}
 use Rattle.label_list.specs.declared.SweepRule.TheVariants.{WithdrawAll, ReleaseAll, AfterBreak}
@@ -55,30 +52,30 @@ swept_lists r w t =
         (λ n. let u : on_side Used c ≡ true = rw n at t in
         pick_all (λ (b : Bool). b ≡ true) (on_side Given (code_of w)) refl (kept_side r Used (code_of w) (rw e at u)))
 
-reached_lists : (words : List ℕ) (reached : ℕ → Bool) (r : SweepRule) → ListedOld words (reached_of words reached r) Nowhere
+reached_lists : (words : List ℕ) (reached : ℕ → Bool) (r : SweepRule) → ListedOld words (reached_of words reached r) None
 unfolding word_reached
 reached_lists words reached r i apart t =
     let there : lists_label (pick (reached (label_of (get_or words i 0))) (word_swept r (get_or words i 0)) (get_or words i 0)) ≡ true = rw (swept_at words reached r i) at t in
     by_test (reached (label_of (get_or words i 0))) (λ y. swept_lists r (get_or words i 0) (rw y at there)) (λ n. rw n at there)
 
-pub broken-listed : (words : List ℕ) → ListedOld words (swept_of words AfterBreak) Nowhere
+pub broken-listed : (words : List ℕ) → ListedOld words (swept_of words AfterBreak) None
 unfolding word_reached
 broken-listed words = reached_lists words (λ k. true) AfterBreak
 
 -- ---- a message of ours
 module _ (words : List ℕ) (m : LabelMessage) (l : ℕ) where
-  next-listed : (n : Next) → ListedOld words (accepted_by words (plan_by n words (sent_side m) l)).1 (taken_at (find_of (stands_for (sent_side m) l) words) (plan_change (plan_by n words (sent_side m) l)))
+  next-listed : (n : Option ℕ) → ListedOld words (accepted_by words (plan_by n words (sent_side m) l)).1 (taken_at (find_of (stands_for (sent_side m) l) words) (plan_change (plan_by n words (sent_side m) l)))
   unfolding placed_at
-  next-listed (Code c) =
+  next-listed (Some c) =
       placed_listed words (sent_side m) l c false (find_of (stands_for (sent_side m) l) words) (find_of is_free words) refl (free_first words (find_of is_free words) refl)
-  next-listed NotAllowed = same_listed words _
+  next-listed None = same_listed words _
 
   pub accepted_listed : ListedOld words (accepted_of words m l).1 (taken_at (find_of (stands_for (sent_side m) l) words) (plan_change (plan_of words m l)))
   unfolding accepted_of plan_of
   accepted_listed = by_test (listable l) (λ may. rw may (next-listed (code_accepted m (code_at words (sent_side m) l)))) (λ may. rw may (same_listed words _))
 
 -- ---- an ACK
-pub released-listed : (words : List ℕ) (m : LabelMessage) (l : ℕ) → ListedOld words (acked_of words m l) Nowhere
+pub released-listed : (words : List ℕ) (m : LabelMessage) (l : ℕ) → ListedOld words (acked_of words m l) None
 released-listed words m l = acked-listed words m l (find_of (stands_for (sent_side m) l) words) refl
 
 -- ---- a message of the peer's
@@ -86,7 +83,7 @@ module _ (words : List ℕ) (x : Meets) (m : LabelMessage) (p : Bool) where
   abbrev left : List ℕ
   left = ended_at x.request words
 
-  abbrev room : Found
+  abbrev room : Option ℕ
   room = room_at x.request x.spare words
 
   -- the change is the same before the Request has ended and after
@@ -103,12 +100,12 @@ module _ (words : List ℕ) (x : Meets) (m : LabelMessage) (p : Bool) where
       (room_is_free x.request x.spare words)))
       (λ may. rw may (same_listed left _))
 
-  every_listed : (reached : ℕ → Bool) → ListedOld left (every_received m reached left) Nowhere
+  every_listed : (reached : ℕ → Bool) → ListedOld left (every_received m reached left) None
   unfolding every_received
   every_listed reached = by m
     where
-      by : (m : LabelMessage) → ListedOld left (every_received m reached left) Nowhere
-      by Mapping = same_listed left Nowhere
+      by : (m : LabelMessage) → ListedOld left (every_received m reached left) None
+      by Mapping = same_listed left None
       by Withdraw = reached_lists left reached WithdrawAll
       by Release = reached_lists left reached ReleaseAll
 
@@ -119,10 +116,10 @@ module _ (words : List ℕ) (x : Meets) (m : LabelMessage) (p : Bool) where
       then_listed words left (received_of words x m p (Label l)).1 (taken_at (find_of (stands_for (received_side m) l) words) (received_change words room x.another m p l))
       (ended-listed words x.request) (rw (← same_change l, ← e) (named_listed l))
 
-  pub reached-listed : (reached : ℕ → Bool) → ListedOld words (received_of words x m p (Those reached)).1 Nowhere
+  pub reached-listed : (reached : ℕ → Bool) → ListedOld words (received_of words x m p (Those reached)).1 None
   unfolding received_with
-  reached-listed reached = then_listed words left (received_of words x m p (Those reached)).1 Nowhere (ended-listed words x.request) (every_listed reached)
+  reached-listed reached = then_listed words left (received_of words x m p (Those reached)).1 None (ended-listed words x.request) (every_listed reached)
 
-  pub nothing_listed : ListedOld words (received_of words x m p Nothing).1 Nowhere
+  pub nothing_listed : ListedOld words (received_of words x m p Nothing).1 None
   unfolding received_with
   nothing_listed = ended-listed words x.request

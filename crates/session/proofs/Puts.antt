@@ -1,4 +1,5 @@
 -- What a call does where it is done can be stored: the state is lawful, and its queue is what becomes of the ring of slots. Assumes nothing.
+use Rattle.std.specs.Prelude.{Result, Ok, Err, Option, Some, None}
 use Prim.Native.Nat.{ℕ, ◌≤◌, ◌<◌}
 use mathlib.Core.Bool.{Bool, true, false, true≢false}
 use mathlib.Core.List.{List}
@@ -13,8 +14,6 @@ use Rattle.octets.specs.Bytes.{Bytes}
 use Rattle.octets.specs.Pick.{pick}
 use Rattle.octets.proofs.Choice.{pick_all, below_or_not, by_test}
 use Rattle.octets.proofs.Fill.{zeros_at}
-use Rattle.label_list.specs.declared.Found.{Found}
-use Rattle.label_list.specs.declared.Found.TheVariants.{At, Nowhere}
 use Rattle.label_list.specs.declared.LabelMessage.{LabelMessage}
 use Rattle.label_list.specs.declared.Side.{Side}
 use Rattle.label_list.specs.Counting.{counting}
@@ -28,8 +27,7 @@ use Rattle.label_events.specs.Accept.{plan_change, plan_of}
 use Rattle.label_events.specs.Change.{put_at, taken_at}
 use Rattle.message.specs.declared.Kind.{Kind}
 use Rattle.message.specs.declared.Message.{Message}
-use Rattle.message.specs.declared.Reading.{Reading}
-use Rattle.message.specs.declared.Submission.{Submission}
+use Rattle.message.specs.declared.SubmissionError.{SubmissionError}
 use Rattle.message.specs.Reading.{reading_of}
 use Rattle.message.specs.Submission.{submission_of, entry_in}
 use Rattle.image.specs.State.{decode}
@@ -103,19 +101,19 @@ module _ (im : List ℕ) (ph : Phase) (st : Standing im ph) where
   low : {n : ℕ} → n ≤ held (state_of im) → n ≤ (decode im).header.held
   low l = rw (queue_length im) at l
 
-  start_fits : (s : Start) → StartWithin (held (state_of im)) s → Fits im (start_slots s) (start_state (state_of im) s)
+  start_fits : (s : Result Start Answer) → StartWithin (held (state_of im)) s → Fits im (start_slots s) (start_state (state_of im) s)
   unfolding fresh resumed acked
-  start_fits (Start.Refused a) w = (refl, refl)
-  start_fits Start.Plain w = (refl, tt)
-  start_fits (Start.Fresh t) w = (refl, tt)
-  start_fits (Start.Resumed t k a) w = ((refl, low w), refl)
+  start_fits (Err a) w = (refl, refl)
+  start_fits (Ok Start.Plain) w = (refl, tt)
+  start_fits (Ok (Start.Fresh t)) w = (refl, tt)
+  start_fits (Ok (Start.Resumed t k a)) w = ((refl, low w), refl)
 
-  taken_fits : (p : Phase) (r : Reading) → Fits im (received_slots (state_of im) p r) (taken_as (state_of im) p r).state
+  taken_fits : (p : Phase) (r : Option Message) → Fits im (received_slots (state_of im) p r) (taken_as (state_of im) p r).state
   unfolding received_state taken acked
   taken_fits Phase.Idle r = (refl, refl)
   taken_fits (Phase.InitWait v) r = (refl, refl)
-  taken_fits (Phase.UpFT u) Reading.Malformed = (refl, refl)
-  taken_fits (Phase.UpFT u) (Reading.Whole g) = ((refl, low (count_held (state_of im) law.window g)), refl)
+  taken_fits (Phase.UpFT u) None = (refl, refl)
+  taken_fits (Phase.UpFT u) (Some g) = ((refl, low (count_held (state_of im) law.window g)), refl)
   taken_fits Phase.UpPlain r = (refl, refl)
   taken_fits Phase.Failed r = (refl, refl)
 
@@ -166,8 +164,8 @@ module _ (im : List ℕ) (ph : Phase) (st : Standing im ph) where
   counted_right : (ws xs : List ℕ) → ((i : ℕ) → entry_ok (get_or xs i 0) ≡ true) → (i : ℕ) → entry_ok (get_or (counting 0 lists_label ws xs) i 0) ≡ true
   counted_right ws xs right i = rw (listed_at ws xs i) (pick_all (λ (e : ℕ). entry_ok e ≡ true) (lists_label (get_or ws i 0)) (right i) none_right)
 
-  put_right : (place : Found) (entry : ℕ) (xs : List ℕ) → entry_ok entry ≡ true → ((i : ℕ) → entry_ok (get_or xs i 0) ≡ true) → (i : ℕ) → entry_ok (get_or (put_at place entry xs) i 0) ≡ true
-  put_right (At j) entry xs ok right i =
+  put_right : (place : Option ℕ) (entry : ℕ) (xs : List ℕ) → entry_ok entry ≡ true → ((i : ℕ) → entry_ok (get_or xs i 0) ≡ true) → (i : ℕ) → entry_ok (get_or (put_at place entry xs) i 0) ≡ true
+  put_right (Some j) entry xs ok right i =
       by_test (eqb i j)
       (λ y.
       rw (eqb-true i j y)
@@ -176,7 +174,7 @@ module _ (im : List ℕ) (ph : Phase) (st : Standing im ph) where
       (λ (past : length xs ≤ j). rw (get_or-eq_default (set xs j entry) 0 {n = j} (rw (length-set xs j entry) past)) none_right)
       (below_or_not j (length xs))))
       (λ n. rw (get_or-set_other xs j i entry 0 (eqb-false i j n)) (right i))
-  put_right Nowhere entry xs ok right i = right i
+  put_right None entry xs ok right i = right i
 
   broken-bears : Bears same (broken (state_of im))
   broken-bears = record { ids = broken-borne im law; index = broken_indexed im law; right = counted_right _ _ right_now }
@@ -185,12 +183,12 @@ module _ (im : List ℕ) (ph : Phase) (st : Standing im ph) where
   unfolding acked
   acked_right k a = counted_right _ _ right_now
 
-  start-bears : (s : Start) → Bears same (start_state (state_of im) s)
+  start-bears : (s : Result Start Answer) → Bears same (start_state (state_of im) s)
   unfolding fresh resumed
-  start-bears (Start.Refused a) = same_bears
-  start-bears Start.Plain = none_bears released_state refl
-  start-bears (Start.Fresh t) = none_bears (fresh t) refl
-  start-bears (Start.Resumed t k a) = record { ids = acked-borne im law k a.0; index = acked_indexed im law k a.0; right = acked_right k a.0 }
+  start-bears (Err a) = same_bears
+  start-bears (Ok Start.Plain) = none_bears released_state refl
+  start-bears (Ok (Start.Fresh t)) = none_bears (fresh t) refl
+  start-bears (Ok (Start.Resumed t k a)) = record { ids = acked-borne im law k a.0; index = acked_indexed im law k a.0; right = acked_right k a.0 }
 
   taken_right : (k a : ℕ) (g : Message) → entry_ok (entry_by g.fec) ≡ true → Rights (taken (state_of im).table.words (acked (state_of im) k a) g)
   unfolding taken
@@ -202,11 +200,11 @@ module _ (im : List ℕ) (ph : Phase) (st : Standing im ph) where
   unfolding received_state
   read_bears p m byte = by p (reading_of m) (read_right m byte)
     where
-      by : (p : Phase) (r : Reading) → ((g : Message) → r ≡ Reading.Whole g → entry_ok (entry_by g.fec) ≡ true) → Bears (received_further (state_of im) p r) (taken_as (state_of im) p r).state
+      by : (p : Phase) (r : Option Message) → ((g : Message) → r ≡ Some g → entry_ok (entry_by g.fec) ≡ true) → Bears (received_further (state_of im) p r) (taken_as (state_of im) p r).state
       by Phase.Idle r ok = same_bears
       by (Phase.InitWait v) r ok = same_bears
-      by (Phase.UpFT u) Reading.Malformed ok = same_bears
-      by (Phase.UpFT u) (Reading.Whole g) ok =
+      by (Phase.UpFT u) None ok = same_bears
+      by (Phase.UpFT u) (Some g) ok =
           let k : ℕ = ack_count (ack_on (state_of im) g) in
           let a : ℕ = ack_borne (state_of im) g.ack in
           record { ids = taken-borne im law k a g; index = taken_indexed im law k a g; right = taken_right k a g (ok g refl) }
@@ -225,22 +223,22 @@ module _ (im : List ℕ) (ph : Phase) (st : Standing im ph) where
   unfolding sent_state
   sent-bears n = pick_all (Bears same) (ltb n (issued_count (state_of im))) {x = state_of im} {y = numbered (state_of im) n} same_bears (numbered-bears n)
 
-  accepted_right : (j : Submission) (entry : ℕ) → entry_ok entry ≡ true → (i : ℕ) → entry_ok (get_or (accepted_index (state_of im).table j entry) i 0) ≡ true
+  accepted_right : (j : Result (Kind × ℕ) SubmissionError) (entry : ℕ) → entry_ok entry ≡ true → (i : ℕ) → entry_ok (get_or (accepted_index (state_of im).table j entry) i 0) ≡ true
   unfolding index_accepted
-  accepted_right Submission.Malformed entry ok = right_now
-  accepted_right Submission.Refused entry ok = right_now
-  accepted_right (Submission.Accepted Kind.Mapping label) entry ok =
+  accepted_right (Err SubmissionError.Malformed) entry ok = right_now
+  accepted_right (Err SubmissionError.Refused) entry ok = right_now
+  accepted_right (Ok (Kind.Mapping, label)) entry ok =
       put_right (taken_at (find_of (stands_for Side.Given label) (state_of im).table.words) (plan_change (plan_of (state_of im).table.words LabelMessage.Mapping label))) entry
       (state_of im).table.index ok right_now
-  accepted_right (Submission.Accepted Kind.Withdraw label) entry ok = right_now
-  accepted_right (Submission.Accepted Kind.Release label) entry ok = right_now
-  accepted_right (Submission.Accepted Kind.Address label) entry ok = right_now
-  accepted_right (Submission.Accepted Kind.AddressWithdraw label) entry ok = right_now
-  accepted_right (Submission.Accepted Kind.ResourcesAvailable label) entry ok = right_now
-  accepted_right (Submission.Accepted (Kind.Request id) label) entry ok = right_now
-  accepted_right (Submission.Accepted (Kind.Abort id) label) entry ok = right_now
-  accepted_right (Submission.Accepted Kind.NoResources label) entry ok = right_now
-  accepted_right (Submission.Accepted Kind.NoKind label) entry ok = right_now
+  accepted_right (Ok (Kind.Withdraw, label)) entry ok = right_now
+  accepted_right (Ok (Kind.Release, label)) entry ok = right_now
+  accepted_right (Ok (Kind.Address, label)) entry ok = right_now
+  accepted_right (Ok (Kind.AddressWithdraw, label)) entry ok = right_now
+  accepted_right (Ok (Kind.ResourcesAvailable, label)) entry ok = right_now
+  accepted_right (Ok (Kind.Request id, label)) entry ok = right_now
+  accepted_right (Ok (Kind.Abort id, label)) entry ok = right_now
+  accepted_right (Ok (Kind.NoResources, label)) entry ok = right_now
+  accepted_right (Ok (Kind.NoKind, label)) entry ok = right_now
 
   submitted-bears : (m : List ℕ) → Bytes m → Bears (submitted_further (state_of im).table m) (submitted (state_of im) m)
   unfolding submitted

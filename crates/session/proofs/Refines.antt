@@ -1,11 +1,12 @@
 -- Every call on an image that stands is the protocol's step on the state that the image stands for, and what it leaves stands. Assumes nothing.
+use Rattle.std.specs.Prelude.{Result}
 use Prim.Native.Nat.{ℕ, ◌≤◌}
 use mathlib.Core.Bool.{true, false}
 use mathlib.Core.List.{List, []}
 use mathlib.Core.Path.{◌≡◌, refl, sym, ap, ◌∙◌}
 use native.Mathlib.Omega.{arith}
 use lib.ListN.{length}
-use Rattle.image.specs.declared.Verdict.{Verdict}
+use Rattle.image.specs.declared.ImageFault.{ImageFault}
 use Rattle.image.specs.State.{InRange, decode}
 use Rattle.image.specs.Verdict.{IsSound}
 use Rattle.image.proofs.Changes.{new_decodes}
@@ -68,8 +69,8 @@ module _ (im : List ℕ) (ph : Phase) (st : Standing im ph) (out : List ℕ) whe
   unfolding call_of settle_of settle effect_of step
   restored =
       called restores im ph out refl
-      ∙ ap (λ (v : Verdict). settle_of (checked v Answer.Done) Phase.Idle im [] (step_stored im stay same (restore (state_of im)) [])) (parts_sound im st.sound)
-      ∙ ap (λ (v : Verdict). settle_of (checked v Answer.Done) ph im [] (step_stored im stay same (restore (state_of im)) [])) (sym (parts_sound im st.sound))
+      ∙ ap (λ (v : Result Unit ImageFault). settle_of (checked v Answer.Done) Phase.Idle im [] (step_stored im stay same (restore (state_of im)) [])) (parts_sound im st.sound)
+      ∙ ap (λ (v : Result Unit ImageFault). settle_of (checked v Answer.Done) ph im [] (step_stored im stay same (restore (state_of im)) [])) (sym (parts_sound im st.sound))
 
   restore-keeps : is_done Answer.Done ≡ true → Kept im stay same (restore (state_of im))
   unfolding judged done

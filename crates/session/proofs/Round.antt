@@ -1,4 +1,5 @@
 -- A session whose numbers have just gone round, as P4 to P7 have it: "R=0xFFFFFFFE, I=1", both messages held. Assumes nothing.
+use Rattle.std.specs.Prelude.{Some}
 use Prim.Native.Nat.{ℕ, ◌≤◌, ◌<◌}
 use mathlib.Core.Bool.{true≢false, false}
 use mathlib.Core.List.{List, [], ◌∷◌, ◌++◌}
@@ -8,17 +9,13 @@ use lib.ListN.{length}
 use Rattle.octets.specs.Bytes.{Bytes}
 use Rattle.octets.proofs.Fill.{zeros_at}
 use Rattle.block.specs.Run.{Words}
-use Rattle.ft_number.specs.declared.Ack.{Ack}
-use Rattle.ft_number.specs.declared.Steps.TheVariants.{Count}
 use Rattle.ft_number.specs.Ack.{ack_of}
 use Rattle.ft_number.specs.Circle.{steps_of}
 use Rattle.label_list.specs.Find.{any}
 use Rattle.label_list.specs.Word.{word_count}
-use Rattle.tlv.specs.declared.FtField.{FtField}
 use Rattle.block0.specs.Layout.{slot_count, no_labels}
 use Rattle.fec_index.proofs.Counted.{none_right}
 use Rattle.message.specs.declared.Message.{Message}
-use Rattle.message.specs.declared.Reading.{Reading}
 use Rattle.message.specs.Kinds.{kind_of}
 use Rattle.message.specs.Reading.{reading_of}
 use Rattle.message_writer.specs.ReadBack.{keepalive_message}
@@ -59,7 +56,7 @@ round i q = with_queue (with_issued (with_released (fresh terms) (record { 0 = 0
 -- so many of the messages held are issued
 pub record Issued (i n : ℕ) (q : List (List ℕ)) : Type 0 where
   pub low : i < 4294967296
-  pub reaches : steps_of 0xFFFFFFFE i ≡ Count n
+  pub reaches : steps_of 0xFFFFFFFE i ≡ Some n
   pub within : n ≤ length q
 
 lawful_round : (i n : ℕ) (q : List (List ℕ)) → Issued i n q → length q ≤ capacity → AllStorable q → Lawful (round i q)
@@ -168,18 +165,18 @@ pub record Alive (k : ℕ) : Type 0 where
   pub message : List ℕ
   pub read : Message
   pub bytes : Bytes message
-  pub whole : reading_of message ≡ Reading.Whole read
+  pub whole : reading_of message ≡ Some read
   pub taken : ft_rule (round 1 (address ∷ address ∷ [])) false read ≡ Answer.Done
-  pub count : ack_on (round 1 (address ∷ address ∷ [])) read ≡ Ack.Releases k
+  pub count : ack_on (round 1 (address ∷ address ∷ [])) read ≡ Some k
 
 -- P4: "ACK 1 releases 2"
 pub alive_two : Alive 2
 unfolding fresh ft_rule message_rule ack_on ack_of steps_of labels_rule protection_rule label_effect kind_of
 alive_two = record {
   message = alive_with 0 0 0 1;
-  read = keepalive_message (record { 0 = 1 }) (FtField.Number (record { 0 = 1 }));
+  read = keepalive_message (record { 0 = 1 }) (Some (record { 0 = 1 }));
   bytes = alive-bytes 0 0 0 1 (omega arith) (omega arith) (omega arith) (omega arith);
-  whole = keepalive_reads (record { 0 = 1 }) (FtField.Number (record { 0 = 1 })) (omega arith) (omega arith);
+  whole = keepalive_reads (record { 0 = 1 }) (Some (record { 0 = 1 })) (omega arith) (omega arith);
   taken = refl;
   count = refl;
 }
@@ -189,9 +186,9 @@ pub alive_none : Alive 0
 unfolding fresh ft_rule message_rule ack_on ack_of steps_of labels_rule protection_rule label_effect kind_of
 alive_none = record {
   message = alive_with 255 255 255 254;
-  read = keepalive_message (record { 0 = 1 }) (FtField.Number (record { 0 = 0xFFFFFFFE }));
+  read = keepalive_message (record { 0 = 1 }) (Some (record { 0 = 0xFFFFFFFE }));
   bytes = alive-bytes 255 255 255 254 (omega arith) (omega arith) (omega arith) (omega arith);
-  whole = keepalive_reads (record { 0 = 1 }) (FtField.Number (record { 0 = 0xFFFFFFFE })) (omega arith) (omega arith);
+  whole = keepalive_reads (record { 0 = 1 }) (Some (record { 0 = 0xFFFFFFFE })) (omega arith) (omega arith);
   taken = refl;
   count = refl;
 }

@@ -1,4 +1,5 @@
 -- A fresh session and an Address message: what the wrong keepers are tried on. Assumes nothing.
+use Rattle.std.specs.Prelude.{Ok}
 use Prim.Native.Nat.{ℕ, zero, suc, ◌<◌}
 use mathlib.Core.Bool.{true, false}
 use mathlib.Core.List.{List, [], ◌∷◌}
@@ -13,7 +14,6 @@ use Rattle.tlv.specs.Tlv.{tlv_of}
 use Rattle.tlv.specs.Value.{field_at, number_at}
 use Rattle.tlv.specs.Walk.{tlvs_of, walk_of, turn_of, noted_of}
 use Rattle.message.specs.declared.Kind.{Kind}
-use Rattle.message.specs.declared.Submission.{Submission}
 use Rattle.message.specs.Kinds.{kind_of}
 use Rattle.message.specs.Reading.{type_of, message_of, places_of, reading_of}
 use Rattle.message.specs.Storable.{Storable}
@@ -37,7 +37,7 @@ terms = record { timeout = 5; keepalive = 30; maxpdu = 4096 }
 abbrev pub address : List ℕ
 address = 3 ∷ 0 ∷ 0 ∷ 4 ∷ 0 ∷ 0 ∷ 0 ∷ 1 ∷ []
 
-address_accepted : submission_of address ≡ Submission.Accepted Kind.Address no_label
+address_accepted : submission_of address ≡ Ok (Kind.Address, no_label)
 unfolding submission_of reading_of places_of tlvs_of walk_of fix steps turn_of type_of bears_ft message_of kind_of
 address_accepted = refl
 

@@ -1,4 +1,5 @@
 -- The agreed timeout that an image stores: it stays over every call but an Init that is taken, which stores the lesser of both, and a release. Assumes nothing.
+use Rattle.std.specs.Prelude.{Some}
 use Prim.Native.Nat.{ℕ}
 use mathlib.Core.Bool.{Bool}
 use mathlib.Core.List.{List}
@@ -6,9 +7,7 @@ use mathlib.Core.Path.{◌≡◌, sym, ap, ◌∙◌}
 use lib.ListN.{length}
 use Rattle.ft_number.specs.declared.Timeout.{Timeout}
 use Rattle.ft_number.specs.Timeout.{lesser_of, millis_of}
-use Rattle.tlv.specs.declared.Session.{Session}
 use Rattle.message.specs.declared.Message.{Message}
-use Rattle.message.specs.declared.Reading.{Reading}
 use Rattle.message.specs.Reading.{reading_of}
 use Rattle.protocol.specs.declared.Answer.{Answer}
 use Rattle.protocol.specs.declared.Phase.{Phase}
@@ -31,7 +30,7 @@ module _ (im : List ℕ) (ph : Phase) (st : Standing im ph) (out : List ℕ) whe
   timeout_stored c p = rw (refines im ph st out c p) (timeout_from (state_of im) ph c (length out))
 
   -- an Init with FT Session that is answered Done stores the lesser of our proposal, which the phase bears, and the peer's
-  pub agreed-stored : (m : List ℕ) → Proper (greets m) ph → {g : Message} {r : Bool} {n : Timeout} → reading_of m ≡ Reading.Whole g → g.session ≡ Session.Given r n
+  pub agreed-stored : (m : List ℕ) → Proper (greets m) ph → {g : Message} {r : Bool} {n : Timeout} → reading_of m ≡ Some g → g.session ≡ Some (record { reconnect = r; timeout = n })
       → (seen (leaves (greets m) im ph out)).answer ≡ Answer.Done → (seen (leaves (greets m) im ph out)).state.terms.timeout ≡ lesser_of (proposal_of ph) (millis_of n)
   unfolding step
   agreed-stored m p read e d =

@@ -1,4 +1,5 @@
 -- What a call tells its owner: whether block 0 and the further blocks changed, and the slot, which is not live; every other block keeps its bytes. Assumes nothing.
+use Rattle.std.specs.Prelude.{Result, Ok, Err, Option, Some, None}
 use Prim.Native.Nat.{ℕ, ◌<◌, ◌≤◌}
 use mathlib.Core.Bool.{Bool, true, false, true≢false}
 use mathlib.Core.List.{List}
@@ -12,8 +13,6 @@ use Rattle.octets.specs.Pick.{pick}
 use Rattle.octets.proofs.Choice.{no, by_test}
 use Rattle.octets.proofs.Differ.{differ_self}
 use Rattle.ft_number.specs.declared.MessageId.{MessageId}
-use Rattle.label_list.specs.declared.Found.{Found}
-use Rattle.label_list.specs.declared.Found.TheVariants.{At, Nowhere}
 use Rattle.label_list.specs.declared.LabelMessage.{LabelMessage}
 use Rattle.label_list.specs.declared.Side.{Side}
 use Rattle.label_list.specs.Find.{find_of, is_found}
@@ -21,18 +20,17 @@ use Rattle.label_list.specs.Requests.{open_at}
 use Rattle.label_list.specs.Rules.{sent_side}
 use Rattle.label_list.specs.Word.{is_free, request_word, stands_for}
 use Rattle.block0.specs.Layout.{slot_count}
-use Rattle.label_events.specs.declared.Plan.{Plan}
 use Rattle.label_events.specs.Accept.{plan_change, plan_of}
 use Rattle.label_events.specs.Change.{take_free, taken_at}
 use Rattle.label_events.specs.Requests.{asked_plan}
 use Rattle.message.specs.declared.Kind.{Kind}
-use Rattle.message.specs.declared.Reading.{Reading}
-use Rattle.message.specs.declared.Submission.{Submission}
+use Rattle.message.specs.declared.Message.{Message}
+use Rattle.message.specs.declared.SubmissionError.{SubmissionError}
 use Rattle.message.specs.Reading.{reading_of}
 use Rattle.message.specs.Submission.{submission_of, entry_in}
 use Rattle.label_meaning.proofs.Effect.{free_word}
 use Rattle.label_meaning.proofs.Requests.{free-plain}
-use Rattle.image.specs.declared.Verdict.{Verdict}
+use Rattle.image.specs.declared.ImageFault.{ImageFault}
 use Rattle.image.specs.Sizes.{block, block_of, request_block}
 use Rattle.image.specs.State.{NotLive, decode}
 use Rattle.image.specs.Verdict.{IsSound, verdict}
@@ -69,17 +67,17 @@ use Rattle.session.proofs.Settles.{answer_on, done_on, ends}
 use Rattle.session.proofs.Taking.{accepted_dead}
 
 -- ---- a message that is put into a slot may be held, and there is room: by a Submit that is done
-start_fits : (im : List ℕ) (s : Start) → SlotFits im (start_slots s)
-start_fits im (Start.Refused a) = tt
-start_fits im Start.Plain = tt
-start_fits im (Start.Fresh t) = tt
-start_fits im (Start.Resumed t k a) = tt
+start_fits : (im : List ℕ) (s : Result Start Answer) → SlotFits im (start_slots s)
+start_fits im (Err a) = tt
+start_fits im (Ok Start.Plain) = tt
+start_fits im (Ok (Start.Fresh t)) = tt
+start_fits im (Ok (Start.Resumed t k a)) = tt
 
-taken_fits : (im : List ℕ) (s : State) (ph : Phase) (r : Reading) → SlotFits im (received_slots s ph r)
+taken_fits : (im : List ℕ) (s : State) (ph : Phase) (r : Option Message) → SlotFits im (received_slots s ph r)
 taken_fits im s Phase.Idle r = tt
 taken_fits im s (Phase.InitWait v) r = tt
-taken_fits im s (Phase.UpFT u) Reading.Malformed = tt
-taken_fits im s (Phase.UpFT u) (Reading.Whole g) = tt
+taken_fits im s (Phase.UpFT u) None = tt
+taken_fits im s (Phase.UpFT u) (Some g) = tt
 taken_fits im s Phase.UpPlain r = tt
 taken_fits im s Phase.Failed r = tt
 
@@ -92,34 +90,34 @@ asked_fits : (im : List ℕ) (id : MessageId) (label : ℕ) → FurtherFits im (
 unfolding accepted_change asked_plan
 asked_fits im id label = by (is_found (open_at id (state_of im).table.words (state_of im).table.ids)) (find_of is_free (state_of im).table.words) refl
   where
-    by : (b : Bool) (f : Found) → find_of is_free (state_of im).table.words ≡ f
-        → FurtherFits im (id_put (plan_change (pick b Plan.Refused (Plan.Allowed (take_free f request_word)))) id)
+    by : (b : Bool) (f : Option ℕ) → find_of is_free (state_of im).table.words ≡ f
+        → FurtherFits im (id_put (plan_change (pick b None (Some (take_free f request_word)))) id)
     by true f e = tt
-    by false (At i) e = free-plain (get_or (decode im).labels i 0) (free_word (decode im).labels i (sym e) refl)
-    by false Nowhere e = tt
+    by false (Some i) e = free-plain (get_or (decode im).labels i 0) (free_word (decode im).labels i (sym e) refl)
+    by false None e = tt
 
-submitted_fits : (im : List ℕ) (j : Submission) (entry : ℕ) → FurtherFits im (further_left (state_of im).table j entry)
+submitted_fits : (im : List ℕ) (j : Result (Kind × ℕ) SubmissionError) (entry : ℕ) → FurtherFits im (further_left (state_of im).table j entry)
 unfolding accepted_further accepted_change sent_side
-submitted_fits im Submission.Malformed entry = tt
-submitted_fits im Submission.Refused entry = tt
-submitted_fits im (Submission.Accepted Kind.Mapping label) entry =
+submitted_fits im (Err SubmissionError.Malformed) entry = tt
+submitted_fits im (Err SubmissionError.Refused) entry = tt
+submitted_fits im (Ok (Kind.Mapping, label)) entry =
     dead_fits im (taken_at (find_of (stands_for Side.Given label) (decode im).labels) (plan_change (plan_of (decode im).labels LabelMessage.Mapping label))) entry
     (accepted_dead (decode im).labels LabelMessage.Mapping label)
-submitted_fits im (Submission.Accepted Kind.Withdraw label) entry = tt
-submitted_fits im (Submission.Accepted Kind.Release label) entry = tt
-submitted_fits im (Submission.Accepted Kind.Address label) entry = tt
-submitted_fits im (Submission.Accepted Kind.AddressWithdraw label) entry = tt
-submitted_fits im (Submission.Accepted Kind.ResourcesAvailable label) entry = tt
-submitted_fits im (Submission.Accepted (Kind.Request id) label) entry = asked_fits im id label
-submitted_fits im (Submission.Accepted (Kind.Abort id) label) entry = tt
-submitted_fits im (Submission.Accepted Kind.NoResources label) entry = tt
-submitted_fits im (Submission.Accepted Kind.NoKind label) entry = tt
+submitted_fits im (Ok (Kind.Withdraw, label)) entry = tt
+submitted_fits im (Ok (Kind.Release, label)) entry = tt
+submitted_fits im (Ok (Kind.Address, label)) entry = tt
+submitted_fits im (Ok (Kind.AddressWithdraw, label)) entry = tt
+submitted_fits im (Ok (Kind.ResourcesAvailable, label)) entry = tt
+submitted_fits im (Ok (Kind.Request id, label)) entry = asked_fits im id label
+submitted_fits im (Ok (Kind.Abort id, label)) entry = tt
+submitted_fits im (Ok (Kind.NoResources, label)) entry = tt
+submitted_fits im (Ok (Kind.NoKind, label)) entry = tt
 
-heard_fits : (im : List ℕ) (ph : Phase) (r : Reading) → FurtherFits im (received_further (state_of im) ph r)
+heard_fits : (im : List ℕ) (ph : Phase) (r : Option Message) → FurtherFits im (received_further (state_of im) ph r)
 heard_fits im Phase.Idle r = tt
 heard_fits im (Phase.InitWait v) r = tt
-heard_fits im (Phase.UpFT u) Reading.Malformed = tt
-heard_fits im (Phase.UpFT u) (Reading.Whole g) = received_fits im g
+heard_fits im (Phase.UpFT u) None = tt
+heard_fits im (Phase.UpFT u) (Some g) = received_fits im g
 heard_fits im Phase.UpPlain r = tt
 heard_fits im Phase.Failed r = tt
 
@@ -151,18 +149,18 @@ slots_fit (keeps-alive id) im ph room d = tt
 slots_fit (receives m) im ph room d = taken_fits im (state_of im) ph (reading_of m)
 
 -- ---- a call that does more than refuse was given a sound image
-checked-done : (v : Verdict) (a : Answer) → checked v a ≡ Answer.Done → (v ≡ Verdict.Sound) × (a ≡ Answer.Done)
-checked-done Verdict.Sound a e = (refl, e)
-checked-done Verdict.WrongSize a e = no (cc)
-checked-done (Verdict.BadBlock b) a e = no (cc)
-checked-done (Verdict.BadField b) a e = no (cc)
+checked-done : (v : Result Unit ImageFault) (a : Answer) → checked v a ≡ Answer.Done → (v ≡ Ok tt) × (a ≡ Answer.Done)
+checked-done (Ok tt) a e = (refl, e)
+checked-done (Err ImageFault.WrongSize) a e = no (cc)
+checked-done (Err (ImageFault.BadBlock b)) a e = no (cc)
+checked-done (Err (ImageFault.BadField b)) a e = no (cc)
 
-checked-more : (v : Verdict) (a : Answer) → (effect_of (checked v a) ≡ Effect.Nothing → ⊥) → v ≡ Verdict.Sound
+checked-more : (v : Result Unit ImageFault) (a : Answer) → (effect_of (checked v a) ≡ Effect.Nothing → ⊥) → v ≡ Ok tt
 unfolding effect_of
-checked-more Verdict.Sound a more = refl
-checked-more Verdict.WrongSize a more = absurd (more refl)
-checked-more (Verdict.BadBlock b) a more = absurd (more refl)
-checked-more (Verdict.BadField b) a more = absurd (more refl)
+checked-more (Ok tt) a more = refl
+checked-more (Err ImageFault.WrongSize) a more = absurd (more refl)
+checked-more (Err (ImageFault.BadBlock b)) a more = absurd (more refl)
+checked-more (Err (ImageFault.BadField b)) a more = absurd (more refl)
 
 -- what a call leaves that works on an image: as it was, or a state stored with a ring of slots
 module _ (c : Call) (im : List ℕ) (ph : Phase) (out : List ℕ) (other : makes_image c ≡ false) where

@@ -1,4 +1,5 @@
 -- Open and KeepAlive leave the image as it is, whatever they answer, and ask nothing to be stored; the image is bytes. Assumes nothing.
+use Rattle.std.specs.Prelude.{Result, Ok, Err}
 use Prim.Native.Nat.{ℕ}
 use mathlib.Core.Bool.{false}
 use mathlib.Core.List.{List}
@@ -10,7 +11,7 @@ use Rattle.octets.proofs.Differ.{differ_self}
 use Rattle.ft_number.specs.declared.MessageId.{MessageId}
 use Rattle.ft_number.specs.declared.Proposal.{Proposal}
 use Rattle.message_writer.specs.declared.OwnParameters.{OwnParameters}
-use Rattle.image.specs.declared.Verdict.{Verdict}
+use Rattle.image.specs.declared.ImageFault.{ImageFault}
 use Rattle.image.specs.Sizes.{block}
 use Rattle.image.specs.Verdict.{verdict}
 use Rattle.image.proofs.Sound.{sound_parts}
@@ -43,11 +44,11 @@ never a h =
     ((λ e. let z : Effect.Act ≡ Effect.Fail = sym act ∙ e in no cc), (λ e. let z : Effect.Act ≡ Effect.Release = sym act ∙ e in no cc)))
     (λ n. ((λ e. let z : Effect.Nothing ≡ Effect.Fail = sym (h n) ∙ e in no cc), (λ e. let z : Effect.Nothing ≡ Effect.Release = sym (h n) ∙ e in no cc)))
 
-checked-sound : (v : Verdict) (a : Answer) → checked v a ≡ Answer.Done → v ≡ Verdict.Sound
-checked-sound Verdict.Sound a e = refl
-checked-sound Verdict.WrongSize a e = no cc
-checked-sound (Verdict.BadBlock b) a e = no cc
-checked-sound (Verdict.BadField b) a e = no cc
+checked-sound : (v : Result Unit ImageFault) (a : Answer) → checked v a ≡ Answer.Done → v ≡ Ok tt
+checked-sound (Ok tt) a e = refl
+checked-sound (Err ImageFault.WrongSize) a e = no cc
+checked-sound (Err (ImageFault.BadBlock b)) a e = no cc
+checked-sound (Err (ImageFault.BadField b)) a e = no cc
 
 module _ (c : Call) (im : List ℕ) (ph : Phase) (out : List ℕ) (byte : Bytes im) (quiet : hears c ≡ false) (other : makes_image c ≡ false)
     (stays : slots_left c (state_of im) ph ≡ stay) (none : further_put c (state_of im) ph ≡ same) (still : (done c (state_of im) ph).state ≡ state_of im) where

@@ -1,9 +1,8 @@
 -- 01, "Strength of the promises": "Show these fail: a keeper that always refuses ..; one constant answer ..; one that queues and never stores ..;
 -- one that re-issues everything at the first send and later only nods ..; one that invents held or released counts".
-use Rattle.std.specs.Prelude.{ℕ, ◌+◌, ◌-◌, ◌≤◌, Bool, false, List, [], ◌≢◌, ◌⊎◌, ◌≡◌}
+use Rattle.std.specs.Prelude.{Some, ℕ, ◌+◌, ◌-◌, ◌≤◌, Bool, false, List, [], ◌≢◌, ◌⊎◌, ◌≡◌}
 use Rattle.octets.specs.Bytes.{Bytes}
 use Rattle.message.specs.declared.Message.{Message}
-use Rattle.message.specs.declared.Reading.{Reading}
 use Rattle.message.specs.Reading.{reading_of}
 use Rattle.protocol.specs.declared.Answer.{Answer}
 use Rattle.protocol.specs.declared.Phase.{Phase}
@@ -44,7 +43,7 @@ pub record Taking (keeper : Keeper) : Type 0 where
   pub read : Message
   pub standing : Standing image (Phase.UpFT progress)
   pub bytes : Bytes message
-  pub whole : reading_of message ≡ Reading.Whole read
+  pub whole : reading_of message ≡ Some read
   pub done : (keeper (receives message) image (Phase.UpFT progress) []).outcome.answer ≡ Answer.Done
 
 -- the state before it, and the state that the keeper leaves

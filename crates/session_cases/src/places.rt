@@ -151,12 +151,10 @@ pub fn copy_bytes(images: &mut [u8], to: u32, from: u32, size: u32) -> bool {
     if behind(from, size) > images.len() {
         return false;
     }
-    let mut i: u32 = 0;
-    while i < size {
+    for i in 0..size {
         let source = behind(from, i);
         let target = behind(to, i);
         images[target] = images[source];
-        i += 1;
     }
     true
 }

@@ -13,14 +13,9 @@ pub fn first(bytes: &[u8], count: usize) -> &[u8]
 
 // Where a separator first stands in a text; its end where it stands nowhere.
 fn find(text: &[u8], separator: u8) -> usize {
-    let mut i: usize = 0;
-    while i < text.len() {
-        if text[i] == separator {
-            return i;
-        }
-        i += 1;
-    }
-    i
+    text.iter()
+        .position(|&byte| byte == separator)
+        .unwrap_or(text.len())
 }
 
 // The text in front of a separator; all of it where there is none.
@@ -84,10 +79,8 @@ pub fn read_number(text: &[u8]) -> u32 {
         return NONE;
     }
     let mut n: u32 = 0;
-    let mut i: usize = 0;
-    while i < text.len() {
-        n = with_digit(n, text[i]);
-        i += 1;
+    for &digit in text {
+        n = with_digit(n, digit);
     }
     n
 }
@@ -155,14 +148,12 @@ pub fn read_hex(text: &[u8], bytes: &mut [u8]) -> usize {
     if size > bytes.len() {
         return UNREADABLE;
     }
-    let mut i: usize = 0;
-    while i < size {
+    for i in 0..size {
         let byte = byte_value(text[2 * i], text[2 * i + 1]);
         if byte > 255 {
             return UNREADABLE;
         }
         bytes[i] = byte as u8;
-        i += 1;
     }
     size
 }

@@ -3,10 +3,8 @@ use crate::script::first;
 use calls::{Answer, Outcome, Phase};
 use ft_number::MessageId;
 use image::Counts;
-use image_report::Report;
 use std::io;
 use std::io::Write;
-use tlv::IdField;
 
 pub fn say(to: &mut impl Write, s: &[u8]) -> io::Result<()> {
     to.write_all(s)
@@ -141,24 +139,24 @@ fn show_numbers(to: &mut impl Write, c: Counts) -> io::Result<()> {
 }
 
 // The open Request at a label word; none too in an image that is refused, and where there is no such word.
-fn request_at(image: &[u8], place: u32) -> IdField {
+fn request_at(image: &[u8], place: u32) -> Option<MessageId> {
     if image::verdict_number(image::check_image(image)) != 0 {
-        return IdField::Absent;
+        return None;
     }
     if label_list::WORD_COUNT <= place as usize {
-        return IdField::Absent;
+        return None;
     }
     if image::label_at(image, place as usize) != label_list::REQUEST_WORD {
-        return IdField::Absent;
+        return None;
     }
-    IdField::Id(MessageId(image::id_at(image, place as usize)))
+    Some(MessageId(image::id_at(image, place as usize)))
 }
 
 // Whether a label word is an open Request's, and its ID.
 pub fn show_request(to: &mut impl Write, image: &[u8], place: u32) -> io::Result<()> {
     match request_at(image, place) {
-        IdField::Absent => say(to, b" open 0 id 0\n"),
-        IdField::Id(id) => {
+        None => say(to, b" open 0 id 0\n"),
+        Some(id) => {
             number(to, b" open 1 id ", id.0 as u64)?;
             say(to, b"\n")
         }
@@ -168,10 +166,10 @@ pub fn show_request(to: &mut impl Write, image: &[u8], place: u32) -> io::Result
 // The counts of an image.
 pub fn show_counts(to: &mut impl Write, image: &[u8]) -> io::Result<()> {
     match image_report::report_of(image) {
-        Report::Counted(c) => show_numbers(to, c)?,
-        Report::Refused(answer, block) => {
-            number(to, b" refused ", answer as u64)?;
-            number(to, b" block ", block as u64)?;
+        Ok(c) => show_numbers(to, c)?,
+        Err(fault) => {
+            number(to, b" refused ", image::verdict_number(Err(fault)) as u64)?;
+            number(to, b" block ", image::verdict_block(Err(fault)) as u64)?;
         }
     }
     say(to, b"\n")

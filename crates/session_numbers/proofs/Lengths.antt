@@ -1,4 +1,5 @@
 -- What a call writes is a message of at most 496 bytes. Assumes nothing.
+use Rattle.std.specs.Prelude.{Option, Some, None}
 use Prim.Native.Nat.{ℕ, ◌≤◌}
 use mathlib.Core.Bool.{Bool}
 use mathlib.Core.List.{List}
@@ -6,11 +7,11 @@ use mathlib.Core.Path.{◌≡◌, ap}
 use native.Mathlib.Omega.{arith}
 use lib.ListN.{length}
 use Rattle.octets.proofs.Choice.{pick_all}
+use Rattle.ft_number.specs.declared.FtNumber.{FtNumber}
 use Rattle.ft_number.specs.declared.MessageId.{MessageId}
 use Rattle.ft_number.specs.declared.Timeout.{Timeout}
 use Rattle.ft_number.specs.Timeout.{proposed_of}
-use Rattle.tlv.specs.declared.FtField.{FtField}
-use Rattle.message.specs.declared.Reading.{Reading}
+use Rattle.message.specs.declared.Message.{Message}
 use Rattle.message.specs.Reading.{reading_of}
 use Rattle.message.specs.Storable.{Storable}
 use Rattle.message_writer.specs.declared.OwnParameters.{OwnParameters}
@@ -37,27 +38,27 @@ use Rattle.protocol.proofs.Settling.{admitted-done}
 use Rattle.calls.specs.State.{state_of}
 use Rattle.session_numbers.specs.Outcome.{longest_written}
 
-ack_short : (ack : FtField) → length (ack_tlv ack) ≤ 8
-ack_short FtField.Absent = omega arith
-ack_short (FtField.Number a) = omega arith
+ack_short : (ack : Option FtNumber) → length (ack_tlv ack) ≤ 8
+ack_short None = omega arith
+ack_short (Some a) = omega arith
 
-init-short : (id : MessageId) (p : OwnParameters) (t : Timeout) (ack : FtField) → length (init_bytes id p t ack) ≤ longest_written
-init-short id p (Timeout.Seconds n) FtField.Absent = omega arith
-init-short id p (Timeout.Seconds n) (FtField.Number a) = omega arith
-init-short id p (Timeout.Milliseconds n) FtField.Absent = omega arith
-init-short id p (Timeout.Milliseconds n) (FtField.Number a) = omega arith
+init-short : (id : MessageId) (p : OwnParameters) (t : Timeout) (ack : Option FtNumber) → length (init_bytes id p t ack) ≤ longest_written
+init-short id p (Timeout.Seconds n) None = omega arith
+init-short id p (Timeout.Seconds n) (Some a) = omega arith
+init-short id p (Timeout.Milliseconds n) None = omega arith
+init-short id p (Timeout.Milliseconds n) (Some a) = omega arith
 
-alive-short : (id : MessageId) (ack : FtField) → length (keepalive_bytes id ack) ≤ longest_written
-alive-short id FtField.Absent = omega arith
-alive-short id (FtField.Number a) = omega arith
+alive-short : (id : MessageId) (ack : Option FtNumber) → length (keepalive_bytes id ack) ≤ longest_written
+alive-short id None = omega arith
+alive-short id (Some a) = omega arith
 
 -- nothing is written to what is received
-taken-short : (s : State) (ph : Phase) (r : Reading) → length (taken_as s ph r).output ≤ longest_written
+taken-short : (s : State) (ph : Phase) (r : Option Message) → length (taken_as s ph r).output ≤ longest_written
 taken-short s ph r = pick_all (λ (x : Step). length x.output ≤ longest_written) (is_up_ft ph) (by r) (omega arith)
   where
-    by : (r : Reading) → length (taken_in_ft s ph r).output ≤ longest_written
-    by Reading.Malformed = omega arith
-    by (Reading.Whole g) = omega arith
+    by : (r : Option Message) → length (taken_in_ft s ph r).output ≤ longest_written
+    by None = omega arith
+    by (Some g) = omega arith
 
 module _ (im : List ℕ) (ph : Phase) (sound : IsSound im) where
   -- a held message has 480 bytes at most, and two TLVs of 8 are added

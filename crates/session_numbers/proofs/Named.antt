@@ -1,10 +1,11 @@
 -- The block that an answer names is a block of the image: restore's checks name one, the phase none. Assumes nothing.
+use Rattle.std.specs.Prelude.{Result, Ok, Err}
 use Prim.Native.Nat.{ℕ, ◌<◌}
 use mathlib.Core.Bool.{not}
 use mathlib.Core.List.{List}
 use native.Mathlib.Omega.{arith}
 use Rattle.octets.proofs.Choice.{pick_all}
-use Rattle.image.specs.declared.Verdict.{Verdict}
+use Rattle.image.specs.declared.ImageFault.{ImageFault}
 use Rattle.image.specs.Sizes.{block_count}
 use Rattle.image.specs.Verdict.{verdict, verdict_block}
 use Rattle.image.proofs.Scans.{verdict_below}
@@ -25,11 +26,11 @@ pub none : 0 < block_count
 none = omega arith
 
 -- what the checks name
-checked_by : (v : Verdict) (a : Answer) → verdict_block v < block_count → Named a → Named (checked v a)
-checked_by Verdict.Sound a l n = n
-checked_by Verdict.WrongSize a l n = none
-checked_by (Verdict.BadBlock b) a l n = l
-checked_by (Verdict.BadField b) a l n = l
+checked_by : (v : Result Unit ImageFault) (a : Answer) → verdict_block v < block_count → Named a → Named (checked v a)
+checked_by (Ok tt) a l n = n
+checked_by (Err ImageFault.WrongSize) a l n = none
+checked_by (Err (ImageFault.BadBlock b)) a l n = l
+checked_by (Err (ImageFault.BadField b)) a l n = l
 
 pub checked_named : (im : List ℕ) (a : Answer) → Named a → Named (checked (verdict im) a)
 checked_named im a n = checked_by (verdict im) a (verdict_below im) n

@@ -1,4 +1,5 @@
 -- The numbers of an outcome have 32 bits, however a call ends: what is written is a message, what is stored and named a block of the image. Assumes nothing.
+use Rattle.std.specs.Prelude.{Result, Ok, Err}
 use Prim.Native.Nat.{ℕ, ◌≤◌}
 use mathlib.Core.Bool.{Bool, true, false≢true}
 use mathlib.Core.List.{List}
@@ -6,7 +7,7 @@ use mathlib.Core.Path.{◌≡◌, refl}
 use native.Mathlib.Omega.{arith}
 use Rattle.octets.proofs.Choice.{by_test}
 use Rattle.block0.specs.Layout.{slot_count}
-use Rattle.image.specs.declared.Verdict.{Verdict}
+use Rattle.image.specs.declared.ImageFault.{ImageFault}
 use Rattle.image.specs.Verdict.{verdict}
 use Rattle.image.proofs.Sound.{sound_parts}
 use Rattle.protocol.specs.declared.Answer.{Answer}
@@ -50,11 +51,11 @@ slot_low im (one_more m) = omega arith
 slot_low im (fewer k) = omega arith
 
 -- ---- each call: the protocol's step on what an image stands for that passed restore's checks
-passed : (v : Verdict) (a : Answer) → is_done (checked v a) ≡ true → v ≡ Verdict.Sound
-passed Verdict.Sound a t = refl
-passed Verdict.WrongSize a t = absurd (false≢true t)
-passed (Verdict.BadBlock b) a t = absurd (false≢true t)
-passed (Verdict.BadField b) a t = absurd (false≢true t)
+passed : (v : Result Unit ImageFault) (a : Answer) → is_done (checked v a) ≡ true → v ≡ Ok tt
+passed (Ok tt) a t = refl
+passed (Err ImageFault.WrongSize) a t = absurd (false≢true t)
+passed (Err (ImageFault.BadBlock b)) a t = absurd (false≢true t)
+passed (Err (ImageFault.BadField b)) a t = absurd (false≢true t)
 
 pub call_narrow : (c : Call) (im : List ℕ) (ph : Phase) (o : List ℕ) (slots : Slots) (f : Further) (room : ℕ)
     → Narrow (call_of im ph o slots f (step c (state_of im) ph room)).outcome

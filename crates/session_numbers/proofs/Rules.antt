@@ -1,11 +1,12 @@
 -- The calls' own tests name no block. Assumes nothing.
+use Rattle.std.specs.Prelude.{Result, Option}
 use Prim.Native.Nat.{ℕ}
 use mathlib.Core.Bool.{Bool, not}
 use mathlib.Core.List.{List}
 use lib.Dec.{leb, ltb}
 use lib.ListN.{length}
 use Rattle.octets.proofs.Choice.{pick_all}
-use Rattle.message.specs.declared.Reading.{Reading}
+use Rattle.message.specs.declared.Message.{Message}
 use Rattle.message.specs.Reading.{reading_of}
 use Rattle.protocol.specs.declared.Answer.{Answer}
 use Rattle.protocol.specs.declared.Phase.{Phase}
@@ -53,7 +54,7 @@ submit_named (no_free_word u y e) = none
 submit_named (store-full u y e l) = none
 submit_named (queues u y e l) = none
 
-start_named : {s : State} {p : ℕ} {rd : Reading} {st : Start} → StartCase s p rd st → Named (start_answer st)
+start_named : {s : State} {p : ℕ} {rd : Option Message} {st : Result Start Answer} → StartCase s p rd st → Named (start_answer st)
 start_named unread = none
 start_named (another_type i) = none
 start_named (without-parameters i e) = none
@@ -65,7 +66,7 @@ start_named (parameters-changed b e) = none
 start_named (sequence_error b e q) = none
 start_named (resumes b e q) = none
 
-receive_named : {s : State} {ph : Phase} {rd : Reading} {a : Answer} → Case s ph rd a → Named a
+receive_named : {s : State} {ph : Phase} {rd : Option Message} {a : Answer} → Case s ph rd a → Named a
 receive_named (wrong_phase m) = none
 receive_named (malformed m) = none
 receive_named (an_init m i) = none

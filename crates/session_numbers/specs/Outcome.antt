@@ -1,5 +1,5 @@
 -- An outcome as numbers, and what a call of the boundary leaves.
-use Rattle.std.specs.Prelude.{ℕ, ◌≤◌, ◌<◌, List}
+use Rattle.std.specs.Prelude.{Option, Some, None, ℕ, ◌≤◌, ◌<◌, List}
 use Rattle.block0.specs.Layout.{slot_count}
 use Rattle.image.specs.Sizes.{block_count}
 use Rattle.image.specs.Verdict.{verdict}
@@ -8,7 +8,6 @@ use Rattle.protocol.specs.declared.Phase.{Phase}
 use Rattle.protocol.specs.Answers.{answer_number, answer_block, effect_of}
 use Rattle.calls.specs.declared.Outcome.{Outcome}
 use Rattle.calls.specs.Outcomes.{After, after_with, refusal, checked}
-use Rattle.session_numbers.specs.declared.Given.{Given}
 use Rattle.session_numbers.specs.declared.OutcomeNumbers.{OutcomeNumbers}
 use Rattle.session_numbers.specs.declared.SessionNumbers.{SessionNumbers}
 use Rattle.session_numbers.specs.Session.{bit_of, session_of, given_of, session_left}
@@ -58,9 +57,9 @@ abbrev pub unknown_phase : List ℕ → Outcome
 unknown_phase im = refusal (checked (verdict im) Answer.WrongPhase) Phase.Idle
 
 -- the session's call in the phase that the numbers stand for
-abbrev pub called_in : Given → List ℕ → List ℕ → (Phase → After) → After
-called_in (Given.Known ph) im o call = call ph
-called_in Given.Unknown im o call = after_with (unknown_phase im) im o
+abbrev pub called_in : Option Phase → List ℕ → List ℕ → (Phase → After) → After
+called_in (Some ph) im o call = call ph
+called_in None im o call = after_with (unknown_phase im) im o
 
 unfoldable pub shown_call : SessionNumbers → List ℕ → List ℕ → (Phase → After) → Shown
 shown_call s im o call = shown_from s (called_in (given_of s) im o call)

@@ -16,13 +16,6 @@ pub struct SessionNumbers {
     pub flags: u32,
 }
 
-// The phase that the numbers stand for, or that there is none.
-#[derive(Clone, Copy)]
-pub enum Given {
-    Known(calls::Phase),
-    Unknown,
-}
-
 // An outcome: its answer's number and block, the session afterwards, the bytes written, the slot's block, block 0 and the further blocks to be stored, and how
 // many messages were left out.
 #[repr(C)]

@@ -1,4 +1,5 @@
 -- A slot with right fields, clause by clause. Assumes nothing.
+use Rattle.std.specs.Prelude.{Result, Ok, Err}
 use Prim.Native.Nat.{ℕ, ◌+◌, ◌≤◌, ◌<◌}
 use mathlib.Core.Bool.{true}
 use mathlib.Core.List.{List}
@@ -15,8 +16,7 @@ use Rattle.block.specs.Check.{block_size, sound}
 use Rattle.block.specs.Zeros.{all_zero}
 use Rattle.tlv.specs.Tlv.{largest_label}
 use Rattle.message.specs.declared.Kind.{Kind}
-use Rattle.message.specs.declared.Submission.{Submission}
-use Rattle.message.specs.declared.Submission.TheVariants.{Malformed, Refused, Accepted}
+use Rattle.message.specs.declared.SubmissionError.{SubmissionError}
 use Rattle.message.specs.Kinds.{kind_number, last_kind}
 use Rattle.message.specs.Storable.{shortest, longest, bears, Storable, kind_in, label_in}
 use Rattle.message.specs.Submission.{no_label, submission_of}
@@ -45,14 +45,14 @@ length_message b long ok =
 pub record Holds (b : List ℕ) : Type 0 where
   pub kind : Kind
   pub label : ℕ
-  pub accepted : submission_of (slot_message b) ≡ Accepted kind label
+  pub accepted : submission_of (slot_message b) ≡ Ok (kind, label)
   pub kinded : kind_number kind ≡ slot_kind b
   pub labelled : label ≡ slot_label b
 
-borne : (b : List ℕ) (j : Submission) → submission_of (slot_message b) ≡ j → bears j (slot_kind b) (slot_label b) ≡ true → Holds b
-borne b Malformed e h = let z : ◌≡◌ {A = ℕ} 0 1 = cc in no z
-borne b Refused e h = let z : ◌≡◌ {A = ℕ} 0 1 = cc in no z
-borne b (Accepted k l) e h =
+borne : (b : List ℕ) (j : Result (Kind × ℕ) SubmissionError) → submission_of (slot_message b) ≡ j → bears j (slot_kind b) (slot_label b) ≡ true → Holds b
+borne b (Err SubmissionError.Malformed) e h = let z : ◌≡◌ {A = ℕ} 0 1 = cc in no z
+borne b (Err SubmissionError.Refused) e h = let z : ◌≡◌ {A = ℕ} 0 1 = cc in no z
+borne b (Ok (k, l)) e h =
     let p = both_true (eqb (kind_number k) (slot_kind b)) (eqb l (slot_label b)) h in
     record { kind = k; label = l; accepted = e; kinded = eqb-true _ _ p.0; labelled = eqb-true _ _ p.1 }
 
@@ -91,7 +91,7 @@ holds_storable b long ok =
 
 -- ---- the slot for a message
 -- a label that Submit takes has 32 bits, and its kind is one of the six
-label_small : (m : List ℕ) (k : Kind) (l : ℕ) → submission_of m ≡ Accepted k l → l < 4294967296
+label_small : (m : List ℕ) (k : Kind) (l : ℕ) → submission_of m ≡ Ok (k, l) → l < 4294967296
 label_small m k l e =
     let a = accepted m k l e in
     ⊎_elim

@@ -1,4 +1,5 @@
 -- The answers of `bears` and `slot_ok`, by the tests that lead to each. Assumes nothing.
+use Rattle.std.specs.Prelude.{Result, Ok, Err}
 use Prim.Native.Nat.{ℕ, ◌+◌, ◌≤◌, ◌<◌}
 use mathlib.Core.Bool.{Bool, true, false, not}
 use mathlib.Core.List.{List}
@@ -11,16 +12,15 @@ use Rattle.octets.specs.Pick.{both}
 use Rattle.block.specs.Check.{check_at, sound}
 use Rattle.block.specs.Zeros.{all_zero}
 use Rattle.message.specs.declared.Kind.{Kind}
-use Rattle.message.specs.declared.Submission.{Submission}
-use Rattle.message.specs.declared.Submission.TheVariants.{Accepted}
+use Rattle.message.specs.declared.SubmissionError.{SubmissionError}
 use Rattle.message.specs.Kinds.{kind_number, last_kind}
 use Rattle.message.specs.Storable.{shortest, longest, bears}
 use Rattle.message.specs.Submission.{submission_of}
-use Rattle.slot.specs.declared.SlotVerdict.TheVariants.{Good, BadCheck, BadFields}
+use Rattle.slot.specs.declared.SlotFault.{SlotFault}
 use Rattle.slot.specs.Fields.{slot_ok, Padded, slot_verdict}
 use Rattle.slot.specs.Layout.{slot_length, slot_kind, slot_label, message_at, slot_message, slot_padding}
 
-module _ (j : Submission) (k : Kind) (l : ℕ) (ej : j ≡ Accepted k l) (n kind : ℕ) (en : n ≡ kind_number k) where
+module _ (j : Result (Kind × ℕ) SubmissionError) (k : Kind) (l : ℕ) (ej : j ≡ Ok (k, l)) (n kind : ℕ) (en : n ≡ kind_number k) where
   pub bears_kind : (label : ℕ) → n ≡ kind → eqb l label ≡ bears j kind label
   bears_kind label e = simp (ej, ← en, eq-eqb n kind e)
 
@@ -77,7 +77,7 @@ module _ (b : List ℕ) (end : ℕ) (p : Padded b end) {k : ℕ} (ek : k ≡ slo
       unfolding slot_ok
       spare_set h = simp (le-leb _ _ p.low, le-leb _ _ p.high, ← ek, le-leb 1 k some, le-leb k last_kind kinds, ← ez, ne_eqb z 0 h)
 
-      pub message_judged : z ≡ 0 → {l : ℕ} → l ≡ slot_label b → {j : Submission} → j ≡ submission_of (part b message_at end)
+      pub message_judged : z ≡ 0 → {l : ℕ} → l ≡ slot_label b → {j : Result (Kind × ℕ) SubmissionError} → j ≡ submission_of (part b message_at end)
           → {r : Bool} → r ≡ bears j k l → r ≡ slot_ok b
       unfolding slot_ok slot_message
       message_judged zero {l} el {j} ej er =
@@ -88,23 +88,23 @@ module _ (b : List ℕ) (end : ℕ) (p : Padded b end) {k : ℕ} (ek : k ≡ slo
 
 -- ---- the check first
 module _ (b : List ℕ) {t : Bool} (et : t ≡ sound b) where
-  pub wrong_sound : false ≡ slot_ok b → t ≡ true → BadFields ≡ slot_verdict b
+  pub wrong_sound : false ≡ slot_ok b → t ≡ true → (Err SlotFault.BadFields) ≡ slot_verdict b
   unfolding slot_verdict
   wrong_sound f h = simp (← et, h, ← f)
 
-  pub wrong_check : t ≡ false → BadCheck ≡ slot_verdict b
+  pub wrong_check : t ≡ false → (Err SlotFault.BadCheck) ≡ slot_verdict b
   unfolding slot_verdict
   wrong_check h = simp (← et, h)
 
-  pub slot_check : not t ≡ true → BadCheck ≡ slot_verdict b
+  pub slot_check : not t ≡ true → (Err SlotFault.BadCheck) ≡ slot_verdict b
   slot_check h = wrong_check (not-true t h)
 
   module _ (fine : not t ≡ false) {u : Bool} (eu : u ≡ slot_ok b) where
-    pub slot_fields : not u ≡ true → BadFields ≡ slot_verdict b
+    pub slot_fields : not u ≡ true → (Err SlotFault.BadFields) ≡ slot_verdict b
     unfolding slot_verdict
     slot_fields h = simp (← et, not-false t fine, ← eu, not-true u h)
 
-    pub slot_right : not u ≡ false → Good ≡ slot_verdict b
+    pub slot_right : not u ≡ false → (Ok tt) ≡ slot_verdict b
     unfolding slot_verdict
     slot_right h = simp (← et, not-false t fine, ← eu, not-false u h)
 

@@ -10,12 +10,11 @@ ghost use Rattle.message.specs.Storable.{longest, bears};
 ghost use Rattle.slot.specs.Fields.{slot_ok, Padded, slot_verdict};
 ghost use Rattle.slot.specs.Layout.{head_widths, slot_length, slot_kind, slot_label, message_at, slot_message, slot_block};
 
-use message::{Kind, Submission};
+use message::{Kind, SubmissionError};
 
-// What restore says of a slot.
+// What restore finds wrong in a slot.
 #[derive(Clone, Copy)]
-pub enum SlotVerdict {
-    Good,
+pub enum SlotFault {
     BadCheck,
     BadFields,
 }
@@ -81,17 +80,17 @@ pub fn label_of(block: &[u8]) -> u32
 }
 
 // Whether a judged message was accepted with that kind and label.
-fn bears_both(judged: Submission, kind: u8, label: u32) -> bool
+fn bears_both(judged: Result<(Kind, u32), SubmissionError>, kind: u8, label: u32) -> bool
     ensures { result ≡ bears judged kind label }
 {
     match judged {
-        Submission::Malformed => false,
-        Submission::Refused => false,
-        Submission::Accepted(k, l) => message::kind_number(k) == kind && l == label,
+        Ok((k, l)) => message::kind_number(k) == kind && l == label,
+        Err(_) => false,
     }
 }
 
 // Whether the fields are right of a slot whose length and padding are; the message ends at `end`.
+#[tactic(auto, using(crate::proofs::Judged::judged))]
 fn message_is_right(block: &[u8], end: usize) -> bool
     requires { (length block.now ≡ block_size) × Padded block.now end }
     ensures { result ≡ slot_ok block.now }
@@ -114,19 +113,21 @@ fn message_is_right(block: &[u8], end: usize) -> bool
 }
 
 // A slot whose fields are wrong: its check comes first all the same.
-fn judge_wrong(block: &[u8]) -> SlotVerdict
+#[tactic(auto, using(crate::proofs::Judged::judged))]
+fn judge_wrong(block: &[u8]) -> Result<(), SlotFault>
     requires { (length block.now ≡ block_size) × (false ≡ slot_ok block.now) }
     ensures { result ≡ slot_verdict block.now }
 {
     if block::is_sound(block) {
-        return SlotVerdict::BadFields;
+        return Err(SlotFault::BadFields);
     }
-    SlotVerdict::BadCheck
+    Err(SlotFault::BadCheck)
 }
 
 // The slot's check, and then its fields: length 8 to 480, kind 1 to 9, byte 3 zero, padding zero, and a message that passes Submit's 4 and 5
 // with the slot's own kind and label. Zeros behind the message are looked at once, for both.
-pub fn judge_slot(block: &[u8]) -> SlotVerdict
+#[tactic(auto, using(crate::proofs::Judged::judged))]
+pub fn judge_slot(block: &[u8]) -> Result<(), SlotFault>
     requires { length block.now ≡ block_size }
     ensures { result ≡ slot_verdict block.now }
 {
@@ -142,15 +143,16 @@ pub fn judge_slot(block: &[u8]) -> SlotVerdict
         return judge_wrong(block);
     }
     if !block::is_sound_before(block, end) {
-        return SlotVerdict::BadCheck;
+        return Err(SlotFault::BadCheck);
     }
     if !message_is_right(block, end) {
-        return SlotVerdict::BadFields;
+        return Err(SlotFault::BadFields);
     }
-    SlotVerdict::Good
+    Ok(())
 }
 
 // The message that a slot with right fields holds, as that very part of the block.
+#[tactic(auto, unfolding(crate::specs::Layout::slot_message))]
 pub fn message_of(block: &[u8]) -> &[u8]
     requires { (length block.now ≡ block_size) × (slot_ok block.now ≡ true) }
     ensures result_value { result.now ≡ slot_message block.now }

@@ -1,4 +1,5 @@
 -- What is stored in an image of bytes leaves it one of bytes. Assumes nothing.
+use Rattle.std.specs.Prelude.{Result}
 use Prim.Native.Nat.{ℕ, ◌-◌, ◌*◌, ◌%◌}
 use mathlib.Core.List.{List, [], ◌∷◌, ◌++◌}
 use native.Mathlib.Omega.{arith}
@@ -14,7 +15,8 @@ use Rattle.block0.specs.declared.Header.{Header}
 use Rattle.block0.specs.declared.Version.TheVariants.{Two}
 use Rattle.block0.specs.Layout.{block0, block_by, values, widths, released_header, no_labels}
 use Rattle.fec_index.specs.Entries.{entry_count, pair_put}
-use Rattle.message.specs.declared.Submission.{Submission}
+use Rattle.message.specs.declared.Kind.{Kind}
+use Rattle.message.specs.declared.SubmissionError.{SubmissionError}
 use Rattle.message.specs.Storable.{kind_in, label_in}
 use Rattle.message.specs.Submission.{submission_of}
 use Rattle.slot.specs.Held.{slot_for}
@@ -62,7 +64,7 @@ bytes-store0 im h ls byte = laid_each im 0 (block0 h ls) byte (bytes-block0 h ls
 pub bytes-store_slot : (im : List ℕ) (k : ℕ) (m : List ℕ) → Bytes im → Bytes m → Bytes (store_slot im k m)
 unfolding store_slot slot_for
 bytes-store_slot im k m byte letters =
-    let j : Submission = submission_of m in
+    let j : (Result (Kind × ℕ) SubmissionError) = submission_of m in
     laid_each im (block_of k * block_size) (slot_block m (kind_in j) (label_in j)) byte (bytes-slot m (kind_in j) (label_in j) letters)
 
 bytes-words : (words : List ℕ) → Bytes (word_block words)

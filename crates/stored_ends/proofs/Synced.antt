@@ -1,4 +1,5 @@
 -- An end and its cabinet: the image stands for the end's state, and an owner who stores what the calls tell has that image on the medium. Assumes nothing.
+use Rattle.std.specs.Prelude.{Result, Ok, Err, Option, Some, None}
 use Prim.Native.Nat.{ℕ, ◌<◌}
 use mathlib.Core.Bool.{Bool, true, false, not}
 use mathlib.Core.List.{List}
@@ -8,7 +9,7 @@ use lib.ListN.{length}
 use Rattle.octets.specs.Pick.{pick, both}
 use Rattle.octets.proofs.Choice.{pick_all}
 use Rattle.ft_number.specs.Timeout.{proposed_of, millis_of}
-use Rattle.message.specs.declared.Reading.{Reading}
+use Rattle.message.specs.declared.Message.{Message}
 use Rattle.message.specs.Reading.{reading_of}
 use Rattle.protocol.specs.declared.Answer.{Answer}
 use Rattle.protocol.specs.declared.Phase.{Phase}
@@ -41,17 +42,17 @@ Timed ph = proposal_of ph < 4294967296
 resting_timed : (s : State) → Timed (resting_phase s)
 resting_timed s = pick_all Timed s.kept {x = Phase.Failed} {y = Phase.Idle} (omega arith) (omega arith)
 
-start_timed : (ph : Phase) (st : Start) → Timed ph → Timed (start_phase ph st)
-start_timed ph (Start.Refused a) t = t
-start_timed ph Start.Plain t = omega arith
-start_timed ph (Start.Fresh u) t = omega arith
-start_timed ph (Start.Resumed u k a) t = omega arith
+start_timed : (ph : Phase) (st : Result Start Answer) → Timed ph → Timed (start_phase ph st)
+start_timed ph (Err a) t = t
+start_timed ph (Ok Start.Plain) t = omega arith
+start_timed ph (Ok (Start.Fresh u)) t = omega arith
+start_timed ph (Ok (Start.Resumed u k a)) t = omega arith
 
-taken_timed : (s : State) (ph : Phase) (r : Reading) → Timed ph → Timed (taken_as s ph r).phase
+taken_timed : (s : State) (ph : Phase) (r : Option Message) → Timed ph → Timed (taken_as s ph r).phase
 taken_timed s Phase.Idle r t = t
 taken_timed s (Phase.InitWait v) r t = t
-taken_timed s (Phase.UpFT u) Reading.Malformed t = t
-taken_timed s (Phase.UpFT u) (Reading.Whole g) t = omega arith
+taken_timed s (Phase.UpFT u) None t = t
+taken_timed s (Phase.UpFT u) (Some g) t = omega arith
 taken_timed s Phase.UpPlain r t = t
 taken_timed s Phase.Failed r t = t
 

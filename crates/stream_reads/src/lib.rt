@@ -24,14 +24,14 @@ pub fn read_full<R: Read>(reader: &mut R, buffer: &mut [u8]) -> Filled
             Ok(n) => count += n,
             Err(e) => {
                 return Filled {
-                    count: count,
+                    count,
                     failure: Some(e),
                 };
             }
         }
     }
     Filled {
-        count: count,
+        count,
         failure: None,
     }
 }

@@ -1,6 +1,7 @@
 -- Submit's answers in their order, each from the tests that lead to it. Assumes nothing.
+use Rattle.std.specs.Prelude.{Result, Ok}
 use Prim.Native.Nat.{◌<◌, ◌≤◌, ℕ}
-use mathlib.Core.Bool.{Bool, false, false≢true, not, true}
+use mathlib.Core.Bool.{Bool, false, false≢true, true}
 use mathlib.Core.List.{List}
 use mathlib.Core.Path.{◌∙◌, ◌≡◌, ap, refl, sym}
 use lib.ListN.{length}
@@ -12,7 +13,7 @@ use Rattle.block0.specs.Layout.{slot_count}
 use Rattle.label_events.specs.declared.Acceptance.{Acceptance}
 use Rattle.label_events.specs.declared.Change.{Change}
 use Rattle.message.specs.declared.Kind.{Kind}
-use Rattle.message.specs.declared.Submission.{Submission}
+use Rattle.message.specs.declared.SubmissionError.{SubmissionError}
 use Rattle.message.specs.Storable.{longest, shortest}
 use Rattle.message.specs.Submission.{entry_in, submission_of}
 use Rattle.image.specs.State.{decode}
@@ -22,13 +23,12 @@ use Rattle.protocol.specs.declared.Effect.{Effect}
 use Rattle.protocol.specs.declared.Phase.{Phase}
 use Rattle.protocol.specs.Accepting.{accepted_as, is_barred, changes_entry}
 use Rattle.protocol.specs.Answers.{effect_of, is_done}
-use Rattle.protocol.specs.Phases.{is_up_ft}
 use Rattle.protocol.specs.State.{State, Table}
 use Rattle.protocol.specs.Submit.{acceptance_rule, kind_rule, room_rule, submission_rule, submit_rule}
 use Rattle.protocol.specs.SubmitCases.{Fitting}
 use Rattle.protocol.proofs.Effects.{done_is}
 use Rattle.protocol.proofs.Submits.{done_accepted, submit_harmless}
-use Rattle.calls.specs.State.{marks_of, state_of}
+use Rattle.calls.specs.State.{state_of}
 use Rattle.submit.specs.Change.{accepted_change}
 use Rattle.submit.specs.Mapping.{accepted_for, change_for, entry_for}
 
@@ -51,7 +51,7 @@ module _ (im : List ℕ) (ph : Phase) (m : List ℕ) {h : Header} (eh : h ≡ (d
       pub fitting_is : length m ≤ longest → Fitting (state_of im) m
       fitting_is high = record { kept = rw (← eh) (eq-eqb h.kept 1 kept); low = low; high = high }
 
-pub submission_is : {s : State} {m : List ℕ} (ph : Phase) → Fitting s m → {j x : Submission} → j ≡ submission_of m → j ≡ x → submission_rule s ph x (entry_in m) ≡ submit_rule s ph m
+pub submission_is : {s : State} {m : List ℕ} (ph : Phase) → Fitting s m → {j x : Result (Kind × ℕ) SubmissionError} → j ≡ submission_of m → j ≡ x → submission_rule s ph x (entry_in m) ≡ submit_rule s ph m
 unfolding submit_rule
 submission_is {s} {m} ph w ej e =
     rw (w.kept, le-ltb (length m) shortest w.low, le-ltb longest (length m) w.high, ← ej, e)
@@ -105,17 +105,8 @@ module _ (im : List ℕ) {h : Header} (eh : h ≡ (decode im).header) where
   pub room_is : h.held < slot_count → Answer.Done ≡ room_rule (state_of im)
   room_is l = rw (queue_length im, ← eh, lt-leb slot_count h.held l)
 
--- 14 and 15, of a Request
-module _ (im : List ℕ) (ph : Phase) (a : Answer) {h : Header} (eh : h ≡ (decode im).header) {b : Bool} (eb : b ≡ (marks_of h.marks).stopped) where
-  pub stopped_is : b ≡ true → Answer.RequestsStopped ≡ pick (state_of im).marks.stopped Answer.RequestsStopped (pick (not (is_up_ft ph)) Answer.RequestOutsideUpFt a)
-  stopped_is t = rw (← eh, ← eb, t)
-
-  pub phase_is : b ≡ false → {x : Phase} → ph ≡ x
-      → pick (not (is_up_ft x)) Answer.RequestOutsideUpFt a ≡ pick (state_of im).marks.stopped Answer.RequestsStopped (pick (not (is_up_ft ph)) Answer.RequestOutsideUpFt a)
-  phase_is f e = rw (← eh, ← eb, f, e)
-
 -- what the answer tells, Done or not
-module _ (im : List ℕ) (ph : Phase) (m : List ℕ) {kind : Kind} {label : ℕ} (w : Fitting (state_of im) m) (j : submission_of m ≡ Submission.Accepted kind label)
+module _ (im : List ℕ) (ph : Phase) (m : List ℕ) {kind : Kind} {label : ℕ} (w : Fitting (state_of im) m) (j : submission_of m ≡ Ok (kind, label))
     {a : Answer} (e : a ≡ kind_rule (state_of im) ph kind label (entry_in m)) where
   is_rule : a ≡ submit_rule (state_of im) ph m
   is_rule = e ∙ submission_is ph w refl j

@@ -1,4 +1,5 @@
 -- The image with one more message held: what is written, and that block 0 is another. Assumes nothing.
+use Rattle.std.specs.Prelude.{Ok}
 use Prim.Native.Nat.{◌+◌, ◌-◌, ◌<◌, ℕ}
 use mathlib.Core.Bool.{true}
 use mathlib.Core.List.{List, [], ◌++◌, ◌∷◌}
@@ -13,11 +14,10 @@ use Rattle.block0.specs.declared.Header.{Header}
 use Rattle.block0.specs.Fields.{Fits}
 use Rattle.block0.specs.Layout.{header_of, labels_of, slot_count}
 use Rattle.label_events.specs.declared.Change.{Change}
-use Rattle.label_events.specs.declared.Change.TheVariants.{Move, Put}
+use Rattle.label_events.specs.declared.Change.TheVariants.{Put}
 use Rattle.label_events.specs.Change.{ChangeIn, changed}
 use Rattle.label_events.proofs.Written.{change-place}
 use Rattle.message.specs.declared.Kind.{Kind}
-use Rattle.message.specs.declared.Submission.{Submission}
 use Rattle.message.specs.Submission.{entry_in, submission_of}
 use Rattle.image.specs.Sizes.{block, image_size, request_block}
 use Rattle.image.specs.State.{InRange, decode, entry_block, store0, store_slot}
@@ -38,15 +38,11 @@ use Rattle.calls.proofs.Putting.{kept_is}
 use Rattle.calls.proofs.Slots.{HasPlace, SlotFits, further_high, further-length, further-other, slot-length, slot_others}
 use Rattle.submit.specs.Call.{submitted_further}
 use Rattle.submit.specs.Change.{accepted_change, accepted_further, header_queued}
-use Rattle.submit.specs.Mapping.{MovesNone}
 use Rattle.submit.proofs.Accepted.{change-made, labels_fit}
 
 -- the place of the label word that a change writes
 pub change-at : (im : List ℕ) (change : Change) (i w : ℕ) → ChangeIn (decode im).labels change → change ≡ Put i w → i < word_count
 change-at im change i w inside e = rw (labels-count im) at (change-place (decode im).labels change i w inside e)
-
-pub never_moved : (change : Change) (i j w : ℕ) → MovesNone change → change ≡ Move i j w → ⊥
-never_moved change i j w none e = rw e at none
 
 -- images of one block 0 have the same numbers and label words
 same_labels : (t im : List ℕ) → block t 0 ≡ block im 0 → (decode t).labels ≡ (decode im).labels
@@ -97,7 +93,7 @@ module _ (im m : List ℕ) (size : length im ≡ image_size) (sf : SlotFits im (
     stored_is kind change eh' e₃ = rw (e₃, labels-put, e₂, is_slotted, eh', eh)
 
 -- ---- what is stored for the state with the message queued
-module _ (im m : List ℕ) (s : IsSound im) (kind : Kind) (label : ℕ) (j : submission_of m ≡ Submission.Accepted kind label) where
+module _ (im m : List ℕ) (s : IsSound im) (kind : Kind) (label : ℕ) (j : submission_of m ≡ Ok (kind, label)) where
   -- another count of messages held, and the marks
   queued_header : header_for (decode im).header.first (submitted (state_of im) m) ≡ header_queued (decode im).header kind
   unfolding submitted

@@ -1,4 +1,5 @@
 -- What each return of Submit leaves is what its answer leaves. Assumes nothing.
+use Rattle.std.specs.Prelude.{Ok}
 use Prim.Native.Nat.{◌+◌, ◌<◌, ℕ}
 use mathlib.Core.Bool.{false, true}
 use mathlib.Core.List.{List, []}
@@ -10,7 +11,6 @@ use Rattle.block0.specs.Layout.{slot_count}
 use Rattle.label_events.specs.declared.Change.{Change}
 use Rattle.label_events.specs.Change.{ChangeIn, changed}
 use Rattle.message.specs.declared.Kind.{Kind}
-use Rattle.message.specs.declared.Submission.{Submission}
 use Rattle.message.specs.Submission.{entry_in, submission_of}
 use Rattle.image.specs.Sizes.{block_of}
 use Rattle.image.specs.State.{decode, store0, store_slot}
@@ -99,7 +99,7 @@ module _ (im m : List ℕ) (kind : Kind) (label : ℕ) {entry : ℕ} {change : C
           λ i. after_with (record { answer = Answer.Done; phase = ph; written = 0; slot = slot i; block0 = zeroth i; further = told i; leftout = 0 }) (image i) []
 
 -- ---- a message with its kind and label
-module _ (im : List ℕ) (ph : Phase) (m : List ℕ) {kind : Kind} {label : ℕ} (w : Fitting (state_of im) m) (j : submission_of m ≡ Submission.Accepted kind label)
+module _ (im : List ℕ) (ph : Phase) (m : List ℕ) {kind : Kind} {label : ℕ} (w : Fitting (state_of im) m) (j : submission_of m ≡ Ok (kind, label))
     {a : Answer} (e : a ≡ kind_rule (state_of im) ph kind label (entry_in m)) where
   pub kind_refused : {r : Outcome} → is_done a ≡ false → r ≡ refusal a ph → after_with r im [] ≡ settle_of (kind_rule (state_of im) ph kind label (entry_in m)) ph im [] (queued im ph m)
   kind_refused n p = rw (← e) (own_refused a ph im [] (queued im ph m) (judged_harmless im ph m w j e n) p)

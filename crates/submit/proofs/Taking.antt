@@ -1,5 +1,6 @@
 -- What becomes of the further blocks with a message that is accepted: a Mapping that takes a word puts its entry at that place, a Request its ID;
 -- the word there was free, so neither counted yet. Assumes nothing.
+use Rattle.std.specs.Prelude.{Ok, Option, Some, None}
 use Prim.Native.Nat.{◌*◌, ◌<◌, ℕ}
 use mathlib.Core.Bool.{false, false≢true, not, true}
 use mathlib.Core.List.{List}
@@ -11,10 +12,7 @@ use borrow.Author.Tests.{eq-eqb, eqb-true, ne_eqb}
 use Rattle.octets.specs.Bytes.{Bytes}
 use Rattle.octets.proofs.Choice.{by_test, pick_all}
 use Rattle.ft_number.specs.declared.MessageId.{MessageId}
-use Rattle.label_list.specs.declared.Found.{Found}
-use Rattle.label_list.specs.declared.Found.TheVariants.{At, Nowhere}
 use Rattle.label_list.specs.declared.LabelMessage.{LabelMessage}
-use Rattle.label_list.specs.declared.Next.{Next}
 use Rattle.label_list.specs.declared.Side.{Side}
 use Rattle.label_list.specs.Find.{FoundIn, find_of, is_found}
 use Rattle.label_list.specs.Requests.{open_at}
@@ -25,13 +23,11 @@ use Rattle.fec_index.specs.Entries.{word_span}
 use Rattle.fec_index.proofs.Counted.{lists_none}
 use Rattle.label_events.specs.declared.Change.{Change}
 use Rattle.label_events.specs.declared.Change.TheVariants.{Keep, Move, NoRoom, Put}
-use Rattle.label_events.specs.declared.Plan.{Plan}
 use Rattle.label_events.specs.Accept.{plan_by, plan_change, plan_of}
 use Rattle.label_events.specs.Change.{ChangeIn, change_at, code_at, new_at, take_free, taken_at}
 use Rattle.label_events.specs.Requests.{asked_plan}
-use Rattle.label_events.proofs.Written.{change-place, move_places}
+use Rattle.label_events.proofs.Written.{change-place}
 use Rattle.message.specs.declared.Kind.{Kind}
-use Rattle.message.specs.declared.Submission.{Submission}
 use Rattle.message.specs.Submission.{entry_in, submission_of}
 use Rattle.message.proofs.Widths.{entry_in_width}
 use Rattle.label_meaning.proofs.Effect.{FreeAt, free_first}
@@ -55,51 +51,48 @@ unfolding is_free
 lists_taken w t = by_test (eqb w 0) (λ e. absurd (false≢true (lists_none w (omega (arith, eqb-true w 0 e)) ∙ t))) (λ n. n)
 
 module _ (words : List ℕ) where
-  take-taken : (g : Found) (w : ℕ) → FreeAt words g → change_takes words (take_free g w) ≡ taken_at Nowhere (take_free g w)
+  take-taken : (g : Option ℕ) (w : ℕ) → FreeAt words g → change_takes words (take_free g w) ≡ taken_at None (take_free g w)
   unfolding is_free
-  take-taken (At j) w free = rw free.1
-  take-taken Nowhere w free = refl
+  take-taken (Some j) w free = rw free.1
+  take-taken None w free = refl
 
-  change-taken : (label code : ℕ) (f g : Found) → f ≡ find_of (stands_for Side.Given label) words → FreeAt words g
+  change-taken : (label code : ℕ) (f g : Option ℕ) → f ≡ find_of (stands_for Side.Given label) words → FreeAt words g
       → change_takes words (change_at f g label code) ≡ taken_at f (change_at f g label code)
   unfolding change_at
-  change-taken label code (At i) g e free =
+  change-taken label code (Some i) g e free =
       let here : is_free (get_or words i 0) ≡ false =
       lists_taken (get_or words i 0) (stands_lists Side.Given label (get_or words i 0) (found_passes (stands_for Side.Given label) words i e refl)) in
       rw here
-  change-taken label code Nowhere g e free = by_test (eqb code 0) (λ t. rw t) (λ n. rw n (take-taken g (word_of label code) free))
+  change-taken label code None g e free = by_test (eqb code 0) (λ t. rw t) (λ n. rw n (take-taken g (word_of label code) free))
 
-  by_taken : (label : ℕ) (n : Next)
+  by_taken : (label : ℕ) (n : Option ℕ)
       → change_takes words (plan_change (plan_by n words Side.Given label)) ≡ taken_at (find_of (stands_for Side.Given label) words) (plan_change (plan_by n words Side.Given label))
-  by_taken label (Next.Code code) =
+  by_taken label (Some code) =
       change-taken label code (find_of (stands_for Side.Given label) words) (find_of is_free words) refl (free_first words (find_of is_free words) refl)
-  by_taken label Next.NotAllowed = refl
+  by_taken label None = refl
 
   mapping-taken : (label : ℕ)
       → change_takes words (plan_change (plan_of words LabelMessage.Mapping label)) ≡ taken_at (find_of (stands_for Side.Given label) words) (plan_change (plan_of words LabelMessage.Mapping label))
   unfolding plan_of sent_side
   mapping-taken label =
-      pick_all (λ (p : Plan). change_takes words (plan_change p) ≡ taken_at (find_of (stands_for Side.Given label) words) (plan_change p)) (not (listable label)) refl
+      pick_all (λ (p : Option Change). change_takes words (plan_change p) ≡ taken_at (find_of (stands_for Side.Given label) words) (plan_change p)) (not (listable label)) refl
       (by_taken label (code_accepted LabelMessage.Mapping (code_at words Side.Given label)))
 
 -- what the code finds where the change writes, and it lies inside the list
 module _ (words : List ℕ) (change : Change) where
   module _ (place word : ℕ) (e : change ≡ Put place word) {w : ℕ} (ew : w ≡ get_or words place 0) where
-    pub not_taken : (w ≡ 0 → ⊥) → (Nowhere ≡ change_takes words change) × FoundIn words Nowhere
+    pub not_taken : (w ≡ 0 → ⊥) → (None ≡ change_takes words change) × FoundIn words None
     unfolding is_free
     not_taken n = (rw (e, ← ew, ne_eqb w 0 n), tt)
 
-    pub is_taken : w ≡ 0 → ChangeIn words change → (At place ≡ change_takes words change) × FoundIn words (At place)
+    pub is_taken : w ≡ 0 → ChangeIn words change → (Some place ≡ change_takes words change) × FoundIn words (Some place)
     unfolding is_free
     is_taken z inside = (rw (e, ← ew, eq-eqb w 0 z), change-place words change place word inside e)
-
-  pub moved_to : (from place word : ℕ) → change ≡ Move from place word → ChangeIn words change → (At place ≡ change_takes words change) × FoundIn words (At place)
-  moved_to from place word e inside = (rw e, (move_places words change from place word inside e).1)
 
 -- so the code, which looks at the word and reads a Mapping's entry alone, puts what the definition says
 pub further_is : (t : Table) (kind : Kind) (label entry : ℕ) → further_by t.words kind (accepted_change t kind label) (entry_for kind entry) ≡ accepted_further t kind label entry
 unfolding further_by accepted_further accepted_change
-further_is t Kind.Mapping label entry = ap (λ (f : Found). entry_put f entry) (mapping-taken t.words label)
+further_is t Kind.Mapping label entry = ap (λ (f : Option ℕ). entry_put f entry) (mapping-taken t.words label)
 further_is t Kind.Withdraw label entry = refl
 further_is t Kind.Release label entry = refl
 further_is t Kind.Address label entry = refl
@@ -132,36 +125,36 @@ module _ (im : List ℕ) (entry : ℕ) where
   abbrev words : List ℕ
   words = (decode im).labels
 
-  free-asked : (f : Found) → FreeAt words f → (id : MessageId) → FurtherFits im (id_put (take_free f request_word) id)
-  free-asked (At i) free id = free-plain (get_or words i 0) free.1
-  free-asked Nowhere free id = tt
+  free-asked : (f : Option ℕ) → FreeAt words f → (id : MessageId) → FurtherFits im (id_put (take_free f request_word) id)
+  free-asked (Some i) free id = free-plain (get_or words i 0) free.1
+  free-asked None free id = tt
 
   asked_fits : (id : MessageId) (label : ℕ) → FurtherFits im (id_put (accepted_change (state_of im).table (Kind.Request id) label) id)
   unfolding accepted_change asked_plan
   asked_fits id label =
-      pick_all (λ (p : Plan). FurtherFits im (id_put (plan_change p) id)) (is_found (open_at id words (decode im).ids)) tt
+      pick_all (λ (p : Option Change). FurtherFits im (id_put (plan_change p) id)) (is_found (open_at id words (decode im).ids)) tt
       (free-asked (find_of is_free words) (free_first words (find_of is_free words) refl) id)
 
-  free_mapped : (g : Found) (w : ℕ) → FreeAt words g → FurtherFits im (entry_put (taken_at Nowhere (take_free g w)) entry)
-  free_mapped (At j) w free = (omega (arith, labels-count im, free.0), sym (lists_none (get_or words j 0) (omega (arith, free.1))))
-  free_mapped Nowhere w free = tt
+  free_mapped : (g : Option ℕ) (w : ℕ) → FreeAt words g → FurtherFits im (entry_put (taken_at None (take_free g w)) entry)
+  free_mapped (Some j) w free = (omega (arith, labels-count im, free.0), sym (lists_none (get_or words j 0) (omega (arith, free.1))))
+  free_mapped None w free = tt
 
-  change_fits : (label code : ℕ) (f g : Found) → FreeAt words g → FurtherFits im (entry_put (taken_at f (change_at f g label code)) entry)
+  change_fits : (label code : ℕ) (f g : Option ℕ) → FreeAt words g → FurtherFits im (entry_put (taken_at f (change_at f g label code)) entry)
   unfolding change_at
-  change_fits label code (At i) g free = tt
-  change_fits label code Nowhere g free =
-      pick_all (λ (c : Change). FurtherFits im (entry_put (taken_at Nowhere c) entry)) (eqb code 0) tt (free_mapped g (word_of label code) free)
+  change_fits label code (Some i) g free = tt
+  change_fits label code None g free =
+      pick_all (λ (c : Change). FurtherFits im (entry_put (taken_at None c) entry)) (eqb code 0) tt (free_mapped g (word_of label code) free)
 
-  by_fits : (label : ℕ) (n : Next) → FurtherFits im (entry_put (taken_at (find_of (stands_for Side.Given label) words) (plan_change (plan_by n words Side.Given label))) entry)
-  by_fits label (Next.Code code) =
+  by_fits : (label : ℕ) (n : Option ℕ) → FurtherFits im (entry_put (taken_at (find_of (stands_for Side.Given label) words) (plan_change (plan_by n words Side.Given label))) entry)
+  by_fits label (Some code) =
       change_fits label code (find_of (stands_for Side.Given label) words) (find_of is_free words) (free_first words (find_of is_free words) refl)
-  by_fits label Next.NotAllowed = tt
+  by_fits label None = tt
 
   mapped_fits : (label : ℕ)
       → FurtherFits im (entry_put (taken_at (find_of (stands_for Side.Given label) words) (accepted_change (state_of im).table Kind.Mapping label)) entry)
   unfolding accepted_change plan_of sent_side
   mapped_fits label =
-      pick_all (λ (p : Plan). FurtherFits im (entry_put (taken_at (find_of (stands_for Side.Given label) words) (plan_change p)) entry)) (not (listable label)) tt
+      pick_all (λ (p : Option Change). FurtherFits im (entry_put (taken_at (find_of (stands_for Side.Given label) words) (plan_change p)) entry)) (not (listable label)) tt
       (by_fits label (code_accepted LabelMessage.Mapping (code_at words Side.Given label)))
 
   pub further_fits : (kind : Kind) (label : ℕ) → FurtherFits im (accepted_further (state_of im).table kind label entry)
@@ -177,21 +170,21 @@ module _ (im : List ℕ) where
   id_width NoRoom id inside small = tt
 
   module _ (entry : ℕ) (small : entry < word_span * word_span) where
-    new_width : (f : Found) (j : ℕ) → j < word_count → HasWidth (entry_put (new_at f j) entry)
-    new_width (At i) j low = tt
-    new_width Nowhere j low = (low, small)
+    new_width : (f : Option ℕ) (j : ℕ) → j < word_count → HasWidth (entry_put (new_at f j) entry)
+    new_width (Some i) j low = tt
+    new_width None j low = (low, small)
 
-    entry_width : (f : Found) (change : Change) → ChangeIn (decode im).labels change → HasWidth (entry_put (taken_at f change) entry)
+    entry_width : (f : Option ℕ) (change : Change) → ChangeIn (decode im).labels change → HasWidth (entry_put (taken_at f change) entry)
     entry_width f Keep inside = tt
     entry_width f (Put place word) inside = new_width f place (omega (arith, labels-count im))
     entry_width f (Move from place word) inside = (omega (arith, labels-count im, inside.1), small)
     entry_width f NoRoom inside = tt
 
-  pub further_width : (m : List ℕ) (kind : Kind) (label : ℕ) → Bytes m → submission_of m ≡ Submission.Accepted kind label
+  pub further_width : (m : List ℕ) (kind : Kind) (label : ℕ) → Bytes m → submission_of m ≡ Ok (kind, label)
       → HasWidth (accepted_further (state_of im).table kind label (entry_in m))
   further_width m kind label bytes j =
       let t : Table = (state_of im).table in
       further_all HasWidth t kind label (entry_in m) tt
       (λ e. entry_width (entry_in m) (entry_in_width m bytes) (find_of (stands_for Side.Given label) t.words) (accepted_change t Kind.Mapping label) (change-made t Kind.Mapping label).1)
       (λ id e. id_width (accepted_change t (Kind.Request id) label) id (change-made t (Kind.Request id) label).1
-      (id_fits m bytes id label (j ∙ ap (λ (k : Kind). Submission.Accepted k label) e)))
+      (id_fits m bytes id label (j ∙ ap (λ (k : Kind). (Ok (k, label))) e)))

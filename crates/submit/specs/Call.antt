@@ -1,7 +1,8 @@
 -- Submit on an image: the protocol's step, and the message goes into the slot behind the newest held, a Request's ID
 -- into block 65, the entry of a Mapping that takes a word into block 66 or 67.
-use Rattle.std.specs.Prelude.{ℕ, List, []}
-use Rattle.message.specs.declared.Submission.{Submission}
+use Rattle.std.specs.Prelude.{Result, Ok, Err, ℕ, List, []}
+use Rattle.message.specs.declared.Kind.{Kind}
+use Rattle.message.specs.declared.SubmissionError.{SubmissionError}
 use Rattle.message.specs.Submission.{entry_in, submission_of}
 use Rattle.protocol.specs.declared.Answer.{Answer}
 use Rattle.protocol.specs.declared.Phase.{Phase}
@@ -13,10 +14,10 @@ use Rattle.calls.specs.State.{state_of}
 use Rattle.calls.specs.Storing.{Further, same, one_more}
 use Rattle.submit.specs.Change.{accepted_further}
 
-abbrev pub further_left : Table → Submission → ℕ → Further
-further_left t Submission.Malformed entry = same
-further_left t Submission.Refused entry = same
-further_left t (Submission.Accepted kind label) entry = accepted_further t kind label entry
+abbrev pub further_left : Table → Result (Kind × ℕ) SubmissionError → ℕ → Further
+further_left t (Err SubmissionError.Malformed) entry = same
+further_left t (Err SubmissionError.Refused) entry = same
+further_left t (Ok (kind, label)) entry = accepted_further t kind label entry
 
 -- what becomes of the further blocks with a message that is taken
 abbrev pub submitted_further : Table → List ℕ → Further

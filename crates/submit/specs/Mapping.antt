@@ -1,9 +1,7 @@
 -- An aid of code: the entry is read of a Mapping alone, the label and the entry get one answer, and the word that a
 -- Mapping takes is told by what stood there. No call's meaning rests on it.
-use Rattle.std.specs.Prelude.{ℕ, List, get_or}
+use Rattle.std.specs.Prelude.{Option, Some, None, ℕ, List, get_or}
 use Rattle.octets.specs.Pick.{pick}
-use Rattle.label_list.specs.declared.Found.{Found}
-use Rattle.label_list.specs.declared.Found.TheVariants.{At, Nowhere}
 use Rattle.label_list.specs.Word.{is_free}
 use Rattle.label_events.specs.declared.Acceptance.{Acceptance}
 use Rattle.label_events.specs.declared.Change.{Change}
@@ -34,11 +32,11 @@ unfoldable pub change_for : Table → Kind → ℕ → ℕ → Change
 change_for t kind label entry = pick (changes_entry t kind label entry) Change.Keep (accepted_change t kind label)
 
 -- the place of the word that a change takes: one that was free, or the one to which a label moves
-abbrev pub change_takes : List ℕ → Change → Found
-change_takes words Change.Keep = Nowhere
-change_takes words (Change.Put place word) = pick (is_free (get_or words place 0)) (At place) Nowhere
-change_takes words (Change.Move from place word) = At place
-change_takes words Change.NoRoom = Nowhere
+abbrev pub change_takes : List ℕ → Change → Option ℕ
+change_takes words Change.Keep = None
+change_takes words (Change.Put place word) = pick (is_free (get_or words place 0)) (Some place) None
+change_takes words (Change.Move from place word) = Some place
+change_takes words Change.NoRoom = None
 
 -- what becomes of the further blocks, by the change and the words before it
 unfoldable pub further_by : List ℕ → Kind → Change → ℕ → Further

@@ -1,9 +1,8 @@
 -- An aid of proofs: what the function that queues a message must know of it. No call's meaning rests on it.
-use Rattle.std.specs.Prelude.{◌<◌, ◌≤◌, ℕ, List, ◌≡◌, length}
+use Rattle.std.specs.Prelude.{Ok, ◌<◌, ◌≤◌, ℕ, List, ◌≡◌, length}
 use Rattle.block0.specs.Layout.{slot_count}
 use Rattle.label_events.specs.declared.Change.{Change}
 use Rattle.message.specs.declared.Kind.{Kind}
-use Rattle.message.specs.declared.Submission.{Submission}
 use Rattle.message.specs.Storable.{longest, shortest}
 use Rattle.message.specs.Submission.{entry_in, submission_of}
 use Rattle.image.specs.State.{decode}
@@ -18,6 +17,6 @@ pub record Queueable (im m : List ℕ) (kind : Kind) (label entry : ℕ) (change
   pub room : (decode im).header.held < slot_count
   pub low : shortest ≤ length m
   pub high : length m ≤ longest
-  pub accepted : submission_of m ≡ Submission.Accepted kind label
+  pub accepted : submission_of m ≡ Ok (kind, label)
   pub entry_read : entry ≡ entry_for kind (entry_in m)
   pub change-made : change ≡ accepted_change (state_of im).table kind label

@@ -29,13 +29,10 @@ fn judge_request(image: &[u8], phase: Phase, answer: Answer) -> Answer
     if calls::requests_stopped(image::header_of(image).marks) {
         return Answer::RequestsStopped;
     }
-    match phase {
-        Phase::Idle => Answer::RequestOutsideUpFt,
-        Phase::InitWait(_) => Answer::RequestOutsideUpFt,
-        Phase::UpFT(_) => answer,
-        Phase::UpPlain => Answer::RequestOutsideUpFt,
-        Phase::Failed => Answer::RequestOutsideUpFt,
+    if !matches!(phase, Phase::UpFT(_)) {
+        return Answer::RequestOutsideUpFt;
     }
+    answer
 }
 
 // 14 and 15 are asked of a Request alone.
@@ -44,16 +41,8 @@ fn judge_kind(image: &[u8], phase: Phase, kind: Kind, answer: Answer) -> Answer
     ensures { result ≡ ask_rule (state_of image.now) phase kind answer }
 {
     match kind {
-        Kind::Mapping => answer,
-        Kind::Withdraw => answer,
-        Kind::Release => answer,
-        Kind::Address => answer,
-        Kind::AddressWithdraw => answer,
-        Kind::ResourcesAvailable => answer,
         Kind::Request(_) => judge_request(image, phase, answer),
-        Kind::Abort(_) => answer,
-        Kind::NoResources => answer,
-        Kind::NoKind => answer,
+        _ => answer,
     }
 }
 

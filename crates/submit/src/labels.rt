@@ -18,7 +18,7 @@ ghost use Rattle.submit.specs.Mapping.{accepted_for, change_for, entry_for};
 
 use ft_number::MessageId;
 use label_events::{Acceptance, Accepted, Change};
-use label_list::{Found, LabelMessage, Side};
+use label_list::{LabelMessage, Side};
 use message::Kind;
 
 // Whether the i-th message held is of that kind and label.
@@ -37,33 +37,23 @@ fn is_held(image: &[u8], kind: u8, label: u32) -> bool
     requires { IsSound image.now }
     ensures { result ≡ is_held kind label (decode image.now).queue }
 {
-    let held = image::header_of(image).held as usize;
-    let mut i: usize = 0;
-    while i < held {
+    for i in 0..image::header_of(image).held as usize {
         if held_bears(image, i, kind, label) {
             return true;
         }
-        i += 1;
     }
     false
 }
 
 // Whether a message still held bars one of that kind and label.
+#[tactic(auto, unfolding(protocol::specs::Accepting::is_barred))]
 pub fn is_barred(image: &[u8], kind: Kind, label: u32) -> bool
     requires { IsSound image.now }
     ensures { result ≡ is_barred (decode image.now).queue kind label }
 {
     match kind {
-        Kind::Mapping => false,
-        Kind::Withdraw => is_held(image, message::kind_number(kind), label),
-        Kind::Release => is_held(image, message::kind_number(kind), label),
-        Kind::Address => false,
-        Kind::AddressWithdraw => false,
-        Kind::ResourcesAvailable => false,
-        Kind::Request(_) => false,
-        Kind::Abort(_) => false,
-        Kind::NoResources => false,
-        Kind::NoKind => false,
+        Kind::Withdraw | Kind::Release => is_held(image, message::kind_number(kind), label),
+        _ => false,
     }
 }
 
@@ -73,26 +63,18 @@ pub fn entry_of(msg: &[u8], kind: Kind) -> u64
 {
     match kind {
         Kind::Mapping => message::entry_in(msg),
-        Kind::Withdraw => 0,
-        Kind::Release => 0,
-        Kind::Address => 0,
-        Kind::AddressWithdraw => 0,
-        Kind::ResourcesAvailable => 0,
-        Kind::Request(_) => 0,
-        Kind::Abort(_) => 0,
-        Kind::NoResources => 0,
-        Kind::NoKind => 0,
+        _ => 0,
     }
 }
 
 // Whether another entry than that one stands at the place where a label was found.
-fn has_other_entry(image: &[u8], place: Found, entry: u64) -> bool
+fn has_other_entry(image: &[u8], place: Option<usize>, entry: u64) -> bool
     requires { (length image.now ≡ image_size) × FoundIn (decode image.now).labels place }
     ensures { result ≡ both (is_found place) (not (eqb (entry_at (stored_index image.now) place) entry)) }
 {
     match place {
-        Found::At(i) => image::entry_at(image, i) != entry,
-        Found::Nowhere => false,
+        Some(i) => image::entry_at(image, i) != entry,
+        None => false,
     }
 }
 
@@ -101,7 +83,7 @@ fn without_change(acceptance: Acceptance) -> Accepted
     ensures { (result.acceptance ≡ acceptance) × (result.change ≡ Change.Keep) }
 {
     Accepted {
-        acceptance: acceptance,
+        acceptance,
         change: Change::Keep,
     }
 }
@@ -156,6 +138,7 @@ fn accept_abort(image: &[u8], id: MessageId) -> Accepted
 }
 
 // Accepts a message of that kind, label and entry for sending.
+#[tactic(auto, unfolding(crate::specs::Mapping::accepted_for, crate::specs::Mapping::change_for, protocol::specs::Accepting::accepted_as, crate::specs::Change::accepted_change))]
 pub fn accept_as(image: &[u8], kind: Kind, label: u32, entry: u64) -> Accepted
     requires { length image.now ≡ image_size }
     ensures { (result.acceptance ≡ accepted_for (state_of image.now).table kind label entry) × (result.change ≡ change_for (state_of image.now).table kind label entry) }
@@ -164,12 +147,9 @@ pub fn accept_as(image: &[u8], kind: Kind, label: u32, entry: u64) -> Accepted
         Kind::Mapping => accept_mapping(image, label, entry),
         Kind::Withdraw => accept_label(image, LabelMessage::Withdraw, label),
         Kind::Release => accept_label(image, LabelMessage::Release, label),
-        Kind::Address => without_change(Acceptance::Taken),
-        Kind::AddressWithdraw => without_change(Acceptance::Taken),
-        Kind::ResourcesAvailable => without_change(Acceptance::Taken),
         Kind::Request(id) => accept_request(image, id),
         Kind::Abort(id) => accept_abort(image, id),
-        Kind::NoResources => without_change(Acceptance::Taken),
         Kind::NoKind => without_change(Acceptance::NotAllowed),
+        _ => without_change(Acceptance::Taken),
     }
 }

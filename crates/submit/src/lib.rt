@@ -2,7 +2,6 @@
 #![tactic(auto)]
 
 ghost use Rattle.std.specs.Prelude.{◌≤◌, [], ◌≡◌, length};
-ghost use Rattle.message.specs.declared.Submission.TheVariants.{Accepted};
 ghost use Rattle.message.specs.Storable.{shortest, longest};
 ghost use Rattle.message.specs.Submission.{entry_in, submission_of};
 ghost use Rattle.image.specs.State.{decode};
@@ -13,7 +12,7 @@ ghost use Rattle.calls.specs.State.{state_of};
 ghost use Rattle.submit.specs.Call.{queued, submit_of};
 
 use calls::{Answer, Outcome, Phase};
-use message::{Kind, Submission};
+use message::{Kind, SubmissionError};
 
 mod judging;
 mod labels;
@@ -21,7 +20,7 @@ mod storing;
 
 // A message that passes 3, 4 and 5, with its kind and label: 6, 14, 15, 13 and 7 are asked, and it is queued.
 fn submit_accepted(image: &mut [u8], phase: Phase, msg: &[u8], kind: Kind, label: u32) -> Outcome
-    requires { IsSound image.old × ((decode image.old).header.kept ≡ 1) × (shortest ≤ length msg.now) × (length msg.now ≤ longest) × (submission_of msg.now ≡ Accepted kind label) }
+    requires { IsSound image.old × ((decode image.old).header.kept ≡ 1) × (shortest ≤ length msg.now) × (length msg.now ≤ longest) × (submission_of msg.now ≡ Ok (kind, label)) }
     ensures { after_with result image.new [] ≡ settle_of (kind_rule (state_of image.old) phase kind label (entry_in msg.now)) phase image.old [] (queued image.old phase msg.now) }
 {
     if labels::is_barred(image, kind, label) {
@@ -56,8 +55,8 @@ pub fn submit(image: &mut [u8], phase: Phase, msg: &[u8]) -> Outcome
         return calls::refuse(Answer::LengthOutOfRange, phase);
     }
     match message::judge_submission(msg) {
-        Submission::Malformed => calls::refuse(Answer::Malformed, phase),
-        Submission::Refused => calls::refuse(Answer::KindNotSent, phase),
-        Submission::Accepted(kind, label) => submit_accepted(image, phase, msg, kind, label),
+        Err(SubmissionError::Malformed) => calls::refuse(Answer::Malformed, phase),
+        Err(SubmissionError::Refused) => calls::refuse(Answer::KindNotSent, phase),
+        Ok((kind, label)) => submit_accepted(image, phase, msg, kind, label),
     }
 }

@@ -17,7 +17,6 @@ use block0::Header;
 use calls::{Answer, Outcome, Phase};
 use ft_number::MessageId;
 use label_events::Change;
-use label_list::Found;
 use message::Kind;
 
 // The slot after that of the newest held.
@@ -44,28 +43,26 @@ fn store_request(image: &mut [u8], id: MessageId, change: Change) -> u32
     ensures { (image.new ≡ further_stored image.old (id_put change id)) × (result ≡ further_told image.old (id_put change id)) }
 {
     match change {
-        Change::Keep => 0,
         Change::Put(place, _) => calls::store_id(image, place, id),
-        Change::Move(_, _, _) => 0,
-        Change::NoRoom => 0,
+        _ => 0,
     }
 }
 
 // The place of the word that a change takes: a word that is written in place was not free.
-fn taken_by(image: &[u8], change: Change) -> Found
+fn taken_by(image: &[u8], change: Change) -> Option<usize>
     requires { (length image.now ≡ image_size) × ChangeIn (decode image.now).labels change }
     ensures { (result ≡ change_takes (decode image.now).labels change) × FoundIn (decode image.now).labels result }
 {
     match change {
-        Change::Keep => Found::Nowhere,
+        Change::Keep => None,
         Change::Put(place, _) => {
             if image::label_at(image, place) != 0 {
-                return Found::Nowhere;
+                return None;
             }
-            Found::At(place)
+            Some(place)
         }
-        Change::Move(_, to, _) => Found::At(to),
-        Change::NoRoom => Found::Nowhere,
+        Change::Move(_, to, _) => Some(to),
+        Change::NoRoom => None,
     }
 }
 
@@ -79,25 +76,20 @@ fn store_mapping(image: &mut [u8], entry: u64, change: Change) -> u32
 }
 
 // Stores what a message of that kind makes of the further blocks; the bit in `further` of the one that is another.
+#[tactic(auto, unfolding(crate::specs::Mapping::further_by))]
 fn store_further(image: &mut [u8], kind: Kind, entry: u64, change: Change) -> u32
     requires { (length image.old ≡ image_size) × ChangeIn (decode image.old).labels change }
     ensures { (image.new ≡ further_stored image.old (further_by (decode image.old).labels kind change entry)) × (result ≡ further_told image.old (further_by (decode image.old).labels kind change entry)) }
 {
     match kind {
         Kind::Mapping => store_mapping(image, entry, change),
-        Kind::Withdraw => 0,
-        Kind::Release => 0,
-        Kind::Address => 0,
-        Kind::AddressWithdraw => 0,
-        Kind::ResourcesAvailable => 0,
         Kind::Request(id) => store_request(image, id, change),
-        Kind::Abort(_) => 0,
-        Kind::NoResources => 0,
-        Kind::NoKind => 0,
+        _ => 0,
     }
 }
 
 // Stores block 0 with that header and that change of its label words: only the word that is another is written.
+#[tactic(auto, unfolding(label_events::specs::Change::changed))]
 fn store_change(image: &mut [u8], h: Header, change: Change)
     requires { (length image.old ≡ image_size) × ChangeIn (decode image.old).labels change × MovesNone change }
     ensures { image.new ≡ store0 image.old h (changed (decode image.old).labels change) }
@@ -132,11 +124,11 @@ pub fn queue_message(
     // The count of held messages is another, so block 0 changed.
     Outcome {
         answer: Answer::Done,
-        phase: phase,
+        phase,
         written: 0,
         slot: k + 1,
         block0: true,
-        further: further,
+        further,
         leftout: 0,
     }
 }

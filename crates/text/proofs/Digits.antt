@@ -3,9 +3,9 @@ use Prim.Native.Nat.{ℕ, zero, suc, ◌+◌, ◌-◌, ◌*◌, ◌/◌, ◌%◌
 use mathlib.Core.Bool.{Bool, true, false}
 use mathlib.Core.List.{List, [], ◌∷◌, ◌++◌}
 use mathlib.Core.Path.{◌≡◌, refl, sym, ap, ◌∙◌}
-use native.Mathlib.Nat.{mod-eq_of_lt, pow-suc, pow-le-pow_right}
+use native.Mathlib.Nat.{mod-eq_of_lt, pow-suc}
 use native.Mathlib.Numerals.{add-one}
-use native.Mathlib.Omega.{arith, by_contra}
+use native.Mathlib.Omega.{arith}
 use lib.Dec.{ltb}
 use lib.ListN.{length, take, get_or, set}
 use lib.Seq.{take-suc, take_all, length-take-le}
@@ -62,13 +62,6 @@ hex-append (b ∷ s) t = ap (λ (l : List ℕ). hex_digit_ascii (b / 16) ∷ hex
 pub length-hex : (s : List ℕ) → length (hex s) ≡ 2 * length s
 length-hex [] = refl
 length-hex (b ∷ s) = omega (arith, length-hex s)
-
--- 20 digits hold every number of 64 bits
-pub fewest_short : (k n : ℕ) → IsDigitCount 10 1 n k → n < 18446744073709551616 → k ≤ 20
-fewest_short k n f small =
-    by_contra k 20 (λ more.
-    let far : 10 ^ 20 ≤ 10 ^ (k - 1) = pow-le-pow_right {n = 10} (omega arith) {i = 20} {j = k - 1} (omega arith) in
-    omega (arith, f.2 (omega arith)))
 
 -- one byte more in hexadecimal
 hex-next : (s : List ℕ) (i : ℕ) → i < length s → hex (take (i + 1) s) ≡ hex (take i s) ++ (hex_digit_ascii (get_or s i 0 / 16) ∷ hex_digit_ascii (get_or s i 0 % 16) ∷ [])

@@ -15,6 +15,7 @@ pub fn put_text(out: &mut [u8], at: usize, text: &[u8]) -> usize
 }
 
 // Puts a number in decimal from `at` on, with no zero in front, at most 20 bytes, and answers where it ends.
+#[tactic(auto, using(crate::proofs::Digits::digits_decimal))]
 pub fn put_decimal(out: &mut [u8], at: usize, n: u64) -> usize
     requires { at + 20 ≤ length out.old }
     ensures put { Put out.old at (decimal n) out.new result }
@@ -30,7 +31,7 @@ fn digit(d: u8) -> u8
     requires { d < 16 }
     ensures { result ≡ hex_digit_ascii d }
 {
-    if d < 10 { 48 + d } else { 87 + d }
+    if d < 10 { b'0' + d } else { b'a' - 10 + d }
 }
 
 // Puts bytes in hexadecimal, two lower-case digits each, from `at` on and answers where they end.
@@ -39,13 +40,11 @@ pub fn put_hex(out: &mut [u8], at: usize, bytes: &[u8]) -> usize
     ensures put { Put out.old at (hex bytes.now) out.new result }
     ensures value { result ≡ at + 2 * length bytes.now }
 {
-    let mut i: usize = 0;
-    while i < bytes.len() {
-        let high = digit(bytes[i] / 16);
-        let low = digit(bytes[i] % 16);
+    for (i, byte) in bytes.iter().enumerate() {
+        let high = digit(byte / 16);
+        let low = digit(byte % 16);
         out[at + 2 * i] = high;
         out[at + 2 * i + 1] = low;
-        i += 1;
     }
     at + 2 * bytes.len()
 }

@@ -1,4 +1,5 @@
 -- Where the TLVs lie that a walk has found: each place bears its TLV, whole, with its length, and behind the head. Assumes nothing.
+use Rattle.std.specs.Prelude.{Some, None}
 use Prim.Native.Nat.{ℕ, ◌+◌, ◌-◌, ◌%◌, ◌≤◌, ◌<◌}
 use mathlib.Core.Bool.{Bool, true, false}
 use mathlib.Core.List.{List}
@@ -17,7 +18,6 @@ use Rattle.octets.proofs.Fix.{size_ind}
 use Rattle.tlv.specs.declared.Found.{Found}
 use Rattle.tlv.specs.declared.walk.Tlv.{Tlv}
 use Rattle.tlv.specs.declared.walk.Turn.{Turn}
-use Rattle.tlv.specs.declared.walk.Walk.{Walk}
 use Rattle.tlv.specs.Tlv.{tlv_of, draft_length, published_length, length_fits, type_range, head_of, label_value, largest_label}
 use Rattle.tlv.specs.Value.{Within, Places}
 use Rattle.tlv.specs.Walk.{none_found, place_of, placed_of, malformed_unless, noted_of, turn_of, Rest, left_of, on_turn, walk_of, head_size, tlvs_of}
@@ -30,12 +30,12 @@ pub record Noted (f g : Found) (tlv : Tlv) (n at : ℕ) (ts : List ℕ) : Type 0
   pub low : label_value tlv ts ≤ largest_label
   pub is : placed_of f tlv at ≡ g
 
-pub noted : (f g : Found) (tlv : Tlv) (n at : ℕ) (ts : List ℕ) → noted_of f tlv n at ts ≡ Walk.Whole g → Noted f g tlv n at ts
+pub noted : (f g : Found) (tlv : Tlv) (n at : ℕ) (ts : List ℕ) → noted_of f tlv n at ts ≡ Some g → Noted f g tlv n at ts
 unfolding noted_of
 noted f g tlv n at ts e = go (length_fits tlv n) (eqb (place_of f tlv) 0) (ltb largest_label (label_value tlv ts)) refl refl refl e
   where
     go : (b₁ b₂ b₃ : Bool) → length_fits tlv n ≡ b₁ → eqb (place_of f tlv) 0 ≡ b₂ → ltb largest_label (label_value tlv ts) ≡ b₃
-        → malformed_unless b₁ (malformed_unless b₂ (pick b₃ Walk.Malformed (Walk.Whole (placed_of f tlv at)))) ≡ Walk.Whole g → Noted f g tlv n at ts
+        → malformed_unless b₁ (malformed_unless b₂ (pick b₃ None (Some (placed_of f tlv at)))) ≡ Some g → Noted f g tlv n at ts
     go false b₂ b₃ q₁ q₂ q₃ h = let z : ◌≡◌ {A = ℕ} 0 1 = cc in absurd (omega arith)
     go true false b₃ q₁ q₂ q₃ h = let z : ◌≡◌ {A = ℕ} 0 1 = cc in absurd (omega arith)
     go true true true q₁ q₂ q₃ h = let z : ◌≡◌ {A = ℕ} 0 1 = cc in absurd (omega arith)
@@ -75,7 +75,7 @@ each_placed P f Tlv.Other at e p = e
 -- what every turn keeps from a place on, the walk keeps
 module _ (s : List ℕ) (from : ℕ) (I : Found → Type 0) (keeps : (f g : Found) (at n : ℕ) → from ≤ at → at ≤ length s → Goes f g at n (drop at s) → I f → I g) where
   abbrev Kept : Rest → Type 0
-  Kept r = (g : Found) → from ≤ r.at → r.at ≤ length s → r.bytes ≡ drop r.at s → walk_rest r ≡ Walk.Whole g → I r.found → I g
+  Kept r = (g : Found) → from ≤ r.at → r.at ≤ length s → r.bytes ≡ drop r.at s → walk_rest r ≡ Some g → I r.found → I g
 
   keep : (r : Rest) → Kept r
   keep = size_ind left_of Kept step
@@ -83,7 +83,7 @@ module _ (s : List ℕ) (from : ℕ) (I : Found → Type 0) (keeps : (f g : Foun
       step : (r : Rest) → ((t : Rest) → left_of t < left_of r → Kept t) → Kept r
       step r ih g l h b e i = go (turn_of r.found r.at r.bytes) refl (sym (walk_step r.at r.bytes r.found) ∙ e)
         where
-          go : (t : Turn) → turn_of r.found r.at r.bytes ≡ t → on_turn walk_rest r t ≡ Walk.Whole g → I g
+          go : (t : Turn) → turn_of r.found r.at r.bytes ≡ t → on_turn walk_rest r t ≡ Some g → I g
           go Turn.End q k = let same : r.found ≡ g = cc in rw same at i
           go Turn.Malformed q k = let z : ◌≡◌ {A = ℕ} 0 1 = cc in absurd (omega arith)
           go (Turn.Next f n) q k =
@@ -96,7 +96,7 @@ module _ (s : List ℕ) (from : ℕ) (I : Found → Type 0) (keeps : (f g : Foun
               (ap (drop n) b ∙ drop-drop n r.at s) k (keeps r.found f r.at n l h w' i)
 
   -- what every turn keeps, the walk keeps
-  pub walk_keeps : from ≤ length s → (f g : Found) → walk_of from (drop from s) f ≡ Walk.Whole g → I f → I g
+  pub walk_keeps : from ≤ length s → (f g : Found) → walk_of from (drop from s) f ≡ Some g → I f → I g
   walk_keeps h f g e i = keep (record { at = from; bytes = drop from s; found = f }) g (omega arith) h refl e i
 
 -- a TLV stands whole at the place p of the message m
@@ -129,15 +129,15 @@ turn_lies m f g at n l h w e =
 pub record WholeTlvs (m : List ℕ) (f : Found) : Type 0 where
   pub head : head_size ≤ length m
   pub adds : be_at 2 m 2 + 4 ≡ length m
-  pub tlvs : walk_of head_size (drop head_size m) none_found ≡ Walk.Whole f
+  pub tlvs : walk_of head_size (drop head_size m) none_found ≡ Some f
 
 -- of a message that is not malformed the length is that of what follows
-pub whole_tlvs : (m : List ℕ) (f : Found) → tlvs_of m ≡ Walk.Whole f → WholeTlvs m f
+pub whole_tlvs : (m : List ℕ) (f : Found) → tlvs_of m ≡ Some f → WholeTlvs m f
 unfolding tlvs_of
 whole_tlvs m f e = go (ltb (length m) head_size) (eqb (be_at 2 m 2 + 4) (length m)) refl refl e
   where
     go : (b₁ b₂ : Bool) → ltb (length m) head_size ≡ b₁ → eqb (be_at 2 m 2 + 4) (length m) ≡ b₂
-        → pick b₁ Walk.Malformed (malformed_unless b₂ (walk_of head_size (drop head_size m) none_found)) ≡ Walk.Whole f → WholeTlvs m f
+        → pick b₁ None (malformed_unless b₂ (walk_of head_size (drop head_size m) none_found)) ≡ Some f → WholeTlvs m f
     go true b₂ q₁ q₂ h = let z : ◌≡◌ {A = ℕ} 0 1 = cc in absurd (omega arith)
     go false false q₁ q₂ h = let z : ◌≡◌ {A = ℕ} 0 1 = cc in absurd (omega arith)
     go false true q₁ q₂ h = record { head = ltb-false (length m) head_size q₁; adds = eqb-true (be_at 2 m 2 + 4) (length m) q₂; tlvs = h }
@@ -155,7 +155,7 @@ none_lies m = record {
 }
 
 -- every TLV that was found stands at its place
-pub found_lies : (m : List ℕ) (f : Found) → tlvs_of m ≡ Walk.Whole f → Each (Lies m) f
+pub found_lies : (m : List ℕ) (f : Found) → tlvs_of m ≡ Some f → Each (Lies m) f
 found_lies m f e =
     let w : WholeTlvs m f = whole_tlvs m f e in
     walk_keeps m head_size (Each (Lies m)) (turn_lies m) w.head none_found f w.tlvs (none_lies m)
@@ -176,7 +176,7 @@ session_long k e =
     (λ (h : eqb k draft_length ≡ false). omega (arith, eqb-true k published_length (rw h at e)))
 
 -- the TLVs found lie within the message: what the readers of values ask for
-pub places : (m : List ℕ) (f : Found) → tlvs_of m ≡ Walk.Whole f → Places m f
+pub places : (m : List ℕ) (f : Found) → tlvs_of m ≡ Some f → Places m f
 places m f e =
     let l : Each (Lies m) f = found_lies m f e in
     record {

@@ -1,4 +1,5 @@
 -- The walk says where the TLVs stand exactly where the message is a head and whole TLVs, and Malformed exactly where it is not. Assumes nothing.
+use Rattle.std.specs.Prelude.{Option, Some, None}
 use Prim.Native.Nat.{ℕ, ◌+◌, ◌-◌, ◌≤◌, ◌<◌}
 use mathlib.Core.List.{List, [], ◌∷◌, ◌++◌, flatten}
 use mathlib.Core.Path.{◌≡◌, refl, sym, ap, ◌∙◌}
@@ -12,7 +13,6 @@ use Rattle.octets.proofs.Fix.{size_ind}
 use Rattle.tlv.specs.declared.Found.{Found}
 use Rattle.tlv.specs.declared.walk.Tlv.{Tlv}
 use Rattle.tlv.specs.declared.walk.Turn.{Turn}
-use Rattle.tlv.specs.declared.walk.Walk.{Walk}
 use Rattle.tlv.specs.Split.{AreTlvs, none, one, Once, PlaceIs, HasTlvs}
 use Rattle.tlv.specs.Tlv.{head_of}
 use Rattle.tlv.specs.Walk.{none_found, place_of, placed_of, turn_of, Rest, left_of, on_turn, walk_of, head_size, tlvs_of}
@@ -24,7 +24,7 @@ use Rattle.tlv.proofs.Turns.{Goes, goes, walk_rest, walk_step}
 use Rattle.tlv.proofs.Whole.{whole-taken, Taken, turn-taken, nothing_ends, end_empty}
 
 -- whole TLVs that have no place yet are walked, each once
-tlvs_walked : (ts : List (List ℕ)) → AreTlvs ts → Once ts → (f : Found) (at : ℕ) → Free f ts → walk_of at (flatten ts) f ≡ Walk.Whole (found_in f at ts)
+tlvs_walked : (ts : List (List ℕ)) → AreTlvs ts → Once ts → (f : Found) (at : ℕ) → Free f ts → walk_of at (flatten ts) f ≡ Some (found_in f at ts)
 unfolding flatten
 tlvs_walked [] none once f at free = walk_step at [] f ∙ rw (nothing_ends f at) refl
 tlvs_walked (t ∷ ts) (one w ws) once f at free =
@@ -61,16 +61,16 @@ walked_more f g h at n ts some within k w =
     }
 
 -- what was walked is whole TLVs
-walked_tlvs : (g : Found) (r : Rest) → 0 < r.at → walk_rest r ≡ Walk.Whole g → Walked r.found g r.at r.bytes
+walked_tlvs : (g : Found) (r : Rest) → 0 < r.at → walk_rest r ≡ Some g → Walked r.found g r.at r.bytes
 walked_tlvs g = size_ind left_of Splits step
   where
     Splits : Rest → Type 0
-    Splits r = 0 < r.at → walk_rest r ≡ Walk.Whole g → Walked r.found g r.at r.bytes
+    Splits r = 0 < r.at → walk_rest r ≡ Some g → Walked r.found g r.at r.bytes
 
     step : (r : Rest) → ((t : Rest) → left_of t < left_of r → Splits t) → Splits r
     step r shorter some e = go (turn_of r.found r.at r.bytes) refl (sym (walk_step r.at r.bytes r.found) ∙ e)
       where
-        go : (t : Turn) → turn_of r.found r.at r.bytes ≡ t → on_turn walk_rest r t ≡ Walk.Whole g → Walked r.found g r.at r.bytes
+        go : (t : Turn) → turn_of r.found r.at r.bytes ≡ t → on_turn walk_rest r t ≡ Some g → Walked r.found g r.at r.bytes
         go Turn.End q k = let same : r.found ≡ g = cc in rw (end_empty r.found r.at r.bytes q, same) (walked_end g r.at)
         go Turn.Malformed q k = no cc
         go (Turn.Next f n) q k =
@@ -122,7 +122,7 @@ placed_each m tlvs f h = record {
 
 module _ (m : List ℕ) where
   -- the walk finds what there is: a message that it takes is a head and whole TLVs, which stand where it says
-  pub whole_has_tlvs : (f : Found) → tlvs_of m ≡ Walk.Whole f → (tlvs : List (List ℕ)) × HasTlvs m tlvs f
+  pub whole_has_tlvs : (f : Found) → tlvs_of m ≡ Some f → (tlvs : List (List ℕ)) × HasTlvs m tlvs f
   whole_has_tlvs f e =
       let h : WholeTlvs m f = whole_tlvs m f e in
       let w : Walked none_found f head_size (drop head_size m) =
@@ -148,25 +148,25 @@ module _ (m : List ℕ) where
       )
 
   -- and all that there is: a head and whole TLVs are taken, with the places where they stand
-  pub has_tlvs_whole : (tlvs : List (List ℕ)) (f : Found) → HasTlvs m tlvs f → tlvs_of m ≡ Walk.Whole f
+  pub has_tlvs_whole : (tlvs : List (List ℕ)) (f : Found) → HasTlvs m tlvs f → tlvs_of m ≡ Some f
   has_tlvs_whole tlvs f h =
-      let walked : walk_of head_size (drop head_size m) none_found ≡ Walk.Whole (places_in tlvs) =
+      let walked : walk_of head_size (drop head_size m) none_found ≡ Some (places_in tlvs) =
       rw (behind_head m tlvs f h) (tlvs_walked tlvs h.whole h.once none_found head_size (free_none none_found none_placed tlvs)) in
       let stands : Each (PlaceIs head_size tlvs) f = placed_each m tlvs f h in
       let same : f ≡ places_in tlvs = same_places f (places_in tlvs) (each_of (λ tlv place. place ≡ place_of (places_in tlvs) tlv) f (λ tlv l.
       place_found none_found head_size tlvs tlv (place_of f tlv) l h.once (none_placed tlv) (each_at (PlaceIs head_size tlvs) f stands tlv l))) in
-      sym (head_whole m h.head (be_at 2 m 2) refl h.adds (walk_of head_size (drop head_size m) none_found) refl) ∙ walked ∙ ap Walk.Whole (sym same)
+      sym (head_whole m h.head (be_at 2 m 2) refl h.adds (walk_of head_size (drop head_size m) none_found) refl) ∙ walked ∙ ap Some (sym same)
 
   -- a message is malformed exactly where it is not a head and whole TLVs
-  pub malformed_has_none : tlvs_of m ≡ Walk.Malformed → (tlvs : List (List ℕ)) (f : Found) → HasTlvs m tlvs f → ⊥
-  malformed_has_none e tlvs f h = let z : Walk.Malformed ≡ Walk.Whole f = sym e ∙ has_tlvs_whole tlvs f h in no cc
+  pub malformed_has_none : tlvs_of m ≡ None → (tlvs : List (List ℕ)) (f : Found) → HasTlvs m tlvs f → ⊥
+  malformed_has_none e tlvs f h = let z : None ≡ Some f = sym e ∙ has_tlvs_whole tlvs f h in no cc
 
-  pub has_none_malformed : ((tlvs : List (List ℕ)) (f : Found) → HasTlvs m tlvs f → ⊥) → tlvs_of m ≡ Walk.Malformed
+  pub has_none_malformed : ((tlvs : List (List ℕ)) (f : Found) → HasTlvs m tlvs f → ⊥) → tlvs_of m ≡ None
   has_none_malformed nothing = go (tlvs_of m) refl
     where
-      go : (w : Walk) → tlvs_of m ≡ w → tlvs_of m ≡ Walk.Malformed
-      go Walk.Malformed q = q
-      go (Walk.Whole f) q = let s = whole_has_tlvs f q in absurd (nothing s.0 f s.1)
+      go : (w : Option Found) → tlvs_of m ≡ w → tlvs_of m ≡ None
+      go None q = q
+      go (Some f) q = let s = whole_has_tlvs f q in absurd (nothing s.0 f s.1)
 
 -- bytes are joined of whole TLVs in one way
 same_tlvs : (ts us : List (List ℕ)) → AreTlvs ts → AreTlvs us → flatten ts ≡ flatten us → ts ≡ us
@@ -186,5 +186,5 @@ same_tlvs (t ∷ ts) (u ∷ us) (one v vs) (one w ws) e =
 -- a message has its TLVs, and their places, in one way
 pub has_tlvs_unique : (m : List ℕ) (ts us : List (List ℕ)) (f g : Found) → HasTlvs m ts f → HasTlvs m us g → (ts ≡ us) × (f ≡ g)
 has_tlvs_unique m ts us f g h k =
-    let found : Walk.Whole f ≡ Walk.Whole g = sym (has_tlvs_whole m ts f h) ∙ has_tlvs_whole m us g k in
+    let found : Some f ≡ Some g = sym (has_tlvs_whole m ts f h) ∙ has_tlvs_whole m us g k in
     (same_tlvs ts us h.whole k.whole (sym (behind_head m ts f h) ∙ behind_head m us g k), cc)

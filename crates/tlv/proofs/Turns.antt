@@ -1,4 +1,5 @@
 -- Laws of a turn, of the walk, and of a loop that makes it. Assumes nothing.
+use Rattle.std.specs.Prelude.{Option, Some, None}
 use Prim.Native.Nat.{ℕ, ◌+◌, ◌-◌, ◌≤◌, ◌<◌, ◌%◌, ◌^◌}
 use mathlib.Core.Bool.{Bool, true, false}
 use mathlib.Core.List.{List}
@@ -17,7 +18,6 @@ use Rattle.octets.proofs.Bytes.{be_at-drop}
 use Rattle.octets.proofs.Fix.{fix-step, Shrinks}
 use Rattle.tlv.specs.declared.Found.{Found}
 use Rattle.tlv.specs.declared.walk.Turn.{Turn}
-use Rattle.tlv.specs.declared.walk.Walk.{Walk}
 use Rattle.tlv.specs.Tlv.{tlv_of, head_of, size_of}
 use Rattle.tlv.specs.Walk.{noted_of, taken_of, turn_of, Rest, left_of, on_turn, step_of, walk_of}
 
@@ -25,18 +25,18 @@ use Rattle.tlv.specs.Walk.{noted_of, taken_of, turn_of, Rest, left_of, on_turn, 
 pub record Goes (f g : Found) (at n : ℕ) (ts : List ℕ) : Type 0 where
   pub size : n ≡ size_of ts
   pub within : n ≤ length ts
-  pub noted : noted_of f (head_of ts) (be_at 2 ts 2) at ts ≡ Walk.Whole g
+  pub noted : noted_of f (head_of ts) (be_at 2 ts 2) at ts ≡ Some g
 
 pub goes : (f g : Found) (at n : ℕ) (ts : List ℕ) → turn_of f at ts ≡ Turn.Next g n → Goes f g at n ts
 unfolding turn_of
 goes f g at n ts e = go (eqb (length ts) 0) (ltb (length ts) (size_of ts)) (noted_of f (head_of ts) (be_at 2 ts 2) at ts) refl refl e
   where
-    go : (b₁ b₂ : Bool) (w : Walk) → ltb (length ts) (size_of ts) ≡ b₂ → noted_of f (head_of ts) (be_at 2 ts 2) at ts ≡ w
+    go : (b₁ b₂ : Bool) (w : Option Found) → ltb (length ts) (size_of ts) ≡ b₂ → noted_of f (head_of ts) (be_at 2 ts 2) at ts ≡ w
         → pick b₁ Turn.End (pick b₂ Turn.Malformed (taken_of w (size_of ts))) ≡ Turn.Next g n → Goes f g at n ts
     go true b₂ w q k h = let z : ◌≡◌ {A = ℕ} 0 1 = cc in absurd (omega arith)
     go false true w q k h = let z : ◌≡◌ {A = ℕ} 0 1 = cc in absurd (omega arith)
-    go false false Walk.Malformed q k h = let z : ◌≡◌ {A = ℕ} 0 1 = cc in absurd (omega arith)
-    go false false (Walk.Whole f') q k h =
+    go false false None q k h = let z : ◌≡◌ {A = ℕ} 0 1 = cc in absurd (omega arith)
+    go false false (Some f') q k h =
         let e' : size_of ts ≡ n = cc in
         let f'' : f' ≡ g = cc in
         record { size = sym e'; within = omega (arith, ltb-false (length ts) (size_of ts) q); noted = cc }
@@ -50,27 +50,27 @@ shrinks g h r e = go (turn_of r.found r.at r.bytes) refl
     go (Turn.Next f n) q = let w = goes r.found f r.at n r.bytes q in e _ (omega (arith, length-drop n r.bytes))
 
 -- the walk over what is left
-abbrev pub walk_rest : Rest → Walk
+abbrev pub walk_rest : Rest → Option Found
 walk_rest r = walk_of r.at r.bytes r.found
 
 -- the walk is one turn, and the walk
 pub walk_step : (at : ℕ) (ts : List ℕ) (f : Found) → walk_of at ts f ≡ on_turn walk_rest (record { at = at; bytes = ts; found = f }) (turn_of f at ts)
 unfolding walk_of
-walk_step at ts f = fix-step left_of step_of Walk.Malformed shrinks (record { at = at; bytes = ts; found = f })
+walk_step at ts f = fix-step left_of step_of None shrinks (record { at = at; bytes = ts; found = f })
 
 -- a turn of the loop, by what its call answered
 module _ (s : List ℕ) (at : ℕ) (f : Found) (w : Turn) (is : w ≡ turn_of f at (drop at s)) where
-  turned : (all : Walk) → walk_of at (drop at s) f ≡ all → on_turn walk_rest (record { at = at; bytes = drop at s; found = f }) w ≡ all
+  turned : (all : Option Found) → walk_of at (drop at s) f ≡ all → on_turn walk_rest (record { at = at; bytes = drop at s; found = f }) w ≡ all
   turned all inv = rw is (sym (walk_step at (drop at s) f) ∙ inv)
 
-  pub loop_end : (all : Walk) → walk_of at (drop at s) f ≡ all → w ≡ Turn.End → Walk.Whole f ≡ all
+  pub loop_end : (all : Option Found) → walk_of at (drop at s) f ≡ all → w ≡ Turn.End → Some f ≡ all
   loop_end all inv e = rw e at (turned all inv)
 
-  pub loop_malformed : (all : Walk) → walk_of at (drop at s) f ≡ all → w ≡ Turn.Malformed → Walk.Malformed ≡ all
+  pub loop_malformed : (all : Option Found) → walk_of at (drop at s) f ≡ all → w ≡ Turn.Malformed → None ≡ all
   loop_malformed all inv e = rw e at (turned all inv)
 
   module _ (g : Found) (n : ℕ) (e : w ≡ Turn.Next g n) where
-    pub loop_next : (all : Walk) → walk_of at (drop at s) f ≡ all → walk_of (at + n) (drop (at + n) s) g ≡ all
+    pub loop_next : (all : Option Found) → walk_of at (drop at s) f ≡ all → walk_of (at + n) (drop (at + n) s) g ≡ all
     loop_next all inv = rw (e, drop-drop) at (turned all inv)
 
     loop_goes : Goes f g at n (drop at s)
@@ -112,14 +112,14 @@ module _ (s : List ℕ) (at : ℕ) (f : Found) where
     pub at-over : length s - at < 4 + n → Turn.Malformed ≡ turn_of f at (drop at s)
     at-over h = at_is n _ nq refl (simp (length-drop, ne_eqb (length s - at) 0 z, lt-ltb (length s - at) (4 + n) h))
 
-    module _ (t : ℕ) (w : Walk) (wq : w ≡ noted_of f (tlv_of (t % 16384)) n at (drop at s)) (tq : t ≡ be_at 2 s at) (h : 4 + n ≤ length s - at) where
+    module _ (t : ℕ) (w : Option Found) (wq : w ≡ noted_of f (tlv_of (t % 16384)) n at (drop at s)) (tq : t ≡ be_at 2 s at) (h : 4 + n ≤ length s - at) where
       at_tlv : taken_of w (4 + n) ≡ turn_of f at (drop at s)
       at_tlv = at_is n t nq tq (simp (wq, length-drop, ne_eqb (length s - at) 0 z, le-ltb (length s - at) (4 + n) h))
 
-      pub at-whole : (g : Found) → w ≡ Walk.Whole g → Turn.Next g (4 + n) ≡ turn_of f at (drop at s)
+      pub at-whole : (g : Found) → w ≡ Some g → Turn.Next g (4 + n) ≡ turn_of f at (drop at s)
       at-whole g e = rw e at at_tlv
 
-      pub at_malformed : w ≡ Walk.Malformed → Turn.Malformed ≡ turn_of f at (drop at s)
+      pub at_malformed : w ≡ None → Turn.Malformed ≡ turn_of f at (drop at s)
       at_malformed e = rw e at at_tlv
 
 pub ruleset turns = (at_end, at-short, at-over, at-whole, at_malformed)

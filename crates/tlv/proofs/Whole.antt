@@ -1,4 +1,5 @@
 -- One whole TLV: what it says whatever stands behind it, and that a turn takes it exactly where it may stand. Assumes nothing.
+use Rattle.std.specs.Prelude.{Option, Some, None}
 use Prim.Native.Nat.{ℕ, ◌+◌, ◌%◌, ◌≤◌}
 use mathlib.Core.Bool.{Bool, true, false}
 use mathlib.Core.List.{List, [], ◌∷◌, ◌++◌}
@@ -15,7 +16,6 @@ use Rattle.octets.proofs.Choice.{no}
 use Rattle.tlv.specs.declared.Found.{Found}
 use Rattle.tlv.specs.declared.walk.Tlv.{Tlv}
 use Rattle.tlv.specs.declared.walk.Turn.{Turn}
-use Rattle.tlv.specs.declared.walk.Walk.{Walk}
 use Rattle.tlv.specs.Split.{IsTlv}
 use Rattle.tlv.specs.Tlv.{tlv_of, length_fits, type_range, head_of, size_of, label_value, largest_label}
 use Rattle.tlv.specs.Walk.{place_of, placed_of, noted_of, taken_of, turn_of}
@@ -94,8 +94,8 @@ pub end_empty : (f : Found) (at : ℕ) (ts : List ℕ) → turn_of f at ts ≡ T
 unfolding turn_of
 end_empty f at ts e = go (eqb (length ts) 0) (ltb (length ts) (size_of ts)) (noted_of f (head_of ts) (be_at 2 ts 2) at ts) refl e
   where
-    go : (b₁ b₂ : Bool) (w : Walk) → eqb (length ts) 0 ≡ b₁ → pick b₁ Turn.End (pick b₂ Turn.Malformed (taken_of w (size_of ts))) ≡ Turn.End → ts ≡ []
+    go : (b₁ b₂ : Bool) (w : Option Found) → eqb (length ts) 0 ≡ b₁ → pick b₁ Turn.End (pick b₂ Turn.Malformed (taken_of w (size_of ts))) ≡ Turn.End → ts ≡ []
     go true b₂ w q h = nil ts (eqb-true (length ts) 0 q)
     go false true w q h = no cc
-    go false false Walk.Malformed q h = no cc
-    go false false (Walk.Whole g) q h = no cc
+    go false false None q h = no cc
+    go false false (Some g) q h = no cc

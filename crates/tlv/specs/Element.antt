@@ -1,7 +1,7 @@
 -- The FEC by the bytes of its value, and its entry in the index.
 -- 01: "the wildcard FEC (one element of type 1)". 02: "Only a FEC of one well-formed IPv4 prefix element is indexed; others stay as in 01."
 -- RFC 3036: a prefix element is 02, the address family (IPv4: 00 01), the length in bits, and as many bytes of the prefix as that needs.
-use Rattle.std.specs.Prelude.{ℕ, ◌+◌, ◌-◌, ◌*◌, ◌/◌, ◌^◌, Bool, List, eqb, leb, length, get_or}
+use Rattle.std.specs.Prelude.{Option, Some, None, ℕ, ◌+◌, ◌-◌, ◌*◌, ◌/◌, ◌^◌, Bool, List, eqb, leb, length, get_or}
 use Rattle.octets.specs.Be.{be_at}
 use Rattle.octets.specs.Pick.{pick, both}
 use Rattle.tlv.specs.declared.Fec.{Fec}
@@ -40,8 +40,8 @@ fec_of value = pick (is_wildcard value) Fec.Wildcard (pick (is_prefix value) (Fe
 abbrev pub entry_of : Ipv4Prefix → ℕ
 entry_of p = 0x0100000000000000 + p.length * 0x0001000000000000 + p.bits
 
-abbrev pub entry_by : Fec → ℕ
-entry_by Fec.Absent = 0
-entry_by Fec.Wildcard = 0
-entry_by (Fec.Prefix p) = entry_of p
-entry_by Fec.Other = 0
+abbrev pub entry_by : Option Fec → ℕ
+entry_by None = 0
+entry_by (Some Fec.Wildcard) = 0
+entry_by (Some (Fec.Prefix p)) = entry_of p
+entry_by (Some Fec.Other) = 0

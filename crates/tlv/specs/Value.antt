@@ -1,14 +1,13 @@
 -- What the TLV at a place of a message says; the place is 0 where the TLV does not stand. A value begins 4 bytes after the place.
-use Rattle.std.specs.Prelude.{ℕ, ◌+◌, ◌≤◌, Bool, List, ◌≡◌, eqb, leb, length}
+use Rattle.std.specs.Prelude.{Option, Some, None, ℕ, ◌+◌, ◌≤◌, Bool, List, ◌≡◌, eqb, leb, length}
 use Rattle.octets.specs.Be.{be_at}
 use Rattle.octets.specs.Part.{part}
 use Rattle.octets.specs.Pick.{pick}
+use Rattle.ft_number.specs.declared.FtNumber.{FtNumber}
+use Rattle.ft_number.specs.declared.MessageId.{MessageId}
 use Rattle.ft_number.specs.declared.Timeout.{Timeout}
 use Rattle.tlv.specs.declared.Fec.{Fec}
-use Rattle.tlv.specs.declared.Field.{Field}
 use Rattle.tlv.specs.declared.Found.{Found}
-use Rattle.tlv.specs.declared.FtField.{FtField}
-use Rattle.tlv.specs.declared.IdField.{IdField}
 use Rattle.tlv.specs.declared.Parameters.{Parameters}
 use Rattle.tlv.specs.declared.Part.{Part}
 use Rattle.tlv.specs.declared.Session.{Session}
@@ -39,25 +38,25 @@ unfoldable pub part_at : List ℕ → ℕ → Part
 part_at m place = pick (eqb place 0) (record { start = 0; end = 0 }) (record { start = place + 4; end = place + 4 + be_at 2 m (place + 2) })
 
 -- the FEC of the value's bytes
-unfoldable pub fec_at : List ℕ → ℕ → Fec
-fec_at m place = pick (eqb place 0) Fec.Absent (fec_of (part m (place + 4) (place + 4 + be_at 2 m (place + 2))))
+unfoldable pub fec_at : List ℕ → ℕ → Option Fec
+fec_at m place = pick (eqb place 0) None (Some (fec_of (part m (place + 4) (place + 4 + be_at 2 m (place + 2)))))
 
 -- the first 32 bits: a label, a status
-unfoldable pub field_at : List ℕ → ℕ → Field
-field_at m place = pick (eqb place 0) Field.Absent (Field.Value (be_at 4 m (place + 4)))
+unfoldable pub field_at : List ℕ → ℕ → Option ℕ
+field_at m place = pick (eqb place 0) None (Some (be_at 4 m (place + 4)))
 
 -- an FT number
-unfoldable pub number_at : List ℕ → ℕ → FtField
-number_at m place = pick (eqb place 0) FtField.Absent (FtField.Number (record { 0 = be_at 4 m (place + 4) }))
+unfoldable pub number_at : List ℕ → ℕ → Option FtNumber
+number_at m place = pick (eqb place 0) None (Some (record { 0 = be_at 4 m (place + 4) }))
 
 -- a message ID, n bytes into the value: of Label Request Message ID the whole; in Status it stands behind the code, RFC 3036: "code (4), message ID (4), message type (2)"
-unfoldable pub id_at : List ℕ → ℕ → ℕ → IdField
-id_at m place n = pick (eqb place 0) IdField.Absent (IdField.Id (record { 0 = be_at 4 m (place + 4 + n) }))
+unfoldable pub id_at : List ℕ → ℕ → ℕ → Option MessageId
+id_at m place n = pick (eqb place 0) None (Some (record { 0 = be_at 4 m (place + 4 + n) }))
 
 -- 01: "of the peer's parameters only these are read": KeepAlive time, maximum PDU length; before them stands the protocol version (2),
 -- between them the A and D bits (1) and PVLim (1)
-unfoldable pub parameters_at : List ℕ → ℕ → Parameters
-parameters_at m place = pick (eqb place 0) Parameters.Absent (Parameters.Given (be_at 2 m (place + 6)) (be_at 2 m (place + 10)))
+unfoldable pub parameters_at : List ℕ → ℕ → Option Parameters
+parameters_at m place = pick (eqb place 0) None (Some (record { keepalive = be_at 2 m (place + 6); pdulength = be_at 2 m (place + 10) }))
 
 -- the top bit of 32, and whether it is set
 abbrev pub top_bit_weight : ℕ
@@ -72,5 +71,5 @@ abbrev pub timeout_at : List ℕ → ℕ → Timeout
 timeout_at m place =
     pick (eqb (be_at 2 m (place + 2)) published_length) (Timeout.Milliseconds (be_at 4 m (place + 8))) (Timeout.Seconds (be_at 2 m (place + 6)))
 
-unfoldable pub session_at : List ℕ → ℕ → Session
-session_at m place = pick (eqb place 0) Session.Absent (Session.Given (top_bit (be_at 4 m (place + 4))) (timeout_at m place))
+unfoldable pub session_at : List ℕ → ℕ → Option Session
+session_at m place = pick (eqb place 0) None (Some (record { reconnect = top_bit (be_at 4 m (place + 4)); timeout = timeout_at m place }))

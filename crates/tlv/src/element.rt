@@ -88,16 +88,17 @@ pub fn fec_of(value: &[u8]) -> Fec
     Fec::Other
 }
 
-// The entry of a FEC in the index: 1, the length and the bits of one IPv4 prefix, as the number of those eight bytes; of every other FEC 0.
-pub fn entry_by(fec: Fec) -> u64
+// The entry of a FEC in the index: 1, the length and the bits of one IPv4 prefix, as the number of those eight bytes; of every other FEC, and
+// where there is none, 0.
+pub fn entry_by(fec: Option<Fec>) -> u64
     ensures { result ≡ entry_by fec }
 {
     match fec {
-        Fec::Absent => 0,
-        Fec::Wildcard => 0,
-        Fec::Prefix(prefix) => {
+        None => 0,
+        Some(Fec::Wildcard) => 0,
+        Some(Fec::Prefix(prefix)) => {
             0x0100000000000000 + prefix.length as u64 * 0x0001000000000000 + prefix.bits as u64
         }
-        Fec::Other => 0,
+        Some(Fec::Other) => 0,
     }
 }

@@ -1,7 +1,7 @@
 // The TLVs of one message: where each listed one stands, or that they are malformed, and what they say.
 #![tactic(auto)]
 
-use ft_number::{FtNumber, MessageId, Timeout};
+use ft_number::Timeout;
 
 pub mod walk; // walk.rt: the walk over a message's TLVs
 pub mod element; // element.rt: the FEC by its bytes
@@ -34,46 +34,24 @@ pub struct Ipv4Prefix {
     pub bits: u32,
 }
 
-// The FEC: absent, the wildcard alone, one IPv4 prefix, or any other.
+// A FEC: the wildcard alone, one IPv4 prefix, or any other.
 #[derive(Clone, Copy)]
 pub enum Fec {
-    Absent,
     Wildcard,
     Prefix(Ipv4Prefix),
     Other,
 }
 
-// A 32-bit value that a message may bear: the label, the status.
-#[derive(Clone, Copy)]
-pub enum Field {
-    Absent,
-    Value(u32),
-}
-
-// An FT number that a message may bear: of FT Protection, of FT ACK.
-#[derive(Clone, Copy)]
-pub enum FtField {
-    Absent,
-    Number(FtNumber),
-}
-
-// The ID of another message that a message may name: of Label Request Message ID, of Status.
-#[derive(Clone, Copy)]
-pub enum IdField {
-    Absent,
-    Id(MessageId),
-}
-
 // The Common Session Parameters: the two that are read.
 #[derive(Clone, Copy)]
-pub enum Parameters {
-    Absent,
-    Given { keepalive: u16, pdulength: u16 },
+pub struct Parameters {
+    pub keepalive: u16,
+    pub pdulength: u16,
 }
 
 // The FT Session TLV: the R bit and the reconnection timeout, in the unit of the TLV's form.
 #[derive(Clone, Copy)]
-pub enum Session {
-    Absent,
-    Given { reconnect: bool, timeout: Timeout },
+pub struct Session {
+    pub reconnect: bool,
+    pub timeout: Timeout,
 }

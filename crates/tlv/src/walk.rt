@@ -19,13 +19,6 @@ pub enum Tlv {
     Other,
 }
 
-// What the TLVs of a message are: malformed, or whole with the place of each listed one.
-#[derive(Clone, Copy)]
-pub enum Walk {
-    Malformed,
-    Whole(Found),
-}
-
 // What stands at a place: no byte more, a fault, or a TLV: the places with its own, and its size.
 #[derive(Clone, Copy)]
 pub enum Turn {
@@ -103,24 +96,24 @@ fn label_in(s: &[u8], tlv: Tlv, n: usize, at: usize) -> u32
 }
 
 // What the TLV at a place, with a value of n bytes, makes of the places found before it.
-fn noted(found: Found, s: &[u8], tlv: Tlv, n: usize, at: usize) -> Walk
+fn noted(found: Found, s: &[u8], tlv: Tlv, n: usize, at: usize) -> Option<Found>
     requires { 4 + n ≤ length s.now - at }
     ensures { result ≡ noted_of found tlv n at (drop at s.now) }
 {
     if !length_fits(tlv, n) {
-        return Walk::Malformed;
+        return None;
     }
     if place_of(found, tlv) != 0 {
-        return Walk::Malformed;
+        return None;
     }
     if 1048575 < label_in(s, tlv, n, at) {
-        return Walk::Malformed;
+        return None;
     }
-    Walk::Whole(placed(found, tlv, at))
+    Some(placed(found, tlv, at))
 }
 
 // The same by the TLV's type number, U and F masked off: looked at once, so that each TLV's tests and place are its own code.
-fn noted_by(found: Found, s: &[u8], number: u16, n: usize, at: usize) -> Walk
+fn noted_by(found: Found, s: &[u8], number: u16, n: usize, at: usize) -> Option<Found>
     requires { 4 + n ≤ length s.now - at }
     ensures { result ≡ noted_of found (tlv_of number) n at (drop at s.now) }
 {
@@ -154,12 +147,12 @@ fn turn_at(found: Found, s: &[u8], at: usize) -> Turn
         return Turn::Malformed;
     }
     match noted_by(found, s, number, n, at) {
-        Walk::Malformed => Turn::Malformed,
-        Walk::Whole(f) => Turn::Next(f, 4 + n),
+        None => Turn::Malformed,
+        Some(f) => Turn::Next(f, 4 + n),
     }
 }
 
-fn walk_tlvs(s: &[u8]) -> Walk
+fn walk_tlvs(s: &[u8]) -> Option<Found>
     requires { 8 ≤ length s.now }
     ensures { result ≡ walk_of 8 (drop 8 s.now) none_found }
 {
@@ -177,10 +170,10 @@ fn walk_tlvs(s: &[u8]) -> Walk
     let answer = 'walk: loop {
         match turn_at(found, s, at) {
             Turn::End => {
-                break 'walk Walk::Whole(found);
+                break 'walk Some(found);
             }
             Turn::Malformed => {
-                break 'walk Walk::Malformed;
+                break 'walk None;
             }
             Turn::Next(f, n) => {
                 found = f;
@@ -191,14 +184,14 @@ fn walk_tlvs(s: &[u8]) -> Walk
     answer
 }
 
-fn walk_whole(m: &[u8]) -> Walk
+fn walk_whole(m: &[u8]) -> Option<Found>
     ensures { result ≡ tlvs_of m.now }
 {
     if m.len() < 8 {
-        return Walk::Malformed;
+        return None;
     }
     if octets::get_u16(m, 2) as usize + 4 != m.len() {
-        return Walk::Malformed;
+        return None;
     }
     walk_tlvs(m)
 }
@@ -207,7 +200,7 @@ fn walk_whole(m: &[u8]) -> Walk
 // what follows, a TLV cut off, a listed one with a wrong length or a second time, a label above 1,048,575. U and F of a TLV are ignored,
 // others than those listed skipped. The bytes are lent on from their start: then the compiler hands address and length over in registers,
 // and no caller copies the pair through memory.
-pub fn walk_message(m: &[u8]) -> Walk
+pub fn walk_message(m: &[u8]) -> Option<Found>
     ensures { result ≡ tlvs_of m.now }
 {
     walk_whole(&m[0..])

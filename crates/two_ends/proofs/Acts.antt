@@ -1,10 +1,12 @@
 -- What holds of the world that a call makes, and what a break keeps, holds of the world after the event. Assumes nothing.
+use Rattle.std.specs.Prelude.{Result}
 use Prim.Native.Nat.{ℕ}
 use mathlib.Core.Bool.{Bool, false, true, not}
 use mathlib.Core.List.{[], List, ◌∷◌}
 use mathlib.Core.Path.{◌≡◌, refl}
 use Rattle.octets.specs.Pick.{pick, both}
 use Rattle.octets.proofs.Choice.{pick_all, both_true}
+use Rattle.protocol.specs.declared.Answer.{Answer}
 use Rattle.protocol.specs.declared.Start.{Start}
 use Rattle.protocol.specs.Answers.{is_done}
 use Rattle.protocol.specs.Init.{init_received, init_start}
@@ -71,7 +73,7 @@ module _ (P : World → Type 0) (broke : (v : World) → P v → P (disconnected
     by_open x p q = pick_all P (is_done x.answer) (by_replaced w (on (called w.a x w.a.history)) (put true w.ab x) w.ba p) (by_plain x q)
 
     -- the oldest message delivered
-    heard_by : (m : List ℕ) (rest : List (List ℕ)) (st : Start) (x y : Step) (b : Bool)
+    heard_by : (m : List ℕ) (rest : List (List ℕ)) (st : Result Start Answer) (x y : Step) (b : Bool)
         → P (record {
           a = pick b (greeted w.a st x) (took w.a m y);
           b = w.b;

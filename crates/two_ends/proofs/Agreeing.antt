@@ -1,4 +1,5 @@
 -- What is given is in use or asked back, as either end accepts a message or an acknowledgement comes. Assumes nothing.
+use Rattle.std.specs.Prelude.{Result, Ok}
 use Prim.Native.Nat.{ℕ}
 use mathlib.Core.Bool.{true, false, true≢false}
 use mathlib.Core.List.{List, [], ◌∷◌, ◌++◌}
@@ -13,7 +14,7 @@ use Rattle.label_list.specs.declared.Side.TheVariants.{Given, Used}
 use Rattle.label_list.specs.Valid.{valid_of}
 use Rattle.label_events.specs.Change.{code_at}
 use Rattle.message.specs.declared.Kind.{Kind}
-use Rattle.message.specs.declared.Submission.{Submission}
+use Rattle.message.specs.declared.SubmissionError.{SubmissionError}
 use Rattle.message.specs.Storable.{bears}
 use Rattle.message.specs.Submission.{submission_of}
 use Rattle.label_meaning.specs.Event.{LabelEvent, Accepted, after_event, Moves, given, withdrawn, released, returned}
@@ -42,7 +43,7 @@ module _ (giver user : List ℕ) (out back : List (List ℕ)) (a : Agree giver u
   more_agree : (m : List ℕ) → Agree giver user (out ++ (m ∷ [])) back
   more_agree m l may g none = rw (after_snoc l (code_at user Used l) out m) (used_code_by l (code_after l (code_at user Used l) out) (submission_of m) (a l may g none))
 
-  given_agree : (m : List ℕ) → valid_of giver ≡ true → NoSix user → (message : LabelMessage) (k : ℕ) → ((l : ℕ) → message ≡ Mapping → k ≡ l → submission_of m ≡ Submission.Accepted Kind.Mapping l)
+  given_agree : (m : List ℕ) → valid_of giver ≡ true → NoSix user → (message : LabelMessage) (k : ℕ) → ((l : ℕ) → message ≡ Mapping → k ≡ l → submission_of m ≡ Ok (Kind.Mapping, l))
       → Agree (after_event giver (Accepted message k)) user (out ++ (m ∷ [])) back
   given_agree m v six message k is l may g none =
       ⊎_elim
@@ -55,9 +56,9 @@ module _ (giver user : List ℕ) (out back : List (List ℕ)) (a : Agree giver u
       (given_move move))
       (moved giver v (Accepted message k) Given l)
 
-  pub accept_giver : (m : List ℕ) → valid_of giver ≡ true → NoSix user → {j : Submission} {after : List ℕ} → submission_of m ≡ j → AcceptedWords giver j after
+  pub accept_giver : (m : List ℕ) → valid_of giver ≡ true → NoSix user → {j : Result (Kind × ℕ) SubmissionError} {after : List ℕ} → submission_of m ≡ j → AcceptedWords giver j after
       → Agree after user (out ++ (m ∷ [])) back
-  accept_giver m v six e (mapping_accepted {k}) = given_agree m v six Mapping k (λ l p q. e ∙ ap (λ (x : ℕ). Submission.Accepted Kind.Mapping x) q)
+  accept_giver m v six e (mapping_accepted {k}) = given_agree m v six Mapping k (λ l p q. e ∙ ap (λ (x : ℕ). Ok (Kind.Mapping, x)) q)
   accept_giver m v six e (withdraw_accepted {k}) = given_agree m v six Withdraw k (λ l p q. no cc)
   accept_giver m v six e (release_accepted {k}) = given_agree m v six Release k (λ l p q. no cc)
   accept_giver m v six e (codes_kept same) = λ l may g none. more_agree m l may (rw (same Given l) at g) none
@@ -85,7 +86,7 @@ module _ (giver user : List ℕ) (out back : List (List ℕ)) (a : Agree giver u
       absurd (true≢false (sym (held_last 3 l back m (is l p.0 p.1)) ∙ none)))
       (moved user v (Accepted message k) Used l)
 
-  pub accept_user : (m : List ℕ) → valid_of user ≡ true → {j : Submission} {after : List ℕ} → submission_of m ≡ j → AcceptedWords user j after → Agree giver after out (back ++ (m ∷ []))
+  pub accept_user : (m : List ℕ) → valid_of user ≡ true → {j : Result (Kind × ℕ) SubmissionError} {after : List ℕ} → submission_of m ≡ j → AcceptedWords user j after → Agree giver after out (back ++ (m ∷ []))
   accept_user m v e (mapping_accepted {k}) = used_agree m v Mapping k (λ l p q. no cc)
   accept_user m v e (withdraw_accepted {k}) = used_agree m v Withdraw k (λ l p q. no cc)
   accept_user m v e (release_accepted {k}) = used_agree m v Release k (λ l p q. rw e (eq-eqb k l q))

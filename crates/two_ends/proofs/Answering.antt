@@ -1,4 +1,5 @@
 -- Between the two ends no answer comes but 0, 21, 35 and 36. Assumes nothing.
+use Rattle.std.specs.Prelude.{Ok, Err, Some}
 use Prim.Native.Nat.{ℕ}
 use mathlib.Core.Bool.{Bool}
 use mathlib.Core.List.{List}
@@ -7,9 +8,7 @@ use mathlib.Core.Path.{◌≡◌, refl, sym, ◌∙◌}
 use Rattle.octets.proofs.Choice.{no}
 use Rattle.ft_number.specs.declared.FtNumber.{FtNumber}
 use Rattle.label_list.specs.declared.Protection.{Protection}
-use Rattle.tlv.specs.declared.FtField.{FtField}
 use Rattle.message.specs.declared.Message.{Message}
-use Rattle.message.specs.declared.Reading.{Reading}
 use Rattle.protocol.specs.declared.Answer.{Answer}
 use Rattle.protocol.specs.declared.Phase.{Phase}
 use Rattle.protocol.specs.declared.Progress.{Progress}
@@ -45,13 +44,13 @@ use Rattle.two_ends.proofs.Tidy.{Tidy, tidy_acked}
 use Rattle.two_ends.proofs.Worlds.{at-swap}
 
 -- protection is neither missing nor wrong, as an ACK leaves the labels
-pub rightly : (s : State) (g : Message) (n : FtNumber) → Tidy s → g.protection ≡ FtField.Number n → (k : ℕ) → protection_rule (table_after s k) g ≡ Protection.Right
+pub rightly : (s : State) (g : Message) (n : FtNumber) → Tidy s → g.protection ≡ Some n → (k : ℕ) → protection_rule (table_after s k) g ≡ Protection.Right
 unfolding protection_rule acked label_effect
 rightly s g n t e k = rw e (protected_right (table_after s k) (label_effect g) (tidy_acked s t k 0).sixless)
 
 -- so of the answers that the core leaves open these do not come
 pub fair_comes : {s : State} {u : Progress} {g : Message} {a : Answer} → ((k : ℕ) → protection_rule (table_after s k) g ≡ Protection.Right)
-    → Case s (Phase.UpFT u) (Reading.Whole g) a → Fair a → Comes a
+    → Case s (Phase.UpFT u) (Some g) a → Fair a → Comes a
 fair_comes right c fair_done = taken
 fair_comes right c fair_full = no_word
 fair_comes right c fair_fatal = fatal
@@ -71,8 +70,8 @@ module _ (b : End) (ab : List (List ℕ)) where
         let ts = terms now t id p said in
         let st = again-start now t h id p said a i in
         ⊎_elim
-        (λ (e : init_start now (waiting_for t) m ≡ Start.Resumed ts st.0 a). rw (again-begins now t h id p said a i st.0 e) taken)
-        (λ (e : init_start now (waiting_for t) m ≡ Start.Refused Answer.ParametersChanged). rw (changed-init now t m e) changed)
+        (λ (e : init_start now (waiting_for t) m ≡ Ok (Start.Resumed ts st.0 a)). rw (again-begins now t h id p said a i st.0 e) taken)
+        (λ (e : init_start now (waiting_for t) m ≡ Err Answer.ParametersChanged). rw (changed-init now t m e) changed)
         st.2;
     alives = λ now re sent h id n qs i l.
         rw (rule_answers now re sent (bytes_of (alive id n)) (g₁ now re sent h id n) (alive_read now re sent h id n i) h i, alive-done now re sent h id n i) taken;

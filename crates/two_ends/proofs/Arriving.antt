@@ -1,4 +1,5 @@
 -- A KeepAlive, or a message with its number, is delivered in UpFT. Assumes nothing.
+use Rattle.std.specs.Prelude.{Ok, Option, Some}
 use Prim.Native.Nat.{ℕ, ◌+◌, ◌^◌, ◌<◌}
 use mathlib.Core.Bool.{true, false, Bool}
 use mathlib.Core.List.{List, [], ◌∷◌, map}
@@ -6,15 +7,11 @@ use mathlib.Core.Path.{◌≡◌, refl, ap, ◌∙◌}
 use native.Mathlib.Omega.{arith}
 use lib.ListN.{length}
 use Rattle.octets.specs.Pick.{pick, both}
-use Rattle.ft_number.specs.declared.Ack.{Ack}
 use Rattle.ft_number.specs.declared.FtNumber.{FtNumber}
 use Rattle.ft_number.specs.declared.MessageId.{MessageId}
-use Rattle.ft_number.specs.declared.Turn.{Turn}
 use Rattle.ft_number.specs.Turn.{number_turn}
 use Rattle.ft_number.proofs.Circle.{after-suc}
-use Rattle.tlv.specs.declared.FtField.{FtField}
 use Rattle.message.specs.declared.Message.{Message}
-use Rattle.message.specs.declared.Reading.{Reading}
 use Rattle.message.specs.Kinds.{kind_of}
 use Rattle.message.specs.Reading.{reading_of}
 use Rattle.message.proofs.Laws.{accepted}
@@ -41,7 +38,7 @@ use Rattle.two_ends.proofs.Worlds.{ended, Settled}
 
 -- ---- a message that is under way comes from an end that is up, on a connection that is resumed where the reader's is: so its number is in turn
 turn_by : {x : Snd (List ℕ)} {sent : ℕ} {y : Rcv (List ℕ)} {d : ℕ × List ℕ} {dat : List (ℕ × List ℕ)} {acks : List ℕ} (re up jo new bg : Bool)
-    (p : Half x sent up jo new y (d ∷ dat) acks) → re ≡ pick (both jo up) new bg → number_turn re y.S d.0 ≡ Turn.InTurn (gap p)
+    (p : Half x sent up jo new y (d ∷ dat) acks) → re ≡ pick (both jo up) new bg → number_turn re y.S d.0 ≡ Ok (gap p)
 turn_by re false jo new bg p e = absurd (omega (arith, p.line.none))
 turn_by re true false new bg p e = absurd (omega (arith, p.line.none))
 turn_by {y = y} {d = d} re true true true bg p e = ap (λ (r : Bool). number_turn r y.S d.0) e ∙ half-resumed p
@@ -53,15 +50,15 @@ module _ (now : State) (re : Bool) (sent : ℕ) (h : History) (id : MessageId) (
   m₁ = bytes_of (alive id n)
 
   abbrev pub g₁ : Message
-  g₁ = keepalive_message id (FtField.Number n)
+  g₁ = keepalive_message id (Some n)
 
-  pub plain : (j : ℕ) → ack_on now g₁ ≡ Ack.Releases j → Plain now g₁ j
+  pub plain : (j : ℕ) → ack_on now g₁ ≡ Some j → Plain now g₁ j
   unfolding label_effect protection_rule kind_of
   plain j acks = record { another = refl; mild = refl; bare = refl; acks = acks; effect = refl; free = λ ls. refl }
 
   module _ {b : End} {ab ba : List (List ℕ)} {pa qs : List Packet} (i : Inv (ended now (up_with re sent) true true h) b ab ba pa (alive id n ∷ qs)) where
-    pub alive_read : reading_of m₁ ≡ Reading.Whole g₁
-    alive_read = keepalive_reads id (FtField.Number n) i.back.fines.0.0 i.back.fines.0.1
+    pub alive_read : reading_of m₁ ≡ Some g₁
+    alive_read = keepalive_reads id (Some n) i.back.fines.0.0 i.back.fines.0.1
 
     pub alive-done : ft_rule now re g₁ ≡ Answer.Done
     unfolding ack_on
@@ -78,7 +75,7 @@ module _ (now : State) (re : Bool) (sent : ℕ) (h : History) (id : MessageId) (
         (dir_took-alive now re sent h g₁ free.0 free.1.right refl id n i.back)
 
 -- ---- a message with its number
-module _ (now : State) (re : Bool) (sent : ℕ) (h : History) (m : List ℕ) (n : FtNumber) (ack : FtField) where
+module _ (now : State) (re : Bool) (sent : ℕ) (h : History) (m : List ℕ) (n : FtNumber) (ack : Option FtNumber) where
   abbrev m₂ : List ℕ
   m₂ = bytes_of (carried m n ack)
 
@@ -92,7 +89,7 @@ module _ (now : State) (re : Bool) (sent : ℕ) (h : History) (m : List ℕ) (n 
     abbrev pub g₂ : Message
     g₂ = protected_message (submitted m f.0.storable.kind f.0.storable.label f.0.storable.accepted n ack short) (length m) n ack
 
-    pub carried_read : reading_of m₂ ≡ Reading.Whole g₂
+    pub carried_read : reading_of m₂ ≡ Some g₂
     carried_read = sent_reads m f.0.storable.kind f.0.storable.label f.0.storable.accepted n ack short f.1 f.2
 
     pub carried_another : is_init g₂.typename ≡ false
@@ -103,10 +100,10 @@ module _ (now : State) (re : Bool) (sent : ℕ) (h : History) (m : List ℕ) (n 
         not-init g₂ (rw (sent_kind m k l e n ack short) (accepted m k l e).labelled.some)
 
     -- the peer's connection is resumed where this end's is
-    pub in_turn : number_turn re now.secured.0 n.0 ≡ Turn.InTurn (gap i.back.half)
+    pub in_turn : number_turn re now.secured.0 n.0 ≡ Ok (gap i.back.half)
     in_turn = turn_by re (is_up_ft b.phase) b.joined (resumed_of b.phase) b.begun i.back.half i.agree
 
-    in_order : (j : ℕ) → ack_on now g₂ ≡ Ack.Releases j → InOrder now re g₂ j n
+    in_order : (j : ℕ) → ack_on now g₂ ≡ Some j → InOrder now re g₂ j n
     in_order j acks = record {
       another = carried_another;
       protected = refl;

@@ -1,4 +1,5 @@
 -- The books of one direction after each event. Assumes nothing.
+use Rattle.std.specs.Prelude.{Some}
 use Prim.Native.Nat.{ℕ, suc, ◌+◌, ◌-◌, ◌≤◌, ◌<◌}
 use mathlib.Core.List.{List, [], ◌∷◌, ◌++◌}
 use mathlib.Core.Path.{◌≡◌, sym, ap, ◌∙◌}
@@ -10,7 +11,6 @@ use lib.Seq.{take-append-le, drop-append-le, drop-drop, take-add, length-take-le
 use borrow.Author.Tests.{ltb-true, ltb-false}
 use Rattle.octets.specs.Pick.{pick}
 use Rattle.octets.proofs.Choice.{by_test}
-use Rattle.ft_number.specs.declared.Ack.{Ack}
 use Rattle.ft_number.specs.Ack.{ack_of}
 use Rattle.ft_number.specs.Circle.{after, steps_of}
 use Rattle.protocol.specs.Phases.{count_of}
@@ -89,7 +89,7 @@ module _ {A : Type 0} where
         rw t (r + (sent + 1), numbered sent, omega (arith, l, window, b.rs, b.si), omega arith, omega arith, λ q. omega arith))
 
     -- an acknowledgement of a place that was secured is right
-    pub ack_right : (n k : ℕ) → n ≡ num k → r ≤ k → k ≤ s → ack_of x.R x.I n ≡ Ack.Releases (k - r)
+    pub ack_right : (n k : ℕ) → n ≡ num k → r ≤ k → k ≤ s → ack_of x.R x.I n ≡ Some (k - r)
     ack_right n k e h l = rw (b.is_r, b.is_i, e) (num_ack r i k h (omega (arith, b.si)) (omega (arith, b.ia, b.room)))
 
   -- ---- the books after it

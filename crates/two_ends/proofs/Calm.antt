@@ -1,18 +1,17 @@
 -- A message of a steady owner is delivered: it is answered 0 or 21, and the end knows what it knew. Assumes nothing.
+use Rattle.std.specs.Prelude.{Option, Some, unwrap_or}
 use Prim.Native.Nat.{◌≤◌, ℕ}
 use mathlib.Core.Bool.{false, true, true≢false, Bool}
 use mathlib.Core.List.{[], List, map, ◌∷◌}
-use mathlib.Core.Path.{◌≡◌, refl, sym, ◌∙◌}
+use mathlib.Core.Path.{◌≡◌, refl, ap, sym, ◌∙◌}
 use native.Mathlib.Omega.{arith}
 use Rattle.octets.proofs.Choice.{no}
 use Rattle.ft_number.specs.declared.FtNumber.{FtNumber}
 use Rattle.ft_number.specs.declared.MessageId.{MessageId}
 use Rattle.ft_number.specs.declared.Timeout.{Timeout}
 use Rattle.label_list.specs.declared.Protection.{Protection}
-use Rattle.tlv.specs.declared.FtField.{FtField}
 use Rattle.tlv.specs.declared.Parameters.{Parameters}
 use Rattle.message.specs.declared.Message.{Message}
-use Rattle.message.specs.declared.Reading.{Reading}
 use Rattle.message_writer.specs.declared.OwnParameters.{OwnParameters}
 use Rattle.message_writer.specs.ReadBack.{init_message}
 use Rattle.message_writer.proofs.Own.{init_reads}
@@ -50,12 +49,14 @@ use Rattle.two_ends.proofs.Starting.{starts_same}
 use Rattle.two_ends.proofs.Steady.{Knows, Steadies, broken_steady, knows_moved}
 use Rattle.two_ends.proofs.Worlds.{ended, kept_one}
 
-given_same : {a b c d : ℕ} → Parameters.Given a b ≡ Parameters.Given c d → (a ≡ c) × (b ≡ d)
-given_same e = (cc, cc)
+given_same : {a b c d : ℕ} → ◌≡◌ {A = Option Parameters} (Some (record { keepalive = a; pdulength = b })) (Some (record { keepalive = c; pdulength = d })) → (a ≡ c) × (b ≡ d)
+given_same {a} {b} e =
+    let said : Parameters = record { keepalive = a; pdulength = b } in
+    (ap (λ (o : Option Parameters). (unwrap_or o said).keepalive) e, ap (λ (o : Option Parameters). (unwrap_or o said).pdulength) e)
 
 -- a message that bears no Status with E set, and whose protection is right
 fair_calm : {s : State} {u : Progress} {g : Message} {a : Answer} → ((k : ℕ) → protection_rule (table_after s k) g ≡ Protection.Right) → is_fatal g.status ≡ false
-    → Case s (Phase.UpFT u) (Reading.Whole g) a → Fair a → Calm a
+    → Case s (Phase.UpFT u) (Some g) a → Fair a → Calm a
 fair_calm right mild c fair_done = taken
 fair_calm right mild c fair_full = no_word
 fair_calm right mild (fatal r i f) fair_fatal = absurd (true≢false (sym f ∙ mild))
@@ -72,7 +73,7 @@ module _ (o : OwnParameters) (b : End) (ab : List (List ℕ)) where
   Calmly e m rest = Between Labels e b → Says o m → Knows o e → Calm (answer_to e m) × Knows o (hearer e m)
 
   module _ (now : State) (t : ℕ) (h : History) (id : MessageId) (p : OwnParameters) (said : Timeout) {qs : List Packet} {ba : List (List ℕ)} {pa : List Packet} where
-    first_calm : (ack : FtField) → Leads now.kept ack → Inv (ended now (waiting_for t) true false h) b ab ba pa (first id p said ack ∷ qs)
+    first_calm : (ack : Option FtNumber) → Leads now.kept ack → Inv (ended now (waiting_for t) true false h) b ab ba pa (first id p said ack ∷ qs)
         → Calmly (ended now (waiting_for t) true false h) (bytes_of (first id p said ack)) (map bytes_of qs)
     unfolding fresh
     first_calm ack lead i l s k =
@@ -86,7 +87,7 @@ module _ (o : OwnParameters) (b : End) (ab : List (List ℕ)) where
     unfolding resumed acked
     again_calm a i l s k =
         let fine = i.back.fines.0 in
-        let same = given_same (s.init (init_message id p said (FtField.Number a)) (init_reads id p said (FtField.Number a) fine) refl) in
+        let same = given_same (s.init (init_message id p said (Some a)) (init_reads id p said (Some a) fine) refl) in
         let st = again-start now t h id p said a i in
         let e = starts_same now t id p said a st.0 fine (kept_one i.own) (k.keepalive refl ∙ sym same.0) (k.maxpdu refl ∙ sym same.1) st.1.right in
         let d = again-begins now t h id p said a i st.0 e in

@@ -1,4 +1,5 @@
 -- The codes that a label takes at its user. Assumes nothing.
+use Rattle.std.specs.Prelude.{Result, Ok, Err}
 use Prim.Native.Nat.{ℕ, zero, suc, ◌≤◌, ◌<◌}
 use mathlib.Core.Bool.{true}
 use mathlib.Core.List.{List, [], ◌∷◌, ◌++◌}
@@ -15,7 +16,7 @@ use Rattle.label_list.specs.Word.{on_side}
 use Rattle.label_list.proofs.Standing.{within_range}
 use Rattle.label_events.specs.Change.{code_at}
 use Rattle.message.specs.declared.Kind.{Kind}
-use Rattle.message.specs.declared.Submission.{Submission}
+use Rattle.message.specs.declared.SubmissionError.{SubmissionError}
 use Rattle.message.specs.Submission.{submission_of}
 use Rattle.label_meaning.proofs.Step.{code_proper}
 use Rattle.two_ends.specs.Agree.{code_by, code_after, IsUsed}
@@ -74,24 +75,24 @@ unfolding code_received
 withdraw_used u = ⊎_elim (λ (e : _ ≡ 3). rw e (inr refl)) (λ (e : _ ≡ 4). rw e (inr refl)) u
 
 -- ---- one message
-by_code : (P : ℕ → Type 0) (l c : ℕ) (j : Submission) → P c → P (code_received Mapping true c) → P (code_received Withdraw true c) → P (code_by l c j)
-by_code P l c Submission.Malformed p mapped withdrawn = p
-by_code P l c Submission.Refused p mapped withdrawn = p
-by_code P l c (Submission.Accepted Kind.Mapping k) p mapped withdrawn = pick_all P (eqb k l) mapped p
-by_code P l c (Submission.Accepted Kind.Withdraw k) p mapped withdrawn = pick_all P (eqb k l) withdrawn p
-by_code P l c (Submission.Accepted Kind.Release k) p mapped withdrawn = p
-by_code P l c (Submission.Accepted Kind.Address k) p mapped withdrawn = p
-by_code P l c (Submission.Accepted Kind.AddressWithdraw k) p mapped withdrawn = p
-by_code P l c (Submission.Accepted Kind.ResourcesAvailable k) p mapped withdrawn = p
-by_code P l c (Submission.Accepted (Kind.Request id) k) p mapped withdrawn = p
-by_code P l c (Submission.Accepted (Kind.Abort id) k) p mapped withdrawn = p
-by_code P l c (Submission.Accepted Kind.NoResources k) p mapped withdrawn = p
-by_code P l c (Submission.Accepted Kind.NoKind k) p mapped withdrawn = p
+by_code : (P : ℕ → Type 0) (l c : ℕ) (j : Result (Kind × ℕ) SubmissionError) → P c → P (code_received Mapping true c) → P (code_received Withdraw true c) → P (code_by l c j)
+by_code P l c (Err SubmissionError.Malformed) p mapped withdrawn = p
+by_code P l c (Err SubmissionError.Refused) p mapped withdrawn = p
+by_code P l c (Ok (Kind.Mapping, k)) p mapped withdrawn = pick_all P (eqb k l) mapped p
+by_code P l c (Ok (Kind.Withdraw, k)) p mapped withdrawn = pick_all P (eqb k l) withdrawn p
+by_code P l c (Ok (Kind.Release, k)) p mapped withdrawn = p
+by_code P l c (Ok (Kind.Address, k)) p mapped withdrawn = p
+by_code P l c (Ok (Kind.AddressWithdraw, k)) p mapped withdrawn = p
+by_code P l c (Ok (Kind.ResourcesAvailable, k)) p mapped withdrawn = p
+by_code P l c (Ok (Kind.Request id, k)) p mapped withdrawn = p
+by_code P l c (Ok (Kind.Abort id, k)) p mapped withdrawn = p
+by_code P l c (Ok (Kind.NoResources, k)) p mapped withdrawn = p
+by_code P l c (Ok (Kind.NoKind, k)) p mapped withdrawn = p
 
-fit_code_by : (l c : ℕ) (j : Submission) → Fit c → Fit (code_by l c j)
+fit_code_by : (l c : ℕ) (j : Result (Kind × ℕ) SubmissionError) → Fit c → Fit (code_by l c j)
 fit_code_by l c j f = by_code Fit l c j f (fit_used (mapping_used f)) (withdraw_fit f)
 
-pub used_code_by : (l c : ℕ) (j : Submission) → IsUsed c → IsUsed (code_by l c j)
+pub used_code_by : (l c : ℕ) (j : Result (Kind × ℕ) SubmissionError) → IsUsed c → IsUsed (code_by l c j)
 used_code_by l c j u = by_code IsUsed l c j u (mapping_used (fit_used u)) (withdraw_used u)
 
 -- ---- all of them
@@ -104,20 +105,20 @@ after_snoc l c [] m = refl
 after_snoc l c (x ∷ ms) m = after_snoc l (code_by l c (submission_of x)) ms m
 
 -- ---- from releasing or from absent: a message leaves both as they are, or makes them the same
-pub five-zero_by : (l : ℕ) (j : Submission) → ((code_by l 5 j ≡ 5) × (code_by l 0 j ≡ 0)) ⊎ (code_by l 5 j ≡ code_by l 0 j)
+pub five-zero_by : (l : ℕ) (j : Result (Kind × ℕ) SubmissionError) → ((code_by l 5 j ≡ 5) × (code_by l 0 j ≡ 0)) ⊎ (code_by l 5 j ≡ code_by l 0 j)
 unfolding code_received
-five-zero_by l Submission.Malformed = inl (refl, refl)
-five-zero_by l Submission.Refused = inl (refl, refl)
-five-zero_by l (Submission.Accepted Kind.Mapping k) = by_test (eqb k l) (λ t. rw t (inr refl)) (λ n. rw n (inl (refl, refl)))
-five-zero_by l (Submission.Accepted Kind.Withdraw k) = by_test (eqb k l) (λ t. rw t (inl (refl, refl))) (λ n. rw n (inl (refl, refl)))
-five-zero_by l (Submission.Accepted Kind.Release k) = inl (refl, refl)
-five-zero_by l (Submission.Accepted Kind.Address k) = inl (refl, refl)
-five-zero_by l (Submission.Accepted Kind.AddressWithdraw k) = inl (refl, refl)
-five-zero_by l (Submission.Accepted Kind.ResourcesAvailable k) = inl (refl, refl)
-five-zero_by l (Submission.Accepted (Kind.Request id) k) = inl (refl, refl)
-five-zero_by l (Submission.Accepted (Kind.Abort id) k) = inl (refl, refl)
-five-zero_by l (Submission.Accepted Kind.NoResources k) = inl (refl, refl)
-five-zero_by l (Submission.Accepted Kind.NoKind k) = inl (refl, refl)
+five-zero_by l (Err SubmissionError.Malformed) = inl (refl, refl)
+five-zero_by l (Err SubmissionError.Refused) = inl (refl, refl)
+five-zero_by l (Ok (Kind.Mapping, k)) = by_test (eqb k l) (λ t. rw t (inr refl)) (λ n. rw n (inl (refl, refl)))
+five-zero_by l (Ok (Kind.Withdraw, k)) = by_test (eqb k l) (λ t. rw t (inl (refl, refl))) (λ n. rw n (inl (refl, refl)))
+five-zero_by l (Ok (Kind.Release, k)) = inl (refl, refl)
+five-zero_by l (Ok (Kind.Address, k)) = inl (refl, refl)
+five-zero_by l (Ok (Kind.AddressWithdraw, k)) = inl (refl, refl)
+five-zero_by l (Ok (Kind.ResourcesAvailable, k)) = inl (refl, refl)
+five-zero_by l (Ok (Kind.Request id, k)) = inl (refl, refl)
+five-zero_by l (Ok (Kind.Abort id, k)) = inl (refl, refl)
+five-zero_by l (Ok (Kind.NoResources, k)) = inl (refl, refl)
+five-zero_by l (Ok (Kind.NoKind, k)) = inl (refl, refl)
 
 pub five-zero-after : (l : ℕ) (ms : List (List ℕ)) → ((code_after l 5 ms ≡ 5) × (code_after l 0 ms ≡ 0)) ⊎ (code_after l 5 ms ≡ code_after l 0 ms)
 five-zero-after l [] = inl (refl, refl)

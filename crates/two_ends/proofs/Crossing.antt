@@ -1,4 +1,5 @@
 -- What is under way of one label: the Mappings and Withdraws of its giver, by the codes that they find at its user, and the Releases of its user. Assumes nothing.
+use Rattle.std.specs.Prelude.{Result, Ok, Err}
 use Prim.Native.Nat.{ℕ, ◌+◌}
 use mathlib.Core.Bool.{Bool, true, false, not, true≢false}
 use mathlib.Core.List.{List, [], ◌∷◌, ◌++◌}
@@ -12,7 +13,7 @@ use Rattle.octets.proofs.Choice.{by_test, both_true, no, pick_all}
 use Rattle.label_list.specs.declared.LabelMessage.{LabelMessage}
 use Rattle.label_list.specs.Rules.{code_received}
 use Rattle.message.specs.declared.Kind.{Kind}
-use Rattle.message.specs.declared.Submission.{Submission}
+use Rattle.message.specs.declared.SubmissionError.{SubmissionError}
 use Rattle.message.specs.Storable.{bears}
 use Rattle.message.specs.Submission.{submission_of}
 use Rattle.two_ends.specs.Agree.{code_by, code_after}
@@ -21,28 +22,28 @@ use Rattle.two_ends.proofs.Codes.{five-zero_by}
 use Rattle.two_ends.proofs.NoRequests.{by_request, is_request, no_requests}
 
 -- ---- what a message is to a label
-pub data Meant (l : ℕ) : Submission → Type 0 where
-  a-mapping : Meant l (Submission.Accepted Kind.Mapping l)
-  a-withdraw : Meant l (Submission.Accepted Kind.Withdraw l)
-  a-release : Meant l (Submission.Accepted Kind.Release l)
-  nothing : {j : Submission} → bears j 1 l ≡ false → bears j 2 l ≡ false → bears j 3 l ≡ false → ((c : ℕ) → code_by l c j ≡ c) → Meant l j
+pub data Meant (l : ℕ) : Result (Kind × ℕ) SubmissionError → Type 0 where
+  a-mapping : Meant l (Ok (Kind.Mapping, l))
+  a-withdraw : Meant l (Ok (Kind.Withdraw, l))
+  a-release : Meant l (Ok (Kind.Release, l))
+  nothing : {j : Result (Kind × ℕ) SubmissionError} → bears j 1 l ≡ false → bears j 2 l ≡ false → bears j 3 l ≡ false → ((c : ℕ) → code_by l c j ≡ c) → Meant l j
 
-pub meant : (l : ℕ) (j : Submission) → Meant l j
-meant l Submission.Malformed = nothing refl refl refl (λ c. refl)
-meant l Submission.Refused = nothing refl refl refl (λ c. refl)
-meant l (Submission.Accepted Kind.Mapping k) = by_test (eqb k l) (λ t. rw (eqb-true k l t) a-mapping) (λ f. nothing f refl refl (λ c. rw f))
-meant l (Submission.Accepted Kind.Withdraw k) = by_test (eqb k l) (λ t. rw (eqb-true k l t) a-withdraw) (λ f. nothing refl f refl (λ c. rw f))
-meant l (Submission.Accepted Kind.Release k) = by_test (eqb k l) (λ t. rw (eqb-true k l t) a-release) (λ f. nothing refl refl f (λ c. refl))
-meant l (Submission.Accepted Kind.Address k) = nothing refl refl refl (λ c. refl)
-meant l (Submission.Accepted Kind.AddressWithdraw k) = nothing refl refl refl (λ c. refl)
-meant l (Submission.Accepted Kind.ResourcesAvailable k) = nothing refl refl refl (λ c. refl)
-meant l (Submission.Accepted (Kind.Request id) k) = nothing refl refl refl (λ c. refl)
-meant l (Submission.Accepted (Kind.Abort id) k) = nothing refl refl refl (λ c. refl)
-meant l (Submission.Accepted Kind.NoResources k) = nothing refl refl refl (λ c. refl)
-meant l (Submission.Accepted Kind.NoKind k) = nothing refl refl refl (λ c. refl)
+pub meant : (l : ℕ) (j : Result (Kind × ℕ) SubmissionError) → Meant l j
+meant l (Err SubmissionError.Malformed) = nothing refl refl refl (λ c. refl)
+meant l (Err SubmissionError.Refused) = nothing refl refl refl (λ c. refl)
+meant l (Ok (Kind.Mapping, k)) = by_test (eqb k l) (λ t. rw (eqb-true k l t) a-mapping) (λ f. nothing f refl refl (λ c. rw f))
+meant l (Ok (Kind.Withdraw, k)) = by_test (eqb k l) (λ t. rw (eqb-true k l t) a-withdraw) (λ f. nothing refl f refl (λ c. rw f))
+meant l (Ok (Kind.Release, k)) = by_test (eqb k l) (λ t. rw (eqb-true k l t) a-release) (λ f. nothing refl refl f (λ c. refl))
+meant l (Ok (Kind.Address, k)) = nothing refl refl refl (λ c. refl)
+meant l (Ok (Kind.AddressWithdraw, k)) = nothing refl refl refl (λ c. refl)
+meant l (Ok (Kind.ResourcesAvailable, k)) = nothing refl refl refl (λ c. refl)
+meant l (Ok (Kind.Request id, k)) = nothing refl refl refl (λ c. refl)
+meant l (Ok (Kind.Abort id, k)) = nothing refl refl refl (λ c. refl)
+meant l (Ok (Kind.NoResources, k)) = nothing refl refl refl (λ c. refl)
+meant l (Ok (Kind.NoKind, k)) = nothing refl refl refl (λ c. refl)
 
 -- ---- the Releases of a label
-abbrev pub one_release : ℕ → Submission → ℕ
+abbrev pub one_release : ℕ → Result (Kind × ℕ) SubmissionError → ℕ
 one_release l j = pick (bears j 3 l) 1 0
 
 abbrev pub releases : ℕ → List (List ℕ) → ℕ
@@ -58,7 +59,7 @@ no_requests-releases l [] = refl
 no_requests-releases l (m ∷ ms) =
     by_test (is_request m)
     (λ t.
-    let none : one_release l (submission_of m) ≡ 0 = by_request (λ (x : Submission). one_release l x ≡ 0) (submission_of m) (λ id n. refl) t in
+    let none : one_release l (submission_of m) ≡ 0 = by_request (λ (x : Result (Kind × ℕ) SubmissionError). one_release l x ≡ 0) (submission_of m) (λ id n. refl) t in
     rw (t, none) (no_requests-releases l ms ∙ omega arith))
     (λ f. rw f (ap (λ (n : ℕ). one_release l (submission_of m) + n) (no_requests-releases l ms)))
 
@@ -67,7 +68,7 @@ abbrev pub may_find : Rule → ℕ → Bool
 may_find offered-free c = pick (eqb c 0) true (eqb c 5)
 may_find released-asked c = not (eqb c 4)
 
-abbrev clean_by : Rule → ℕ → ℕ → Submission → Bool
+abbrev clean_by : Rule → ℕ → ℕ → Result (Kind × ℕ) SubmissionError → Bool
 clean_by rule l c j = pick (bears j 1 l) (may_find rule c) true
 
 abbrev pub clean : Rule → ℕ → ℕ → List (List ℕ) → Bool
@@ -89,7 +90,7 @@ no_requests-clean rule l c (m ∷ ms) =
     by_test (is_request m)
     (λ t.
     let same : (code_by l c (submission_of m) ≡ c) × (clean_by rule l c (submission_of m) ≡ true) =
-    by_request (λ (x : Submission). (code_by l c x ≡ c) × (clean_by rule l c x ≡ true)) (submission_of m) (λ id n. (refl, refl)) t in
+    by_request (λ (x : Result (Kind × ℕ) SubmissionError). (code_by l c x ≡ c) × (clean_by rule l c x ≡ true)) (submission_of m) (λ id n. (refl, refl)) t in
     rw (t, same.0, same.1) (no_requests-clean rule l c ms))
     (λ f. rw f (ap (both (clean_by rule l c (submission_of m))) (no_requests-clean rule l (code_by l c (submission_of m)) ms)))
 
@@ -137,7 +138,7 @@ pub record Unmapped (rule : Rule) (l c d : ℕ) (ms : List (List ℕ)) : Type 0 
   pub clean : clean rule l d ms ≡ true
 
 module _ (rule : Rule) (l : ℕ) where
-  one_unmapped : {j : Submission} {c d : ℕ} → Meant l j → Taken rule c → Gone d → clean_by rule l c j ≡ true → Taken rule (code_by l c j) × (code_by l d j ≡ d) × (clean_by rule l d j ≡ true)
+  one_unmapped : {j : Result (Kind × ℕ) SubmissionError} {c d : ℕ} → Meant l j → Taken rule c → Gone d → clean_by rule l c j ≡ true → Taken rule (code_by l c j) × (code_by l d j ≡ d) × (clean_by rule l d j ≡ true)
   one_unmapped a-mapping t g e = absurd (true≢false (sym e ∙ rw (eq-eqb l l refl) (taken_found rule t)))
   one_unmapped a-withdraw t g e = (rw (eq-eqb l l refl, taken_withdrawn t) asked, rw (eq-eqb l l refl) (gone_withdrawn g), refl)
   one_unmapped a-release t g e = (t, refl, refl)
@@ -152,7 +153,7 @@ module _ (rule : Rule) (l : ℕ) where
       record { before = rest.before; after = rw o.1 rest.after; clean = rw (o.2, o.1) rest.clean }
 
   -- a label that is releasing and becomes absent: every Mapping finds it as well
-  gone-clean : {d : ℕ} (j : Submission) → Gone d → clean_by rule l d j ≡ true
+  gone-clean : {d : ℕ} (j : Result (Kind × ℕ) SubmissionError) → Gone d → clean_by rule l d j ≡ true
   gone-clean j g = pick_all (λ (b : Bool). b ≡ true) (bears j 1 l) (gone_found rule g) refl
 
   pub five-zero-clean : (ms : List (List ℕ)) → clean rule l 5 ms ≡ true → clean rule l 0 ms ≡ true

@@ -1,10 +1,12 @@
 -- The oldest message of a line is delivered. Assumes nothing.
+use Rattle.std.specs.Prelude.{Result}
 use Prim.Native.Nat.{ℕ}
 use mathlib.Core.Bool.{Bool, false, not, true}
 use mathlib.Core.List.{[], List, ◌∷◌}
 use mathlib.Core.Path.{◌≡◌, refl}
 use Rattle.octets.specs.Pick.{both, pick}
 use Rattle.octets.proofs.Choice.{both_true}
+use Rattle.protocol.specs.declared.Answer.{Answer}
 use Rattle.protocol.specs.declared.Start.{Start}
 use Rattle.protocol.specs.Init.{init_received, init_start}
 use Rattle.protocol.specs.Phases.{awaits}
@@ -37,7 +39,7 @@ module _ (w : World) (g : Good w) where
     heard : Lasts w → Heard w.a m rest
     heard k = by_oldest Heard w.b w.ab each w.a m rest on (rw line at (g k))
 
-    abbrev st : Start
+    abbrev st : Result Start Answer
     st = init_start w.a.state w.a.phase m
 
     abbrev x : Step

@@ -1,4 +1,5 @@
 -- One direction, event by event. Assumes nothing.
+use Rattle.std.specs.Prelude.{Ok, Some}
 use Prim.Native.Nat.{ℕ, zero, suc, ◌+◌, ◌-◌, ◌≤◌, ◌<◌}
 use mathlib.Core.Bool.{Bool, true, false, false≢true}
 use mathlib.Core.List.{List, [], ◌∷◌, ◌++◌}
@@ -6,8 +7,6 @@ use mathlib.Core.Path.{◌≡◌, refl, sym, ap, ◌∙◌}
 use native.Mathlib.Omega.{arith}
 use lib.ListN.{length, drop}
 use lib.Seq.{drop-append-le}
-use Rattle.ft_number.specs.declared.Ack.{Ack}
-use Rattle.ft_number.specs.declared.Turn.{Turn}
 use Rattle.ft_number.specs.Ack.{ack_of}
 use Rattle.ft_number.specs.Circle.{circle, after}
 use Rattle.ft_number.specs.Turn.{number_turn}
@@ -90,10 +89,10 @@ module _ {x : Snd (List ℕ)} {sent : ℕ} {up jo re : Bool} {y : Rcv (List ℕ)
   half_secured = rw p.books.is_s (num-le p.s)
 
   -- to acknowledge what was acknowledged before releases nothing
-  pub half_same : ack_of x.R x.I x.R ≡ Ack.Releases 0
+  pub half_same : ack_of x.R x.I x.R ≡ Some 0
   half_same =
       let none : p.r - p.r ≡ 0 = omega arith in
-      ack_right p.books x.R p.r p.books.is_r (omega arith) p.books.rs ∙ ap Ack.Releases none
+      ack_right p.books x.R p.r p.books.is_r (omega arith) p.books.rs ∙ ap Some none
 
   pub half_place : (at : ℕ) (m : List ℕ) (ms : List (List ℕ)) → drop at x.queue ≡ m ∷ ms → drop (p.r + at) x.accepted ≡ m ∷ drop (suc (p.r + at)) x.accepted
   half_place at m ms e = place p.books at m ms e
@@ -144,7 +143,7 @@ module _ {x : Snd (List ℕ)} {sent : ℕ} {up jo re : Bool} {y : Rcv (List ℕ)
   pub half-number : d.0 ≡ after (suc gap) y.S
   half-number = let e : p.s + suc gap ≡ at = omega arith in p.flow.0.number ∙ ap num (sym e) ∙ sym (num-after p.s (suc gap)) ∙ ap (after (suc gap)) (sym p.books.is_s)
 
-  pub half-resumed : number_turn true y.S d.0 ≡ Turn.InTurn gap
+  pub half-resumed : number_turn true y.S d.0 ≡ Ok gap
   half-resumed = ap (number_turn true y.S) half-number ∙ means_turn true y.S gap (half_secured p) (omega (arith, secured.0, p.sent_i, p.books.ia, p.books.room, p.books.rs))
 
 -- on the first connection none
@@ -153,8 +152,8 @@ none_skipped s zero h = refl
 none_skipped s (suc k) h = absurd (false≢true (h 0 (omega arith)))
 
 pub half_first : {x : Snd (List ℕ)} {sent : ℕ} {y : Rcv (List ℕ)} {d : ℕ × List ℕ} {dat : List (ℕ × List ℕ)} {acks : List ℕ} (p : Half x sent true true false y (d ∷ dat) acks)
-    → number_turn false y.S d.0 ≡ Turn.InTurn (gap p)
+    → number_turn false y.S d.0 ≡ Ok (gap p)
 half_first {x} {sent} {y} p =
     let none : gap p ≡ 0 = none_skipped p.s (gap p) (λ j l. rw p.line.first.1 at (p.flow.0.skipped j l)) in
     let one : after (suc (gap p)) y.S ≡ after 1 y.S = ap (λ (k : ℕ). after (suc k) y.S) none in
-    ap (number_turn false y.S) (half-number p ∙ one) ∙ means_turn false y.S 0 (half_secured p) (omega arith) ∙ ap Turn.InTurn (sym none)
+    ap (number_turn false y.S) (half-number p ∙ one) ∙ means_turn false y.S 0 (half_secured p) (omega arith) ∙ ap Ok (sym none)

@@ -10,7 +10,7 @@ use Rattle.protocol.specs.Phases.{resting_phase, connected}
 use Rattle.protocol.specs.State.{State}
 use Rattle.protocol.specs.Step.{broken}
 use Rattle.two_ends.specs.World.{History, End}
-use Rattle.two_ends.proofs.Invariant.{Ready, Some}
+use Rattle.two_ends.proofs.Invariant.{Ready, Holds}
 use Rattle.two_ends.proofs.Sides.{dir_failed, dir_failed_peer, dir_rest, dir_rest_peer}
 use Rattle.two_ends.proofs.Worlds.{ended, kept_one, ready_off, Settled}
 
@@ -38,7 +38,7 @@ module _ (now : State) (ph : Phase) (jo : Bool) (h : History) (r : Ready (ended 
   }
 
 -- ---- the connection that it was on breaks
-pub failing_on : (now : State) (ph : Phase) (bg : Bool) (h : History) {b : End} {ab ba : List (List ℕ)} → Some (ended now ph true bg h) b ab ba
+pub failing_on : (now : State) (ph : Phase) (bg : Bool) (h : History) {b : End} {ab ba : List (List ℕ)} → Holds (ended now ph true bg h) b ab ba
     → (rest more : List (List ℕ)) → Settled (ended (broken now) (resting_phase now) true bg h) b rest more
 failing_on now ph true h {b} s rest more =
     let i = s.2 in
@@ -61,7 +61,7 @@ failing_on now ph true h {b} s rest more =
 failing_on now ph false h s rest more = inr (rw (resting_off now), λ ga gb. absurd (true≢false (sym ga)))
 
 -- one that was on none is only off
-pub failing : (now : State) (ph : Phase) (jo bg : Bool) (h : History) {b : End} {ab ba : List (List ℕ)} → Some (ended now ph jo bg h) b ab ba
+pub failing : (now : State) (ph : Phase) (jo bg : Bool) (h : History) {b : End} {ab ba : List (List ℕ)} → Holds (ended now ph jo bg h) b ab ba
     → Settled (ended (broken now) (resting_phase now) jo bg h) b ab ba
 failing now ph true bg h {ab = ab} {ba = ba} s = failing_on now ph bg h s ab ba
 failing now ph false true h s =

@@ -1,4 +1,5 @@
 -- The codes of one label at its giver and at its user, with what is under way of it, after each event at one of them. Assumes nothing.
+use Rattle.std.specs.Prelude.{Result, Ok}
 use Prim.Native.Nat.{ℕ, ◌+◌}
 use mathlib.Core.Bool.{true, false, true≢false}
 use mathlib.Core.List.{List, [], ◌∷◌, ◌++◌}
@@ -11,7 +12,7 @@ use Rattle.octets.proofs.Choice.{by_test}
 use Rattle.label_list.specs.declared.LabelMessage.{LabelMessage}
 use Rattle.label_list.specs.Rules.{code_received}
 use Rattle.message.specs.declared.Kind.{Kind}
-use Rattle.message.specs.declared.Submission.{Submission}
+use Rattle.message.specs.declared.SubmissionError.{SubmissionError}
 use Rattle.message.specs.Storable.{bears}
 use Rattle.message.specs.Submission.{submission_of}
 use Rattle.two_ends.specs.Agree.{code_by, code_after}
@@ -37,14 +38,14 @@ pub record Fits (rule : Rule) (l c d : ℕ) (out back : List (List ℕ)) : Type 
   pub tidy : clean rule l d out ≡ true
 
 -- ---- the giver accepts a message
-kept_code : {l : ℕ} {j : Submission} → Meant l j → bears j 1 l ≡ false → bears j 2 l ≡ false → (c : ℕ) → code_by l c j ≡ c
+kept_code : {l : ℕ} {j : Result (Kind × ℕ) SubmissionError} → Meant l j → bears j 1 l ≡ false → bears j 2 l ≡ false → (c : ℕ) → code_by l c j ≡ c
 kept_code {l} a-mapping a b c = absurd (true≢false (sym (eq-eqb l l refl) ∙ a))
 kept_code {l} a-withdraw a b c = absurd (true≢false (sym (eq-eqb l l refl) ∙ b))
 kept_code a-release a b c = refl
 kept_code (nothing x y z same) a b c = same c
 
-abbrev pub Free : Rule → Submission → ℕ → ℕ → Type 0
-Free rule j l c = rule ≡ offered-free → j ≡ Submission.Accepted Kind.Mapping l → c ≢ 1
+abbrev pub Free : Rule → Result (Kind × ℕ) SubmissionError → ℕ → ℕ → Type 0
+Free rule j l c = rule ≡ offered-free → j ≡ Ok (Kind.Mapping, l) → c ≢ 1
 
 -- a Mapping, where the giver may offer the label; a Withdraw of one that is given
 offer-codes : {rule : Rule} {c u n : ℕ} → (c ≡ 0) ⊎ (c ≡ 1) → (rule ≡ offered-free → c ≢ 1) → Codes rule c u n → Codes rule 1 (code_received LabelMessage.Mapping true u) n × (may_find rule u ≡ true)
@@ -73,7 +74,7 @@ withdraw-codes z (leaving_back g) = absurd (omega arith)
 withdraw-codes z awaited = absurd (omega arith)
 withdraw-codes z (awaited_back g) = absurd (omega arith)
 
-given-codes : {rule : Rule} {l c u n e : ℕ} {j : Submission} → Codes rule c u n → GivenStep l j c e → Free rule j l c → Codes rule e (code_by l u j) n × (pick (bears j 1 l) (may_find rule u) true ≡ true)
+given-codes : {rule : Rule} {l c u n e : ℕ} {j : Result (Kind × ℕ) SubmissionError} → Codes rule c u n → GivenStep l j c e → Free rule j l c → Codes rule e (code_by l u j) n × (pick (bears j 1 l) (may_find rule u) true ≡ true)
 given-codes {l = l} codes (offered low) may = let p = offer-codes low (λ r. may r refl) codes in (rw (eq-eqb l l refl) p.0, rw (eq-eqb l l refl) p.1)
 given-codes {l = l} codes withdrawn may = (rw (eq-eqb l l refl) (withdraw-codes refl codes), refl)
 given-codes {l = l} {u = u} {j = j} codes (given_kept a b) may = (rw (kept_code (meant l j) a b u) codes, rw a)
@@ -105,14 +106,14 @@ release-codes (leaving_back g) t k = gone-taken g t
 release-codes awaited t k = awaited_back k
 release-codes (awaited_back g) t k = gone-taken g t
 
-abbrev pub Asked : Rule → Submission → ℕ → ℕ → Type 0
-Asked rule j l d = rule ≡ released-asked → j ≡ Submission.Accepted Kind.Release l → d ≢ 3
+abbrev pub Asked : Rule → Result (Kind × ℕ) SubmissionError → ℕ → ℕ → Type 0
+Asked rule j l d = rule ≡ released-asked → j ≡ Ok (Kind.Release, l) → d ≢ 3
 
-used_codes : {rule : Rule} {l c d n e : ℕ} (out : List (List ℕ)) {j : Submission} → Codes rule c (code_after l d out) n → clean rule l d out ≡ true → UsedStep l j d e → Asked rule j l d
+used_codes : {rule : Rule} {l c d n e : ℕ} (out : List (List ℕ)) {j : Result (Kind × ℕ) SubmissionError} → Codes rule c (code_after l d out) n → clean rule l d out ≡ true → UsedStep l j d e → Asked rule j l d
     → Codes rule c (code_after l e out) (n + one_release l j) × (clean rule l e out ≡ true)
 used_codes {rule} {l} {c} {n = n} out codes tidy released may = by rule refl
   where
-    by : (r : Rule) → rule ≡ r → Codes rule c (code_after l 5 out) (n + one_release l (Submission.Accepted Kind.Release l)) × (clean rule l 5 out ≡ true)
+    by : (r : Rule) → rule ≡ r → Codes rule c (code_after l 5 out) (n + one_release l (Ok (Kind.Release, l))) × (clean rule l 5 out ≡ true)
     by offered-free is =
         let x = unmapped rule l 3 5 out (in_use is) releasing tidy in
         (rw (x.after, eq-eqb l l refl) (release-codes codes x.before releasing), x.clean)

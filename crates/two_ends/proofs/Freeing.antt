@@ -1,11 +1,11 @@
 -- One direction, as an acknowledgement arrives. Assumes nothing.
+use Rattle.std.specs.Prelude.{Some}
 use Prim.Native.Nat.{ℕ, ◌-◌, ◌≤◌, ◌+◌}
 use mathlib.Core.Bool.{true, false, Bool}
 use mathlib.Core.List.{List, ◌∷◌, append-nil}
 use mathlib.Core.Path.{◌≡◌, ◌∙◌}
 use native.Mathlib.Omega.{arith}
 use lib.ListN.{length}
-use Rattle.ft_number.specs.declared.Ack.{Ack}
 use Rattle.ft_number.specs.Ack.{ack_of}
 use Rattle.two_ends.proofs.Books.{frees, held-length, ack_right, books_free}
 use Rattle.two_ends.proofs.Direction.{half_same}
@@ -15,7 +15,7 @@ use Rattle.two_ends.proofs.Lines.{asc_le, flow_end, flow_empty}
 -- ---- an acknowledgement arrives, or a message that bears none
 -- it is right, and this is what it leaves
 pub record Freed (x : Snd (List ℕ)) (sent : ℕ) (re : Bool) (y : Rcv (List ℕ)) (dat : List (ℕ × List ℕ)) (acks : List ℕ) (n k : ℕ) : Type 0 where
-  pub right : ack_of x.R x.I n ≡ Ack.Releases k
+  pub right : ack_of x.R x.I n ≡ Some k
   pub few : k ≤ length x.queue
   pub half : Half (frees k n x) (sent - k) true true re y dat acks
 

@@ -1,4 +1,5 @@
 -- What is given is in use or asked back, as either end takes a message with its number. Assumes nothing.
+use Rattle.std.specs.Prelude.{Option, Some, None, Ok}
 use Prim.Native.Nat.{ℕ, ◌≤◌}
 use mathlib.Core.Bool.{true, false, true≢false, Bool}
 use mathlib.Core.List.{List, ◌∷◌}
@@ -18,9 +19,6 @@ use Rattle.label_list.specs.Rules.{received_side, code_received}
 use Rattle.label_list.specs.Valid.{valid_of}
 use Rattle.label_list.specs.Word.{listable}
 use Rattle.tlv.specs.declared.Fec.{Fec}
-use Rattle.tlv.specs.declared.Field.{Field}
-use Rattle.tlv.specs.declared.FtField.{FtField}
-use Rattle.tlv.specs.declared.IdField.{IdField}
 use Rattle.label_events.specs.declared.Meets.{Meets}
 use Rattle.label_events.specs.declared.Reception.{Reception}
 use Rattle.label_events.specs.declared.Touched.{Touched}
@@ -32,7 +30,6 @@ use Rattle.label_events.proofs.Ended.{ended-code}
 use Rattle.message.specs.declared.Kind.{Kind}
 use Rattle.message.specs.declared.Message.{Message}
 use Rattle.message.specs.declared.MessageType.{MessageType}
-use Rattle.message.specs.declared.Submission.{Submission}
 use Rattle.message.specs.Kinds.{kind_of, kind_number, fatal_of, status_code, resources_available, notification_kind, kind_for, no_resources, abort_kind}
 use Rattle.message.specs.Storable.{bears}
 use Rattle.message.specs.Submission.{submission_of}
@@ -44,7 +41,6 @@ use Rattle.label_meaning.proofs.Meaning.{valid_means}
 use Rattle.label_meaning.proofs.Step.{received_outcome, received-taken}
 use Rattle.label_meaning.proofs.View.{code_is, is_code}
 use Rattle.message_writer.proofs.RoundTrip.{sent_kind}
-use Rattle.protocol.specs.declared.LabelEffect.{LabelEffect}
 use Rattle.protocol.specs.Held.{is_held}
 use Rattle.protocol.specs.Labels.{touched_by, effect_on, effect_reception, effect_labels, label_effect}
 use Rattle.protocol.specs.Phases.{up_with}
@@ -59,30 +55,30 @@ use Rattle.two_ends.proofs.Packets.{Packet, carried}
 use Rattle.two_ends.proofs.Worlds.{ended}
 
 -- ---- what a message of that kind and label does to the labels of its reader
-pub data Says : Kind → ℕ → LabelEffect → Type 0 where
-  says_mapping : {l : ℕ} → Says Kind.Mapping l (LabelEffect.Change Mapping (Touched.Label l))
-  says_withdraw : {l : ℕ} → Says Kind.Withdraw l (LabelEffect.Change Withdraw (Touched.Label l))
-  says_release : {l : ℕ} → Says Kind.Release l (LabelEffect.Change Release (Touched.Label l))
-  says_nothing : {k : Kind} {l : ℕ} → ((n c : ℕ) → code_by n c (Submission.Accepted k l) ≡ c) → ((n : ℕ) → bears (Submission.Accepted k l) 3 n ≡ false)
-      → Says k l LabelEffect.Nothing
+pub data Says : Kind → ℕ → Option (LabelMessage × Touched) → Type 0 where
+  says_mapping : {l : ℕ} → Says Kind.Mapping l (Some (Mapping, Touched.Label l))
+  says_withdraw : {l : ℕ} → Says Kind.Withdraw l (Some (Withdraw, Touched.Label l))
+  says_release : {l : ℕ} → Says Kind.Release l (Some (Release, Touched.Label l))
+  says_nothing : {k : Kind} {l : ℕ} → ((n c : ℕ) → code_by n c (Ok (k, l)) ≡ c) → ((n : ℕ) → bears (Ok (k, l)) 3 n ≡ false)
+      → Says k l None
 
-none_says : {l : ℕ} → Says Kind.NoKind l LabelEffect.Nothing
+none_says : {l : ℕ} → Says Kind.NoKind l None
 none_says = says_nothing (λ n c. refl) (λ n. refl)
 
-notified : (status : Field) (l : ℕ) → Says (notification_kind status) l LabelEffect.Nothing
+notified : (status : Option ℕ) (l : ℕ) → Says (notification_kind status) l None
 unfolding notification_kind
-notified Field.Absent l = none_says
-notified (Field.Value v) l =
-    pick_all (λ (k : Kind). Says k l LabelEffect.Nothing) (fatal_of v) none_says
-    (pick_all (λ (k : Kind). Says k l LabelEffect.Nothing) (eqb (status_code v) resources_available) (says_nothing (λ n c. refl) (λ n. refl))
-    (pick_all (λ (k : Kind). Says k l LabelEffect.Nothing) (eqb (status_code v) no_resources) (says_nothing (λ n c. refl) (λ n. refl)) none_says))
+notified None l = none_says
+notified (Some v) l =
+    pick_all (λ (k : Kind). Says k l None) (fatal_of v) none_says
+    (pick_all (λ (k : Kind). Says k l None) (eqb (status_code v) resources_available) (says_nothing (λ n c. refl) (λ n. refl))
+    (pick_all (λ (k : Kind). Says k l None) (eqb (status_code v) no_resources) (says_nothing (λ n c. refl) (λ n. refl)) none_says))
 
-abort_says : (requestid : IdField) (l : ℕ) → Says (abort_kind requestid) l LabelEffect.Nothing
-abort_says IdField.Absent l = none_says
-abort_says (IdField.Id id) l = says_nothing (λ n c. refl) (λ n. refl)
+abort_says : (requestid : Option MessageId) (l : ℕ) → Says (abort_kind requestid) l None
+abort_says None l = none_says
+abort_says (Some id) l = says_nothing (λ n c. refl) (λ n. refl)
 
-says_by : (type : MessageType) (status label : Field) (id : MessageId) (requestid : IdField) (fec : Fec) (l : ℕ)
-    → (kind_number (kind_for type status id requestid) ≤ 3 → label ≡ Field.Value l) → Says (kind_for type status id requestid) l (effect_on type (touched_by label fec))
+says_by : (type : MessageType) (status label : Option ℕ) (id : MessageId) (requestid : Option MessageId) (fec : Option Fec) (l : ℕ)
+    → (kind_number (kind_for type status id requestid) ≤ 3 → label ≡ Some l) → Says (kind_for type status id requestid) l (effect_on type (touched_by label fec))
 says_by MessageType.Notification status label id requestid fec l e = notified status l
 says_by MessageType.Initialization status label id requestid fec l e = none_says
 says_by MessageType.KeepAlive status label id requestid fec l e = none_says
@@ -95,7 +91,7 @@ says_by MessageType.Release status label id requestid fec l e = rw (e (omega ari
 says_by MessageType.Abort status label id requestid fec l e = abort_says requestid l
 says_by MessageType.Other status label id requestid fec l e = none_says
 
-pub says : (g : Message) (k : Kind) (l : ℕ) → kind_of g ≡ k → (kind_number k ≤ 3 → g.label ≡ Field.Value l) → Says k l (label_effect g)
+pub says : (g : Message) (k : Kind) (l : ℕ) → kind_of g ≡ k → (kind_number k ≤ 3 → g.label ≡ Some l) → Says k l (label_effect g)
 unfolding kind_of label_effect
 says g k l e named-l = rw (sym e) (says_by g.typename g.status g.label g.id g.requestid g.fec l (λ low. named-l (rw (sym e) low)))
 
@@ -167,7 +163,7 @@ module _ (giver user : List ℕ) (out back : List (List ℕ)) (m : List ℕ) (r 
       g
 
   -- the giver takes it
-  pub take_giver : (tb : Table) → tb.words ≡ giver → Agree giver user out (m ∷ back) → valid_of giver ≡ true → (k : Kind) (n : ℕ) (e : LabelEffect) → submission_of m ≡ Submission.Accepted k n → Says k n e
+  pub take_giver : (tb : Table) → tb.words ≡ giver → Agree giver user out (m ∷ back) → valid_of giver ≡ true → (k : Kind) (n : ℕ) (e : Option (LabelMessage × Touched)) → submission_of m ≡ Ok (k, n) → Says k n e
       → Agree (effect_labels tb r true e) user out back
   unfolding after_event
   take_giver tb eq a v k n e is says_mapping l may g none = still a l may (kept_given Mapping (Label n) v l (rw eq at g)) none (rw is)
@@ -181,8 +177,8 @@ module _ (giver user : List ℕ) (out back : List (List ℕ)) (m : List ℕ) (r 
   take_giver tb eq a v k n e is (says_nothing stays others) l may g none = still a l may (rw (eq, ended-code giver Given l r.request) at g) none (rw is (others l))
 
 -- the user takes it
-pub code-taken : (user : Table) → valid_of user.words ≡ true → (r : Meets) (k : Kind) (n : ℕ) (e : LabelEffect) → Says k n e → effect_reception user r true e ≡ Reception.Taken → (l : ℕ)
-    → listable l ≡ true → code_at (effect_labels user r true e) Used l ≡ code_by l (code_at user.words Used l) (Submission.Accepted k n)
+pub code-taken : (user : Table) → valid_of user.words ≡ true → (r : Meets) (k : Kind) (n : ℕ) (e : Option (LabelMessage × Touched)) → Says k n e → effect_reception user r true e ≡ Reception.Taken → (l : ℕ)
+    → listable l ≡ true → code_at (effect_labels user r true e) Used l ≡ code_by l (code_at user.words Used l) (Ok (k, n))
 unfolding after_event received_side
 code-taken user v r k n e says_mapping room l may = code-received user.words v r Mapping l may n room
 code-taken user v r k n e says_withdraw room l may = code-received user.words v r Withdraw l may n room
@@ -194,12 +190,12 @@ code-taken user v r k n e says_release room l may =
     (moved user.words v (Received r Release true (Label n)) Used l)
 code-taken user v r k n e (says_nothing stays others) room l may = ended-code user.words Used l r.request ∙ sym (stays l (code_at user.words Used l))
 
-pub take_user : (giver : List ℕ) (user : Table) (out back : List (List ℕ)) (m : List ℕ) (r : Meets) → Agree giver user.words (m ∷ out) back → valid_of user.words ≡ true → (k : Kind) (n : ℕ) (e : LabelEffect)
-    → submission_of m ≡ Submission.Accepted k n → Says k n e → effect_reception user r true e ≡ Reception.Taken → Agree giver (effect_labels user r true e) out back
+pub take_user : (giver : List ℕ) (user : Table) (out back : List (List ℕ)) (m : List ℕ) (r : Meets) → Agree giver user.words (m ∷ out) back → valid_of user.words ≡ true → (k : Kind) (n : ℕ) (e : Option (LabelMessage × Touched))
+    → submission_of m ≡ Ok (k, n) → Says k n e → effect_reception user r true e ≡ Reception.Taken → Agree giver (effect_labels user r true e) out back
 take_user giver user out back m r a v k n e is s room l may g none = rw (code-taken user v r k n e s room l may) (rw is at (a l may g none))
 
 -- ---- a message on a line says its kind and label to its reader
-module _ (now : State) (re : Bool) (sent : ℕ) (h : History) (m : List ℕ) (n : FtNumber) (ack : FtField) {b : End} {ab ba : List (List ℕ)} {pa qs : List Packet}
+module _ (now : State) (re : Bool) (sent : ℕ) (h : History) (m : List ℕ) (n : FtNumber) (ack : Option FtNumber) {b : End} {ab ba : List (List ℕ)} {pa qs : List Packet}
     (i : Inv (ended now (up_with re sent) true true h) b ab ba pa (carried m n ack ∷ qs)) where
   pub carried_says : Says (f now re sent h m n ack i).0.storable.kind (f now re sent h m n ack i).0.storable.label (label_effect (g₂ now re sent h m n ack i))
   carried_says =

@@ -1,13 +1,14 @@
 -- The Init of the start is delivered. Assumes nothing.
+use Rattle.std.specs.Prelude.{Ok, Option}
 use Prim.Native.Nat.{ℕ}
 use mathlib.Core.Bool.{Bool, true, false, true≢false}
 use mathlib.Core.List.{List, ◌∷◌, map, []}
 use mathlib.Core.Logic.{inl}
 use mathlib.Core.Path.{◌≡◌, refl}
 use native.Mathlib.Omega.{arith}
+use Rattle.ft_number.specs.declared.FtNumber.{FtNumber}
 use Rattle.ft_number.specs.declared.MessageId.{MessageId}
 use Rattle.ft_number.specs.declared.Timeout.{Timeout}
-use Rattle.tlv.specs.declared.FtField.{FtField}
 use Rattle.message_writer.specs.declared.OwnParameters.{OwnParameters}
 use Rattle.protocol.specs.declared.Answer.{Answer}
 use Rattle.protocol.specs.declared.Start.{Start}
@@ -31,14 +32,14 @@ greeted_by now t bg h q =
     greeted (ended now (waiting_for t) true bg h) (init_start now (waiting_for t) (bytes_of q)) (init_received now (waiting_for t) (bytes_of q))
 
 -- ---- the Init of the start
-module _ (now : State) (t : ℕ) (h : History) (id : MessageId) (p : OwnParameters) (said : Timeout) (ack : FtField) where
+module _ (now : State) (t : ℕ) (h : History) (id : MessageId) (p : OwnParameters) (said : Timeout) (ack : Option FtNumber) where
   abbrev m₁ : List ℕ
   m₁ = bytes_of (first id p said ack)
 
   abbrev ts : Terms
   ts = terms now t id p said
 
-  pub fresh_start : Fine (first id p said ack) → Leads now.kept ack → init_start now (waiting_for t) m₁ ≡ Start.Fresh ts
+  pub fresh_start : Fine (first id p said ack) → Leads now.kept ack → init_start now (waiting_for t) m₁ ≡ Ok (Start.Fresh ts)
   fresh_start f l = starts_fresh now t id p said ack f l
 
   pub first_begins : Fine (first id p said ack) → Leads now.kept ack → init_received now (waiting_for t) m₁ ≡ stepped Answer.Done (fresh ts) (up_with false 0) []

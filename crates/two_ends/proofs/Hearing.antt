@@ -1,4 +1,5 @@
 -- What the oldest message of a line leaves of what persists between the two ends. Assumes nothing.
+use Rattle.std.specs.Prelude.{Ok, Err, Option}
 use Prim.Native.Nat.{ℕ}
 use mathlib.Core.Bool.{false, true, Bool}
 use mathlib.Core.List.{List, [], ◌∷◌, map}
@@ -7,7 +8,6 @@ use mathlib.Core.Path.{◌≡◌, refl, sym, ◌∙◌, ap}
 use Rattle.ft_number.specs.declared.FtNumber.{FtNumber}
 use Rattle.ft_number.specs.declared.MessageId.{MessageId}
 use Rattle.ft_number.specs.declared.Timeout.{Timeout}
-use Rattle.tlv.specs.declared.FtField.{FtField}
 use Rattle.label_events.specs.Requests.{ended_at}
 use Rattle.message.specs.Kinds.{kind_of}
 use Rattle.message_writer.specs.declared.OwnParameters.{OwnParameters}
@@ -53,7 +53,7 @@ module _ {May : State → List ℕ → Type 0} {R : State → History → State 
   Heard e m rest = Between R e b → keeps (hearer e m) ≡ true → Between R (hearer e m) b
 
   module _ (now : State) (t : ℕ) (h : History) (id : MessageId) (p : OwnParameters) (said : Timeout) {qs : List Packet} {ba : List (List ℕ)} {pa : List Packet} where
-    hears_first : (ack : FtField) → Leads now.kept ack → Inv (ended now (waiting_for t) true false h) b ab ba pa (first id p said ack ∷ qs)
+    hears_first : (ack : Option FtNumber) → Leads now.kept ack → Inv (ended now (waiting_for t) true false h) b ab ba pa (first id p said ack ∷ qs)
         → Heard (ended now (waiting_for t) true false h) (bytes_of (first id p said ack)) (map bytes_of qs)
     unfolding fresh
     hears_first ack lead i l k =
@@ -69,11 +69,11 @@ module _ {May : State → List ℕ → Type 0} {R : State → History → State 
         let ts = terms now t id p said in
         let st = again-start now t h id p said a i in
         ⊎_elim
-        (λ (e : init_start now (waiting_for t) m ≡ Start.Resumed ts st.0 a).
+        (λ (e : init_start now (waiting_for t) m ≡ Ok (Start.Resumed ts st.0 a)).
         let s : State = resumed now ts st.0 a.0 in
         rw (again-begins now t h id p said a i st.0 e, let_go_is now (stepped Answer.Done s (up_with true 0) []) st.0 st.1.few refl)
         (c.same (c.freed l st.0 a.0) s refl refl refl))
-        (λ (e : init_start now (waiting_for t) m ≡ Start.Refused Answer.ParametersChanged).
+        (λ (e : init_start now (waiting_for t) m ≡ Err Answer.ParametersChanged).
         released_ends Phase.Idle true true h refl (ap (λ (z : Step). z.state.kept) (sym (changed now t m e)) ∙ k))
         st.2
 
@@ -89,7 +89,7 @@ module _ {May : State → List ℕ → Type 0} {R : State → History → State 
         taking c now re sent h l (bytes_of (alive id n)) g read free.0 acks free.1.few [] (rw read)
         (λ e. c.same (c.freed l free.0 n.0) (received_state now g) (rw (acks, (plain now re sent h id n free.0 acks).effect)) refl (rw acks))
 
-    hears-carried : (m : List ℕ) (n : FtNumber) (ack : FtField) → Inv (ended now (up_with re sent) true true h) b ab ba pa (carried m n ack ∷ qs)
+    hears-carried : (m : List ℕ) (n : FtNumber) (ack : Option FtNumber) → Inv (ended now (up_with re sent) true true h) b ab ba pa (carried m n ack ∷ qs)
         → Heard (ended now (up_with re sent) true true h) (bytes_of (carried m n ack)) (map bytes_of qs)
     unfolding received_state taken ack_on acked
     hears-carried m n ack i l =

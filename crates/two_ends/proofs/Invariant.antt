@@ -1,11 +1,12 @@
 -- What holds of the two ends and their lines as long as neither has released its state. Assumes nothing.
+use Rattle.std.specs.Prelude.{Option, None}
 use Prim.Native.Nat.{ℕ, ◌≤◌}
 use mathlib.Core.Bool.{Bool, true, false}
 use mathlib.Core.List.{List, [], ◌∷◌, map}
 use mathlib.Core.Logic.{◌⊎◌}
 use mathlib.Core.Path.{◌≡◌}
 use Rattle.octets.specs.Pick.{pick, both}
-use Rattle.tlv.specs.declared.FtField.{FtField}
+use Rattle.ft_number.specs.declared.FtNumber.{FtNumber}
 use Rattle.protocol.specs.declared.Phase.{Phase}
 use Rattle.protocol.specs.Phases.{is_up_ft, resumed_of, sent_of, awaits}
 use Rattle.protocol.specs.State.{State, released_state, held, capacity}
@@ -50,8 +51,8 @@ later x = pick (live x) (resumed_of x.phase) x.begun
 
 -- ---- what stands on a line
 -- R is zero in that Init, or in ours
-abbrev pub Leads : Bool → FtField → Type 0
-Leads kept ack = (ack ≡ FtField.Absent) ⊎ (kept ≡ false)
+abbrev pub Leads : Bool → Option FtNumber → Type 0
+Leads kept ack = (ack ≡ None) ⊎ (kept ≡ false)
 
 -- the reader has not read the sender's Init yet: it comes first, and once; the reader has begun or not, and its state has that kept
 abbrev pub Headed : Bool → Bool → List Packet → Type 0
@@ -115,8 +116,8 @@ pub record Inv (a b : End) (ab ba : List (List ℕ)) (pa pb : List Packet) : Typ
   -- both ends agree on whether the connection is resumed
   pub agree : later (side_of a) ≡ later (side_of b)
 
-abbrev pub Some : End → End → List (List ℕ) → List (List ℕ) → Type 0
-Some a b ab ba = (pa : List Packet) × (pb : List Packet) × Inv a b ab ba pa pb
+abbrev pub Holds : End → End → List (List ℕ) → List (List ℕ) → Type 0
+Holds a b ab ba = (pa : List Packet) × (pb : List Packet) × Inv a b ab ba pa pb
 
 abbrev pub Good : World → Type 0
-Good w = Lasts w → Some w.a w.b w.ab w.ba
+Good w = Lasts w → Holds w.a w.b w.ab w.ba

@@ -1,4 +1,5 @@
 -- What a call at an end that has begun leaves of what persists, as long as the state is kept. Assumes nothing.
+use Rattle.std.specs.Prelude.{Some}
 use Prim.Native.Nat.{ℕ, ◌≤◌}
 use mathlib.Core.Bool.{Bool, false, true, true≢false}
 use mathlib.Core.List.{◌++◌, List, []}
@@ -7,11 +8,9 @@ use lib.Dec.{ltb}
 use lib.ListN.{length, take}
 use Rattle.octets.specs.Pick.{pick}
 use Rattle.octets.proofs.Choice.{pick_all}
-use Rattle.ft_number.specs.declared.Ack.{Ack}
 use Rattle.ft_number.specs.declared.MessageId.{MessageId}
 use Rattle.ft_number.specs.declared.Proposal.{Proposal}
 use Rattle.message.specs.declared.Message.{Message}
-use Rattle.message.specs.declared.Reading.{Reading}
 use Rattle.message.specs.Reading.{reading_of}
 use Rattle.message_writer.specs.declared.OwnParameters.{OwnParameters}
 use Rattle.protocol.specs.declared.Answer.{Answer}
@@ -117,7 +116,7 @@ module _ {May : State → List ℕ → Type 0} {R : State → History → State 
   does g = stepped_past (left_before now up g) Answer.Done (received_state now g) (received_phase now up g) []
 
   -- one that is taken: its ACK lets the oldest j go
-  module _ (m : List ℕ) (g : Message) (read : reading_of m ≡ Reading.Whole g) (j : ℕ) (acks : ack_on now g ≡ Ack.Releases j) (few : j ≤ length now.queue)
+  module _ (m : List ℕ) (g : Message) (read : reading_of m ≡ Some g) (j : ℕ) (acks : ack_on now g ≡ Some j) (few : j ≤ length now.queue)
       (got : List (List ℕ)) (secures : securing m ≡ got) where
     is : receive now up m ≡ settle (admitted now up (ft_rule now re g)) now up (does g)
     unfolding receive

@@ -1,4 +1,5 @@
 -- Over every run in which the owners keep a rule for a label: both ends list it alike once what is under way has arrived. Assumes nothing.
+use Rattle.std.specs.Prelude.{Ok, Option}
 use Prim.Native.Nat.{ℕ}
 use mathlib.Core.Bool.{true, false}
 use mathlib.Core.List.{List, [], ◌∷◌, ◌++◌, append-nil, append_assoc}
@@ -14,13 +15,12 @@ use Rattle.label_list.specs.Valid.{valid_of}
 use Rattle.label_list.specs.Word.{listable}
 use Rattle.label_events.specs.declared.Meets.{Meets}
 use Rattle.label_events.specs.declared.Reception.{Reception}
+use Rattle.label_events.specs.declared.Touched.{Touched}
 use Rattle.label_events.specs.Change.{code_at}
 use Rattle.message.specs.declared.Kind.{Kind}
-use Rattle.message.specs.declared.Submission.{Submission}
 use Rattle.message.specs.Submission.{submission_of}
 use Rattle.label_meaning.specs.Event.{Acked, after_event, Moves, withdraw-acked, back_acked, release-acked}
 use Rattle.label_meaning.proofs.Step.{step_valid}
-use Rattle.protocol.specs.declared.LabelEffect.{LabelEffect}
 use Rattle.protocol.specs.Acked.{released_labels}
 use Rattle.protocol.specs.Labels.{effect_labels, effect_reception}
 use Rattle.protocol.specs.State.{table_of, State, no_table}
@@ -105,7 +105,7 @@ module _ (rule : Rule) (l : ℕ) where
     matched_freed_peer v ms s = record { match = λ out back p q. ack_used out back (code_at xl Given l) ms yl v (s.match out back (rw (append-nil yh.secured) at p) q) }
 
     -- ---- and a message is taken
-    module _ (may : listable l ≡ true) (ms : List (List ℕ)) (m : List ℕ) (ids index : List ℕ) (r : Meets) (k : Kind) (n : ℕ) (e : LabelEffect) (is : submission_of m ≡ Submission.Accepted k n) (says : Says k n e) where
+    module _ (may : listable l ≡ true) (ms : List (List ℕ)) (m : List ℕ) (ids index : List ℕ) (r : Meets) (k : Kind) (n : ℕ) (e : Option (LabelMessage × Touched)) (is : submission_of m ≡ Ok (k, n)) (says : Says k n e) where
       pub matched_taken : valid_of xl ≡ true → effect_reception (table_of (released_labels ms xl) ids index) r true e ≡ Reception.Taken → Matched xl xh yl yh
           → Matched (effect_labels (table_of (released_labels ms xl) ids index) r true e) (takes ms (m ∷ []) xh) yl yh
       matched_taken v room s = record {

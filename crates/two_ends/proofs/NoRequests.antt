@@ -1,4 +1,5 @@
 -- Of a list of messages those that are no Requests: what a Send leaves out changes nothing of these, and Requests move no label and stop nothing. Assumes nothing.
+use Rattle.std.specs.Prelude.{Result, Ok, Err}
 use Prim.Native.Nat.{ℕ, suc, ◌+◌}
 use mathlib.Core.Bool.{Bool, true, false, false≢true}
 use mathlib.Core.List.{List, [], ◌∷◌, ◌++◌}
@@ -9,7 +10,7 @@ use Rattle.octets.specs.Pick.{pick}
 use Rattle.octets.proofs.Choice.{by_test}
 use Rattle.ft_number.specs.declared.MessageId.{MessageId}
 use Rattle.message.specs.declared.Kind.{Kind}
-use Rattle.message.specs.declared.Submission.{Submission}
+use Rattle.message.specs.declared.SubmissionError.{SubmissionError}
 use Rattle.message.specs.Storable.{bears}
 use Rattle.message.specs.Submission.{submission_of}
 use Rattle.protocol.specs.Accepting.{asks}
@@ -69,17 +70,17 @@ by_asks P (Kind.Abort id) r e = absurd (false≢true e)
 by_asks P Kind.NoResources r e = absurd (false≢true e)
 by_asks P Kind.NoKind r e = absurd (false≢true e)
 
-pub by_request : (P : Submission → Type 0) (x : Submission) → ((id : MessageId) (n : ℕ) → P (Submission.Accepted (Kind.Request id) n)) → asks (kind_held x) ≡ true → P x
-by_request P Submission.Malformed r e = absurd (false≢true e)
-by_request P Submission.Refused r e = absurd (false≢true e)
-by_request P (Submission.Accepted k n) r e = by_asks (λ (k : Kind). P (Submission.Accepted k n)) k (λ id. r id n) e
+pub by_request : (P : Result (Kind × ℕ) SubmissionError → Type 0) (x : Result (Kind × ℕ) SubmissionError) → ((id : MessageId) (n : ℕ) → P (Ok (Kind.Request id, n))) → asks (kind_held x) ≡ true → P x
+by_request P (Err SubmissionError.Malformed) r e = absurd (false≢true e)
+by_request P (Err SubmissionError.Refused) r e = absurd (false≢true e)
+by_request P (Ok (k, n)) r e = by_asks (λ (k : Kind). P (Ok (k, n))) k (λ id. r id n) e
 
 pub no_requests-code : (l c : ℕ) (ms : List (List ℕ)) → code_after l c (no_requests ms) ≡ code_after l c ms
 no_requests-code l c [] = refl
 no_requests-code l c (m ∷ ms) =
     by_test (is_request m)
     (λ t.
-    let same : code_by l c (submission_of m) ≡ c = by_request (λ (x : Submission). code_by l c x ≡ c) (submission_of m) (λ id n. refl) t in
+    let same : code_by l c (submission_of m) ≡ c = by_request (λ (x : Result (Kind × ℕ) SubmissionError). code_by l c x ≡ c) (submission_of m) (λ id n. refl) t in
     rw (t, same) (no_requests-code l c ms))
     (λ f. rw f (no_requests-code l (code_by l c (submission_of m)) ms))
 
@@ -89,7 +90,7 @@ no_requests-held l [] = refl
 no_requests-held l (m ∷ ms) =
     by_test (is_request m)
     (λ t.
-    let none : bears (submission_of m) 3 l ≡ false = by_request (λ (x : Submission). bears x 3 l ≡ false) (submission_of m) (λ id n. refl) t in
+    let none : bears (submission_of m) 3 l ≡ false = by_request (λ (x : Result (Kind × ℕ) SubmissionError). bears x 3 l ≡ false) (submission_of m) (λ id n. refl) t in
     rw (t, none) (no_requests-held l ms))
     (λ f. rw (f, no_requests-held l ms))
 
@@ -98,6 +99,6 @@ no_requests_stop stop [] = refl
 no_requests_stop stop (m ∷ ms) =
     by_test (is_request m)
     (λ t.
-    let same : stop_by stop (submission_of m) ≡ stop = by_request (λ (x : Submission). stop_by stop x ≡ stop) (submission_of m) (λ id n. refl) t in
+    let same : stop_by stop (submission_of m) ≡ stop = by_request (λ (x : Result (Kind × ℕ) SubmissionError). stop_by stop x ≡ stop) (submission_of m) (λ id n. refl) t in
     rw (t, same) (no_requests_stop stop ms))
     (λ f. rw f (no_requests_stop (stop_by stop (submission_of m)) ms))

@@ -1,4 +1,5 @@
 -- What is put together from bytes is bytes. Assumes nothing.
+use Rattle.std.specs.Prelude.{Option, Some, None}
 use Prim.Native.Nat.{ℕ, zero, suc, ◌+◌, ◌-◌, ◌/◌, ◌<◌}
 use mathlib.Core.List.{List, [], ◌∷◌, ◌++◌}
 use native.Mathlib.Omega.{arith}
@@ -9,7 +10,6 @@ use Rattle.octets.specs.Laid.{laid}
 use Rattle.ft_number.specs.declared.FtNumber.{FtNumber}
 use Rattle.ft_number.specs.declared.MessageId.{MessageId}
 use Rattle.ft_number.specs.declared.Timeout.{Timeout}
-use Rattle.tlv.specs.declared.FtField.{FtField}
 use Rattle.tlv.specs.Tlv.{parameters_type, session_type, protection_type, ack_type}
 use Rattle.message.specs.Reading.{initialization_type, keepalive_type}
 use Rattle.message_writer.specs.declared.OwnParameters.{OwnParameters}
@@ -56,9 +56,9 @@ number_octets (suc w) v = joins (number_octets w (v / 256)) (one (omega arith))
 tlv_octets : (number : ℕ) {value : List ℕ} → Octets value → Octets (tlv_bytes number value)
 tlv_octets number {value} a = joins (number_octets 2 number) (joins (number_octets 2 (length value)) a)
 
-ack_octets : (ack : FtField) → Octets (ack_tlv ack)
-ack_octets FtField.Absent = none
-ack_octets (FtField.Number a) = tlv_octets ack_type (number_octets 4 a.0)
+ack_octets : (ack : Option FtNumber) → Octets (ack_tlv ack)
+ack_octets None = none
+ack_octets (Some a) = tlv_octets ack_type (number_octets 4 a.0)
 
 message_octets : (number : ℕ) (id : MessageId) {tlvs : List ℕ} → Octets tlvs → Octets (message_bytes number id tlvs)
 message_octets number id {tlvs} a = joins (joins (number_octets 2 number) (joins (number_octets 2 (4 + length tlvs)) (number_octets 4 id.0))) a
@@ -68,20 +68,20 @@ parameters_octets p =
     joins (number_octets 2 parameters_type) (joins (number_octets 2 14) (joins (number_octets 2 1) (joins (number_octets 2 p.keepalive)
     (joins (number_octets 1 (mode_byte p.ondemand)) (joins (number_octets 1 0) (joins (number_octets 2 p.pdulength) (joins (number_octets 4 p.lsr) (number_octets 2 p.space))))))))
 
-session_octets : (ack : FtField) (said : Timeout) → Octets (session_tlv ack said)
+session_octets : (ack : Option FtNumber) (said : Timeout) → Octets (session_tlv ack said)
 session_octets ack (Timeout.Seconds n) = tlv_octets (unknown_bit + session_type) (joins (number_octets 2 (reconnect_flag ack)) (number_octets 2 n))
 session_octets ack (Timeout.Milliseconds n) =
     tlv_octets (unknown_bit + session_type)
     (joins (number_octets 2 (reconnect_flag ack + save_flag)) (joins (number_octets 2 0) (joins (number_octets 4 n) (number_octets 4 0))))
 
-pub init_octets : (id : MessageId) (p : OwnParameters) (said : Timeout) (ack : FtField) → Octets (init_bytes id p said ack)
+pub init_octets : (id : MessageId) (p : OwnParameters) (said : Timeout) (ack : Option FtNumber) → Octets (init_bytes id p said ack)
 init_octets id p said ack =
     message_octets initialization_type id (joins (parameters_octets p) (joins (session_octets ack said) (ack_octets ack)))
 
-pub alive_octets : (id : MessageId) (ack : FtField) → Octets (keepalive_bytes id ack)
+pub alive_octets : (id : MessageId) (ack : Option FtNumber) → Octets (keepalive_bytes id ack)
 alive_octets id ack = message_octets keepalive_type id (ack_octets ack)
 
-pub protected_octets : (m : List ℕ) (n : FtNumber) (ack : FtField) → Octets m → Octets (protected_bytes m n ack)
+pub protected_octets : (m : List ℕ) (n : FtNumber) (ack : Option FtNumber) → Octets m → Octets (protected_bytes m n ack)
 unfolding raised
 protected_octets m n ack a =
     let size : ℕ = length m + length (ft_tlvs n ack) - 4 in

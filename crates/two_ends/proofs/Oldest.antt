@@ -1,4 +1,5 @@
 -- The oldest message of a line, and the four that it may be. Assumes nothing.
+use Rattle.std.specs.Prelude.{Option}
 use Prim.Native.Nat.{ℕ}
 use mathlib.Core.Bool.{Bool, false, true, true≢false}
 use mathlib.Core.List.{List, map, ◌∷◌}
@@ -6,14 +7,13 @@ use mathlib.Core.Path.{◌≡◌, refl, sym}
 use Rattle.ft_number.specs.declared.FtNumber.{FtNumber}
 use Rattle.ft_number.specs.declared.MessageId.{MessageId}
 use Rattle.ft_number.specs.declared.Timeout.{Timeout}
-use Rattle.tlv.specs.declared.FtField.{FtField}
 use Rattle.message_writer.specs.declared.OwnParameters.{OwnParameters}
 use Rattle.protocol.specs.declared.Phase.{Phase}
 use Rattle.protocol.specs.Phases.{up_with, waiting_for}
 use Rattle.protocol.specs.State.{State}
 use Rattle.two_ends.specs.World.{End, History}
 use Rattle.two_ends.proofs.Delivering.{oldest, Oldest}
-use Rattle.two_ends.proofs.Invariant.{Headed, Inv, Leads, Shape, Some}
+use Rattle.two_ends.proofs.Invariant.{Headed, Inv, Leads, Shape, Holds}
 use Rattle.two_ends.proofs.Packets.{NoInit, Packet, again, alive, bytes_of, carried, first}
 use Rattle.two_ends.proofs.Takes.{headed, nil_cons}
 use Rattle.two_ends.proofs.Worlds.{ended}
@@ -30,7 +30,7 @@ up_reads false bg k ps q s = nil_cons s.0
 module _ (Q : End → List ℕ → List (List ℕ) → Type 0) (b : End) (ab : List (List ℕ)) where
   pub record Oldests : Type 0 where
     -- the Init of the start, at an end that has not begun: R is zero in it, or in that end's own
-    pub firsts : (now : State) (t : ℕ) (h : History) (id : MessageId) (p : OwnParameters) (said : Timeout) (ack : FtField) (qs : List Packet) {ba : List (List ℕ)} {pa : List Packet}
+    pub firsts : (now : State) (t : ℕ) (h : History) (id : MessageId) (p : OwnParameters) (said : Timeout) (ack : Option FtNumber) (qs : List Packet) {ba : List (List ℕ)} {pa : List Packet}
         → Leads now.kept ack → Inv (ended now (waiting_for t) true false h) b ab ba pa (first id p said ack ∷ qs)
         → Q (ended now (waiting_for t) true false h) (bytes_of (first id p said ack)) (map bytes_of qs)
     -- a later Init
@@ -42,7 +42,7 @@ module _ (Q : End → List ℕ → List (List ℕ) → Type 0) (b : End) (ab : L
         → Inv (ended now (up_with re sent) true true h) b ab ba pa (alive id n ∷ qs)
         → Q (ended now (up_with re sent) true true h) (bytes_of (alive id n)) (map bytes_of qs)
     -- a message with its number
-    pub carries : (now : State) (re : Bool) (sent : ℕ) (h : History) (m : List ℕ) (n : FtNumber) (ack : FtField) (qs : List Packet) {ba : List (List ℕ)} {pa : List Packet}
+    pub carries : (now : State) (re : Bool) (sent : ℕ) (h : History) (m : List ℕ) (n : FtNumber) (ack : Option FtNumber) (qs : List Packet) {ba : List (List ℕ)} {pa : List Packet}
         → Inv (ended now (up_with re sent) true true h) b ab ba pa (carried m n ack ∷ qs)
         → Q (ended now (up_with re sent) true true h) (bytes_of (carried m n ack)) (map bytes_of qs)
 
@@ -75,7 +75,7 @@ module _ (Q : End → List ℕ → List (List ℕ) → Type 0) (b : End) (ab : L
         rw (o.bytes, o.line) (message_case c now h re sent q (up_reads b.joined true now.kept qs q j.back.shape) j)
 
   module _ (c : Oldests) (now : State) (h : History) (m : List ℕ) (rest : List (List ℕ)) where
-    by_phase : (ph : Phase) (jo bg : Bool) → jo ≡ true → Some (ended now ph jo bg h) b ab (m ∷ rest) → Q (ended now ph jo bg h) m rest
+    by_phase : (ph : Phase) (jo bg : Bool) → jo ≡ true → Holds (ended now ph jo bg h) b ab (m ∷ rest) → Q (ended now ph jo bg h) m rest
     by_phase ph false bg on s = never (sym on)
     by_phase Phase.Idle true bg on s = never (sym (s.2.own.linked refl))
     by_phase (Phase.InitWait v) true bg on s = init_oldest c now h (oldest m rest s.1 s.2.line_b).2 v.timeout bg s.2
@@ -84,5 +84,5 @@ module _ (Q : End → List ℕ → List (List ℕ) → Type 0) (b : End) (ab : L
     by_phase Phase.UpPlain true bg on s = never (sym (s.2.own.linked refl))
     by_phase Phase.Failed true bg on s = never (sym (s.2.own.linked refl))
 
-  pub by_oldest : Oldests → (a : End) (m : List ℕ) (rest : List (List ℕ)) → a.joined ≡ true → Some a b ab (m ∷ rest) → Q a m rest
+  pub by_oldest : Oldests → (a : End) (m : List ℕ) (rest : List (List ℕ)) → a.joined ≡ true → Holds a b ab (m ∷ rest) → Q a m rest
   by_oldest c a m rest on s = by_phase c a.state a.history m rest a.phase a.joined a.begun on s

@@ -1,4 +1,5 @@
 -- An end opens a new connection. Assumes nothing.
+use Rattle.std.specs.Prelude.{Option, Some}
 use Prim.Native.Nat.{ℕ, ◌<◌}
 use mathlib.Core.Bool.{Bool, true, false, true≢false}
 use mathlib.Core.List.{List, [], ◌∷◌, map}
@@ -7,10 +8,10 @@ use mathlib.Core.Path.{◌≡◌, refl, sym, ap, ◌∙◌}
 use native.Mathlib.Omega.{arith}
 use Rattle.octets.specs.Pick.{pick}
 use Rattle.ft_number.specs.declared.Form.{Form}
+use Rattle.ft_number.specs.declared.FtNumber.{FtNumber}
 use Rattle.ft_number.specs.declared.MessageId.{MessageId}
 use Rattle.ft_number.specs.declared.Proposal.{Proposal}
 use Rattle.ft_number.specs.Timeout.{proposed_of, TimeoutFits}
-use Rattle.tlv.specs.declared.FtField.{FtField}
 use Rattle.message_writer.specs.declared.OwnParameters.{OwnParameters}
 use Rattle.message_writer.specs.Forms.{init_bytes}
 use Rattle.message_writer.specs.ReadBack.{InitFits}
@@ -27,7 +28,7 @@ use Rattle.two_ends.specs.Calls.{called, put, on, opened, replaced, plainly}
 use Rattle.two_ends.specs.Runs.{Widths, ProposalFits}
 use Rattle.two_ends.specs.World.{History, End, World}
 use Rattle.two_ends.proofs.Direction.{half_secured}
-use Rattle.two_ends.proofs.Invariant.{Ready, Inv, Some, Good}
+use Rattle.two_ends.proofs.Invariant.{Ready, Inv, Holds, Good}
 use Rattle.two_ends.proofs.Packets.{Packet, again, bytes_of}
 use Rattle.two_ends.proofs.Quiet.{quietly}
 use Rattle.two_ends.proofs.Resting.{at_plain}
@@ -42,14 +43,14 @@ proposed_fits (Proposal.NotGiven Form.Published) f = omega arith
 
 module _ (now : State) (id : MessageId) (p : OwnParameters) (t : Proposal) (widths : Widths id p) (fits : ProposalFits t) where
   -- with kept state R is set, and the ACK is S
-  kept_borne : now.kept ≡ true → kept_ack now ≡ FtField.Number now.secured
+  kept_borne : now.kept ≡ true → kept_ack now ≡ Some now.secured
   unfolding kept_ack
   kept_borne k = rw k
 
   bytes_are : now.kept ≡ true → open_bytes now id p t ≡ bytes_of (again id p (proposed_of t) now.secured)
-  bytes_are k = ap (λ (ack : FtField). init_bytes id p (proposed_of t) ack) (kept_borne k)
+  bytes_are k = ap (λ (ack : Option FtNumber). init_bytes id p (proposed_of t) ack) (kept_borne k)
 
-  init_fits : now.secured.0 < 4294967296 → InitFits id p (proposed_of t) (FtField.Number now.secured)
+  init_fits : now.secured.0 < 4294967296 → InitFits id p (proposed_of t) (Some now.secured)
   init_fits small = record {
     id = omega (arith, widths.id);
     keepalive = omega (arith, widths.keepalive);
@@ -91,7 +92,7 @@ module _ (now : State) (h : History) (id : MessageId) (p : OwnParameters) (t : P
         ),
       )
 
-  opening : (ph : Phase) (jo bg : Bool) → may_open ph ≡ true → Some (ended now ph jo bg h) b ab ba
+  opening : (ph : Phase) (jo bg : Bool) → may_open ph ≡ true → Holds (ended now ph jo bg h) b ab ba
       → Settled (ended now (awaiting t) true bg h) b (put true ab (stepped Answer.Done now (awaiting t) (open_bytes now id p t))) ba
   opening Phase.Idle jo bg u s = absurd (true≢false (sym s.2.own.possible))
   opening (Phase.InitWait v) jo bg u s = absurd (true≢false (sym u))

@@ -1,4 +1,5 @@
 -- A label of code 2, 9 or 5 has its Withdraw or Release in the store. Assumes nothing.
+use Rattle.std.specs.Prelude.{Result, Ok, Option, Some, None}
 use Prim.Native.Nat.{ℕ}
 use mathlib.Core.Bool.{Bool, true, false, true≢false}
 use mathlib.Core.List.{List, [], ◌∷◌, ◌++◌}
@@ -14,16 +15,16 @@ use Rattle.label_list.specs.declared.SweepRule.TheVariants.{AfterBreak}
 use Rattle.label_list.specs.Sweep.{swept_of}
 use Rattle.label_list.specs.Valid.{valid_of}
 use Rattle.label_events.specs.declared.Meets.{Meets}
+use Rattle.label_events.specs.declared.Touched.{Touched}
 use Rattle.label_events.specs.Change.{code_at}
 use Rattle.message.specs.declared.Kind.{Kind}
-use Rattle.message.specs.declared.Submission.{Submission}
+use Rattle.message.specs.declared.SubmissionError.{SubmissionError}
 use Rattle.message.specs.Kinds.{kind_number}
 use Rattle.message.specs.Storable.{bears}
 use Rattle.message.specs.Submission.{submission_of}
 use Rattle.label_meaning.specs.Event.{LabelEvent, Accepted, Received, Broken, after_event, Moves, given, withdrawn, released, returned, withdraw-acked, back_acked, release-acked, taken, taken-again, taken_bare, asked_back, bare_withdrawn, given_back, withdrawn_back, acked_back, bare_lost, Ended}
 use Rattle.label_meaning.proofs.Meaning.{valid_means}
 use Rattle.label_meaning.proofs.Moved.{every_move}
-use Rattle.protocol.specs.declared.LabelEffect.{LabelEffect}
 use Rattle.protocol.specs.Held.{is_held}
 use Rattle.protocol.specs.Labels.{reached, effect_labels}
 use Rattle.protocol.specs.State.{Table, no_table}
@@ -97,10 +98,10 @@ module _ (ls : List ℕ) (q : List (List ℕ)) (v : valid_of ls ≡ true) (o : O
   unfolding after_event
   broken_owed = else_owed Broken (λ m l e. no cc)
 
-pub received_owed : (t : Table) (q : List (List ℕ)) → valid_of t.words ≡ true → Owed t.words q → (y : Meets) (p : Bool) (e : LabelEffect) → Owed (effect_labels t y p e) q
+pub received_owed : (t : Table) (q : List (List ℕ)) → valid_of t.words ≡ true → Owed t.words q → (y : Meets) (p : Bool) (e : Option (LabelMessage × Touched)) → Owed (effect_labels t y p e) q
 unfolding after_event
-received_owed t q v o y p LabelEffect.Nothing = else_owed t.words q v o (Ended y.request) (λ m l e. no cc)
-received_owed t q v o y p (LabelEffect.Change message x) = else_owed t.words q v o (Received y message p (reached t message x)) (λ m l e. no cc)
+received_owed t q v o y p None = else_owed t.words q v o (Ended y.request) (λ m l e. no cc)
+received_owed t q v o y p (Some (message, x)) = else_owed t.words q v o (Received y message p (reached t message x)) (λ m l e. no cc)
 
 -- ---- a message is accepted: it is the newest held
 accept_by : (ls : List ℕ) (q : List (List ℕ)) (m : List ℕ) → valid_of ls ≡ true → Owed ls q → (message : LabelMessage) (label : ℕ)
@@ -115,7 +116,7 @@ accept_by ls q m v o message label is due l z =
     (due_step ls v (Accepted message label) due l z)
 
 -- a message that bears the kind of what is due
-bears_due : (kind : Kind) (label : ℕ) (due : Due) → kind_number kind ≡ due_kind due → bears (Submission.Accepted kind label) (due_kind due) label ≡ true
+bears_due : (kind : Kind) (label : ℕ) (due : Due) → kind_number kind ≡ due_kind due → bears (Ok (kind, label)) (due_kind due) label ≡ true
 bears_due kind label due e = rw (eq-eqb (kind_number kind) (due_kind due) e) (eq-eqb label label refl)
 
 wrong_due : {P : Type 0} (due : Due) → Mapping ≡ due_message due → P
@@ -130,7 +131,7 @@ release_due : (due : Due) → Release ≡ due_message due → 3 ≡ due_kind due
 release_due withdrawal e = no cc
 release_due release e = refl
 
-pub accepted_owed : (ls : List ℕ) (q : List (List ℕ)) (m : List ℕ) → valid_of ls ≡ true → Owed ls q → {j : Submission} {after : List ℕ} → submission_of m ≡ j → AcceptedWords ls j after
+pub accepted_owed : (ls : List ℕ) (q : List (List ℕ)) (m : List ℕ) → valid_of ls ≡ true → Owed ls q → {j : Result (Kind × ℕ) SubmissionError} {after : List ℕ} → submission_of m ≡ j → AcceptedWords ls j after
     → Owed after (q ++ (m ∷ []))
 accepted_owed ls q m v o e (mapping_accepted {k}) = accept_by ls q m v o Mapping k (λ due f. wrong_due due f)
 accepted_owed ls q m v o e (withdraw_accepted {k}) = accept_by ls q m v o Withdraw k (λ due f. rw e (bears_due Kind.Withdraw k due (withdraw_due due f)))

@@ -1,4 +1,5 @@
 -- What lies on a line: the messages that the two ends write, and what each means for either direction. Assumes nothing.
+use Rattle.std.specs.Prelude.{Option, Some, None}
 use Prim.Native.Nat.{ℕ, ◌^◌, ◌<◌}
 use mathlib.Core.List.{List, [], ◌∷◌, ◌++◌}
 use mathlib.Core.Path.{◌≡◌, refl, ap}
@@ -6,7 +7,6 @@ use Rattle.octets.specs.Bytes.{Bytes}
 use Rattle.ft_number.specs.declared.FtNumber.{FtNumber}
 use Rattle.ft_number.specs.declared.MessageId.{MessageId}
 use Rattle.ft_number.specs.declared.Timeout.{Timeout}
-use Rattle.tlv.specs.declared.FtField.{FtField}
 use Rattle.message.specs.Storable.{Storable}
 use Rattle.message_writer.specs.declared.OwnParameters.{OwnParameters}
 use Rattle.message_writer.specs.Forms.{init_bytes, keepalive_bytes, protected_bytes}
@@ -15,15 +15,15 @@ use Rattle.two_ends.proofs.Octets.{init_octets, alive_octets, protected_octets}
 
 -- the Init of the start, a later Init, a KeepAlive in UpFT, and a message with its number
 pub data Packet : Type 0 where
-  first : MessageId → OwnParameters → Timeout → FtField → Packet
+  first : MessageId → OwnParameters → Timeout → Option FtNumber → Packet
   again : MessageId → OwnParameters → Timeout → FtNumber → Packet
   alive : MessageId → FtNumber → Packet
-  carried : List ℕ → FtNumber → FtField → Packet
+  carried : List ℕ → FtNumber → Option FtNumber → Packet
 
 abbrev pub bytes_of : Packet → List ℕ
 bytes_of (first id p said ack) = init_bytes id p said ack
-bytes_of (again id p said s) = init_bytes id p said (FtField.Number s)
-bytes_of (alive id s) = keepalive_bytes id (FtField.Number s)
+bytes_of (again id p said s) = init_bytes id p said (Some s)
+bytes_of (alive id s) = keepalive_bytes id (Some s)
 bytes_of (carried m n ack) = protected_bytes m n ack
 
 -- a message that Submit accepts, of bytes
@@ -38,7 +38,7 @@ Okays (m ∷ ms) = Okay m × Okays ms
 -- its values have their width
 abbrev pub Fine : Packet → Type 0
 Fine (first id p said ack) = InitFits id p said ack
-Fine (again id p said s) = InitFits id p said (FtField.Number s)
+Fine (again id p said s) = InitFits id p said (Some s)
 Fine (alive id s) = (id.0 < 256 ^ 4) × (s.0 < 256 ^ 4)
 Fine (carried m n ack) = Okay m × (n.0 < 256 ^ 4) × AckFits ack
 
@@ -68,8 +68,8 @@ acks_of [] = []
 acks_of (first id p said ack ∷ ps) = 0 ∷ acks_of ps
 acks_of (again id p said s ∷ ps) = s.0 ∷ acks_of ps
 acks_of (alive id s ∷ ps) = s.0 ∷ acks_of ps
-acks_of (carried m n FtField.Absent ∷ ps) = acks_of ps
-acks_of (carried m n (FtField.Number s) ∷ ps) = s.0 ∷ acks_of ps
+acks_of (carried m n None ∷ ps) = acks_of ps
+acks_of (carried m n (Some s) ∷ ps) = s.0 ∷ acks_of ps
 
 -- ---- one more at the end
 pub datas-append : (ps qs : List Packet) → datas (ps ++ qs) ≡ datas ps ++ datas qs
@@ -84,8 +84,8 @@ acks-append [] qs = refl
 acks-append (first id p said ack ∷ ps) qs = ap (λ (l : List ℕ). 0 ∷ l) (acks-append ps qs)
 acks-append (again id p said s ∷ ps) qs = ap (λ (l : List ℕ). s.0 ∷ l) (acks-append ps qs)
 acks-append (alive id s ∷ ps) qs = ap (λ (l : List ℕ). s.0 ∷ l) (acks-append ps qs)
-acks-append (carried m n FtField.Absent ∷ ps) qs = acks-append ps qs
-acks-append (carried m n (FtField.Number s) ∷ ps) qs = ap (λ (l : List ℕ). s.0 ∷ l) (acks-append ps qs)
+acks-append (carried m n None ∷ ps) qs = acks-append ps qs
+acks-append (carried m n (Some s) ∷ ps) qs = ap (λ (l : List ℕ). s.0 ∷ l) (acks-append ps qs)
 
 pub fines_snoc : (ps : List Packet) (p : Packet) → Fines ps → Fine p → Fines (ps ++ (p ∷ []))
 fines_snoc [] p f g = (g, tt)
@@ -105,6 +105,6 @@ okays_snoc (x ∷ ms) m f g = (f.0, okays_snoc ms m f.1 g)
 -- ---- a line of such messages is a line of bytes
 pub fine_bytes : (p : Packet) → Fine p → Bytes (bytes_of p)
 fine_bytes (first id p said ack) f = (init_octets id p said ack).each
-fine_bytes (again id p said s) f = (init_octets id p said (FtField.Number s)).each
-fine_bytes (alive id s) f = (alive_octets id (FtField.Number s)).each
+fine_bytes (again id p said s) f = (init_octets id p said (Some s)).each
+fine_bytes (alive id s) f = (alive_octets id (Some s)).each
 fine_bytes (carried m n ack) f = (protected_octets m n ack (record { each = f.0.bytes })).each

@@ -1,4 +1,5 @@
 -- An acknowledgement that lets a Withdraw or Release go is what its label waited for. Assumes nothing.
+use Rattle.std.specs.Prelude.{Result, Ok, Err}
 use Prim.Native.Nat.{ℕ, zero, suc}
 use mathlib.Core.Bool.{true, false, true≢false}
 use mathlib.Core.List.{List, [], ◌∷◌}
@@ -14,7 +15,8 @@ use Rattle.label_list.specs.declared.LabelMessage.TheVariants.{Withdraw, Release
 use Rattle.label_list.specs.declared.Side.TheVariants.{Given}
 use Rattle.label_list.specs.Valid.{valid_of}
 use Rattle.label_events.specs.Change.{code_at}
-use Rattle.message.specs.declared.Submission.{Submission}
+use Rattle.message.specs.declared.Kind.{Kind}
+use Rattle.message.specs.declared.SubmissionError.{SubmissionError}
 use Rattle.message.specs.Kinds.{kind_number}
 use Rattle.message.specs.Storable.{bears, kind_in, label_in}
 use Rattle.message.specs.Submission.{submission_of}
@@ -62,10 +64,10 @@ module _ (ls : List ℕ) (m : List ℕ) (q : List (List ℕ)) (v : valid_of ls �
   keep n due l z = held_tail (due_kind due) l m q (n due l) (o due l z)
 
 -- ---- the oldest is let go, whatever it is
-bears_parts : (j : Submission) (kind l : ℕ) → bears j kind l ≡ true → (kind_in j ≡ kind) × (label_in j ≡ l)
-bears_parts Submission.Malformed kind l e = absurd (true≢false (sym e))
-bears_parts Submission.Refused kind l e = absurd (true≢false (sym e))
-bears_parts (Submission.Accepted k n) kind l e =
+bears_parts : (j : Result (Kind × ℕ) SubmissionError) (kind l : ℕ) → bears j kind l ≡ true → (kind_in j ≡ kind) × (label_in j ≡ l)
+bears_parts (Err SubmissionError.Malformed) kind l e = absurd (true≢false (sym e))
+bears_parts (Err SubmissionError.Refused) kind l e = absurd (true≢false (sym e))
+bears_parts (Ok (k, n)) kind l e =
     let p = both_true (eqb (kind_number k) kind) (eqb n l) e in
     (eqb-true (kind_number k) kind p.0, eqb-true n l p.1)
 

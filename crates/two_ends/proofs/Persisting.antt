@@ -1,4 +1,5 @@
 -- What each change of one end's state keeps between the two ends, every call keeps: the changes, named once. Assumes nothing.
+use Rattle.std.specs.Prelude.{Ok}
 use Prim.Native.Nat.{ℕ}
 use mathlib.Core.Bool.{true, false}
 use mathlib.Core.List.{List, [], ◌∷◌, ◌++◌}
@@ -8,7 +9,6 @@ use Rattle.label_events.specs.declared.Acceptance.{Acceptance}
 use Rattle.label_events.specs.declared.Reception.{Reception}
 use Rattle.message.specs.declared.Kind.{Kind}
 use Rattle.message.specs.declared.Message.{Message}
-use Rattle.message.specs.declared.Submission.{Submission}
 use Rattle.message.specs.Kinds.{kind_of}
 use Rattle.message.specs.Submission.{submission_of}
 use Rattle.protocol.specs.Accepting.{accepted_as}
@@ -28,7 +28,7 @@ use Rattle.two_ends.proofs.NoRequests.{accepted_in, no_requests, with_left}
 pub record CarriedTo (old : List ℕ) (s : State) (g : Message) (m : List ℕ) : Type 0 where
   pub kind : Kind
   pub label : ℕ
-  pub accepted : submission_of m ≡ Submission.Accepted kind label
+  pub accepted : submission_of m ≡ Ok (kind, label)
   pub protected : is_protected g.protection ≡ true
   pub read : kind_of g ≡ kind
   pub effect : Says kind label (label_effect g)
@@ -38,7 +38,7 @@ pub record CarriedTo (old : List ℕ) (s : State) (g : Message) (m : List ℕ) :
 pub record TakenIn (s : State) (m : List ℕ) : Type 0 where
   pub kind : Kind
   pub label : ℕ
-  pub accepted : submission_of m ≡ Submission.Accepted kind label
+  pub accepted : submission_of m ≡ Ok (kind, label)
   pub taken : (accepted_as s.table kind label).0 ≡ Acceptance.Taken
 
 -- of two ends, each by the state that counts and its history; `May`: what their owners submit

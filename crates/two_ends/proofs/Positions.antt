@@ -1,10 +1,9 @@
 -- Positions in a history and their numbers on the circle. Assumes nothing.
+use Rattle.std.specs.Prelude.{Some}
 use Prim.Native.Nat.{ℕ, zero, suc, ◌+◌, ◌-◌, ◌≤◌}
 use mathlib.Core.Path.{◌≡◌, sym, ap, ◌∙◌}
 use native.Mathlib.Omega.{arith}
 use borrow.Author.Tests.{le-ltb}
-use Rattle.ft_number.specs.declared.Ack.{Ack}
-use Rattle.ft_number.specs.declared.Steps.TheVariants.{Count}
 use Rattle.ft_number.specs.Ack.{ack_of}
 use Rattle.ft_number.specs.Circle.{circle, next, after, steps_of}
 use Rattle.ft_number.proofs.Circle.{after-add, after_none, after-suc, steps-after}
@@ -26,7 +25,7 @@ pub num-next : (k : ℕ) → next (num k) ≡ num (suc k)
 num-next k = sym (after-suc k 0)
 
 -- the steps from one to a later one in the window
-pub num-steps : (j k : ℕ) → j ≤ k → k ≤ j + 64 → steps_of (num j) (num k) ≡ Count (k - j)
+pub num-steps : (j k : ℕ) → j ≤ k → k ≤ j + 64 → steps_of (num j) (num k) ≡ Some (k - j)
 num-steps j k low high =
     let there : j + (k - j) ≡ k = omega arith in
     ap (steps_of (num j)) (sym (num-after j (k - j) ∙ ap num there)) ∙ steps-after (num j) (k - j) (num-le j) (omega arith)
@@ -35,7 +34,7 @@ pub num-count : (j k : ℕ) → j ≤ k → k ≤ j + 64 → count_of (steps_of 
 num-count j k low high = ap count_of (num-steps j k low high)
 
 -- an acknowledgement of a place in the window is right, and releases the places up to it
-pub num_ack : (r i k : ℕ) → r ≤ k → k ≤ i → i ≤ r + 64 → ack_of (num r) (num i) (num k) ≡ Ack.Releases (k - r)
+pub num_ack : (r i k : ℕ) → r ≤ k → k ≤ i → i ≤ r + 64 → ack_of (num r) (num i) (num k) ≡ Some (k - r)
 unfolding ack_of
 num_ack r i k low few high =
     let near : k ≤ r + 64 = omega arith in

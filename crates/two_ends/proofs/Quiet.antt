@@ -10,7 +10,7 @@ use Rattle.protocol.specs.Step.{Step}
 use Rattle.protocol.proofs.Quiet.{Quiet}
 use Rattle.two_ends.specs.Calls.{called, put, counts, sent_history, leaves_out}
 use Rattle.two_ends.specs.World.{History, End}
-use Rattle.two_ends.proofs.Invariant.{Some}
+use Rattle.two_ends.proofs.Invariant.{Holds}
 use Rattle.two_ends.proofs.Worlds.{same_end, settled_same, Settled}
 
 put_by : (jo b : Bool) (line more : List (List ℕ)) → b ≡ false → pick (both jo b) more line ≡ line
@@ -27,7 +27,7 @@ counts_by false b h k e = refl
 pub counts-still : (e : End) (x : Step) (h : History) → is_done x.answer ≡ false → counts e x h ≡ e.history
 counts-still e x h n = counts_by e.begun (is_done x.answer) e.history h n
 
-module _ (a : End) (x : Step) (q : Quiet a.state a.phase x) {b : End} {ab ba : List (List ℕ)} (s : Some a b ab ba) where
+module _ (a : End) (x : Step) (q : Quiet a.state a.phase x) {b : End} {ab ba : List (List ℕ)} (s : Holds a b ab ba) where
   pub quietly : Settled (called a x a.history) b ab ba
   quietly = settled_same (same_end a x a.history q.state q.phase refl) s
 

@@ -1,4 +1,5 @@
 -- A message in UpFT is delivered. Assumes nothing.
+use Rattle.std.specs.Prelude.{Some}
 use Prim.Native.Nat.{ℕ, ◌-◌, ◌≤◌}
 use mathlib.Core.Bool.{true, true≢false, Bool}
 use mathlib.Core.List.{List, [], ◌∷◌, map}
@@ -7,10 +8,8 @@ use mathlib.Core.Path.{◌≡◌, refl, ap, ◌∙◌, sym}
 use native.Mathlib.Omega.{arith}
 use lib.ListN.{take, drop, length, length-drop}
 use borrow.Author.Tests.{le-leb}
-use Rattle.ft_number.specs.declared.Ack.{Ack}
 use Rattle.ft_number.specs.Circle.{steps_of}
 use Rattle.message.specs.declared.Message.{Message}
-use Rattle.message.specs.declared.Reading.{Reading}
 use Rattle.message.specs.Reading.{reading_of}
 use Rattle.protocol.specs.declared.Answer.{Answer}
 use Rattle.protocol.specs.declared.Phase.{Phase}
@@ -45,7 +44,7 @@ fits_up now h re sent kept p =
     let w : count_of (steps_of now.released.0 now.issued.0) ≡ p.i - p.r = window p.books in
     rw (kept, w) (le-leb sent (p.i - p.r) (omega (arith, p.sent_i)))
 
-module _ (now : State) (re : Bool) (sent : ℕ) (m : List ℕ) (g : Message) (read : reading_of m ≡ Reading.Whole g) where
+module _ (now : State) (re : Bool) (sent : ℕ) (m : List ℕ) (g : Message) (read : reading_of m ≡ Some g) where
   abbrev ph : Phase
   ph = up_with re sent
 
@@ -59,8 +58,8 @@ module _ (now : State) (re : Bool) (sent : ℕ) (m : List ℕ) (g : Message) (re
   does = stepped_past (left_before now ph g) Answer.Done (received_state now g) (received_phase now ph g) []
 
   -- ---- what the call leaves
-  pub judged : Case now ph (Reading.Whole g) rule
-  judged = cases now ph (Reading.Whole g)
+  pub judged : Case now ph (Some g) rule
+  judged = cases now ph (Some g)
 
   module _ (h : History) {b : End} {ab ba : List (List ℕ)} {pa : List Packet} {q : Packet} {qs : List Packet}
       (i : Inv (ended now ph true true h) b ab ba pa (q ∷ qs)) where
@@ -85,7 +84,7 @@ module _ (now : State) (re : Bool) (sent : ℕ) (m : List ℕ) (g : Message) (re
         released_ends Phase.Idle true true h refl (ap (λ (z : Step). z.state.kept) (sym r) ∙ k)
 
     -- taken
-    module _ (j : ℕ) (acks : ack_on now g ≡ Ack.Releases j)
+    module _ (j : ℕ) (acks : ack_on now g ≡ Some j)
         (f : Freed (snd_of now h) sent re (rcv_of (side_of b).state b.history) (datas pa) (acks_of qs) (ack_borne now g.ack) j) where
       abbrev s : State
       s = received_state now g

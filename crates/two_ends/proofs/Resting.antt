@@ -21,13 +21,13 @@ use Rattle.two_ends.specs.Calls.{keeps, called, plainly}
 use Rattle.two_ends.specs.Runs.{act, restarts}
 use Rattle.two_ends.specs.World.{History, End, World}
 use Rattle.two_ends.proofs.Failing.{failing}
-use Rattle.two_ends.proofs.Invariant.{Waiting, Some, Good}
+use Rattle.two_ends.proofs.Invariant.{Waiting, Holds, Good}
 use Rattle.two_ends.proofs.Quiet.{quietly}
 use Rattle.two_ends.proofs.Worlds.{ended, begun_else, at-replaced, settled_same, Settled}
 
 -- a call that touches no line
 pub at_plain : (w : World) (x : Step) → Good w
-    → (Some w.a w.b w.ab w.ba → keeps (called w.a x w.a.history) ≡ true → Settled (called w.a x w.a.history) w.b w.ab w.ba) → Good (plainly w x)
+    → (Holds w.a w.b w.ab w.ba → keeps (called w.a x w.a.history) ≡ true → Settled (called w.a x w.a.history) w.b w.ab w.ba) → Good (plainly w x)
 at_plain w x g f = at-replaced w (called w.a x w.a.history) w.ab w.ba (λ k kp. f (g k) kp)
 
 -- ---- released: the state that counted is gone
@@ -61,20 +61,20 @@ module _ (now : State) (jo bg : Bool) (h : History) (elapsed : ℕ) (b : End) (a
   does ph = pick (expired now elapsed) (released_with Answer.Done) (unchanged Answer.Done now ph)
 
   -- only in Failed does it matter, and there the end has begun
-  begun-there : (ph : Phase) → is_done (rule ph) ≡ true → Some (ended now ph jo bg h) b ab ba → bg ≡ true
+  begun-there : (ph : Phase) → is_done (rule ph) ≡ true → Holds (ended now ph jo bg h) b ab ba → bg ≡ true
   begun-there Phase.Idle t s = absurd (true≢false (sym t))
   begun-there (Phase.InitWait v) t s = absurd (true≢false (sym t))
   begun-there (Phase.UpFT u) t s = absurd (true≢false (sym t))
   begun-there Phase.UpPlain t s = absurd (true≢false (sym t))
   begun-there Phase.Failed t s = begun_else s.2.own (λ (v : Waiting (ended now Phase.Failed jo bg h)). true≢false (sym v.waits))
 
-  acts : (ph : Phase) → bg ≡ true → (c : Bool) → Some (ended now ph jo bg h) b ab ba
+  acts : (ph : Phase) → bg ≡ true → (c : Bool) → Holds (ended now ph jo bg h) b ab ba
       → keeps (called (ended now ph jo bg h) (pick c (released_with Answer.Done) (unchanged Answer.Done now ph)) h) ≡ true
       → Settled (called (ended now ph jo bg h) (pick c (released_with Answer.Done) (unchanged Answer.Done now ph)) h) b ab ba
   acts ph begun true s k = released_ends Phase.Idle jo bg h begun k
   acts ph begun false s k = settled_same refl s
 
-  passes : (ph : Phase) → Some (ended now ph jo bg h) b ab ba → keeps (called (ended now ph jo bg h) (time_passed now ph elapsed) h) ≡ true
+  passes : (ph : Phase) → Holds (ended now ph jo bg h) b ab ba → keeps (called (ended now ph jo bg h) (time_passed now ph elapsed) h) ≡ true
       → Settled (called (ended now ph jo bg h) (time_passed now ph elapsed) h) b ab ba
   unfolding time_passed
   passes ph s k =

@@ -1,4 +1,5 @@
 -- A later Init is delivered. Assumes nothing.
+use Rattle.std.specs.Prelude.{Ok, Err}
 use Prim.Native.Nat.{ℕ}
 use mathlib.Core.Bool.{true, true≢false}
 use mathlib.Core.List.{List, [], ◌∷◌, map}
@@ -43,15 +44,15 @@ module _ (now : State) (t : ℕ) (h : History) (id : MessageId) (p : OwnParamete
   module _ {b : End} {ab ba : List (List ℕ)} {pa qs : List Packet} (i : Inv (ended now (waiting_for t) true true h) b ab ba pa (again id p said a ∷ qs)) where
     -- its ACK is right; the session is resumed, or its parameters are others
     pub again-start : (j : ℕ) × Freed (snd_of now h) 0 true (rcv_of (side_of b).state b.history) (datas pa) (acks_of qs) a.0 j
-        × ((init_start now (waiting_for t) m₂ ≡ Start.Resumed ts j a) ⊎ (init_start now (waiting_for t) m₂ ≡ Start.Refused Answer.ParametersChanged))
+        × ((init_start now (waiting_for t) m₂ ≡ Ok (Start.Resumed ts j a)) ⊎ (init_start now (waiting_for t) m₂ ≡ Err Answer.ParametersChanged))
     again-start =
         let free = half-init true (λ r i l few. tt) i.out.half in
         (free.0, free.1, starts_again now t id p said a free.0 i.back.fines.0 (kept_one i.own) free.1.right)
 
-    pub again-begins : (j : ℕ) → init_start now (waiting_for t) m₂ ≡ Start.Resumed ts j a → init_received now (waiting_for t) m₂ ≡ stepped Answer.Done (resumed now ts j a.0) (up_with true 0) []
+    pub again-begins : (j : ℕ) → init_start now (waiting_for t) m₂ ≡ Ok (Start.Resumed ts j a) → init_received now (waiting_for t) m₂ ≡ stepped Answer.Done (resumed now ts j a.0) (up_with true 0) []
     again-begins j e = begins now t m₂ (resumed now ts j a.0) (rw e) (rw e) true (rw e)
 
-    resumes : (j : ℕ) → Freed (snd_of now h) 0 true (rcv_of (side_of b).state b.history) (datas pa) (acks_of qs) a.0 j → init_start now (waiting_for t) m₂ ≡ Start.Resumed ts j a
+    resumes : (j : ℕ) → Freed (snd_of now h) 0 true (rcv_of (side_of b).state b.history) (datas pa) (acks_of qs) a.0 j → init_start now (waiting_for t) m₂ ≡ Ok (Start.Resumed ts j a)
         → Settled (greeted_by now t true h (again id p said a)) b ab (map bytes_of qs)
     unfolding resumed acked
     resumes j free e =
@@ -88,7 +89,7 @@ module _ (now : State) (t : ℕ) (h : History) (id : MessageId) (p : OwnParamete
     greet_again k =
         let st = again-start in
         ⊎_elim
-        (λ (e : init_start now (waiting_for t) m₂ ≡ Start.Resumed ts st.0 a). resumes st.0 st.1 e)
-        (λ (e : init_start now (waiting_for t) m₂ ≡ Start.Refused Answer.ParametersChanged).
+        (λ (e : init_start now (waiting_for t) m₂ ≡ Ok (Start.Resumed ts st.0 a)). resumes st.0 st.1 e)
+        (λ (e : init_start now (waiting_for t) m₂ ≡ Err Answer.ParametersChanged).
         released_ends Phase.Idle true true h refl (ap (λ (z : Step). z.state.kept) (sym (changed now t m₂ e)) ∙ k))
         st.2

@@ -1,4 +1,5 @@
 -- What the messages of a steady owner say. Assumes nothing.
+use Rattle.std.specs.Prelude.{Option, Some}
 use Prim.Native.Nat.{ℕ, zero, suc, ◌+◌, ◌^◌, ◌<◌}
 use mathlib.Core.Bool.{true, false, true≢false}
 use mathlib.Core.List.{List, [], ◌∷◌, ◌++◌}
@@ -8,10 +9,7 @@ use lib.ListN.{length, get_or, drop}
 use Rattle.ft_number.specs.declared.FtNumber.{FtNumber}
 use Rattle.ft_number.specs.declared.MessageId.{MessageId}
 use Rattle.ft_number.specs.declared.Timeout.{Timeout}
-use Rattle.tlv.specs.declared.FtField.{FtField}
-use Rattle.tlv.specs.declared.Parameters.{Parameters}
 use Rattle.message.specs.declared.Message.{Message}
-use Rattle.message.specs.declared.Reading.{Reading}
 use Rattle.message.specs.Reading.{reading_of}
 use Rattle.message.specs.Storable.{Storable}
 use Rattle.message.proofs.Laws.{accepted}
@@ -46,27 +44,27 @@ all_at P (suc n) (m ∷ ms) l a = all_at P n ms (omega arith) a.1
 
 -- ---- an Init bears the owner's parameters, and no other message bears a Status with E set
 pub record Says (o : OwnParameters) (m : List ℕ) : Type 0 where
-  pub init : (g : Message) → reading_of m ≡ Reading.Whole g → is_init g.typename ≡ true → g.parameters ≡ Parameters.Given o.keepalive o.pdulength
-  pub mild : (g : Message) → reading_of m ≡ Reading.Whole g → is_init g.typename ≡ false → is_fatal g.status ≡ false
+  pub init : (g : Message) → reading_of m ≡ Some g → is_init g.typename ≡ true → g.parameters ≡ Some (record { keepalive = o.keepalive; pdulength = o.pdulength })
+  pub mild : (g : Message) → reading_of m ≡ Some g → is_init g.typename ≡ false → is_fatal g.status ≡ false
 
 -- what was read is this message
-says_by : (o : OwnParameters) (m : List ℕ) (r : Message) → reading_of m ≡ Reading.Whole r
-    → (is_init r.typename ≡ true → r.parameters ≡ Parameters.Given o.keepalive o.pdulength) → (is_init r.typename ≡ false → is_fatal r.status ≡ false) → Says o m
+says_by : (o : OwnParameters) (m : List ℕ) (r : Message) → reading_of m ≡ Some r
+    → (is_init r.typename ≡ true → r.parameters ≡ Some (record { keepalive = o.keepalive; pdulength = o.pdulength })) → (is_init r.typename ≡ false → is_fatal r.status ≡ false) → Says o m
 says_by o m r e i f = record {
   init = λ g q. let same : r ≡ g = cc (sym e ∙ q) in rw same at i;
   mild = λ g q. let same : r ≡ g = cc (sym e ∙ q) in rw same at f;
 }
 
-pub init_says : (o : OwnParameters) (id : MessageId) (p : OwnParameters) (said : Timeout) (ack : FtField) → InitFits id p said ack
+pub init_says : (o : OwnParameters) (id : MessageId) (p : OwnParameters) (said : Timeout) (ack : Option FtNumber) → InitFits id p said ack
     → p.keepalive ≡ o.keepalive → p.pdulength ≡ o.pdulength → Says o (init_bytes id p said ack)
 init_says o id p said ack f k l =
     says_by o (init_bytes id p said ack) (init_message id p said ack) (init_reads id p said ack f) (λ t. rw (k, l)) (λ t. absurd (true≢false t))
 
-pub alive_says : (o : OwnParameters) (id : MessageId) (ack : FtField) → id.0 < 256 ^ 4 → AckFits ack → Says o (keepalive_bytes id ack)
+pub alive_says : (o : OwnParameters) (id : MessageId) (ack : Option FtNumber) → id.0 < 256 ^ 4 → AckFits ack → Says o (keepalive_bytes id ack)
 alive_says o id ack small fits =
     says_by o (keepalive_bytes id ack) (keepalive_message id ack) (keepalive_reads id ack small fits) (λ t. absurd (true≢false (sym t))) (λ t. refl)
 
-module _ (o : OwnParameters) (m : List ℕ) (s : Storable m) (mild : Mild m) (n : FtNumber) (ack : FtField) (small : n.0 < 256 ^ 4) (fits : AckFits ack) where
+module _ (o : OwnParameters) (m : List ℕ) (s : Storable m) (mild : Mild m) (n : FtNumber) (ack : Option FtNumber) (small : n.0 < 256 ^ 4) (fits : AckFits ack) where
   short : length m + 12 < 256 ^ 2
   short = omega (arith, s.short)
 

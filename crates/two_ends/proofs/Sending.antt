@@ -25,7 +25,7 @@ use Rattle.protocol.proofs.Settling.{settle-does, admitted-done}
 use Rattle.two_ends.specs.Calls.{called, leaves_out, put, sent, sent_history}
 use Rattle.two_ends.specs.World.{History, End, World}
 use Rattle.two_ends.proofs.Direction.{half_secured, half_place}
-use Rattle.two_ends.proofs.Invariant.{Ready, Some, Good, Inv}
+use Rattle.two_ends.proofs.Invariant.{Ready, Holds, Good, Inv}
 use Rattle.two_ends.proofs.Packets.{Packet, carried, Fine, Okay, Okays}
 use Rattle.two_ends.proofs.Quiet.{quietly_sent}
 use Rattle.two_ends.proofs.Sends.{left_history, dir_send, dir_send-lost, dir_send_peer, dir_send-lost_peer}
@@ -87,7 +87,7 @@ module _ (now : State) (re : Bool) (sent : ℕ) (h : History) (ask : Bool) (some
   deed = stepped_past (left_out_from now sent) Answer.Done (sent_state now place) (up_with re (place + 1)) (send_bytes now place ask)
 
   module _ {b : End} {ab ba : List (List ℕ)} where
-    pub sending : (jo : Bool) → Some (ended now (up_with re sent) jo true h) b ab ba → Some (ended (sent_state now place) (up_with re (place + 1)) jo true history) b (put jo ab deed) ba
+    pub sending : (jo : Bool) → Holds (ended now (up_with re sent) jo true h) b ab ba → Holds (ended (sent_state now place) (up_with re (place + 1)) jo true history) b (put jo ab deed) ba
     unfolding send_bytes
     sending true o =
         let i = o.2 in
@@ -122,8 +122,8 @@ module _ (now : State) (re : Bool) (sent : ℕ) (h : History) (ask : Bool) (some
 -- ---- the call
 -- an end that sends is up, and has begun
 module _ (now : State) (jo : Bool) (h : History) (ask : Bool) {b : End} {ab ba : List (List ℕ)} where
-  pub sends_up : (ph : Phase) (bg : Bool) → Sendable now ph → Some (ended now ph jo bg h) b ab ba
-      → (bg ≡ true) × Some (called (ended now ph jo true h) (send_deed now ph ask) (leaves_out (sent_of ph) (send_deed now ph ask) h)) b (put jo ab (send_deed now ph ask)) ba
+  pub sends_up : (ph : Phase) (bg : Bool) → Sendable now ph → Holds (ended now ph jo bg h) b ab ba
+      → (bg ≡ true) × Holds (called (ended now ph jo true h) (send_deed now ph ask) (leaves_out (sent_of ph) (send_deed now ph ask) h)) b (put jo ab (send_deed now ph ask)) ba
   unfolding place_sent
   sends_up Phase.Idle bg d s = absurd (true≢false (sym d.up))
   sends_up (Phase.InitWait v) bg d s = absurd (true≢false (sym d.up))

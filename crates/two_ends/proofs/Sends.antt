@@ -1,4 +1,5 @@
 -- The two directions after a message is sent. Assumes nothing.
+use Rattle.std.specs.Prelude.{Option, Some, None}
 use Prim.Native.Nat.{ℕ, ◌+◌}
 use mathlib.Core.Bool.{Bool, true, false}
 use mathlib.Core.List.{List, [], ◌∷◌, ◌++◌, append-nil}
@@ -8,7 +9,6 @@ use lib.ListN.{length, drop}
 use Rattle.octets.specs.Pick.{pick}
 use Rattle.ft_number.specs.declared.FtNumber.{FtNumber}
 use Rattle.ft_number.specs.Circle.{after}
-use Rattle.tlv.specs.declared.FtField.{FtField}
 use Rattle.protocol.specs.LeftOut.{left_out_from, next_place}
 use Rattle.protocol.specs.Phases.{issued_count, up_with}
 use Rattle.protocol.specs.Send.{queue_number, ack_asked, numbered, sent_state}
@@ -78,7 +78,7 @@ next s sent = queue_number s (next_place s sent)
 -- ---- the sender
 module _ (s : State) (re : Bool) (sent : ℕ) (bg : Bool) (h : History) (m : List ℕ) (ms : List (List ℕ)) (e : drop (next_place s sent) s.queue ≡ m ∷ ms)
     {y : Side} {to fro : List Packet} where
-  pub dir_send : (ack : FtField) → Fine (carried m (next s sent) ack) → Dir (before_sending s re sent true bg h) y to fro
+  pub dir_send : (ack : Option FtNumber) → Fine (carried m (next s sent) ack) → Dir (before_sending s re sent true bg h) y to fro
       → Dir (after_sending s re sent true bg h) y (to ++ (carried m (next s sent) ack ∷ [])) fro
   unfolding queue_number issued_count
   dir_send ack f d = record {
@@ -98,12 +98,12 @@ module _ (s : State) (re : Bool) (sent : ℕ) (bg : Bool) (h : History) {y : Sid
       → Dir y (after_sending s re sent true bg h) fro (to ++ (carried m n (ack_asked ask s) ∷ []))
   unfolding ack_asked
   dir_send_peer true m n d = record {
-    half = rw (sent_secured s sent h, acks-append to (carried m n (FtField.Number s.secured) ∷ [])) (half_ack_out d.half);
+    half = rw (sent_secured s sent h, acks-append to (carried m n (Some s.secured) ∷ [])) (half_ack_out d.half);
     shape = rw (sent_kept s (next_place s sent)) d.shape;
     fines = d.fines;
   }
   dir_send_peer false m n d = record {
-    half = rw (sent_secured s sent h, acks-append to (carried m n FtField.Absent ∷ []), append-nil (acks_of to)) d.half;
+    half = rw (sent_secured s sent h, acks-append to (carried m n None ∷ []), append-nil (acks_of to)) d.half;
     shape = rw (sent_kept s (next_place s sent)) d.shape;
     fines = d.fines;
   }

@@ -1,21 +1,22 @@
 -- The labels of the two ends with what is under way between them, after each event at one end. Assumes nothing.
+use Rattle.std.specs.Prelude.{Ok, Option}
 use Prim.Native.Nat.{ℕ, ◌+◌}
 use mathlib.Core.Bool.{true, false}
 use mathlib.Core.List.{List, [], ◌∷◌, ◌++◌, append-nil, append_assoc}
 use mathlib.Core.Path.{◌≡◌, refl, sym, ap, ◌∙◌}
 use native.Mathlib.Omega.{arith}
 use lib.ListN.{length}
+use Rattle.label_list.specs.declared.LabelMessage.{LabelMessage}
 use Rattle.label_list.specs.declared.Side.TheVariants.{Given, Used}
 use Rattle.label_list.specs.declared.SweepRule.TheVariants.{AfterBreak}
 use Rattle.label_list.specs.Sweep.{swept_of}
 use Rattle.label_list.specs.Valid.{valid_of}
 use Rattle.label_events.specs.declared.Meets.{Meets}
 use Rattle.label_events.specs.declared.Reception.{Reception}
+use Rattle.label_events.specs.declared.Touched.{Touched}
 use Rattle.label_events.specs.Change.{code_at}
 use Rattle.message.specs.declared.Kind.{Kind}
-use Rattle.message.specs.declared.Submission.{Submission}
 use Rattle.message.specs.Submission.{submission_of}
-use Rattle.protocol.specs.declared.LabelEffect.{LabelEffect}
 use Rattle.protocol.specs.Acked.{released_labels}
 use Rattle.protocol.specs.Held.{is_held}
 use Rattle.protocol.specs.Labels.{effect_reception, effect_labels}
@@ -57,7 +58,7 @@ module _ {xl : List ℕ} {xh : History} {yl : List ℕ} {yh : History} where
   shared_freed_peer v ms s = record { agree = λ out back p q. ack_user xl yl out back (s.agree out back (rw (append-nil yh.secured) at p) q) ms v }
 
   -- ---- and a message is taken
-  module _ (ms : List (List ℕ)) (m : List ℕ) (ids index : List ℕ) (r : Meets) (k : Kind) (n : ℕ) (e : LabelEffect) (is : submission_of m ≡ Submission.Accepted k n) (says : Says k n e) where
+  module _ (ms : List (List ℕ)) (m : List ℕ) (ids index : List ℕ) (r : Meets) (k : Kind) (n : ℕ) (e : Option (LabelMessage × Touched)) (is : submission_of m ≡ Ok (k, n)) (says : Says k n e) where
     pub shared_taken : valid_of xl ≡ true → Shared xl xh yl yh → Shared (effect_labels (table_of (released_labels ms xl) ids index) r true e) (takes ms (m ∷ []) xh) yl yh
     shared_taken v s = record {
       agree = λ out back p q.

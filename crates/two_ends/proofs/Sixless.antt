@@ -1,4 +1,5 @@
 -- Between the two ends no label is used without protection: no word has code 6. Assumes nothing.
+use Rattle.std.specs.Prelude.{Result, Option, Some, None}
 use Prim.Native.Nat.{ℕ, zero, suc}
 use mathlib.Core.Bool.{true, false}
 use mathlib.Core.List.{List}
@@ -25,14 +26,14 @@ use Rattle.label_events.specs.declared.Meets.{Meets}
 use Rattle.label_events.specs.declared.Touched.{Touched}
 use Rattle.label_events.specs.Change.{code_at}
 use Rattle.label_events.specs.Protect.{protection_of}
-use Rattle.message.specs.declared.Submission.{Submission}
+use Rattle.message.specs.declared.Kind.{Kind}
+use Rattle.message.specs.declared.SubmissionError.{SubmissionError}
 use Rattle.label_meaning.specs.Event.{LabelEvent, Accepted, Acked, Received, Broken, after_event, Moves, released, returned, release-acked, taken, taken-again, taken_bare, asked_back, bare_withdrawn, bare_lost, Ended, Asked}
 use Rattle.label_meaning.specs.View.{absent}
 use Rattle.label_meaning.proofs.Meaning.{valid_means}
 use Rattle.label_meaning.proofs.Moved.{every_move}
 use Rattle.label_meaning.proofs.Step.{step_valid}
 use Rattle.label_meaning.proofs.View.{is_code}
-use Rattle.protocol.specs.declared.LabelEffect.{LabelEffect}
 use Rattle.protocol.specs.Acked.{released_labels}
 use Rattle.protocol.specs.Labels.{effect_labels, effect_protection, reached}
 use Rattle.protocol.specs.State.{Table, no_table}
@@ -91,7 +92,7 @@ unfolding after_event
 broken_sixless ls v n = step_sixless ls v n Broken tt
 
 -- ---- a message is accepted
-pub accepted_sixless : (ls : List ℕ) → valid_of ls ≡ true → NoSix ls → {j : Submission} {after : List ℕ} → AcceptedWords ls j after → NoSix after
+pub accepted_sixless : (ls : List ℕ) → valid_of ls ≡ true → NoSix ls → {j : Result (Kind × ℕ) SubmissionError} {after : List ℕ} → AcceptedWords ls j after → NoSix after
 accepted_sixless ls v n (mapping_accepted {k}) = step_sixless ls v n (Accepted Mapping k) tt
 accepted_sixless ls v n (withdraw_accepted {k}) = step_sixless ls v n (Accepted Withdraw k) tt
 accepted_sixless ls v n (release_accepted {k}) = step_sixless ls v n (Accepted Release k) tt
@@ -104,10 +105,10 @@ released_sixless ms ls v n =
     (λ ws p m l. (step_valid ws (Acked m l) p.0, step_sixless ws p.0 p.1 (Acked m l) tt)) ms ls (v, n)).1
 
 -- ---- a protected message is received
-pub received_sixless : (t : Table) (y : Meets) (e : LabelEffect) → valid_of t.words ≡ true → NoSix t.words → NoSix (effect_labels t y true e)
+pub received_sixless : (t : Table) (y : Meets) (e : Option (LabelMessage × Touched)) → valid_of t.words ≡ true → NoSix t.words → NoSix (effect_labels t y true e)
 unfolding after_event
-received_sixless t y LabelEffect.Nothing v n = step_sixless t.words v n (Ended y.request) tt
-received_sixless t y (LabelEffect.Change m x) v n = step_sixless t.words v n (Received y m true (reached t m x)) tt
+received_sixless t y None v n = step_sixless t.words v n (Ended y.request) tt
+received_sixless t y (Some (m, x)) v n = step_sixless t.words v n (Received y m true (reached t m x)) tt
 
 -- then protection is not wrong
 bars_none : (m : LabelMessage) (ls : List ℕ) (l : ℕ) → NoSix ls → bars_protection m (code_at ls (received_side m) l) ≡ false
@@ -116,10 +117,10 @@ bars_none Mapping ls l n = by_test (eqb (code_at ls Used l) 6) (λ t. absurd (n 
 bars_none Withdraw ls l n = by_test (eqb (code_at ls Used l) 6) (λ t. absurd (n l (eqb-true (code_at ls Used l) 6 t))) (λ f. f)
 bars_none Release ls l n = refl
 
-pub protected_right : (t : Table) (e : LabelEffect) → NoSix t.words → effect_protection t true e ≡ Protection.Right
+pub protected_right : (t : Table) (e : Option (LabelMessage × Touched)) → NoSix t.words → effect_protection t true e ≡ Protection.Right
 unfolding protection_of code_protection
-protected_right t LabelEffect.Nothing n = refl
-protected_right t (LabelEffect.Change m (Touched.Label l)) n = rw (bars_none m t.words l n)
-protected_right t (LabelEffect.Change m Touched.Every) n = refl
-protected_right t (LabelEffect.Change m (Touched.Prefix x)) n = refl
-protected_right t (LabelEffect.Change m Touched.Nothing) n = refl
+protected_right t None n = refl
+protected_right t (Some (m, Touched.Label l)) n = rw (bars_none m t.words l n)
+protected_right t (Some (m, Touched.Every)) n = refl
+protected_right t (Some (m, Touched.Prefix x)) n = refl
+protected_right t (Some (m, Touched.Nothing)) n = refl

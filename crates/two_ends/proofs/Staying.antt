@@ -1,4 +1,5 @@
 -- Over every run: with no event that releases, neither end releases its state. Assumes nothing.
+use Rattle.std.specs.Prelude.{Ok, Err}
 use Prim.Native.Nat.{◌≤◌, ℕ}
 use mathlib.Core.Bool.{Bool, false, true, true≢false}
 use mathlib.Core.List.{[], List, map, ◌∷◌}
@@ -75,10 +76,10 @@ module _ (b : End) (ab : List (List ℕ)) where
       let ts = terms now t id p said in
       let st = again-start now t h id p said a i in
       ⊎_elim
-      (λ (e : init_start now (waiting_for t) m ≡ Start.Resumed ts st.0 a).
+      (λ (e : init_start now (waiting_for t) m ≡ Ok (Start.Resumed ts st.0 a)).
       let d = again-begins now t h id p said a i st.0 e in
       record { begun = refl; keeping = rw d (kept_one i.own); same = λ u k. rw (d, e, k) })
-      (λ (e : init_start now (waiting_for t) m ≡ Start.Refused Answer.ParametersChanged). absurd (low (rw (changed-init now t m e) (omega arith))))
+      (λ (e : init_start now (waiting_for t) m ≡ Err Answer.ParametersChanged). absurd (low (rw (changed-init now t m e) (omega arith))))
       st.2
 
   taken_holds : (now : State) (re : Bool) (sent : ℕ) (h : History) (m : List ℕ) {q : Packet} {qs : List Packet} {ba : List (List ℕ)} {pa : List Packet} → Inv (ended now (up_with re sent) true true h) b ab ba pa (q ∷ qs)

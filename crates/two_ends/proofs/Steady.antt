@@ -34,7 +34,7 @@ use Rattle.two_ends.specs.World.{End, History, Lasts, World}
 use Rattle.two_ends.proofs.Acts.{by_open, by_plain, by_submit, by_write}
 use Rattle.two_ends.proofs.Begun.{kept_fits}
 use Rattle.two_ends.proofs.Direction.{half_secured}
-use Rattle.two_ends.proofs.Invariant.{Good, Some, Waiting}
+use Rattle.two_ends.proofs.Invariant.{Good, Holds, Waiting}
 use Rattle.two_ends.proofs.Opening.{proposed_fits}
 use Rattle.two_ends.proofs.Saying.{All, alive_says, all_append, all_at, all_drop, init_says, Says, carried_says}
 use Rattle.two_ends.proofs.Sending.{sends_fine}
@@ -99,7 +99,7 @@ alive_fits s l Phase.Failed = tt
 
 -- what Send next sends is a message of the store, with its number
 sent_says : (o : OwnParameters) (now : State) (ph : Phase) (jo bg : Bool) (h : History) (ask : Bool) {b : End} {ab ba : List (List ℕ)} → Sendable now ph → bg ≡ true
-    → Some (ended now ph jo bg h) b ab ba → All Mild now.queue → Says o (send_bytes now (place_sent now ph) ask)
+    → Holds (ended now ph jo bg h) b ab ba → All Mild now.queue → Says o (send_bytes now (place_sent now ph) ask)
 unfolding send_bytes place_sent
 sent_says o now Phase.Idle jo bg h ask d g s mild = absurd (true≢false (sym d.up))
 sent_says o now (Phase.InitWait v) jo bg h ask d g s mild = absurd (true≢false (sym d.up))

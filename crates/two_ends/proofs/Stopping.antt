@@ -1,11 +1,13 @@
 -- Over every run: both ends remember whether Requests are stopped, as the messages say. Assumes nothing.
+use Rattle.std.specs.Prelude.{Result, Ok, Err}
 use Prim.Native.Nat.{ℕ}
 use mathlib.Core.Bool.{Bool, true, false}
 use mathlib.Core.List.{List, [], ◌∷◌, ◌++◌, append-nil}
 use mathlib.Core.Path.{◌≡◌, refl, sym, ap, ◌∙◌}
 use lib.ListN.{take}
+use Rattle.message.specs.declared.Kind.{Kind}
 use Rattle.message.specs.declared.Message.{Message}
-use Rattle.message.specs.declared.Submission.{Submission}
+use Rattle.message.specs.declared.SubmissionError.{SubmissionError}
 use Rattle.message.specs.Submission.{submission_of}
 use Rattle.protocol.specs.Acked.{acked}
 use Rattle.protocol.specs.Receive.{taken}
@@ -32,10 +34,10 @@ record Remembers (s : State) (h : History) : Type 0 where
   pub telling : s.marks.stopping ≡ stop_in false h.accepted
   pub told : s.marks.stopped ≡ stop_in false h.secured
 
-accepted_marks_lem : (m : Marks) (j : Submission) → ((accepted_marks m j).stopping ≡ stop_by m.stopping j) × ((accepted_marks m j).stopped ≡ m.stopped)
-accepted_marks_lem m Submission.Malformed = (refl, refl)
-accepted_marks_lem m Submission.Refused = (refl, refl)
-accepted_marks_lem m (Submission.Accepted kind label) = (refl, refl)
+accepted_marks_lem : (m : Marks) (j : Result (Kind × ℕ) SubmissionError) → ((accepted_marks m j).stopping ≡ stop_by m.stopping j) × ((accepted_marks m j).stopped ≡ m.stopped)
+accepted_marks_lem m (Err SubmissionError.Malformed) = (refl, refl)
+accepted_marks_lem m (Err SubmissionError.Refused) = (refl, refl)
+accepted_marks_lem m (Ok (kind, label)) = (refl, refl)
 
 module _ {s : State} {h : History} (r : Remembers s h) where
   marks_same : (u : State) → u.marks ≡ s.marks → Remembers u h

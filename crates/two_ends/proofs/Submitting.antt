@@ -21,7 +21,7 @@ use Rattle.protocol.proofs.Settling.{settle-does, admitted-done}
 use Rattle.protocol.proofs.Submits.{Accepted, done_accepted, submit_harmless}
 use Rattle.two_ends.specs.Calls.{called, counts, accepts, offered}
 use Rattle.two_ends.specs.World.{History, End, World}
-use Rattle.two_ends.proofs.Invariant.{Ready, Some, Good}
+use Rattle.two_ends.proofs.Invariant.{Ready, Holds, Good}
 use Rattle.two_ends.proofs.Packets.{okays_snoc}
 use Rattle.two_ends.proofs.Quiet.{quietly_counts}
 use Rattle.two_ends.proofs.Sides.{dir_accept, dir_accept_peer}
@@ -38,7 +38,7 @@ module _ (now : State) (ph : Phase) (m : List ℕ) (done : Accepted now m) where
   few = omega (arith, done.room, length-append now.queue (m ∷ []))
 
   -- an end that has begun counts the message; one that has not does not
-  accepted : (bytes : Bytes m) (jo : Bool) (h : History) (bg : Bool) {b : End} {ab ba : List (List ℕ)} → Some (ended now ph jo bg h) b ab ba → Settled (ended (submitted now m) ph jo bg (pick bg (accepts m h) h)) b ab ba
+  accepted : (bytes : Bytes m) (jo : Bool) (h : History) (bg : Bool) {b : End} {ab ba : List (List ℕ)} → Holds (ended now ph jo bg h) b ab ba → Settled (ended (submitted now m) ph jo bg (pick bg (accepts m h) h)) b ab ba
   unfolding submitted
   accepted bytes jo h true s =
       let i = s.2 in

@@ -1,17 +1,16 @@
 -- The two directions after the oldest message of a line is taken. Assumes nothing.
+use Rattle.std.specs.Prelude.{Option, Some, None}
 use Prim.Native.Nat.{ℕ, ◌-◌}
 use mathlib.Core.Bool.{Bool, true, false}
 use mathlib.Core.List.{List, [], ◌∷◌, append-nil}
 use mathlib.Core.Path.{◌≡◌, refl}
 use native.Mathlib.Omega.{arith}
 use lib.ListN.{take}
-use Rattle.ft_number.specs.declared.Ack.{Ack}
 use Rattle.ft_number.specs.declared.FtNumber.{FtNumber}
 use Rattle.ft_number.specs.declared.MessageId.{MessageId}
 use Rattle.ft_number.specs.declared.Timeout.{Timeout}
 use Rattle.ft_number.specs.Ack.{ack_of}
 use Rattle.ft_number.specs.Circle.{steps_of}
-use Rattle.tlv.specs.declared.FtField.{FtField}
 use Rattle.message.specs.declared.Message.{Message}
 use Rattle.message_writer.specs.declared.OwnParameters.{OwnParameters}
 use Rattle.protocol.specs.declared.Terms.{Terms}
@@ -45,7 +44,7 @@ module _ (k : Bool) (t : ℕ) (terms : Terms) (k' : Bool) where
   abbrev begun : Side
   begun = side (fresh terms) k' (up_with false 0) true true no_history
 
-  module _ (id : MessageId) (p : OwnParameters) (said : Timeout) (ack : FtField) {y : Side} {to rest : List Packet} where
+  module _ (id : MessageId) (p : OwnParameters) (said : Timeout) (ack : Option FtNumber) {y : Side} {to rest : List Packet} where
     pub dir_fresh : Dir unbegun y to (first id p said ack ∷ rest) → Dir begun y to rest
     unfolding fresh ack_of steps_of
     dir_fresh d = record { half = by (half-init {x = snd_of released_state no_history} false (λ r i l few. (omega arith, refl)) d.half); shape = d.shape; fines = d.fines }
@@ -53,7 +52,7 @@ module _ (k : Bool) (t : ℕ) (terms : Terms) (k' : Bool) where
         by : (j : ℕ) × Freed (snd_of released_state no_history) 0 false (rcv_of y.state y.history) (datas to) (acks_of rest) 0 j
             → Half (snd_of (fresh terms) no_history) 0 true true false (rcv_of y.state y.history) (datas to) (acks_of rest)
         by f =
-            let same : Ack.Releases 0 ≡ Ack.Releases f.0 = f.1.right in
+            let same : Some 0 ≡ Some f.0 = f.1.right in
             let z : f.0 ≡ 0 = cc in
             rw z at f.1.half
 
@@ -89,13 +88,13 @@ module _ (s : State) (t : ℕ) (h : History) (a : FtNumber) (terms : Terms) (j :
 
 -- ---- a message in UpFT
 -- what its ACK releases
-pub arrives : (s : State) (h : History) (re : Bool) (sent : ℕ) (y : Side) (to rest : List Packet) (m : List ℕ) (n : FtNumber) (ack : FtField)
+pub arrives : (s : State) (h : History) (re : Bool) (sent : ℕ) (y : Side) (to rest : List Packet) (m : List ℕ) (n : FtNumber) (ack : Option FtNumber)
     → Half (snd_of s h) sent true true re (rcv_of y.state y.history) (datas to) (acks_of (carried m n ack ∷ rest))
     → (j : ℕ) × Freed (snd_of s h) sent re (rcv_of y.state y.history) (datas to) (acks_of rest) (ack_borne s ack) j
-arrives s h re sent y to rest m n FtField.Absent p = (0, half_none p)
-arrives s h re sent y to rest m n (FtField.Number a) p = half_ack p
+arrives s h re sent y to rest m n None p = (0, half_none p)
+arrives s h re sent y to rest m n (Some a) p = half_ack p
 
-module _ (s : State) (re : Bool) (sent : ℕ) (h : History) (g : Message) (j : ℕ) (acks : ack_on s g ≡ Ack.Releases j) where
+module _ (s : State) (re : Bool) (sent : ℕ) (h : History) (g : Message) (j : ℕ) (acks : ack_on s g ≡ Some j) where
   abbrev taking : Side
   taking = side s s.kept (up_with re sent) true true h
 
@@ -109,7 +108,7 @@ module _ (s : State) (re : Bool) (sent : ℕ) (h : History) (g : Message) (j : �
     dir_took got rest f d = record { half = rw acks f.half; shape = d.shape; fines = d.fines }
 
     module _ {rest : List Packet} where
-      pub dir_took-alive : g.protection ≡ FtField.Absent → (id : MessageId) (n : FtNumber) → Dir y taking (alive id n ∷ rest) to
+      pub dir_took-alive : g.protection ≡ None → (id : MessageId) (n : FtNumber) → Dir y taking (alive id n ∷ rest) to
           → Dir y (took []) rest to
       unfolding received_state taken acked
       dir_took-alive bare id n d = record { half = rw (bare, append-nil h.secured) d.half; shape = by y.joined d.shape; fines = d.fines.1 }
@@ -118,7 +117,7 @@ module _ (s : State) (re : Bool) (sent : ℕ) (h : History) (g : Message) (j : �
           by true q = q
           by false q = nil_cons q.0
 
-      pub dir_took-carried : (m : List ℕ) (n : FtNumber) (ack : FtField) → g.protection ≡ FtField.Number n
+      pub dir_took-carried : (m : List ℕ) (n : FtNumber) (ack : Option FtNumber) → g.protection ≡ Some n
           → Dir y taking (carried m n ack ∷ rest) to → Dir y (took (m ∷ [])) rest to
       unfolding received_state taken acked
       dir_took-carried m n ack borne d = record { half = rw borne (half_secure d.half); shape = by y.joined d.shape; fines = d.fines.1 }

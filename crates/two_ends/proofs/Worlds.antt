@@ -12,7 +12,7 @@ use Rattle.protocol.specs.State.{State}
 use Rattle.protocol.specs.Step.{Step}
 use Rattle.two_ends.specs.Calls.{off, disconnected, keeps, called, replaced}
 use Rattle.two_ends.specs.World.{History, End, World, swap, Lasts}
-use Rattle.two_ends.proofs.Invariant.{Waiting, linkable, Ready, Some, Good}
+use Rattle.two_ends.proofs.Invariant.{Waiting, linkable, Ready, Holds, Good}
 use Rattle.two_ends.proofs.Sides.{dir_lost}
 
 -- an end by its parts
@@ -63,7 +63,7 @@ ready_open {e} r = by e.joined r.linked
     by false l = refl
 
 -- ---- both ends off the connection
-pub some_off : {a b : End} {ab ba : List (List ℕ)} → Some a b ab ba → a.begun ≡ true → b.begun ≡ true → Some (off a) (off b) [] []
+pub some_off : {a b : End} {ab ba : List (List ℕ)} → Holds a b ab ba → a.begun ≡ true → b.begun ≡ true → Holds (off a) (off b) [] []
 some_off s ga gb =
     let i = s.2 in (
       [],
@@ -93,7 +93,7 @@ at-swap w g k =
 
 -- ---- what a call leaves: the end is on the connection as before, or has closed it
 abbrev pub Settled : End → End → List (List ℕ) → List (List ℕ) → Type 0
-Settled e b ab ba = ((closes e ≡ false) × Some e b ab ba) ⊎ ((closes e ≡ true) × (e.begun ≡ true → b.begun ≡ true → Some (off e) (off b) [] []))
+Settled e b ab ba = ((closes e ≡ false) × Holds e b ab ba) ⊎ ((closes e ≡ true) × (e.begun ≡ true → b.begun ≡ true → Holds (off e) (off b) [] []))
 
 abbrev pub next : World → End → List (List ℕ) → List (List ℕ) → World
 next w e ab ba = record { a = e; b = w.b; ab = ab; ba = ba; started = w.started; unreleased = both w.unreleased (keeps e) }
@@ -115,19 +115,19 @@ at-replaced w e ab ba f = by (closes e) refl
         let r = both_true w.unreleased (keeps e) k.1 in
         let g = both_true e.begun w.b.begun p.1 in
         ⊎_elim
-        (λ (s : (closes e ≡ false) × Some e w.b ab ba). never (sym q ∙ s.0))
-        (λ (s : (closes e ≡ true) × (e.begun ≡ true → w.b.begun ≡ true → Some (off e) (off w.b) [] [])). s.1 g.0 g.1)
+        (λ (s : (closes e ≡ false) × Holds e w.b ab ba). never (sym q ∙ s.0))
+        (λ (s : (closes e ≡ true) × (e.begun ≡ true → w.b.begun ≡ true → Holds (off e) (off w.b) [] [])). s.1 g.0 g.1)
         (f (p.0, r.0) r.1)
     by false q k =
         let r = both_true w.unreleased (keeps e) k.1 in
         ⊎_elim
-        (λ (s : (closes e ≡ false) × Some e w.b ab ba). s.1)
-        (λ (s : (closes e ≡ true) × (e.begun ≡ true → w.b.begun ≡ true → Some (off e) (off w.b) [] [])). never (sym s.0 ∙ q))
+        (λ (s : (closes e ≡ false) × Holds e w.b ab ba). s.1)
+        (λ (s : (closes e ≡ true) × (e.begun ≡ true → w.b.begun ≡ true → Holds (off e) (off w.b) [] [])). never (sym s.0 ∙ q))
         (f (k.0, r.0) r.1)
 
 -- ---- a call that leaves the end as it was
 pub same_end : (e : End) (x : Step) (h : History) → x.state ≡ e.state → x.phase ≡ e.phase → h ≡ e.history → called e x h ≡ e
 same_end e x h p q r = λ i. record { state = p i; phase = q i; joined = e.joined; begun = e.begun; history = r i }
 
-pub settled_same : {e a b : End} {ab ba : List (List ℕ)} → e ≡ a → Some a b ab ba → Settled e b ab ba
+pub settled_same : {e a b : End} {ab ba : List (List ℕ)} → e ≡ a → Holds a b ab ba → Settled e b ab ba
 settled_same p s = rw p (inl (ready_open s.2.own, s))

@@ -17,7 +17,7 @@ use Rattle.protocol.proofs.Writers.{Wrote, writer_says}
 use Rattle.two_ends.specs.Calls.{called, put, wrote}
 use Rattle.two_ends.specs.World.{History, End, World}
 use Rattle.two_ends.proofs.Direction.{half_secured}
-use Rattle.two_ends.proofs.Invariant.{Some, Good}
+use Rattle.two_ends.proofs.Invariant.{Holds, Good}
 use Rattle.two_ends.proofs.Packets.{Packet, alive, Fine, bytes_of}
 use Rattle.two_ends.proofs.Quiet.{quietly_puts}
 use Rattle.two_ends.proofs.Sides.{dir_alive, dir_alive_peer}
@@ -33,7 +33,7 @@ line-more ps p e = ap (λ (l : List (List ℕ)). l ++ (bytes_of p ∷ [])) e ∙
 
 -- ---- a KeepAlive
 module _ (now : State) (h : History) (id : MessageId) (small : id.0 < 4294967296) {b : End} {ab ba : List (List ℕ)} where
-  alive-written : (ph : Phase) (jo bg : Bool) → is_up ph ≡ true → Some (ended now ph jo bg h) b ab ba
+  alive-written : (ph : Phase) (jo bg : Bool) → is_up ph ≡ true → Holds (ended now ph jo bg h) b ab ba
       → Settled (ended now ph jo bg h) b (put jo ab (stepped Answer.Done now ph (alive_bytes now ph id))) ba
   alive-written Phase.Idle jo bg u s = absurd (true≢false (sym u))
   alive-written (Phase.InitWait v) jo bg u s = absurd (true≢false (sym u))

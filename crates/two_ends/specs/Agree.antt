@@ -1,5 +1,5 @@
 -- What one end has given and the other uses.
-use Rattle.std.specs.Prelude.{ℕ, true, false, List, [], ◌∷◌, ◌⊎◌, ◌≡◌, eqb}
+use Rattle.std.specs.Prelude.{Result, Ok, Err, ℕ, true, false, List, [], ◌∷◌, ◌⊎◌, ◌≡◌, eqb}
 use Rattle.octets.specs.Pick.{pick}
 use Rattle.label_list.specs.declared.LabelMessage.TheVariants.{Mapping, Withdraw}
 use Rattle.label_list.specs.declared.Side.TheVariants.{Given, Used}
@@ -7,25 +7,25 @@ use Rattle.label_list.specs.Rules.{code_received}
 use Rattle.label_list.specs.Word.{listable}
 use Rattle.label_events.specs.Change.{code_at}
 use Rattle.message.specs.declared.Kind.{Kind}
-use Rattle.message.specs.declared.Submission.{Submission}
+use Rattle.message.specs.declared.SubmissionError.{SubmissionError}
 use Rattle.message.specs.Submission.{submission_of}
 use Rattle.protocol.specs.Held.{is_held}
 use Rattle.two_ends.specs.World.{End}
 
 -- the code of label l at its user, after a protected message with that submission
-abbrev pub code_by : ℕ → ℕ → Submission → ℕ
-code_by l c Submission.Malformed = c
-code_by l c Submission.Refused = c
-code_by l c (Submission.Accepted Kind.Mapping k) = pick (eqb k l) (code_received Mapping true c) c
-code_by l c (Submission.Accepted Kind.Withdraw k) = pick (eqb k l) (code_received Withdraw true c) c
-code_by l c (Submission.Accepted Kind.Release k) = c
-code_by l c (Submission.Accepted Kind.Address k) = c
-code_by l c (Submission.Accepted Kind.AddressWithdraw k) = c
-code_by l c (Submission.Accepted Kind.ResourcesAvailable k) = c
-code_by l c (Submission.Accepted (Kind.Request id) k) = c
-code_by l c (Submission.Accepted (Kind.Abort id) k) = c
-code_by l c (Submission.Accepted Kind.NoResources k) = c
-code_by l c (Submission.Accepted Kind.NoKind k) = c
+abbrev pub code_by : ℕ → ℕ → Result (Kind × ℕ) SubmissionError → ℕ
+code_by l c (Err SubmissionError.Malformed) = c
+code_by l c (Err SubmissionError.Refused) = c
+code_by l c (Ok (Kind.Mapping, k)) = pick (eqb k l) (code_received Mapping true c) c
+code_by l c (Ok (Kind.Withdraw, k)) = pick (eqb k l) (code_received Withdraw true c) c
+code_by l c (Ok (Kind.Release, k)) = c
+code_by l c (Ok (Kind.Address, k)) = c
+code_by l c (Ok (Kind.AddressWithdraw, k)) = c
+code_by l c (Ok (Kind.ResourcesAvailable, k)) = c
+code_by l c (Ok (Kind.Request id, k)) = c
+code_by l c (Ok (Kind.Abort id, k)) = c
+code_by l c (Ok (Kind.NoResources, k)) = c
+code_by l c (Ok (Kind.NoKind, k)) = c
 
 -- and after all of these
 abbrev pub code_after : ℕ → ℕ → List (List ℕ) → ℕ

@@ -1,9 +1,10 @@
 -- What a call at the end a makes of the world: each is the protocol's own rule.
-use Rattle.std.specs.Prelude.{ℕ, ◌+◌, ◌-◌, Bool, true, false, not, List, [], ◌∷◌, ◌++◌, length, take}
+use Rattle.std.specs.Prelude.{Result, Ok, Err, Option, Some, None, ℕ, ◌+◌, ◌-◌, Bool, true, false, not, List, [], ◌∷◌, ◌++◌, length, take}
 use Rattle.octets.specs.Pick.{pick, both}
-use Rattle.message.specs.declared.Reading.{Reading}
+use Rattle.message.specs.declared.Message.{Message}
 use Rattle.message.specs.Reading.{reading_of}
 use Rattle.message_writer.specs.Payload.{payload_of}
+use Rattle.protocol.specs.declared.Answer.{Answer}
 use Rattle.protocol.specs.declared.Start.{Start}
 use Rattle.protocol.specs.Answers.{is_done}
 use Rattle.protocol.specs.Init.{init_start, init_received}
@@ -98,9 +99,9 @@ abbrev pub let_go : State → Step → List (List ℕ)
 let_go now x = take (length now.queue - length x.state.queue) now.queue
 
 -- a protected message, in the form in which it was submitted
-abbrev pub protects : Reading → Bool
-protects Reading.Malformed = false
-protects (Reading.Whole g) = is_protected g.protection
+abbrev pub protects : Option Message → Bool
+protects None = false
+protects (Some g) = is_protected g.protection
 
 abbrev pub securing : List ℕ → List (List ℕ)
 securing m = pick (protects (reading_of m)) (payload_of m ∷ []) []
@@ -109,16 +110,16 @@ abbrev pub takes : List (List ℕ) → List (List ℕ) → History → History
 takes gone got h = record { accepted = h.accepted; letgo = h.letgo ++ gone; secured = h.secured ++ got; left = h.left }
 
 -- the peer's Init
-abbrev pub is_fresh : Start → Bool
-is_fresh (Start.Refused a) = false
-is_fresh Start.Plain = false
-is_fresh (Start.Fresh t) = true
-is_fresh (Start.Resumed t k a) = false
+abbrev pub is_fresh : Result Start Answer → Bool
+is_fresh (Err a) = false
+is_fresh (Ok Start.Plain) = false
+is_fresh (Ok (Start.Fresh t)) = true
+is_fresh (Ok (Start.Resumed t k a)) = false
 
-abbrev pub anew : Start → Step → Bool
+abbrev pub anew : Result Start Answer → Step → Bool
 anew st x = both (is_done x.answer) (is_fresh st)
 
-abbrev pub greeted : End → Start → Step → End
+abbrev pub greeted : End → Result Start Answer → Step → End
 greeted e st x = record {
   state = x.state;
   phase = x.phase;
@@ -128,7 +129,7 @@ greeted e st x = record {
 }
 
 -- a fresh session at an end that has begun is a state released
-abbrev pub beginning : World → Start → Step → World
+abbrev pub beginning : World → Result Start Answer → Step → World
 beginning w st x = record {
   a = w.a;
   b = w.b;
@@ -138,7 +139,7 @@ beginning w st x = record {
   unreleased = both w.unreleased (not (both w.a.begun (anew st x)));
 }
 
-abbrev pub greets : World → List (List ℕ) → Start → Step → World
+abbrev pub greets : World → List (List ℕ) → Result Start Answer → Step → World
 greets w rest st x = replaced (beginning w st x) (greeted w.a st x) w.ab rest
 
 -- any other message

@@ -1,10 +1,9 @@
 -- Whether the two ends list the same labels, one as given and the other as used, where their owners keep one of two rules for a label.
 -- Without either rule they need not: a Mapping of a label that is given and a Release of one that was not asked back may cross (the runs `race` and `race-asked`).
-use Rattle.std.specs.Prelude.{ℕ, Bool, true, false, List, [], ◌∷◌, ◌≢◌, ◌⊎◌, ◌≡◌}
+use Rattle.std.specs.Prelude.{Ok, ℕ, Bool, true, false, List, [], ◌∷◌, ◌≢◌, ◌⊎◌, ◌≡◌}
 use Rattle.label_list.specs.declared.Side.TheVariants.{Given, Used}
 use Rattle.label_events.specs.Change.{code_at}
 use Rattle.message.specs.declared.Kind.{Kind}
-use Rattle.message.specs.declared.Submission.{Submission}
 use Rattle.message.specs.Submission.{submission_of}
 use Rattle.protocol.specs.State.{State}
 use Rattle.two_ends.specs.Demand.{accepted_read, held_messages}
@@ -17,8 +16,8 @@ pub data Rule : Type 0 where
 
 -- what an owner submits in a state keeps the rule
 abbrev pub Ruled : Rule → ℕ → State → List ℕ → Type 0
-Ruled offered-free l s m = submission_of m ≡ Submission.Accepted Kind.Mapping l → code_at s.table.words Given l ≢ 1
-Ruled released-asked l s m = submission_of m ≡ Submission.Accepted Kind.Release l → code_at s.table.words Used l ≢ 3
+Ruled offered-free l s m = submission_of m ≡ Ok (Kind.Mapping, l) → code_at s.table.words Given l ≢ 1
+Ruled released-asked l s m = submission_of m ≡ Ok (Kind.Release, l) → code_at s.table.words Used l ≢ 3
 
 -- ---- a condition on what the owners submit, over a run; every other event may be any
 -- at the end a

@@ -1,7 +1,6 @@
 -- Owners that open as at the start, submit nothing that bears a Status with E set, and let no timeout pass.
-use Rattle.std.specs.Prelude.{ℕ, Bool, true, false, List, [], ◌∷◌, ◌≡◌}
+use Rattle.std.specs.Prelude.{Some, ℕ, Bool, true, false, List, [], ◌∷◌, ◌≡◌}
 use Rattle.message.specs.declared.Message.{Message}
-use Rattle.message.specs.declared.Reading.{Reading}
 use Rattle.message.specs.Reading.{reading_of}
 use Rattle.message_writer.specs.declared.OwnParameters.{OwnParameters}
 use Rattle.protocol.specs.declared.Answer.{Answer}
@@ -14,7 +13,7 @@ use Rattle.two_ends.specs.World.{World, swap}
 
 -- "36: Status with E set" does not come of it
 abbrev pub Mild : List ℕ → Type 0
-Mild m = (g : Message) → reading_of m ≡ Reading.Whole g → is_fatal g.status ≡ false
+Mild m = (g : Message) → reading_of m ≡ Some g → is_fatal g.status ≡ false
 
 -- an event at the end a, whose owner opened with these parameters at the start
 abbrev pub Steadily : OwnParameters → World → Event → Type 0

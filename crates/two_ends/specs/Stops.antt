@@ -1,17 +1,18 @@
 -- What both ends remember of "Requests stopped".
 -- 02: "That stops new Requests until a numbered 'Label Resources Available' comes; both ends remember this over a break .. and forget it when state is released".
-use Rattle.std.specs.Prelude.{ℕ, Bool, true, false, List, [], ◌∷◌, ◌≡◌}
-use Rattle.message.specs.declared.Submission.{Submission}
+use Rattle.std.specs.Prelude.{Result, Ok, Err, ℕ, Bool, true, false, List, [], ◌∷◌, ◌≡◌}
+use Rattle.message.specs.declared.Kind.{Kind}
+use Rattle.message.specs.declared.SubmissionError.{SubmissionError}
 use Rattle.message.specs.Submission.{submission_of}
 use Rattle.protocol.specs.Accepting.{stop_after}
 use Rattle.two_ends.specs.Demand.{accepted_read}
 use Rattle.two_ends.specs.World.{End}
 
 -- whether Requests are stopped after a message with that submission: 9 stops them, 6 lets them go on
-abbrev pub stop_by : Bool → Submission → Bool
-stop_by stop Submission.Malformed = stop
-stop_by stop Submission.Refused = stop
-stop_by stop (Submission.Accepted kind label) = stop_after stop kind
+abbrev pub stop_by : Bool → Result (Kind × ℕ) SubmissionError → Bool
+stop_by stop (Err SubmissionError.Malformed) = stop
+stop_by stop (Err SubmissionError.Refused) = stop
+stop_by stop (Ok (kind, label)) = stop_after stop kind
 
 -- and after all of these
 abbrev pub stop_in : Bool → List (List ℕ) → Bool

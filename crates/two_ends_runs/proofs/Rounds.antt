@@ -1,4 +1,5 @@
 -- A round moves R, I and S to their successor; so rounds lead to 0xFFFFFFFE, and two messages more go over the wrap. Assumes nothing.
+use Rattle.std.specs.Prelude.{Some, None, Ok}
 use Prim.Native.Nat.{ℕ, zero, suc, ◌≤◌}
 use mathlib.Core.Bool.{true, false}
 use mathlib.Core.List.{List, [], ◌∷◌, ◌++◌}
@@ -7,8 +8,6 @@ use native.Mathlib.Omega.{arith}
 use borrow.Author.Tests.{ne_eqb}
 use Rattle.octets.specs.Laid.{laid}
 use Rattle.ft_number.specs.declared.FtNumber.{FtNumber}
-use Rattle.ft_number.specs.declared.Steps.TheVariants.{Count}
-use Rattle.ft_number.specs.declared.Turn.{Turn}
 use Rattle.ft_number.specs.Ack.{ack_of}
 use Rattle.ft_number.specs.Circle.{after, circle, next, steps_of}
 use Rattle.ft_number.specs.Turn.{number_turn}
@@ -16,16 +15,11 @@ use Rattle.ft_number.proofs.Circle.{after_is, after_none, after-suc, steps-after
 use Rattle.ft_number.proofs.Turns.{means_turn}
 use Rattle.label_list.specs.Counting.{counting}
 use Rattle.label_list.specs.Word.{is_request, lists_label, on_side}
-use Rattle.tlv.specs.declared.FtField.{FtField}
-use Rattle.tlv.specs.declared.Parameters.{Parameters}
-use Rattle.tlv.specs.declared.Session.{Session}
 use Rattle.tlv.specs.Walk.{none_found}
 use Rattle.label_events.specs.Requests.{ended_at}
 use Rattle.message.specs.declared.Kind.{Kind}
 use Rattle.message.specs.declared.Message.{Message}
 use Rattle.message.specs.declared.MessageType.{MessageType}
-use Rattle.message.specs.declared.Reading.{Reading}
-use Rattle.message.specs.declared.Submission.{Submission}
 use Rattle.message.specs.Kinds.{kind_of}
 use Rattle.message.specs.Reading.{reading_of}
 use Rattle.message.specs.Submission.{no_label, submission_of}
@@ -68,13 +62,13 @@ number n = record { 0 = n }
 -- the Address message as it is read
 abbrev plain : Message
 plain =
-    own_message MessageType.Address 768 (record { 0 = 7 }) none_found Parameters.Absent (record { start = 0; end = 0 }) Session.Absent FtField.Absent
+    own_message MessageType.Address 768 (record { 0 = 7 }) none_found None (record { start = 0; end = 0 }) None None
 
-plain_reads : reading_of (address 7) ≡ Reading.Whole plain
+plain_reads : reading_of (address 7) ≡ Some plain
 unfolding everything
 plain_reads = refl
 
-plain_submits : submission_of (address 7) ≡ Submission.Accepted Kind.Address no_label
+plain_submits : submission_of (address 7) ≡ Ok (Kind.Address, no_label)
 unfolding everything
 plain_submits = refl
 
@@ -101,10 +95,10 @@ module _ (x : ℕ) (low : x ≤ circle) where
   abbrev y : ℕ
   y = next x
 
-  steps_none : steps_of x x ≡ Count 0
+  steps_none : steps_of x x ≡ Some 0
   steps_none = rw (after_none x) at (steps-after x 0 low (omega arith))
 
-  steps_one : steps_of x y ≡ Count 1
+  steps_one : steps_of x y ≡ Some 1
   unfolding after
   steps_one = steps-after x 1 low (omega arith)
 
@@ -114,7 +108,7 @@ module _ (x : ℕ) (low : x ≤ circle) where
   submits_it = rw (steps_none, plain_submits)
 
   abbrev carried : List ℕ
-  carried = protected_bytes (address 7) (number y) (FtField.Number (number 0))
+  carried = protected_bytes (address 7) (number y) (Some (number 0))
 
   sends_it : send_next (sender x x (address 7 ∷ [])) (up_with false 0) true room ≡ stepped Answer.Done (sender x y (address 7 ∷ [])) (up_with false 1) carried
   unfolding send_next settle admitted phase_fits send_rule send_bytes queue_number ack_asked sent_state numbered effect_of issued_count after raised laid place_sent passed_over
@@ -122,18 +116,18 @@ module _ (x : ℕ) (low : x ≤ circle) where
 
   -- ---- b takes it
   abbrev borne : Message
-  borne = protected_message plain 8 (number y) (FtField.Number (number 0))
+  borne = protected_message plain 8 (number y) (Some (number 0))
 
-  carried_reads : reading_of carried ≡ Reading.Whole borne
+  carried_reads : reading_of carried ≡ Some borne
   carried_reads =
-      protected_reads (address 7) plain (number y) (FtField.Number (number 0)) plain_reads (record { session = refl; protection = refl; ack = refl })
+      protected_reads (address 7) plain (number y) (Some (number 0)) plain_reads (record { session = refl; protection = refl; ack = refl })
       (omega arith) (omega arith) (omega arith)
 
   carried_payload : payload_of carried ≡ address 7
   carried_payload =
-      protected_payload (address 7) plain (number y) (FtField.Number (number 0)) plain_reads (record { session = refl; protection = refl; ack = refl }) (omega arith) (omega arith)
+      protected_payload (address 7) plain (number y) (Some (number 0)) plain_reads (record { session = refl; protection = refl; ack = refl }) (omega arith) (omega arith)
 
-  in_turn : number_turn false x y ≡ Turn.InTurn 0
+  in_turn : number_turn false x y ≡ Ok 0
   unfolding after
   in_turn = means_turn false x 0 low (omega arith)
 
@@ -143,14 +137,14 @@ module _ (x : ℕ) (low : x ≤ circle) where
 
   -- ---- b acknowledges it, and a lets it go
   abbrev alive : List ℕ
-  alive = keepalive_bytes id (FtField.Number (number y))
+  alive = keepalive_bytes id (Some (number y))
 
   says_it : keepalive (kept_with 0 y) (up_with false 0) id room ≡ stepped Answer.Done (kept_with 0 y) (up_with false 0) alive
   unfolding everything
   says_it = refl
 
-  alive_reads : reading_of alive ≡ Reading.Whole (keepalive_message id (FtField.Number (number y)))
-  alive_reads = keepalive_reads id (FtField.Number (number y)) (omega arith) (omega arith)
+  alive_reads : reading_of alive ≡ Some (keepalive_message id (Some (number y)))
+  alive_reads = keepalive_reads id (Some (number y)) (omega arith) (omega arith)
 
   lets_go : receive (sender x y (address 7 ∷ [])) (up_with false 1) alive ≡ stepped Answer.Done (kept_with y 0) (up_with false 0) []
   unfolding receive settle admitted phase_fits issued_count effect_of ft_rule message_rule labels_rule protection_rule label_effect kind_of ack_on ack_of received_state taken acked released_labels released_kind answers answered_at ended_at counting is_request lists_label on_side

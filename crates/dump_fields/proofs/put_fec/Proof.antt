@@ -11,15 +11,7 @@ put_fec_spec =
     (λ c. search rules)
     (λ c. search rules)
     (λ c. search rules)
+    (λ c. rw c.in-None.is (put_none _ _, omega arith))
     (λ c. search rules)
-    (λ c. search rules)
-    (λ c. search rules)
-    (λ c. search rules)
-    (λ c. rw c.in-Absent.is (put_none _ _, omega arith))
-    (λ c. search rules)
-    (λ c. rw c.in-Wildcard.is (c.put_bytes.ensures.0, search rules))
-    (λ c. search rules)
-    (λ c. rw c.in-Prefix.is (c.put_bytes-in-Prefix.ensures.0, search rules))
-    (λ c. search rules)
-    (λ c. rw c.in-Other.is (c.put_bytes-in-Other.ensures.0, search rules)) in
+    (λ c. rw c.in-Some.is (c.put_bytes.ensures.0, search rules)) in
     tie.close answers

@@ -12,7 +12,7 @@ put_label_spec =
     (λ c. search rules)
     (λ c. search rules)
     (λ c. search rules)
-    (λ c. rw c.in-Absent.is (put_none _ _, omega arith))
+    (λ c. rw c.in-None.is (put_none _ _, omega arith))
     (λ c. search rules)
-    (λ c. rw c.in-Value.is (c.put_number.ensures.0, search rules)) in
+    (λ c. rw c.in-Some.is (c.put_number.ensures.0, search rules)) in
     tie.close answers

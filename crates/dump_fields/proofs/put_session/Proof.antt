@@ -11,7 +11,7 @@ put_session_spec =
     (λ c. search rules)
     (λ c. search rules)
     (λ c. search rules)
-    (λ c. rw c.in-Absent.is (put_none _ _, omega arith))
+    (λ c. rw c.in-None.is (put_none _ _, omega arith))
     (λ c. search rules)
-    (λ c. rw c.in-Given.is c.put_timeout.ensures) in
+    (λ c. rw c.in-Some.is c.put_timeout.ensures) in
     tie.close answers

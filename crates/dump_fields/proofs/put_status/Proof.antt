@@ -16,7 +16,7 @@ put_status_spec =
     (λ c. search rules)
     (λ c. search rules)
     (λ c. search rules)
-    (λ c. rw c.in-Absent.is (put_none _ _, omega arith))
+    (λ c. rw c.in-None.is (put_none _ _, omega arith))
     (λ c. search rules)
-    (λ c. rw c.in-Value.is (rw c.put_u32.ensures at c.put_bytes.ensures.0, search rules)) in
+    (λ c. rw c.in-Some.is (rw c.put_u32.ensures at c.put_bytes.ensures.0, search rules)) in
     tie.close answers

@@ -6,5 +6,5 @@ pub abort_kind_spec : {M : Type 1} → statement M
 abort_kind_spec =
     let answers = tie.spec
     (λ c. search rules) (λ c. search rules) (λ c. search rules)
-    (λ c. rw c.in-Id.is) in
+    (λ c. rw c.in-Some.is) in
     tie.close answers

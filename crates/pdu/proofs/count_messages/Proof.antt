@@ -18,8 +18,8 @@ abbrev decreases-messages : tie.decreases-messages
 decreases-messages pdu at₀ count₀ at count = length pdu - at
 
 -- where the message lies that was found
-lies : (c : tie.In-Message invariant-messages decreases-messages) → Within c.args.pdu.now c.messages.at c.in-Message.field-0 c.in-Message.end
-lies c = place-within _ _ _ _ (sym c.message_at.ensures ∙ c.in-Message.is)
+lies : (c : tie.In-Some invariant-messages decreases-messages) → Within c.args.pdu.now c.messages.at c.in-Some.place.start c.in-Some.place.end
+lies c = place-within _ _ _ _ (sym c.message_at.ensures ∙ c.in-Some.is)
 
 messages-again : tie.Need-messages-preserved invariant-messages decreases-messages
 messages-again c =
@@ -27,7 +27,7 @@ messages-again c =
       omega arith,
       omega arith,
       sym
-          (count_next _ _ _ c.if-at-pdu.false _ c.message_at.ensures _ _ c.in-Message.is)
+          (count_next _ _ _ c.if-at-pdu.false _ c.message_at.ensures _ _ c.in-Some.is)
           ∙ c.messages.invariant.2,
     )
 

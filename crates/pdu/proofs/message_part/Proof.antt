@@ -7,8 +7,8 @@ use Rattle.pdu.proofs.message_part.Statement.{statement}
 use Rattle.pdu.proofs.message_part.Tie as tie
 
 -- where the message lies that was found
-lies : (c : tie.In-Message) → Within c.args.pdu.now c.args.at c.in-Message.start c.in-Message.end
-lies c = place-within _ _ _ _ (sym c.message_at.ensures ∙ c.in-Message.is)
+lies : (c : tie.In-Some) → Within c.args.pdu.now c.args.at c.in-Some.place.start c.in-Some.place.end
+lies c = place-within _ _ _ _ (sym c.message_at.ensures ∙ c.in-Some.is)
 
 pub message_part_spec : {M : Type 1} → statement M
 message_part_spec =
@@ -22,6 +22,6 @@ message_part_spec =
     (λ c. search rules)
     (λ c. search rules)
     (λ c. search rules)
-    (λ c. rw (← c.message_at.ensures, c.in-Message.is) (refl, (refl, search rules)))
+    (λ c. rw (← c.message_at.ensures, c.in-Some.is) (refl, (refl, search rules)))
     (λ c. rw (← c.message_at.ensures, c.in-None.is) (refl, (refl, search rules))) in
     tie.close answers

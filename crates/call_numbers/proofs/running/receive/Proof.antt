@@ -15,7 +15,7 @@ receive_spec =
     (λ c. search rules)
     (λ c κs. search rules)
     (λ c. search rules)
-    (λ c. called_known _ _ _ _ c.phase_given.ensures c.in-Known.is c.receive-o.ensures c.outcome_numbers.ensures)
+    (λ c. called_known _ _ _ _ c.phase_given.ensures c.in-Some.is c.receive-o.ensures c.outcome_numbers.ensures)
     (λ c. search rules)
-    (λ c. called_unknown _ _ _ _ c.phase_given.ensures c.in-Unknown.is c.refuse_unknown.ensures) in
+    (λ c. called_unknown _ _ _ _ c.phase_given.ensures c.in-None.is c.refuse_unknown.ensures) in
     tie.close answers

@@ -16,7 +16,7 @@ send_next_spec =
     (λ c κs. search rules)
     (λ c. search rules)
     (λ c. search rules)
-    (λ c. called_known _ _ _ _ c.phase_given.ensures c.in-Known.is c.send_next-o.ensures c.outcome_numbers.ensures)
+    (λ c. called_known _ _ _ _ c.phase_given.ensures c.in-Some.is c.send_next-o.ensures c.outcome_numbers.ensures)
     (λ c. search rules)
-    (λ c. called_unknown _ _ _ _ c.phase_given.ensures c.in-Unknown.is c.refuse_unknown.ensures) in
+    (λ c. called_unknown _ _ _ _ c.phase_given.ensures c.in-None.is c.refuse_unknown.ensures) in
     tie.close answers

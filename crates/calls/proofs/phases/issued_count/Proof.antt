@@ -9,6 +9,6 @@ issued_count_spec =
     (λ c κs. search rules)
     (λ c. search rules)
     (λ c. search rules)
-    (λ c. issued_is _ _ _ c.steps_between.ensures c.in-Count.is)
-    (λ c. issued_is _ _ _ c.steps_between.ensures c.in-Unreachable.is) in
+    (λ c. issued_is _ _ _ c.steps_between.ensures c.in-Some.is)
+    (λ c. issued_is _ _ _ c.steps_between.ensures c.in-None.is) in
     tie.close answers

@@ -9,6 +9,6 @@ answer_written_spec =
     (λ c. search rules)
     (λ c κs. search rules)
     (λ c. search rules)
-    (λ c. rw c.in-TooShort.is c.refuse.ensures)
-    (λ c. rw c.in-Bytes.is) in
+    (λ c. rw c.in-None.is c.refuse.ensures)
+    (λ c. rw c.in-Some.is) in
     tie.close answers

@@ -12,9 +12,9 @@ put_reading_spec =
     (λ c. search rules)
     (λ c. search rules)
     (λ c. search rules)
-    (λ c. λ κs. (read_within _ _ _ c.read_message.ensures c.in-Whole.is, omega (arith, c.requires)))
+    (λ c. λ κs. (read_within _ _ _ c.read_message.ensures c.in-Some.is, omega (arith, c.requires)))
     (λ c. search rules)
-    (λ c. rw (← c.read_message.ensures, c.in-Malformed.is) (c.put_text.ensures, omega (arith, c.put_text.ensures.ends)))
+    (λ c. rw (← c.read_message.ensures, c.in-None.is) (c.put_text.ensures, omega (arith, c.put_text.ensures.ends)))
     (λ c. search rules)
-    (λ c. rw (← c.read_message.ensures, c.in-Whole.is) c.put_fields.ensures) in
+    (λ c. rw (← c.read_message.ensures, c.in-Some.is) c.put_fields.ensures) in
     tie.close answers

@@ -6,16 +6,16 @@ use Rattle.image.proofs.counting.count_pended.Statement.{statement}
 use Rattle.image.proofs.counting.count_pended.Tie as tie
 
 cast-result : tie.Need-overflow_cast-result
-cast-result c = omega (arith, issued_low c.args.h _ c.steps_between.ensures c.requires _ c.in-Count.is)
+cast-result c = omega (arith, issued_low c.args.h _ c.steps_between.ensures c.requires _ c.in-Some.is)
 
 sub-result : tie.Need-overflow_sub-result
-sub-result c = issued_low c.args.h _ c.steps_between.ensures c.requires _ c.in-Count.is
+sub-result c = issued_low c.args.h _ c.steps_between.ensures c.requires _ c.in-Some.is
 
-returns : tie.Need-returns-in-Count
-returns c = pended-count c.args.h _ c.steps_between.ensures _ c.in-Count.is
+returns : tie.Need-returns-in-Some
+returns c = pended-count c.args.h _ c.steps_between.ensures _ c.in-Some.is
 
-returns-2 : tie.Need-returns-in-Unreachable
-returns-2 c = pended_all c.args.h _ c.steps_between.ensures c.in-Unreachable.is
+returns-2 : tie.Need-returns-in-None
+returns-2 c = pended_all c.args.h _ c.steps_between.ensures c.in-None.is
 
 pub count_pended_spec : {M : Type 1} → statement M
 count_pended_spec =

@@ -9,6 +9,6 @@ block_check_spec =
     (λ c κs. search rules)
     (λ c. search rules)
     (λ c. search rules)
-    (λ c. rw (← c.block_check.ensures, c.in-Check.is))
-    (λ c. rw (← c.block_check.ensures, c.in-TooShort.is)) in
+    (λ c. rw (← c.block_check.ensures, c.in-Some.is))
+    (λ c. rw (← c.block_check.ensures, c.in-None.is)) in
     tie.close answers

@@ -8,11 +8,11 @@ accept_spec =
     let answers = tie.spec
     (λ c κs. tt)
     (λ c. search rules)
-    (λ c κs. plan_in _ _ _ c.plan_accept.ensures c.in-Allowed.is)
+    (λ c κs. plan_in _ _ _ c.plan_accept.ensures c.in-Some.is)
     (λ c κs. tt)
     (λ c. search rules)
     (λ c. search rules)
-    (λ c. accepted_is _ _ _ c.plan_accept.ensures c.in-Allowed.is c.acceptance.ensures c.make_change.ensures)
+    (λ c. accepted_is _ _ _ c.plan_accept.ensures c.in-Some.is c.acceptance.ensures c.make_change.ensures)
     (λ c. search rules)
-    (λ c. refused_is _ _ _ c.plan_accept.ensures c.in-Refused.is) in
+    (λ c. refused_is _ _ _ c.plan_accept.ensures c.in-None.is) in
     tie.close answers

@@ -19,9 +19,9 @@ plan_accept_spec =
     (λ c. search rules)
     (λ c κs. (
       omega arith,
-      subst SmallNext (sym c.code_accepted.ensures ∙ c.in-Code.is) (accepted_small c.args.message c.code_at.result),
+      subst SmallNext (sym c.code_accepted.ensures ∙ c.in-Some.is) (accepted_small c.args.message c.code_at.result),
     ))
     (λ c. search rules)
-    (λ c. plan_allowed _ _ _ (omega arith) (omega arith) c.sent_side.ensures c.find_label-place.ensures c.code_at.ensures.0 c.code_accepted.ensures c.in-Code.is c.plan_change.ensures)
-    (λ c. plan_refused _ _ _ (omega arith) (omega arith) c.sent_side.ensures c.find_label-place.ensures c.code_at.ensures.0 c.code_accepted.ensures c.in-NotAllowed.is) in
+    (λ c. plan_allowed _ _ _ (omega arith) (omega arith) c.sent_side.ensures c.find_label-place.ensures c.code_at.ensures.0 c.code_accepted.ensures c.in-Some.is c.plan_change.ensures)
+    (λ c. plan_refused _ _ _ (omega arith) (omega arith) c.sent_side.ensures c.find_label-place.ensures c.code_at.ensures.0 c.code_accepted.ensures c.in-None.is) in
     tie.close answers

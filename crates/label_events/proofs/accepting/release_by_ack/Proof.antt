@@ -12,18 +12,18 @@ release_by_ack_spec =
     (λ c κs. tt)
     (λ c κs. tt)
     (λ c. search rules)
-    (λ c. omega (arith, found_place _ _ _ (found_in_lem _ _ c.find_label.ensures) c.in-At.is))
-    (λ c. found_place _ _ _ (found_in_lem _ _ c.find_label.ensures) c.in-At.is)
+    (λ c. omega (arith, found_place _ _ _ (found_in_lem _ _ c.find_label.ensures) c.in-Some.is))
+    (λ c. found_place _ _ _ (found_in_lem _ _ c.find_label.ensures) c.in-Some.is)
     (λ c κs. tt)
     (λ c κs. (
-      acked-small_label _ c.args.message _ c.sent_side.ensures c.find_label.ensures _ c.in-At.is,
-      rw c.code_acked.ensures (acked-small c.args.message _ (omega (arith, c.slice_known-in-At-1.given c.in-At.i))),
+      acked-small_label _ c.args.message _ c.sent_side.ensures c.find_label.ensures _ c.in-Some.is,
+      rw c.code_acked.ensures (acked-small c.args.message _ (omega (arith, c.slice_known-in-Some-1.given c.in-Some.i))),
     ))
-    (λ c. omega (arith, found_place _ _ _ (found_in_lem _ _ c.find_label.ensures) c.in-At.is))
-    (λ c. found_place _ _ _ (found_in_lem _ _ c.find_label.ensures) c.in-At.is)
+    (λ c. omega (arith, found_place _ _ _ (found_in_lem _ _ c.find_label.ensures) c.in-Some.is))
+    (λ c. found_place _ _ _ (found_in_lem _ _ c.find_label.ensures) c.in-Some.is)
     (λ c. search rules)
     (λ c. search rules)
-    (λ c. acked_found _ _ _ c.sent_side.ensures c.find_label.ensures _ c.in-At.is c.code_acked.ensures c.word_of.ensures)
+    (λ c. acked_found _ _ _ c.sent_side.ensures c.find_label.ensures _ c.in-Some.is c.code_acked.ensures c.word_of.ensures)
     (λ c. search rules)
-    (λ c. acked-absent _ _ _ c.sent_side.ensures c.find_label.ensures c.in-Nowhere.is) in
+    (λ c. acked-absent _ _ _ c.sent_side.ensures c.find_label.ensures c.in-None.is) in
     tie.close answers

@@ -11,9 +11,9 @@ unfolding code_in
 code_at_spec =
     let answers = tie.spec
     (λ c. search rules)
-    (λ c. omega (arith, found_place _ _ _ c.requires c.in-At.is))
-    (λ c. found_place _ _ _ c.requires c.in-At.is)
+    (λ c. omega (arith, found_place _ _ _ c.requires c.in-Some.is))
+    (λ c. found_place _ _ _ c.requires c.in-Some.is)
     (λ c. search rules)
-    (λ c. rw c.in-At.is (refl, omega (arith, c.shared_slice_known-1.given c.in-At.i)))
-    (λ c. rw c.in-Nowhere.is (refl, omega arith)) in
+    (λ c. rw c.in-Some.is (refl, omega (arith, c.shared_slice_known-1.given c.in-Some.i)))
+    (λ c. rw c.in-None.is (refl, omega arith)) in
     tie.close answers

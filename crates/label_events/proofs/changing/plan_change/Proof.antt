@@ -9,9 +9,9 @@ plan_change_spec =
     (λ c κs. c.requires)
     (λ c. search rules)
     (λ c. search rules)
-    (λ c. change_none _ _ _ _ c.in-Nowhere.is c.if-code-eq0.true)
+    (λ c. change_none _ _ _ _ c.in-None.is c.if-code-eq0.true)
     (λ c κs. tt)
     (λ c κs. tt)
-    (λ c. change_found _ _ _ _ _ c.word_of-word.ensures c.in-At.is)
-    (λ c. change-taken _ _ _ _ c.in-Nowhere.is c.if-code-eq0.false c.word_of-word.ensures c.find.ensures c.take_free.ensures) in
+    (λ c. change_found _ _ _ _ _ c.word_of-word.ensures c.in-Some.is)
+    (λ c. change-taken _ _ _ _ c.in-None.is c.if-code-eq0.false c.word_of-word.ensures c.find.ensures c.take_free.ensures) in
     tie.close answers

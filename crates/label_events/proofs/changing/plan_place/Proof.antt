@@ -10,10 +10,10 @@ plan_place_spec =
     (λ c κs. c.requires)
     (λ c. search rules)
     (λ c κs. tt)
-    (λ c. placed_moved _ _ _ _ _ _ c.if-moves.true c.word_of-word.ensures c.move_to.ensures c.in-At.is)
+    (λ c. placed_moved _ _ _ _ _ _ c.if-moves.true c.word_of-word.ensures c.move_to.ensures c.in-Some.is)
     (λ c. search rules)
-    (λ c. placed_new _ _ _ _ _ (change_none _ _ _ _ c.in-Nowhere.is c.if-code-eq0.true) c.in-Nowhere.is)
+    (λ c. placed_new _ _ _ _ _ (change_none _ _ _ _ c.in-None.is c.if-code-eq0.true) c.in-None.is)
     (λ c κs. tt)
-    (λ c. placed_stays _ _ _ _ _ _ c.if-moves.false c.word_of-word.ensures c.in-At.is)
-    (λ c. placed_new _ _ _ _ _ (change-taken _ _ _ _ c.in-Nowhere.is c.if-code-eq0.false c.word_of-word.ensures refl c.take_free.ensures) c.in-Nowhere.is) in
+    (λ c. placed_stays _ _ _ _ _ _ c.if-moves.false c.word_of-word.ensures c.in-Some.is)
+    (λ c. placed_new _ _ _ _ _ (change-taken _ _ _ _ c.in-None.is c.if-code-eq0.false c.word_of-word.ensures refl c.take_free.ensures) c.in-None.is) in
     tie.close answers

@@ -12,13 +12,13 @@ room_at_spec =
     (λ c. search rules)
     (λ c. search rules)
     (λ c. search rules)
-    (λ c. room-here _ _ c.in-At.is c.if-words-i-eq-REQUEST_WORD.true _)
+    (λ c. room-here _ _ c.in-Some.is c.if-words-i-eq-REQUEST_WORD.true _)
     (λ c κs. tt)
     (λ c. search rules)
     (λ c κs. tt)
     (λ c. c.where_free.ensures ∙ ⊎_elim
-    (λ w. room-free _ _ c.in-At.is w.if-words-i-eq-REQUEST_WORD.false _)
-    (λ w. room_past _ _ c.in-At.is (omega arith) _)
+    (λ w. room-free _ _ c.in-Some.is w.if-words-i-eq-REQUEST_WORD.false _)
+    (λ w. room_past _ _ c.in-Some.is (omega arith) _)
     c.if-i-words.branch-raw)
-    (λ c. c.where_free-in-Nowhere.ensures ∙ room_nowhere _ c.in-Nowhere.is _) in
+    (λ c. c.where_free-in-None.ensures ∙ room_nowhere _ c.in-None.is _) in
     tie.close answers

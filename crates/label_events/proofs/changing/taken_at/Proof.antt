@@ -8,7 +8,7 @@ taken_at_spec =
     (λ c. search rules) (λ c. search rules) (λ c. search rules) (λ c. search rules) (λ c. search rules) (λ c. search rules)
     (λ c. rw c.in-Keep.is)
     (λ c. search rules)
-    (λ c. rw (c.in-Put.is, c.in-Nowhere.is))
+    (λ c. rw (c.in-Put.is, c.in-None.is))
     (λ c. rw c.in-Move.is)
     (λ c. rw c.in-NoRoom.is) in
     tie.close answers

@@ -9,11 +9,11 @@ unfolding is_free
 where_free_spec =
     let answers = tie.spec
     (λ c. search rules)
-    (λ c. rw (c.in-At.is, le-ltb _ _ c.if-words-i.true))
+    (λ c. rw (c.in-Some.is, le-ltb _ _ c.if-words-i.true))
     (λ c. search rules)
     (λ c. search rules)
-    (λ c. rw (c.in-At.is, lt-ltb _ _ c.if-words-i.false, ne_eqb _ _ c.if-words-i-ne0.true))
+    (λ c. rw (c.in-Some.is, lt-ltb _ _ c.if-words-i.false, ne_eqb _ _ c.if-words-i-ne0.true))
     (λ c. search rules)
-    (λ c. rw (c.in-At.is, lt-ltb _ _ c.if-words-i.false, eq-eqb _ _ c.if-words-i-ne0.false))
+    (λ c. rw (c.in-Some.is, lt-ltb _ _ c.if-words-i.false, eq-eqb _ _ c.if-words-i-ne0.false))
     (λ c. search rules) in
     tie.close answers

@@ -14,6 +14,6 @@ protection_of_every_spec =
     (λ c κs. tt)
     (λ c. search rules)
     (λ c. search rules)
-    (λ c. rw (c.if-protected.false, ← c.received_side.ensures, sym (found_any _ _ c.find.ensures), c.in-At.is))
-    (λ c. rw (c.if-protected.false, ← c.received_side.ensures, sym (found_any _ _ c.find.ensures), c.in-Nowhere.is)) in
+    (λ c. rw (c.if-protected.false, ← c.received_side.ensures, sym (found_any _ _ c.find.ensures), c.in-Some.is))
+    (λ c. rw (c.if-protected.false, ← c.received_side.ensures, sym (found_any _ _ c.find.ensures), c.in-None.is)) in
     tie.close answers

@@ -12,11 +12,11 @@ abort_spec =
     let answers = tie.spec
     (λ c κs. tt)
     (λ c. search rules)
-    (λ c. omega (arith, open_inside _ _ _ _ c.find_request.ensures c.in-At.is))
-    (λ c. open_inside _ _ _ _ c.find_request.ensures c.in-At.is)
+    (λ c. omega (arith, open_inside _ _ _ _ c.find_request.ensures c.in-Some.is))
+    (λ c. open_inside _ _ _ _ c.find_request.ensures c.in-Some.is)
     (λ c. search rules)
     (λ c. search rules)
-    (λ c. rw (← aborted_there _ _ _ c.find_request.ensures _ c.in-At.is) (refl, refl, refl))
+    (λ c. rw (← aborted_there _ _ _ c.find_request.ensures _ c.in-Some.is) (refl, refl, refl))
     (λ c. search rules)
-    (λ c. rw (← aborted_none _ _ _ c.find_request.ensures c.in-Nowhere.is) (refl, refl, refl)) in
+    (λ c. rw (← aborted_none _ _ _ c.find_request.ensures c.in-None.is) (refl, refl, refl)) in
     tie.close answers

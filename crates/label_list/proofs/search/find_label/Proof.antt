@@ -17,8 +17,8 @@ abbrev decreases-loop-from : tie.decreases-loop-from
 decreases-loop-from words side label from₀ from = length words - from
 
 -- the word that bears the label
-there : (c : tie.In-At invariant-loop-from decreases-loop-from) → Led (bears_label c.args.label) (stands_for c.args.side c.args.label) c.args.words.now c.loop-from.from c.in-At.place
-there c = led_to _ _ (other_stands _ _) _ _ (omega arith) c.next_bearing.ensures _ c.in-At.is
+there : (c : tie.In-Some invariant-loop-from decreases-loop-from) → Led (bears_label c.args.label) (stands_for c.args.side c.args.label) c.args.words.now c.loop-from.from c.in-Some.place
+there c = led_to _ _ (other_stands _ _) _ _ (omega arith) c.next_bearing.ensures _ c.in-Some.is
 
 pub find_label_spec : {M : Type 1} → statement M
 find_label_spec =
@@ -26,7 +26,7 @@ find_label_spec =
     (λ c. find_next _ _)
     (λ c κs. tt)
     (λ c. search rules)
-    (λ c. sym (c.loop-from.invariant ∙ led_nowhere _ _ (other_stands _ _) _ _ (omega arith) c.next_bearing.ensures c.in-Nowhere.is))
+    (λ c. sym (c.loop-from.invariant ∙ led_nowhere _ _ (other_stands _ _) _ _ (omega arith) c.next_bearing.ensures c.in-None.is))
     (λ c. search rules)
     (λ c. omega (arith, (there c).inside))
     (λ c. omega (arith, (there c.before).inside))

@@ -14,9 +14,9 @@ message_read_spec =
     (λ c κs. search rules)
     (λ c. search rules)
     (λ c κs. (
-      reading_places _ _ c.places_in.ensures _ c.in-Whole.is,
-      message_narrow _ (λ k. (c.shared_slice_known-1.given k).fits) _ (sym (reading_whole _ _ c.places_in.ensures _ c.in-Whole.is _ refl)),
+      reading_places _ _ c.places_in.ensures _ c.in-Some.is,
+      message_narrow _ (λ k. (c.shared_slice_known-1.given k).fits) _ (sym (reading_whole _ _ c.places_in.ensures _ c.in-Some.is _ refl)),
     ))
-    (λ c. rw (← reading_malformed _ _ c.places_in.ensures c.in-Malformed.is) c.no_message.ensures)
-    (λ c. rw (← reading_whole _ _ c.places_in.ensures _ c.in-Whole.is _ refl) c.whole_message.ensures) in
+    (λ c. rw (← reading_malformed _ _ c.places_in.ensures c.in-None.is) c.no_message.ensures)
+    (λ c. rw (← reading_whole _ _ c.places_in.ensures _ c.in-Some.is _ refl) c.whole_message.ensures) in
     tie.close answers

@@ -10,8 +10,8 @@ pdu_message_spec =
     let answers = tie.spec
     (λ c κs. search rules)
     (λ c. search rules)
-    (λ c κs. place_ordered _ _ _ _ (sym c.message_at.ensures ∙ c.in-Message.is))
+    (λ c κs. place_ordered _ _ _ _ (sym c.message_at.ensures ∙ c.in-Some.is))
     (λ c. search rules)
-    (λ c. rw (← c.message_at.ensures, c.in-Message.is) c.part_numbers.ensures)
+    (λ c. rw (← c.message_at.ensures, c.in-Some.is) c.part_numbers.ensures)
     (λ c. rw (← c.message_at.ensures, c.in-None.is)) in
     tie.close answers

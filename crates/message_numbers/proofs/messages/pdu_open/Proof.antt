@@ -9,6 +9,6 @@ pdu_open_spec =
     (λ c κs. search rules)
     (λ c. search rules)
     (λ c. search rules)
-    (λ c. rw (← c.open_pdu.ensures, c.in-Whole.is))
-    (λ c. rw (← c.open_pdu.ensures, c.in-Malformed.is)) in
+    (λ c. rw (← c.open_pdu.ensures, c.in-Some.is))
+    (λ c. rw (← c.open_pdu.ensures, c.in-None.is)) in
     tie.close answers

@@ -11,6 +11,6 @@ distance_spec =
     (λ c κs. search rules)
     (λ c. search rules)
     (λ c. search rules)
-    (λ c. rw (← c.signed_distance.ensures, c.in-Steps.is) (rw (to_z-of_z {w = w32} (record { sfits = c.in-Steps.known_told-1-own.given.0.1 }))))
-    (λ c. rw (← c.signed_distance.ensures, c.in-Refused.is)) in
+    (λ c. rw (← c.signed_distance.ensures, c.in-Some.is) (rw (to_z-of_z {w = w32} (record { sfits = c.in-Some.known_told-1-own.given.0.1 }))))
+    (λ c. rw (← c.signed_distance.ensures, c.in-None.is)) in
     tie.close answers

@@ -10,6 +10,6 @@ answered_place_spec =
     (λ c. search rules)
     (λ c. search rules)
     (λ c κs. search rules)
-    (λ c. answered_none _ _ _ c.answered_id.ensures c.in-Absent.is)
-    (λ c. answered_open _ _ _ c.answered_id.ensures c.requires.1 c.in-Id.is c.find_open.ensures) in
+    (λ c. answered_none _ _ _ c.answered_id.ensures c.in-None.is)
+    (λ c. answered_open _ _ _ c.answered_id.ensures c.requires.1 c.in-Some.is c.find_open.ensures) in
     tie.close answers

@@ -14,10 +14,10 @@ judge_ack_spec =
     (λ c. search rules)
     (λ c κs. search rules)
     (λ c. search rules)
-    (λ c κs. (c.requires.0, ack_within _ c.args.g c.requires.0 (ack_told _ _ c.requires.1 c.acknowledge.ensures c.ack_borne.ensures) c.in-Releases.is, c.requires.2))
+    (λ c κs. (c.requires.0, ack_within _ c.args.g c.requires.0 (ack_told _ _ c.requires.1 c.acknowledge.ensures c.ack_borne.ensures) c.in-Some.is, c.requires.2))
     (λ c κs. search rules)
-    (λ c κs. (c.requires.0.size, search rules, loaded_valid _ _ c.in-Releases.k c.requires.0 c.load_acked.ensures))
-    (λ c. ack_error _ _ _ (ack_told _ _ c.requires.1 c.acknowledge.ensures c.ack_borne.ensures) c.in-SequenceError.is c.refused.ensures)
+    (λ c κs. (c.requires.0.size, search rules, loaded_valid _ _ c.in-Some.k c.requires.0 c.load_acked.ensures))
+    (λ c. ack_error _ _ _ (ack_told _ _ c.requires.1 c.acknowledge.ensures c.ack_borne.ensures) c.in-None.is c.refused.ensures)
     (λ c. search rules)
-    (λ c. ack_right _ _ _ (ack_told _ _ c.requires.1 c.acknowledge.ensures c.ack_borne.ensures) (ap (λ (y : Header). y.secured) c.requires.1) c.turn_borne.ensures c.in-Releases.is c.load_acked.ensures c.judge_labels.ensures) in
+    (λ c. ack_right _ _ _ (ack_told _ _ c.requires.1 c.acknowledge.ensures c.ack_borne.ensures) (ap (λ (y : Header). y.secured) c.requires.1) c.turn_borne.ensures c.in-Some.is c.load_acked.ensures c.judge_labels.ensures) in
     tie.close answers

@@ -9,5 +9,5 @@ is_fatal_spec =
     (λ c. search rules)
     (λ c κs. search rules)
     (λ c. search rules)
-    (λ c. rw c.in-Value.is c.is_fatal.ensures) in
+    (λ c. rw c.in-Some.is c.is_fatal.ensures) in
     tie.close answers

@@ -8,5 +8,5 @@ is_zero_spec =
     (λ c. search rules)
     (λ c. search rules)
     (λ c. search rules)
-    (λ c. rw c.in-Number.is) in
+    (λ c. rw c.in-Some.is) in
     tie.close answers

@@ -9,5 +9,5 @@ turn_borne_spec =
     (λ c. search rules)
     (λ c κs. search rules)
     (λ c. search rules)
-    (λ c. rw (c.in-Number.is, ← c.judge_turn.ensures)) in
+    (λ c. rw (c.in-Some.is, ← c.judge_turn.ensures)) in
     tie.close answers

@@ -10,8 +10,8 @@ brings_another_spec =
     let answers = tie.spec
     (λ c κs. search rules)
     (λ c. search rules)
-    (λ c κs. (c.requires.0, omega (arith, found_place_in _ _ _ c.requires.1 c.in-At.is)))
+    (λ c κs. (c.requires.0, omega (arith, found_place_in _ _ _ c.requires.1 c.in-Some.is)))
     (λ c. search rules)
-    (λ c. another_at _ c.in-At.is c.entry_at.ensures c.entry_by-entry.ensures)
-    (λ c. another_none _ c.in-Nowhere.is c.entry_by-entry.ensures) in
+    (λ c. another_at _ c.in-Some.is c.entry_at.ensures c.entry_by-entry.ensures)
+    (λ c. another_none _ c.in-None.is c.entry_by-entry.ensures) in
     tie.close answers

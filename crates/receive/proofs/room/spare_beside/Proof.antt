@@ -9,5 +9,5 @@ spare_beside_spec =
     (λ c. search rules)
     (λ c κs. search rules)
     (λ c. search rules)
-    (λ c. rw c.in-Nowhere.is c.find_spare.ensures) in
+    (λ c. rw c.in-None.is c.find_spare.ensures) in
     tie.close answers

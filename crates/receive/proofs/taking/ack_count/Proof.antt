@@ -10,6 +10,6 @@ ack_count_spec =
     (λ c κs. search rules)
     (λ c. search rules)
     (λ c. search rules)
-    (λ c. count_is _ _ (ack_on_lem _ _ c.acknowledge.ensures c.ack_borne.ensures) c.in-Releases.is)
-    (λ c. count_is _ _ (ack_on_lem _ _ c.acknowledge.ensures c.ack_borne.ensures) c.in-SequenceError.is) in
+    (λ c. count_is _ _ (ack_on_lem _ _ c.acknowledge.ensures c.ack_borne.ensures) c.in-Some.is)
+    (λ c. count_is _ _ (ack_on_lem _ _ c.acknowledge.ensures c.ack_borne.ensures) c.in-None.is) in
     tie.close answers

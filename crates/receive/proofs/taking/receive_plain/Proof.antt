@@ -13,7 +13,7 @@ receive_plain_spec =
     (λ c κs. search rules)
     (λ c κs. search rules)
     (λ c. search rules)
-    (λ c. read_malformed _ _ _ _ c.read_message.ensures _ c.in-Malformed.is c.settle.ensures)
+    (λ c. read_malformed _ _ _ _ c.read_message.ensures _ c.in-None.is c.settle.ensures)
     (λ c. search rules)
-    (λ c. read_whole _ _ _ _ c.read_message.ensures c.in-Whole.is (plain_settled _ c.requires (λ k. (c.slice_known-1.given k).fits) _ c.judge_plain.ensures c.settle-in-Whole.ensures)) in
+    (λ c. read_whole _ _ _ _ c.read_message.ensures c.in-Some.is (plain_settled _ c.requires (λ k. (c.slice_known-1.given k).fits) _ c.judge_plain.ensures c.settle-in-Some.ensures)) in
     tie.close answers

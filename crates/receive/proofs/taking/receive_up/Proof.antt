@@ -12,9 +12,9 @@ receive_up_spec =
     (λ c. search rules)
     (λ c κs. search rules)
     (λ c. search rules)
-    (λ c κs. (c.requires, (read_widths _ (λ k. (c.shared_slice_known-1.given k).fits) _ (sym c.read_message.ensures ∙ c.in-Whole.is)).entry))
+    (λ c κs. (c.requires, (read_widths _ (λ k. (c.shared_slice_known-1.given k).fits) _ (sym c.read_message.ensures ∙ c.in-Some.is)).entry))
     (λ c. search rules)
-    (λ c. read_malformed _ _ _ _ c.read_message.ensures _ c.in-Malformed.is c.settle.ensures)
+    (λ c. read_malformed _ _ _ _ c.read_message.ensures _ c.in-None.is c.settle.ensures)
     (λ c. search rules)
-    (λ c. read_whole _ _ _ _ c.read_message.ensures c.in-Whole.is c.receive_ft.ensures) in
+    (λ c. read_whole _ _ _ _ c.read_message.ensures c.in-Some.is c.receive_ft.ensures) in
     tie.close answers

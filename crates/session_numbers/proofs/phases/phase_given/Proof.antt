@@ -1,7 +1,7 @@
 -- `session_numbers::phases::phase_given` meets its contract. Assumes nothing.
+use Rattle.std.specs.Prelude.{None}
 use borrow.Author.Rules.{rules}
 use Rattle.tlv.proofs.Rows.{lookup_absent}
-use Rattle.session_numbers.specs.declared.Given.{Given}
 use Rattle.session_numbers.specs.Session.{phases, given_of}
 use Rattle.session_numbers.proofs.phases.phase_given.Statement.{statement}
 use Rattle.session_numbers.proofs.phases.phase_given.Tie as tie
@@ -15,5 +15,5 @@ phase_given_spec =
     (λ c. rw c.in-2.is)
     (λ c. rw c.in-3.is)
     (λ c. rw c.in-4.is)
-    (λ c. lookup_absent Given.Unknown (phases c.args.s.value c.args.s.flags) c.args.s.phase (search rules)) in
+    (λ c. lookup_absent None (phases c.args.s.value c.args.s.flags) c.args.s.phase (search rules)) in
     tie.close answers
