@@ -2,8 +2,7 @@
 use Rattle.std.specs.Prelude.{Result, Ok, Err, ℕ, List, ◌++◌}
 use Rattle.text.specs.Text.{ascii, decimal}
 use Rattle.image.specs.declared.Counts.{Counts}
-use Rattle.image.specs.declared.ImageFault.{ImageFault}
-use Rattle.image.specs.Verdict.{verdict_number, verdict_block}
+use Rattle.image_report.specs.declared.Refusal.{Refusal}
 
 -- no report is longer: six lines of a name, at most 20 digits and the line's end
 abbrev pub report_room : ℕ
@@ -24,7 +23,6 @@ counted_text c = numbers_text c ++ counts_text c
 abbrev pub refused_text : ℕ → ℕ → List ℕ
 refused_text answer block = ascii "refused " ++ (decimal answer ++ line (ascii " block ") block)
 
--- a refusal has the number of its fault, and the block that this names
-abbrev pub text_of : Result Counts ImageFault → List ℕ
+abbrev pub text_of : Result Counts Refusal → List ℕ
 text_of (Ok c) = counted_text c
-text_of (Err fault) = refused_text (verdict_number (Err fault)) (verdict_block (Err fault))
+text_of (Err refusal) = refused_text refusal.answer refusal.block

@@ -3,7 +3,8 @@ ghost use Rattle.std.specs.Prelude.{◌+◌, ◌≤◌, length};
 ghost use Rattle.text.specs.Text.{Put};
 ghost use Rattle.image_report.specs.Lines.{report_room, line, numbers_text, counts_text, refused_text, text_of};
 
-use image::{Counts, ImageFault};
+use crate::Refusal;
+use image::Counts;
 use std::io;
 use std::io::{Read, Write};
 
@@ -50,7 +51,7 @@ pub fn put_refusal(out: &mut [u8], answer: u32, block: usize) -> usize
 }
 
 // Puts a report at the start of `out` and answers its length; no byte after it changes.
-pub fn put_report(out: &mut [u8], report: Result<Counts, ImageFault>) -> usize
+pub fn put_report(out: &mut [u8], report: Result<Counts, Refusal>) -> usize
     requires { report_room ≤ length out.old }
     ensures put { Put out.old 0 (text_of report) out.new result }
     ensures upper_bound { result ≤ report_room }
@@ -60,11 +61,7 @@ pub fn put_report(out: &mut [u8], report: Result<Counts, ImageFault>) -> usize
             let end = put_numbers(out, c);
             put_counts(out, end, c)
         }
-        Err(fault) => put_refusal(
-            out,
-            image::verdict_number(Err(fault)),
-            image::verdict_block(Err(fault)),
-        ),
+        Err(refusal) => put_refusal(out, refusal.answer, refusal.block),
     }
 }
 

@@ -167,9 +167,9 @@ pub fn show_request(to: &mut impl Write, image: &[u8], place: u32) -> io::Result
 pub fn show_counts(to: &mut impl Write, image: &[u8]) -> io::Result<()> {
     match image_report::report_of(image) {
         Ok(c) => show_numbers(to, c)?,
-        Err(fault) => {
-            number(to, b" refused ", image::verdict_number(Err(fault)) as u64)?;
-            number(to, b" block ", image::verdict_block(Err(fault)) as u64)?;
+        Err(refusal) => {
+            number(to, b" refused ", refusal.answer as u64)?;
+            number(to, b" block ", refusal.block as u64)?;
         }
     }
     say(to, b"\n")
