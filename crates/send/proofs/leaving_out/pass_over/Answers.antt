@@ -1,8 +1,8 @@
-use Prim.Native.Nat.{◌+◌, ◌≤◌}
+use Prim.Native.Nat.{ℕ, ◌+◌, ◌-◌, ◌≤◌}
 use mathlib.Core.Bool.{not}
-use mathlib.Core.Path.{ap}
+use mathlib.Core.Path.{ap, ◌∙◌}
 use native.Mathlib.Omega.{arith}
-use lib.ListN.{length}
+use lib.ListN.{length, take, drop}
 use Rattle.octets.proofs.Choice.{denied, granted}
 use Rattle.image.specs.State.{decode}
 use Rattle.image.proofs.Queue.{queue_length}
@@ -31,7 +31,9 @@ pub slice_bounds-is_undone-start : goal.slice_bounds-is_undone-start
 slice_bounds-is_undone-start c = omega (arith, enough (goal.at.slice_bounds-is_undone-start c).In-loop-i)
 
 pub is_undone-requires : goal.is_undone-requires
-is_undone-requires c = (c.requires.0, omega (arith, c.requires.1), behind_is _ _ _ c.requires.2)
+is_undone-requires c =
+    let ids = c.args.ids.now in
+    (c.requires.0, omega (arith, c.requires.1), ap (λ (n : ℕ). take (length ids - n) (drop n ids)) (omega arith) ∙ behind_is (decode c.args.image.now).queue c.args.from c.loop-i.i c.requires.2)
 
 pub returns-then-not-is_undone : goal.returns-then-not-is_undone
 returns-then-not-is_undone c =
